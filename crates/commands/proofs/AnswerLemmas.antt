@@ -1,4 +1,4 @@
--- What an exit status promises, by how a request was carried out.
+-- What each exit status guarantees, given how a request was carried out.
 use Rattle.std.proofs.Common.{◌≡◌, ◌≢◌, ℕ, List, Option, Result, Err, subst, arith, ◌∙◌}
 use Rattle.std.specs.Io.KnownBytes.{Keeps}
 use Rattle.std.specs.declared.io.Error.{Error}
@@ -20,7 +20,7 @@ use Rattle.commands.specs.declared.request.Request.TheVariants.{Run, Compile, Se
 use Rattle.commands.specs.declared.failure.Failure.{Failure}
 use Rattle.commands.specs.declared.failure.Failure.TheVariants.{Refusal, Memory, Write, File, CountyFile, NotUtf8, Filter, County, Output}
 
--- a flush that was tried is counted
+-- an attempted flush is counted
 pub flush_counted : (flush : Result (Unit {0}) Error) (counts counts' : WriteCounts) → CountsFlush flush counts counts'
     → counts'.flushes ≢ counts.flushes
 flush_counted flush counts counts' is same = grind (arith, is, same)
@@ -35,7 +35,7 @@ write_counts (Select asked) known fault out out' is =
     (is.2.stops.outcome.before.counts ∙ counties_counts is.2.written) is.2.stops.outcome.row.5
 write_counts request known fault out out' is = is.written.1
 
--- a filter is refused for no device
+-- a filter's refusal is never an I/O failure
 filter_usable : (request : Request) (known : List ℕ → Option (List ℕ)) (refusal : RefusalParts) → IsFilterRefused request known refusal
     → refusal_status refusal ≢ 3
 filter_usable (Compile asked) known refusal is = filter_status is.text asked.compiling.score refusal is.refused
@@ -45,13 +45,13 @@ filter_usable request known refusal is = absurd is
 kept_as : {out unflushed : Writer} (held : Option (List ℕ)) → unflushed ≡ out → Keeps unflushed.held held → Keeps out.held held
 kept_as held same = subst (λ (writer : Writer). Keeps writer.held held) same
 
--- a line is lacked where the status is 2
+-- status 2 means that the line doesn't exist
 pub line_lacked : {request : Request} {disk disk' : Disk} {out out' errors errors' : Writer} (failure : Failure)
     → CarriesOut request (Err failure) disk disk' out out' → Says failure errors errors' → status failure ≡ 2
     → IsLackOfLine request disk.known errors errors'
 line_lacked failure carried said two = grind (arith, refusal_not_usage, carried.outcome, said, two)
 
--- a library's refusal, which was said, and then a flush was tried, which keeps what was written
+-- a library's refusal was reported, and then a flush was attempted, which keeps what was written
 refusal_said : {of : ℕ} {request : Request} (known : List ℕ → Option (List ℕ)) {out out' errors errors' : Writer} (unflushed : Writer)
     (failure : Failure) → IsRefusedWith request known failure out unflushed → Says failure errors errors' → Keeps unflushed.held out'.held
     → status failure ≡ of → IsRefusalOf of request known out out' errors errors'
@@ -72,7 +72,7 @@ module _ {request : Request} {disk disk' : Disk} {out unflushed out' errors erro
   refused_said (County code refusal) carried said kept one = refusal_said disk.known unflushed (County code refusal) carried.outcome.0 said kept one
   refused_said failure carried said kept one = absurd (omega (arith, one))
 
-  -- out of memory
+  -- memory ran out
   pub memory_said : (failure : Failure) → CarriesOut request (Err failure) disk disk' out unflushed → Says failure errors errors'
       → Keeps unflushed.held out'.held → status failure ≡ 4 → IsOutOfMemory request disk.known out out' errors errors'
   memory_said (Refusal refusal) carried said kept four =
@@ -84,7 +84,7 @@ module _ {request : Request} {disk disk' : Disk} {out unflushed out' errors erro
   memory_said Memory carried said kept four = of_other (kept_as out'.held carried.outcome kept) said
   memory_said failure carried said kept four = absurd (omega (arith, four))
 
-  -- what can't be used
+  -- a file or the output can't be used
   pub unusable_said : (failure : Failure) (flush : Result (Unit {0}) Error) → CarriesOut request (Err failure) disk disk' out unflushed
       → Says failure errors errors' → Keeps unflushed.held out'.held → CountsFlush flush unflushed.counts out'.counts → status failure ≡ 3
       → IsUnusable request disk disk' out out' errors errors'

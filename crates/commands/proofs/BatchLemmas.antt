@@ -1,4 +1,4 @@
--- How `geocode-batch` is carried out: the addresses that were read so far, and what was written of them.
+-- How `geocode-batch` is carried out: the addresses read so far, and the output written for them.
 use Rattle.std.proofs.Common.{◌≡◌, ◌≢◌, ℕ, List, [], ◌∷◌, ◌++◌, length, take, Option, Some, None, Bor, Result, Ok, Err, IfErr, refl, ap, sym, subst}
 use Rattle.std.proofs.Common.{append_assoc, arith, inl, inr, ◌∙◌}
 use Rattle.std.proofs.Math.Path.{fun_ext}
@@ -35,7 +35,7 @@ use Rattle.commands.proofs.FileLemmas.{unfailed_both}
 use Rattle.commands.proofs.PieceLemmas.{stopped_early, stopped_further, written_further}
 use Rattle.commands.proofs.ReadLemmas.{sound}
 
--- these addresses of a file were read, and those are left
+-- these addresses of a file were read, and the listing remains
 abbrev pub IsReadTo : List ℕ → List AddressParts → Listing → Type 0
 IsReadTo file rows left = addresses_in file ≡ Ok (with_addresses rows left)
 
@@ -63,31 +63,31 @@ module _ (file : List ℕ) (rows : List AddressParts) (left : Listing) (read : I
       let same : fault_of (Ok (record { addresses = addresses; fault = None })) ≡ Some fault = ap fault_of (sym are) ∙ read_until fault end in
       grind (arith, same)
 
--- what the read of the next address returns says why the addresses aren't all read
+-- a failed read of the next address implies why not all addresses are read
 pub read_told : (file : List ℕ) (rows : List AddressParts) (left new : Listing) (address : AddressParts) (fault : AddressFault)
     → IsReadTo file rows left → IsAddressRead (Err fault) address left new → TellsAddresses file fault
 read_told file rows left new address (At line flaw) read is = read_until file rows left read (At line flaw) is
 read_told file rows left new address NoHeader read is = absurd is
 read_told file rows left new address Memory read is = tt
 
--- what the read of the header returns says it too
+-- a failed read of the header implies it too
 pub header_told : (file : List ℕ) (fault : AddressFault) → IsHeaderRead (Err fault) (addresses_in file) → TellsAddresses file fault
 header_told file (At line flaw) is = ap fault_of is
 header_told file NoHeader is = ap fault_of is
 header_told file Memory is = tt
 
--- a file with addresses and no fault has no fault of its header
+-- a file whose header is read has no fault of its header
 is_listing : {held : Result Listing AddressFault} {left : Listing} → held ≡ Ok left → (fault : AddressFault) → held ≢ Err fault
 is_listing are fault is = grind (arith, are, is)
 
--- these addresses of a file were read, those are left, and the output for those that were read was written
+-- these addresses of a file were read, the listing remains, and the output for the addresses read was written
 pub record IsWrittenTo (output : List AddressParts → List ℕ) (file : List ℕ) (left : Listing) (out out' : Writer) : Type 0 where
   pub rows : List AddressParts
   pub read : IsReadTo file rows left
   pub written : WritesText (output rows) (Ok tt) out out'
 
 module _ (codes : List (List ℕ)) (counties : List CountyParts) where
-  -- the output for the first addresses of more
+  -- the output for the first addresses, a prefix of all
   first_written : (rows later : List AddressParts) (a b : Writer) → WritesText (lines_of_all codes counties rows) (Ok tt) a b
       → WritesText (lines_of_all codes counties (take (length rows) (rows ++ later))) (Ok tt) a b
   first_written rows later a b =
@@ -100,7 +100,7 @@ module _ (codes : List (List ℕ)) (counties : List CountyParts) where
       append_assoc header (flat_map (lines_of codes counties) rows) (flat_map (lines_of codes counties) later)
       ∙ ap (λ text. header ++ text) (sym (flat_map-append (lines_of codes counties) rows later))
 
-  -- the lines of one more address are written after it
+  -- the lines for one more address are written after it
   row_written : (rows : List AddressParts) (address : AddressParts) (a b c : Writer)
       → WritesText (lines_of_all codes counties rows) (Ok tt) a b → WritesText (lines_of codes counties address) (Ok tt) b c
       → WritesText (lines_of_all codes counties (rows ++ address ∷ [])) (Ok tt) a c
@@ -113,14 +113,14 @@ module _ (codes : List (List ℕ)) (counties : List CountyParts) where
       → IsWrittenTo (lines_of_all codes counties) file left a b
   header_written file left a b held written = record { rows = []; read = held; written = written }
 
-  -- the header isn't written whole
+  -- the header isn't written completely
   pub header_stopped : (addresses : List AddressParts) (failure : Failure) (a b : Writer) → WritesAs header (Err failure) a b
       → WritesBatch (lines_of_all codes counties) addresses (Err failure) a b
   header_stopped addresses failure a b wrote =
       subst (λ failure. WritesBatch (lines_of_all codes counties) addresses (Err failure) a b) (sym wrote.1)
       (stopped_early header (flat_map (lines_of codes counties) addresses) wrote.0 a b wrote.2)
 
-  -- the header can't be read again
+  -- the header can't be read a second time
   pub header_unread : (file : List ℕ) (addresses : List AddressParts) (fault : AddressFault) (a b : Writer) → AreAddressesOf file addresses
       → IsHeaderRead (Err fault) (addresses_in file) → WritesText header (Ok tt) a b
       → WritesBatch (lines_of_all codes counties) addresses (Err (failure.Refusal (address_fault.refusal fault))) a b
@@ -128,7 +128,7 @@ module _ (codes : List (List ℕ)) (counties : List CountyParts) where
   header_unread file addresses NoHeader a b are is written = absurd (is_listing are NoHeader is)
   header_unread file addresses Memory a b are is written = (refl, (0, written))
 
-  -- an allocation failed before the lines of the next address, or they aren't written whole
+  -- an allocation failed before the lines for the next address, or they aren't written completely
   row_stopped : (rows later : List AddressParts) (address : AddressParts) (failure : Failure) (a b c : Writer)
       → WritesText (lines_of_all codes counties rows) (Ok tt) a b
       → WritesUnlessMemory (lines_of codes counties address) (λ before after. after ≡ before) (Err failure) b c
@@ -148,7 +148,7 @@ module _ (codes : List (List ℕ)) (counties : List CountyParts) where
   row_stopped rows later address failure a b c before stopped = absurd stopped
 
   module _ {file : List ℕ} {left : Listing} {a b : Writer} (so_far : IsWrittenTo (lines_of_all codes counties) file left a b) where
-    -- the lines of one more address are written
+    -- the lines for one more address are written
     pub batch_further : (address : AddressParts) (new : Listing) (c : Writer) → left ≡ with_addresses (address ∷ []) new
         → WritesText (lines_of codes counties address) (Ok tt) b c → IsWrittenTo (lines_of_all codes counties) file new a c
     batch_further address new c next written = record {
@@ -165,7 +165,7 @@ module _ (codes : List (List ℕ)) (counties : List CountyParts) where
           subst (λ rows. WritesText (lines_of_all codes counties rows) (Ok tt) a b)
           (ap (λ held. (listing_in held).addresses) (sym (read_all file so_far.rows left so_far.read end) ∙ are)) so_far.written
 
-      -- the next address can't be read, since an allocation failed
+      -- the next address can't be read because an allocation failed
       pub batch_unread : (address : AddressParts) (new : Listing) (fault : AddressFault) → IsAddressRead (Err fault) address left new
           → WritesBatch (lines_of_all codes counties) addresses (Err (failure.Refusal (address_fault.refusal fault))) a b
       batch_unread address new (At line flaw) is = absurd (none_faulty file so_far.rows left so_far.read addresses (At line flaw) are is)
@@ -180,7 +180,7 @@ module _ (codes : List (List ℕ)) (counties : List CountyParts) where
         ),
       )
 
-      -- its lines aren't written whole
+      -- its lines aren't written completely
       pub batch_stopped : (address : AddressParts) (new : Listing) (failure : Failure) (c : Writer)
           → left ≡ with_addresses (address ∷ []) new
           → WritesUnlessMemory (lines_of codes counties address) (λ before after. after ≡ before) (Err failure) b c
@@ -190,14 +190,14 @@ module _ (codes : List (List ℕ)) (counties : List CountyParts) where
           (sym (rows_first file so_far.rows left so_far.read addresses are ∙ ap (λ (left : Listing). so_far.rows ++ left.addresses) next))
           (row_stopped so_far.rows new.addresses address failure a b c so_far.written stopped)
 
--- a write is one where no allocation failed
+-- a write in which no allocation failed satisfies `WritesUnlessMemory`
 pub written_unless : (text : List ℕ) (WritesBefore : Writer → Writer → Type 0) (result : Result (Unit {0}) Failure) (a b : Writer)
     → WritesAs text result a b → WritesUnlessMemory text WritesBefore result a b
 written_unless text WritesBefore (Ok done) a b wrote = wrote
 written_unless text WritesBefore (Err of) a b wrote =
     subst (λ of. WritesUnlessMemory text WritesBefore (Err of) a b) (sym wrote.1) wrote.2
 
--- none of these is a fault of usage
+-- none of these is a usage error
 pub batch_usage : (text : List ℕ) (WritesBefore : Writer → Writer → Type 0) (result : Result (Unit {0}) Failure) (a b : Writer)
     → WritesUnlessMemory text WritesBefore result a b → IfErr result (λ failure. status failure ≢ 2)
 batch_usage text WritesBefore (Ok done) a b wrote = tt
@@ -206,7 +206,7 @@ batch_usage text WritesBefore (Err failure) a b wrote = λ two. grind (arith, re
 address_status : (fault : AddressFault) → refusal_status (address_fault.refusal fault) ≢ 3
 address_status fault e = grind (arith, e)
 
--- The file of addresses was read, and what is known of the files stays. Then a county can't be loaded.
+-- The file of addresses was read, and what is known of the files stays the same. Then a county can't be loaded.
 module _ (batch : GeocodeBatch) {disk later disk' : Disk} {out : Writer} (before : IsUnfailed disk later)
     (same : (name : List ℕ) → later.known name ≡ disk.known name) where
   county_failed : (failure : Failure) → TellsLoad (HaveRefusedCounty later.known batch.«data».now (codes_of batch)) later disk' failure
@@ -244,7 +244,7 @@ module _ (batch : GeocodeBatch) {disk later disk' : Disk} {out : Writer} (before
         (subst (λ codes. TellsLoad (HaveRefusedCounty later.known batch.«data».now (texts codes)) later disk' failure) lent told)
         (subst (λ codes. NamesFile (IsFileOfCounties batch.«data».now (texts codes)) failure) lent names)
 
--- they are loaded
+-- the counties are loaded
 abbrev pub inputs_of : (batch : GeocodeBatch) {known later : List ℕ → Option (List ℕ)} → ((name : List ℕ) → later name ≡ known name)
     → (codes : List (Bor (List ℕ))) → codes ≡ batch.codes.items → (file : List ℕ) → Keeps (known batch.addresses.now) (Some file)
     → (counties : List CountyParts) → AreCountiesOf later batch.«data».now (texts codes) counties → Inputs batch known
@@ -258,7 +258,7 @@ inputs_of batch {later = later} same codes lent file is_file counties are = reco
 
 -- The file of addresses and the counties are loaded.
 module _ (batch : GeocodeBatch) {disk disk' : Disk} (inputs : Inputs batch disk.known) (counts : IsUnfailed disk disk') {out : Writer} where
-  -- the file's addresses aren't all read
+  -- not all of the file's addresses are read
   pub addresses_failed : (fault : AddressFault) → TellsAddresses inputs.file fault
       → CarriesOut (request.GeocodeBatch batch) (Err (failure.Refusal (address_fault.refusal fault))) disk disk' out out
   addresses_failed Memory told = refused_carried memory (of_memory refl (inl refl)) counts.opens (sound (address_status Memory) counts.reads) refl
@@ -266,7 +266,7 @@ module _ (batch : GeocodeBatch) {disk disk' : Disk} (inputs : Inputs batch disk.
       refused_carried (address_fault.refusal fault) (of_addresses inputs fault told refl refl) counts.opens
       (sound (address_status fault) counts.reads) refl
 
-  -- they are, and then they are written
+  -- all are read, and then the output is written
   pub batch_carried : {out' : Writer} (addresses : List AddressParts) (result : Result (Unit {0}) Failure)
       → AreAddressesOf inputs.file addresses → WritesBatch (output inputs) addresses result out out'
       → CarriesOut (request.GeocodeBatch batch) result disk disk' out out'
@@ -289,7 +289,7 @@ module _ (batch : GeocodeBatch) {disk disk' : Disk} (inputs : Inputs batch disk.
       (ap (λ (counts : WriteCounts). counts.flushes) wrote.1.1.1)
   batch_carried addresses (Err failure) are wrote = absurd wrote
 
-  -- by what was made of the counties and their codes
+  -- the same, for the batch made of the counties and their codes
   pub batch_lent : {out' : Writer} (result : Result (Unit {0}) Failure) (made : BatchParts)
       → made ≡ record { counties = inputs.counties; codes = codes_of batch } → (addresses : List AddressParts)
       → AreAddressesOf inputs.file addresses → WritesBatch (lines_of_all made.codes made.counties) addresses result out out'

@@ -1,4 +1,4 @@
--- How any request is carried out: where a file can't be used, where a library refuses it, and where its text is written.
+-- How any request is carried out: if a file can't be used, if a library refuses it, and if its text is written.
 use Rattle.std.proofs.Common.{◌≡◌, ◌≢◌, ℕ, List, Option, Bor, Result, Ok, Err, ap, sym, subst, arith}
 use Rattle.bpf_insn.specs.CodeFault as code_fault
 use Rattle.bpf_insn.specs.declared.fault.CodeFault.{CodeFault}
@@ -19,7 +19,7 @@ use Rattle.commands.specs.declared.files.ProgramInputFault.{ProgramInputFault}
 use Rattle.commands.proofs.ClassLemmas.{code_status}
 use Rattle.commands.proofs.ReadLemmas.{ReadsAs}
 
--- a refusal is no fault of usage
+-- a refusal is not a usage error
 pub refusal_not_usage : (refusal : RefusalParts) → refusal_status refusal ≢ 2
 refusal_not_usage refusal two = grind (arith, two)
 
@@ -28,13 +28,13 @@ pub written_usage : {W : Type 0} (text : List ℕ) (result : Result (Unit {0}) F
     → WritesAs text result out out' → KeepsOnUsage result w w'
 written_usage text result out out' w w' wrote = grind (arith, wrote)
 
--- a write's fault counts as no flush
+-- a write's fault counts no flush
 pub fault_unflushed : (fault : WriteFault) (counts counts' : WriteCounts) → CountsFault fault counts counts'
     → counts'.flushes ≡ counts.flushes
 fault_unflushed fault counts counts' is = grind (arith, is)
 
 module _ {request : Request} {disk disk' : Disk} {out out' : Writer} where
-  -- a library refuses it
+  -- a library refuses the request
   pub refused_carried : (refusal : RefusalParts) → IsRefused request disk.known refusal out out' → disk'.failed_opens ≡ disk.failed_opens
       → ReadsAs (refusal_status refusal) disk.failed_reads disk'.failed_reads → out'.counts.flushes ≡ out.counts.flushes
       → CarriesOut request (Err (Refusal refusal)) disk disk' out out'
@@ -45,7 +45,7 @@ module _ {request : Request} {disk disk' : Disk} {out out' : Writer} where
     unflushed = unflushed;
   }
 
-  -- its text was written, whole or up to a fault
+  -- the request's text was written, completely or up to a fault
   pub written_carried : (text : List ℕ) (result : Result (Unit {0}) Failure) → WritesAs text result out out' → IsUnfailed disk disk'
       → ((outcome : Result (Unit {0}) WriteFault) → WritesText text outcome out out' → Writes request disk.known outcome out out')
       → CarriesOut request result disk disk' out out'
@@ -69,14 +69,14 @@ module _ {request : Request} {disk disk' : Disk} {out : Writer} where
       → CarriesOut request (Err (of_file name fault)) disk disk' out out
   file_carried name fault is uses = grind (arith, is, uses)
 
-  -- nor that of a program, or the program is too long
+  -- a program can't be read or is too long
   pub program_carried : (name : Bor (List ℕ)) (known : Option (List ℕ)) (fault : ProgramInputFault)
       → IsFileOf request name.now → TellsProgram known fault → TellsProgramUse {T = ℕ} (Err fault) disk disk'
       → ((code : CodeFault) → IsTooLong known code → IsRefused request disk.known (code_fault.refusal code) out out)
       → CarriesOut request (Err (of_program name fault)) disk disk' out out
   program_carried name known fault is told uses each = grind (arith, is, told, uses, code_status)
 
-  -- neither a program nor a county can be read
+  -- the program or the county can't be read
   pub inputs_carried : (name folder code : List ℕ) (failure : Failure) → TellsInputs name folder code disk disk' failure
       → NamesFile (IsFileOf request) failure → TellsCounts {T = ℕ} (Err failure) disk disk' → WritesBefore request disk.known out out
       → ((refusal : RefusalParts) → HoldTooLong name folder code disk.known refusal → IsRefused request disk.known refusal out out)

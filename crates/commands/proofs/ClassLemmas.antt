@@ -1,4 +1,4 @@
--- Refusals of a program, of a text and of a filter are of no failed read and no failed write.
+-- Refusals of a program, a text or a filter are never for a failed read or write.
 use Rattle.std.proofs.Common.{◌≡◌, ◌≢◌, ◌≤◌, ℕ, List, length, Option, IsUtf8, ap, sym, arith, ◌∙◌}
 use Rattle.std.specs.declared.alloc.Global.{Global}
 use Rattle.bpf_insn.specs.CodeFault as code_fault
@@ -42,7 +42,7 @@ pub filter_status : (text : List ℕ) (score : Option NumericColumn) (refusal : 
 filter_status text score refusal (of_text fault none is) three = filter_fault_status fault (ap refusal_status (sym is) ∙ three)
 filter_status text score refusal (of_program filter spelled long is) three = grind (arith, is, three)
 
--- a fault of a filter's text is a failure for the filter
+-- a fault of a filter's text is a failure of the filter
 pub of_filter_failure : (text : List ℕ) (score : Option NumericColumn) (fault : FilterFault) (failure : Failure)
     → (length text ≤ TEXT_LIMIT → IsUtf8 text → (made : AFilter Global) → IsFilterText text made → fault ≡ filter.Memory)
     → IsOfFilter fault failure → IsFilterFailure text score failure
@@ -51,7 +51,7 @@ of_filter_failure text score fault (Filter refusal note) reads is =
 of_filter_failure text score fault Memory reads is = tt
 of_filter_failure text score fault failure reads is = absurd is
 
--- and one of its program
+-- and so is a fault of its program
 pub of_compile_failure : (text : List ℕ) (score : Option NumericColumn) (made : AFilter Global) (fault : CompileFault)
     (failure : Failure) → IsFilterText text made → (fault ≡ compile.TooLong → IsTooLong (program_of made score))
     → IsOfCompile fault failure → IsFilterFailure text score failure

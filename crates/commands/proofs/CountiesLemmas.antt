@@ -1,4 +1,4 @@
--- Counties loaded one after the other: what is known of the files stays.
+-- Counties loaded one after the other: what is known of the files stays the same.
 use Rattle.std.proofs.Common.{◌≡◌, ℕ, ◌+◌, ◌<◌, suc, List, [], ◌∷◌, ◌++◌, length, get_or, take, drop, map, Option, Bor, Result}
 use Rattle.std.proofs.Common.{IsErrAnd, IfErr, refl, ap, sym, subst, ◌≢◌, ◌∙◌, arith}
 use Rattle.std.proofs.Math.Path.{fun_ext}
@@ -41,7 +41,7 @@ module _ {known later : List ℕ → Option (List ℕ)} (same : (name : List ℕ
       (sym (map_more (λ (code : Bor (List ℕ)). code.now) codes i d inside))
       (all_zipped_more (IsCountyOf known folder) (texts (take i codes)) counties (get_or codes i d).now county so_far here)
 
-  -- its refusal
+  -- the refusal of one more code's county
   pub refused_behind : {refusal : RefusalParts} → IsRefusedCounty later folder (get_or codes i d).now refusal
       → HaveRefusedCounty known folder (texts codes) refusal
   refused_behind {refusal} is = record {
@@ -54,7 +54,7 @@ module _ {known later : List ℕ → Option (List ℕ)} (same : (name : List ℕ
     refused = subst (λ (known : List ℕ → Option (List ℕ)). IsRefusedCounty known folder (get_or codes i d).now refusal) (fun_ext same) is;
   }
 
--- a file that is named in the failure of one county
+-- a file named in the failure of one county
 module _ (folder : List ℕ) (codes : List (Bor (List ℕ))) (i : ℕ) (d : Bor (List ℕ)) (inside : i < length codes) where
   file_behind : (name : List ℕ) → IsFileOfCounty folder (get_or codes i d).now name → IsFileOfCounties folder (texts codes) name
   file_behind name is = record {
@@ -71,7 +71,7 @@ module _ (folder : List ℕ) (codes : List (Bor (List ℕ))) (i : ℕ) (d : Bor 
   named_behind (CountyFile of_folder of_code file error) is = file_behind (file_name of_folder.now of_code.now file) is
   named_behind failure is = tt
 
--- the same failure from earlier on, where no open failed and no read
+-- the same failure, counted from an earlier point since which no open and no read failed
 pub load_told : {IsRefusedNow IsRefusedSo : RefusalParts → Type 0} (disk later disk' : Disk) (failure : Failure) → IsUnfailed disk later
     → ((refusal : RefusalParts) → IsRefusedNow refusal → IsRefusedSo refusal) → TellsLoad IsRefusedNow later disk' failure
     → TellsLoad IsRefusedSo disk disk' failure
@@ -93,12 +93,12 @@ pub open_named : (folder code : Bor (List ℕ)) (file : county_file.CountyFile) 
 open_named folder code file (fault.Unusable error) = (file, refl)
 open_named folder code file fault.Memory = tt
 
--- none of these is a fault of usage
+-- none of these is a usage error
 pub load_usage : (IsRefusedSo : RefusalParts → Type 0) (disk disk' : Disk) (failure : Failure) → TellsLoad IsRefusedSo disk disk' failure
     → status failure ≢ 2
 load_usage IsRefusedSo disk disk' failure told two = grind (arith, refusal_not_usage, told, two)
 
--- out of memory says nothing of counties
+-- running out of memory implies nothing about the counties
 pub memory_told : {T : Type 0} (result : Result T Failure) (IsRefusedSo : RefusalParts → Type 0) (disk disk' : Disk)
     → IsErrAnd result (λ failure. failure ≡ Memory) → IfErr result (TellsLoad IsRefusedSo disk disk')
 memory_told result IsRefusedSo disk disk' is = grind (arith, is)

@@ -29,12 +29,12 @@ use Rattle.commands.specs.declared.request.Request.TheVariants as request
 use Rattle.commands.proofs.CarriedLemmas.{fault_unflushed}
 use Rattle.commands.proofs.FileLemmas.{unfailed_both}
 
--- the files that are read hold the same after the program was read
+-- the files hold the same bytes after the program was read
 pub holds_before : {known later : List ℕ → Option (List ℕ)} (lines : Option (Bor (List ℕ))) (file : List ℕ)
     → ((name : List ℕ) → later name ≡ known name) → HoldsLines later lines file → HoldsLines known lines file
 holds_before lines file same holds = subst (λ known. HoldsLines known lines file) (fun_ext same) holds
 
--- a program's fault that isn't the verifier's is no device's
+-- a fault of a program, other than the verdict, is never an I/O failure
 flow_status : (program : List ℕ) (fault : ProgramFault) → IsFlowFault program fault → refusal_status (program_fault.refusal fault) ≡ 3 → ⊥
 flow_status program fault is three = grind (arith, is, three)
 
@@ -61,7 +61,7 @@ module _ (explain : Explain) {disk later disk' : Disk} {out : Writer} (before : 
     unflushed = refl;
   }
 
-  -- the source lines are
+  -- the source lines are refused
   pub lines_refused : (file : List ℕ) (fault : LinesFault) → HoldsLines later.known explain.lines file → lines_in file ≡ Err fault
       → CarriesOut (request.Explain explain) (Err (failure.Refusal (lines_fault.refusal fault))) disk disk' out out
   lines_refused file fault holds is = record {
@@ -71,7 +71,7 @@ module _ (explain : Explain) {disk later disk' : Disk} {out : Writer} (before : 
     unflushed = refl;
   }
 
-  -- the explanation is written, or memory runs out before
+  -- the explanation is written, or memory runs out first
   pub explained_carried : {written : Writer} (inputs : Inputs explain disk.known) (result : Result (Unit {0}) Failure)
       → WritesExplained inputs.code inputs.lines result out written → CarriesOut (request.Explain explain) result disk disk' out written
   explained_carried inputs (Ok done) wrote = record {
@@ -116,7 +116,7 @@ module _ (explain : Explain) {disk later disk' : Disk} {out : Writer} (before : 
 
 -- how the explanation of a verdict was written
 module _ {code : List Insn} {lines : List SourceLine} {out out' : Writer} (text : List ℕ) where
-  -- a verdict that isn't a lack of memory is refused at a place
+  -- a fault other than running out of memory is a refusal at a place
   pub refusal_written : (fault : VerifyFault) → IsExplained code lines text (Err fault) → WritesText text (Ok tt) out out'
       → WritesExplained code lines (Err (failure.Refusal (verify_fault.refusal fault))) out out'
   refusal_written (verify.Refused place cause) explained written = inr (text, place, cause, explained, refl, written)

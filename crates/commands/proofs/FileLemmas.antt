@@ -6,11 +6,11 @@ use Rattle.commands.specs.Files.{TellsFailure, TellsProgramUse, TellsUse}
 use Rattle.commands.specs.declared.files.FileFault.{FileFault}
 use Rattle.commands.specs.declared.files.ProgramInputFault.{ProgramInputFault}
 
--- what is known stays over two calls
+-- what is known stays the same over two calls
 pub keeps_both : (a b c : Option (List ℕ)) → Keeps a b → Keeps b c → Keeps a c
 keeps_both a b c first second = grind (arith, first, second)
 
--- a reader is closed none of whose reads failed, or one of them
+-- a reader is closed, with or without a failed read
 module _ {before after failed failed' : ℕ} (unread : before ≡ 0) (closes : CountsClose after failed failed') where
   pub sound_close : after ≡ before → failed' ≡ failed
   sound_close same = closes.0 (same ∙ unread)
@@ -28,7 +28,7 @@ module _ (disk disk' : Disk) {before after between : ℕ} (opens : disk'.failed_
       → CountsClose after between disk'.failed_reads → TellsUse result disk disk'
   used result reads closes = grind (arith, reads, closes)
 
-  -- the same of a program
+  -- the same for a program
   pub used_program : {T : Type 0} (result : Result T ProgramInputFault)
       → MatchResult result (λ _. after ≡ before) (λ of. CountsProgramFault of before after)
       → CountsClose after between disk'.failed_reads → TellsProgramUse result disk disk'

@@ -1,4 +1,4 @@
--- Texts that are written piece by piece, up to the first fault.
+-- Texts written piece by piece, up to the first fault.
 use Rattle.std.proofs.Common.{◌≡◌, ℕ, suc, ◌+◌, ◌<◌, ◌≤◌, List, [], ◌++◌, length, get_or, take, drop, Option, Result, Ok, Err}
 use Rattle.std.proofs.Common.{min, ap, sym, subst, ◌∙◌}
 use Rattle.std.specs.List.{flat_map}
@@ -13,7 +13,7 @@ use Rattle.tl_fields.specs.Writing.{AppendsBeginning, WritesText}
 use Rattle.tl_fields.specs.declared.writing.WriteFault.{WriteFault}
 use Rattle.tl_fields.proofs.KnownBytesLemmas.{Appends-append, AppendsBeginning-further}
 
--- a beginning of a text is one of a longer text
+-- a prefix of a text is a prefix of a longer text
 beginning_longer : (a b : Option (List ℕ)) (text more : List ℕ) → AppendsBeginning a b text → AppendsBeginning a b (text ++ more)
 beginning_longer a b text more is = record {
   count = min is.count (length text);
@@ -21,7 +21,7 @@ beginning_longer a b text more is = record {
       ∙ sym (take-append-le (min is.count (length text)) text more (min-le_right is.count (length text)))) is.appends;
 }
 
--- a longer text isn't written whole either
+-- a longer text isn't written completely either
 pub stopped_early : (text more : List ℕ) (fault : WriteFault) (a b : Writer) → WritesText text (Err fault) a b
     → WritesText (text ++ more) (Err fault) a b
 stopped_early text more fault a b stopped = (beginning_longer a.held b.held text more stopped.0, stopped.1)
@@ -32,7 +32,7 @@ pub written_further : (first second : List ℕ) (a b c : Writer) → WritesText 
 written_further first second a b c before written =
     (Appends-append a.held b.held c.held first second before.0 written.0, written.1 ∙ before.1)
 
--- it isn't written whole
+-- the second text isn't written completely
 pub stopped_further : (first second more : List ℕ) (fault : WriteFault) (a b c : Writer) → WritesText first (Ok tt) a b
     → WritesText second (Err fault) b c → WritesText (first ++ (second ++ more)) (Err fault) a c
 stopped_further first second more fault a b c before stopped = (
@@ -56,7 +56,7 @@ module _ {A : Type 0} (f : A → List ℕ) (xs : List A) (i : ℕ) (d : A) (insi
     written.1 ∙ so_far.1,
   )
 
-  -- it isn't written whole
+  -- the next piece isn't written completely
   pub piece_stopped : (a b c : Writer) (text : List ℕ) (fault : WriteFault) → text ≡ f (get_or xs i d)
       → WritesText (flat_map f (take i xs)) (Ok tt) a b → WritesText text (Err fault) b c → WritesText (flat_map f xs) (Err fault) a c
   piece_stopped a b c text fault is so_far written = (
@@ -67,7 +67,7 @@ module _ {A : Type 0} (f : A → List ℕ) (xs : List A) (i : ℕ) (d : A) (insi
     subst (λ (counts : WriteCounts). CountsFault fault counts c.counts) so_far.1 written.1,
   )
 
--- all are written
+-- all pieces are written
 pub pieces_done : {A : Type 0} (f : A → List ℕ) (xs : List A) (i : ℕ) (result : Result (Unit {0}) WriteFault) (a b : Writer) → length xs ≤ i
     → WritesText (flat_map f (take i xs)) result a b → WritesText (flat_map f xs) result a b
 pieces_done {A} f xs i result a b past wrote = subst (λ (xs : List A). WritesText (flat_map f xs) result a b) (take_all i xs past) wrote

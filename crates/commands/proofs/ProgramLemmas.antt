@@ -1,4 +1,4 @@
--- Reading a program to its end: what is kept of it, and why it's too long.
+-- Reading a program to its end: the bytes that are kept, and why it is too long.
 use Rattle.std.proofs.Common.{◌≡◌, ◌≢◌, ◌⊎◌, ℕ, ◌+◌, ◌*◌, ◌%◌, ◌<◌, ◌≤◌, List, [], ◌++◌, length, take, ◌-◌, Option, Some, None, Result, Ok}
 use Rattle.std.proofs.Common.{Err, IfOk, is_ok, min, if◌then◌else◌, inl, inr, refl, ap, sym, ◌∙◌, arith}
 use Rattle.std.specs.Io.KnownBytes.{Consumes, IsAtEnd, Keeps}
@@ -11,7 +11,7 @@ use Rattle.bpf_insn.specs.declared.fault.CodeFault.TheVariants as code
 use Rattle.commands.specs.Files.{IsTooLong}
 use Rattle.commands.proofs.FileLemmas.{keeps_both}
 
--- a front of what was read, and as much more as is kept of what is read after it
+-- the kept prefix of what was read, extended by the bytes that are kept from the next read
 kept_more : (most : ℕ) (before read kept : List ℕ) → kept ≡ take most before
     → kept ++ take (most - length kept) read ≡ take most (before ++ read)
 kept_more most before read kept is = by_length (cases_lt most (length before))
@@ -27,7 +27,7 @@ kept_more most before read kept is = by_length (cases_lt most (length before))
         ap (λ (bytes : List ℕ). bytes ++ take (most - length bytes) read) all
         ∙ sym (take-append-add before read (most - length before)) ∙ ap (λ (n : ℕ). take n (before ++ read)) sum
 
--- the same by how it is added, which may be refused
+-- the same, for the append that may fail
 module _ (most count : ℕ) (before read kept kept' : List ℕ) where
   pub kept_read : {V E : Type 0} (result : Result V E) → count ≡ min (most - length kept) (length read)
       → kept' ≡ (if is_ok result then kept ++ take count read else kept) → kept ≡ take most before
@@ -37,7 +37,7 @@ module _ (most count : ℕ) (before read kept kept' : List ℕ) where
       ∙ kept_more most before read kept is
   kept_read (Err error) is_count added is = tt
 
--- a program of which no more than the limit is kept is kept whole, and one of which more is kept is longer
+-- if no more than the limit is kept, the kept bytes are the whole program; if more is kept, the program is longer than the limit
 module _ (program kept : List ℕ) (is : kept ≡ take (8 * (WORD_LIMIT + 1)) program) where
   kept_length : length kept ≡ min (8 * (WORD_LIMIT + 1)) (length program)
   kept_length = ap length is ∙ length-take (8 * (WORD_LIMIT + 1)) program
@@ -48,7 +48,7 @@ module _ (program kept : List ℕ) (is : kept ≡ take (8 * (WORD_LIMIT + 1)) pr
   more_kept : 8 * WORD_LIMIT < length kept → 8 * WORD_LIMIT < length program
   more_kept more = omega (arith, more, kept_length)
 
-  -- its fault by what is left of its last word
+  -- the program's fault, by the remainder of its last word
   pub too_long : 8 * WORD_LIMIT < length kept → 0 ≡ length program % 8 → IsTooLong (Some program) code.TooLong
   too_long more none = record {
     program = program;
@@ -68,7 +68,7 @@ module _ (program kept : List ℕ) (is : kept ≡ take (8 * (WORD_LIMIT + 1)) pr
     has_number = λ e. cc;
   }
 
--- the same where less is known of it
+-- the same if less is known of it
 pub too_long_as : (known left : Option (List ℕ)) (fault : CodeFault) → Keeps known left → IsTooLong left fault → IsTooLong known fault
 too_long_as known left fault kept is = record {
   program = is.program;
@@ -78,7 +78,7 @@ too_long_as known left fault kept is = record {
   has_number = is.has_number;
 }
 
--- at the end of its input a reader has given all that it had
+-- at the end of its input, a reader has returned all that it had
 module _ (taken buffer : List ℕ) (count : ℕ) where
   pub read_whole : (old now new : Option (List ℕ)) → Consumes old now taken
       → Consumes now new (take count buffer) × (count ≡ 0 → 0 < length buffer → IsAtEnd new) → count ≡ 0 → 0 < length buffer
@@ -90,7 +90,7 @@ module _ (taken buffer : List ℕ) (count : ℕ) where
       let left : ys ≡ [] = last.0 ∙ ap (λ (n : ℕ). take n buffer ++ zs) none ∙ last.1 none some in
       sym (first ∙ ap (λ (bytes : List ℕ). taken ++ bytes) left ∙ append-nil taken)
 
--- what is left of words behind so many bytes more
+-- the remainder after reading `count` more bytes
 pub rest_more : (taken buffer : List ℕ) (rest count : ℕ) → rest ≡ length taken % 8 → count ≤ length buffer
     → (rest + count) % 8 ≡ length (taken ++ take count buffer) % 8
 rest_more taken buffer rest count is within =

@@ -1,4 +1,4 @@
--- Which refusals are of a failed read, and what closing a county's readers then counts.
+-- Which refusals are for a failed read, and what closing a county's readers then counts.
 use Rattle.std.proofs.Common.{◌≡◌, ◌≢◌, ℕ, List, Option, refl, ap, sym, subst, ◌∙◌, arith}
 use Rattle.tl_fields.specs.Device.{Reader, Writer}
 use Rattle.tl_records.specs.LineFlaw as line_flaw
@@ -16,7 +16,7 @@ use Rattle.commands.specs.Failure.{refusal_status}
 use Rattle.commands.specs.Files.{Closes, CountsClose, Disk, IsUnfailed}
 use Rattle.commands.proofs.FileLemmas.{broken_close, sound_close}
 
--- a count has changed where the status is 3, and nowhere else
+-- a count has changed if the status is 3, and only then
 pub record ReadsAs (status failed failed' : ℕ) : Type 0 where
   pub fails : status ≡ 3 → failed' ≢ failed
   pub stays : status ≢ 3 → failed' ≡ failed
@@ -32,7 +32,7 @@ file_reads : (file : county_file.CountyFile) (of : LoadFault) (old new : Reader)
     → ReadsAs (refusal_status (load_fault.refusal of)) old.failed new.failed
 file_reads file of old new is = grind (arith, flaw_reads, is)
 
--- a count after one reader is closed, and after others none of whose reads failed
+-- a count after one reader is closed, together with others none of whose reads failed
 module _ {status a b c : ℕ} where
   reads_then : ReadsAs status a b → c ≡ b → ReadsAs status a c
   reads_then is same = record { fails = λ three as_before. is.fails three (sym same ∙ as_before); stays = λ other. same ∙ is.stays other }
@@ -50,7 +50,7 @@ reads_close unread closes is = record {
 failed_as : {old new : Reader} → new ≡ old → new.failed ≡ old.failed
 failed_as = ap (λ (reader : Reader). reader.failed)
 
--- the same from an equal count on
+-- the same, starting from an equal count
 pub closes_from : {readers : CountyReaders} {disk between disk' : Disk} → IsUnfailed disk between
     → Closes (ClosesCounty readers) between disk' → ClosesCounty readers disk.failed_reads disk'.failed_reads
 closes_from {readers} {disk' = disk'} before closes =
@@ -66,7 +66,7 @@ module _ {known : List ℕ → Option (List ℕ)} {folder code : List ℕ} {old 
     (hold : HoldCounty known folder code old) (closes : ClosesCounty new failed failed') where
   open hold use {rt1 as was_rt1, joined.{rt4 as was_rt4, rt5 as was_rt5, rt6 as was_rt6}}
 
-  -- where no read failed
+  -- no read failed
   pub sound_closed : AreUnfailed old new → failed' ≡ failed
   sound_closed is =
       sound_close was_rt6.failed closes.rt6 is.rt6 ∙ sound_close was_rt5.failed closes.rt5 is.rt5
@@ -79,7 +79,7 @@ module _ {known : List ℕ → Option (List ℕ)} {folder code : List ℕ} {old 
   loads_closed county is = let joined = is.reads_joined in
       sound_closed (record { rt1 = is.rt1.reads; rt4 = joined.rt4.reads; rt5 = joined.rt5.reads; rt6 = joined.rt6.reads })
 
-  -- where only reads of one file may have failed
+  -- only reads of one file may have failed
   joined_closed : (of : LoadFault) → IsJoinedFault of old.joined new.joined → new.rt1 ≡ old.rt1
       → ReadsAs (refusal_status (load_fault.refusal of)) failed failed'
   joined_closed of (in_rt4 is rt5 rt6) rt1 =
@@ -96,7 +96,7 @@ module _ {known : List ℕ → Option (List ℕ)} {folder code : List ℕ} {old 
       ∙ sound_close was_rt1.failed closes.rt1 (failed_as rt1))
       (reads_close was_rt6.failed closes.rt6 (file_reads Rt6 of old.joined.rt6 new.joined.rt6 is))
 
-  -- where a county isn't loaded
+  -- a county isn't loaded
   pub county_closed : (of : LoadFault) → IsCountyFault of old new → ReadsAs (refusal_status (load_fault.refusal of)) failed failed'
   county_closed of (before_rt1 joined rt1) = joined_closed of joined rt1
   county_closed of (in_rt1 lines joined is) =
@@ -104,7 +104,7 @@ module _ {known : List ℕ → Option (List ℕ)} {folder code : List ℕ} {old 
       (sound_close was_rt6.failed closes.rt6 joined.rt6.reads ∙ sound_close was_rt5.failed closes.rt5 joined.rt5.reads
       ∙ sound_close was_rt4.failed closes.rt4 joined.rt4.reads)
 
--- an extract that is refused for a county's file is refused for the county's fault
+-- an extract refused for a county's file is refused for the county's fault
 pub load_refusal : (of : LoadFault) (program : List ℕ) (old new : CountyReaders) (out out' : Writer)
     → IsLoadRefusal program of old new out out' → IsCountyFault of old new
 load_refusal of program old new out out' (extracting.before_rt1 safe has joined rt1 unwritten) = before_rt1 joined rt1

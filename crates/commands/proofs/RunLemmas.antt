@@ -24,7 +24,7 @@ use Rattle.commands.proofs.CarriedLemmas.{fault_unflushed, refused_carried}
 use Rattle.commands.proofs.ClassLemmas.{program_status}
 use Rattle.commands.proofs.ReadLemmas.{closes_from, county_closed, load_refusal, sound, sound_closed, unread_closed}
 
--- a program that is too long is refused before anything of the county is read
+-- a program that is too long is refused before the county is read
 pub run_too_long : (run : Run) (known : List ℕ → Option (List ℕ)) (out : Writer) (refusal : RefusalParts)
     → HoldTooLong run.program.now run.«data».now run.code.now known refusal → IsRefused run known refusal out out
 run_too_long run known out refusal is = (
@@ -42,7 +42,7 @@ run_too_long run known out refusal is = (
 flushes_as : {counts counts' : WriteCounts} → counts' ≡ counts → counts'.flushes ≡ counts.flushes
 flushes_as = ap (λ (counts : WriteCounts). counts.flushes)
 
--- an extract that is refused for a county's file counts no flush
+-- an extract refused for a county's file counts no flush
 load_unflushed : (of : LoadFault) (program : List ℕ) (old new : CountyReaders) (out out' : Writer)
     → IsLoadRefusal program of old new out out' → out'.counts.flushes ≡ out.counts.flushes
 load_unflushed of program old new out out' (extracting.before_rt1 safe has joined rt1 unwritten) =

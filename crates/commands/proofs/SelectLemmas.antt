@@ -1,4 +1,4 @@
--- How `select` is carried out: the extracts of several counties, and the filter before them.
+-- How `select` is carried out: the filter first, and then the extracts of several counties.
 use Rattle.std.proofs.Common.{◌≡◌, ◌<◌, ◌+◌, ℕ, suc, List, length, get_or, take, drop, Option, Bor, Result, Ok, Err, IfErr}
 use Rattle.std.proofs.Common.{refl, ap, sym, subst, ◌∙◌}
 use Rattle.std.proofs.Math.Path.{fun_ext}
@@ -21,7 +21,7 @@ use Rattle.commands.specs.declared.failure.Failure.{Failure}
 use Rattle.commands.specs.declared.failure.Failure.TheVariants.{Memory, Write, CountyFile, Filter, County}
 use Rattle.commands.proofs.CountiesLemmas.{codes_at, texts}
 
--- extracts that were written count no fault and no flush
+-- written extracts count no fault and no flush
 pub counties_counts : {over : Selecting} {out : Writer} {codes : List (List ℕ)} {out' : Writer} → WritesCounties over out codes out'
     → out'.counts ≡ out.counts
 counties_counts none = refl
@@ -42,7 +42,7 @@ module _ (known later : List ℕ → Option (List ℕ)) (same : (name : List ℕ
       (sym (map_more (λ (code : Bor (List ℕ)). code.now) codes i d inside))
       (more (get_or codes i d).now so_far (earlier (λ over. WritesCounty over (get_or codes i d).now between out') wrote))
 
-  -- it stops at that code
+  -- the command stops at that code
   stopped_behind : {StopsSo : List ℕ → Writer → Type 0} → StopsSo (get_or codes i d).now between
       → StopsAt (selecting known folder program) (texts codes) out StopsSo
   stopped_behind is = record {
@@ -65,7 +65,7 @@ module _ (known later : List ℕ → Option (List ℕ)) (same : (name : List ℕ
   counties_stopped out' (CountyFile of_folder code file error) is = stopped_behind is
   counties_stopped out' failure is = absurd is
 
--- the same failure from earlier on, where no open failed and no read
+-- the same failure, counted from an earlier point since which no open and no read failed
 pub fails_behind : (failure : Failure) (disk later disk' : Disk) → IsUnfailed disk later → FailsAs failure later disk'
     → FailsAs failure disk disk'
 fails_behind (County code refusal) disk later disk' unfailed is = λ three as_before. is three (as_before ∙ sym unfailed.reads)
@@ -83,7 +83,7 @@ filter_carried text score Memory is each counts =
     record { outcome = refl; names = tt; counts = λ other. counts; unflushed = refl }
 filter_carried text score failure is each counts = absurd is
 
--- its program's extracts
+-- the extracts of its program
 module _ {disk disk' : Disk} {out out' : Writer} (asked : Select) {program : List ℕ}
     (is_program : IsProgramOf asked.filter.now asked.compiling.score program) where
   pub select_carried : (result : Result (Unit {0}) Failure)
@@ -101,7 +101,7 @@ module _ {disk disk' : Disk} {out out' : Writer} (asked : Select) {program : Lis
       record { outcome = ((program, is_program, is), fails); names = names; counts = counts; unflushed = unflushed }
   select_carried (Err failure) is fails names counts unflushed = absurd is
 
--- the same, as it is called: the text, the program and the codes are lent
+-- the same for the call's arguments: the text, the program and the codes are borrowed
 pub select_lent : {disk disk' : Disk} {out out' : Writer} (asked : Select) {text lent program : List ℕ} {codes : List (Bor (List ℕ))}
     (result : Result (Unit {0}) Failure) → text ≡ asked.filter.now → lent ≡ program → codes ≡ asked.codes.items
     → IsProgramOf text asked.compiling.score program

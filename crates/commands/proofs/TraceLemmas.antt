@@ -18,7 +18,7 @@ use Rattle.commands.proofs.CarriedLemmas.{refused_carried, written_carried}
 use Rattle.commands.proofs.ClassLemmas.{code_status}
 use Rattle.commands.proofs.ReadLemmas.{ReadsAs, closes_from, county_closed, loads_closed, sound, unread_closed}
 
--- a program that is too long is refused before anything of the county is read
+-- a program that is too long is refused before the county is read
 pub trace_too_long : (trace : Trace) (known : List ℕ → Option (List ℕ)) (out : Writer) (refusal : RefusalParts)
     → HoldTooLong trace.program.now trace.«data».now trace.code.now known refusal → IsRefused trace known refusal out out
 trace_too_long trace known out refusal is = record {
@@ -30,7 +30,7 @@ trace_too_long trace known out refusal is = record {
   unwritten = refl;
 }
 
--- what closing the county's readers counts where there is no outcome
+-- what closing the county's readers counts if there is no outcome
 fault_closed : {known : List ℕ → Option (List ℕ)} {folder code program : List ℕ} {old new : CountyReaders} {failed failed' : ℕ}
     → HoldCounty known folder code old → ClosesCounty new failed failed' → (refusal : RefusalParts) → IsTraceFault program old new refusal
     → ReadsAs (refusal_status refusal) failed failed'
@@ -42,7 +42,7 @@ fault_closed {failed = failed} {failed' = failed'} hold closes refusal (of_count
 module _ {trace : Trace} {disk between disk' : Disk} {program bytes : List ℕ} {old new : CountyReaders}
     (hold : HoldAsked trace disk.known program old) (before : IsUnfailed disk between) (closes : Closes (ClosesCounty new) between disk')
     (same : bytes ≡ program) where
-  -- the outcome was handed to the output
+  -- the outcome was passed to the output
   pub outcome_written : {outcome : Outcome} (result : Result (Unit {0}) Failure) {out out' : Writer}
       → IsOutcomeOn trace bytes old new outcome → WritesAs (outcome_line outcome) result out out'
       → CarriesOut (request.Trace trace) result disk disk' out out'

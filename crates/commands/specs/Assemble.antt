@@ -1,4 +1,4 @@
--- What `asm` writes, and what it is refused for.
+-- What `asm` writes, and why it is refused.
 use Rattle.std.specs.Prelude.{◌≡◌, ℕ, List, Option, Some, IsUtf8, Result}
 use Rattle.std.specs.Io.KnownBytes.{Keeps}
 use Rattle.bpf_insn.specs.Code.{IsCodeOf}
@@ -12,8 +12,8 @@ use Rattle.tl_fields.specs.Writing.{WritesText}
 use Rattle.tl_fields.specs.declared.writing.WriteFault.{WriteFault}
 use Rattle.commands.specs.declared.assemble.Assemble.{Assemble}
 
--- The source, which holds the bytes that are known of it, is UTF-8 and means a code, whose words were written, or a beginning of them up to
--- the fault of the output.
+-- The source, whose bytes agree with what is known of them, is UTF-8 and assembles to a code. The code's words were written, completely or up to
+-- the output's fault.
 pub record Writes (assemble : Assemble) (known : List ℕ → Option (List ℕ)) (result : Result (Unit {0}) WriteFault)
     (out out' : Writer) : Type 0 where
   pub source : List ℕ
@@ -25,7 +25,7 @@ pub record Writes (assemble : Assemble) (known : List ℕ → Option (List ℕ))
   pub are_words : IsCodeOf words code
   pub written : WritesText words result out out'
 
--- The source is UTF-8 and means no code: it is refused for its first fault, and nothing was written.
+-- The source is UTF-8 but doesn't assemble. It is refused for its first fault, and nothing was written.
 pub record IsRefused (assemble : Assemble) (known : List ℕ → Option (List ℕ)) (refusal : RefusalParts) (out out' : Writer) : Type 0 where
   pub source : List ℕ
   pub is_source : Keeps (known assemble.source.now) (Some source)

@@ -1,4 +1,4 @@
--- What a command promises by its exit status.
+-- What a command guarantees for each exit status.
 use Rattle.std.specs.Prelude.{◌≡◌, ◌≢◌, ℕ, List, [], ◌∷◌, ◌++◌, codes, decimal, Option, Some, None, Result, Ok, Err, IfErr, IsUtf8}
 use Rattle.std.specs.Io.KnownBytes.{Keeps}
 use Rattle.std.specs.declared.io.Error.{Error}
@@ -27,7 +27,7 @@ use Rattle.commands.specs.declared.request.Request.TheVariants.{Run, Trace, Geoc
 use Rattle.commands.specs.declared.failure.Failure.{Failure}
 use Rattle.commands.specs.declared.failure.Failure.TheVariants.{Refusal, Memory, Write, File, CountyFile, NotUtf8, NoLine, Filter, County, Output}
 
--- what was asked for was written, whole or a beginning of it up to the fault of the output
+-- the request's output was written, completely or up to the output's fault
 abbrev pub Writes : Request → (List ℕ → Option (List ℕ)) → Result (Unit {0}) WriteFault → Writer → Writer → Type 0
 Writes (Run asked) known result out out' = run.Writes asked known result out out'
 Writes (Trace asked) known result out out' = trace.Writes asked known result out out'
@@ -40,11 +40,12 @@ Writes (Disassemble asked) known result out out' = disassemble.Writes asked know
 Writes (Compile asked) known result out out' = compile.Writes asked known result out out'
 Writes (Select asked) known result out out' = select.Writes asked known result out out'
 
--- what was asked for was written, whole
+-- the request's output was written completely
 abbrev pub IsWritten : Request → (List ℕ → Option (List ℕ)) → Writer → Writer → Type 0
 IsWritten request known out out' = Writes request known (Ok tt) out out'
 
--- What was asked for was refused so by a library. `compile` and `select` are refused for their filter, or for one of several counties.
+-- A library refused the request with this refusal. `compile` and `select` don't appear here: they are refused for their filter, or for one of
+-- several counties.
 abbrev pub IsRefused : Request → (List ℕ → Option (List ℕ)) → RefusalParts → Writer → Writer → Type 0
 IsRefused (Run asked) known refusal out out' = run.IsRefused asked known refusal out out'
 IsRefused (Trace asked) known refusal out out' = trace.IsRefused asked known refusal out out'
@@ -56,47 +57,47 @@ IsRefused (Assemble asked) known refusal out out' = assemble.IsRefused asked kno
 IsRefused (Disassemble asked) known refusal out out' = disassemble.IsRefused asked known refusal out out'
 IsRefused request known refusal out out' = ⊥
 
--- the filter that was asked for is refused so
+-- the request's filter is refused with this refusal
 abbrev pub IsFilterRefused : Request → (List ℕ → Option (List ℕ)) → RefusalParts → Type 0
 IsFilterRefused (Compile asked) known refusal = compile.IsRefused asked known refusal
 IsFilterRefused (Select asked) known refusal = IsFilterRefusal asked.filter.now asked.compiling.score refusal
 IsFilterRefused request known refusal = ⊥
 
--- one of several counties, of this code, is refused so
+-- the county of this code, one of several, is refused with this refusal
 abbrev pub IsCountyRefused : Request → (List ℕ → Option (List ℕ)) → List ℕ → RefusalParts → Writer → Writer → Type 0
 IsCountyRefused (Select asked) known code refusal out out' = select.IsRefusedAt asked known code refusal out out'
 IsCountyRefused request known code refusal out out' = ⊥
 
--- what was asked for was refused by a library, which is this failure
+-- a library refused the request, which is reported as this failure
 abbrev pub IsRefusedWith : Request → (List ℕ → Option (List ℕ)) → Failure → Writer → Writer → Type 0
 IsRefusedWith request known (Refusal refusal) out out' = IsRefused request known refusal out out'
 IsRefusedWith request known (Filter refusal note) out out' = IsFilterRefused request known refusal × (out' ≡ out)
 IsRefusedWith request known (County code refusal) out out' = IsCountyRefused request known code.now refusal out out'
 IsRefusedWith request known failure out out' = ⊥
 
--- what was written before a file couldn't be used: nothing, and for several counties the extracts of those before it
+-- what was written before a file turned out to be unusable: nothing, except that `select` has written the extracts of the counties before it
 abbrev pub WritesBefore : Request → (List ℕ → Option (List ℕ)) → Writer → Writer → Type 0
 WritesBefore (Select asked) known out out' = select.WritesBefore asked known out out'
 WritesBefore request known out out' = out' ≡ out
 
--- this line, which was asked for, isn't in the file of type 1; no other command asks for a line
+-- the requested line isn't in the type 1 file; only `trace` requests a line
 abbrev pub LacksLine : Request → (List ℕ → Option (List ℕ)) → ℕ → Type 0
 LacksLine (Trace asked) known number = trace.LacksLine asked known number
 LacksLine request known number = ⊥
 
--- the source that is asked for, by its name; only `asm` has one
+-- the name of the request's source; only `asm` has one
 abbrev pub source_of : Request → Option (List ℕ)
 source_of (Assemble asked) = Some asked.source.now
 source_of request = None
 
--- the source of this name, which was asked for, isn't UTF-8
+-- this is the name of the request's source, which isn't UTF-8
 pub record IsNotUtf8 (request : Request) (known : List ℕ → Option (List ℕ)) (name : List ℕ) : Type 0 where
   pub is_source : source_of request ≡ Some name
   pub source : List ℕ
   pub holds : Keeps (known name) (Some source)
   pub no_text : ¬ IsUtf8 source
 
--- a file of this name is one that is read for the request
+-- the request reads a file of this name
 abbrev pub IsFileOf : Request → List ℕ → Type 0
 IsFileOf (Run asked) name = IsInput asked.program.now asked.«data».now asked.code.now name
 IsFileOf (Trace asked) name = IsInput asked.program.now asked.«data».now asked.code.now name
@@ -109,9 +110,8 @@ IsFileOf (Disassemble asked) name = name ≡ asked.program.now
 IsFileOf (Compile asked) name = name ≡ asked.filter.now
 IsFileOf (Select asked) name = IsFileOfCounties asked.«data».now (select.codes_of asked) name
 
--- How a request is carried out. It is written, whole or up to a fault of the output. Or a library refuses it, and where the status is 3 a
--- read failed. Or a file can't be used. Or nothing was written, since memory ran out, or what was asked for isn't there. The output isn't
--- flushed.
+-- The outcome of a request. Its output was written, completely or up to the output's fault. Or a library refuses it; if the status is 3, a read
+-- failed. Or a file can't be used. Or memory ran out or the requested line doesn't exist, and nothing was written. The output isn't flushed.
 abbrev pub IsCarriedOut : Request → Result (Unit {0}) Failure → Disk → Disk → Writer → Writer → Type 0
 IsCarriedOut request (Ok done) disk disk' out out' = Writes request disk.known (Ok done) out out'
 IsCarriedOut request (Err (Write fault)) disk disk' out out' = Writes request disk.known (Err fault) out out'
@@ -128,34 +128,34 @@ IsCarriedOut request (Err (NoLine number)) disk disk' out out' = (out' ≡ out) 
 IsCarriedOut request (Err Memory) disk disk' out out' = out' ≡ out
 IsCarriedOut request (Err (Output error)) disk disk' out out' = ⊥
 
--- the same, and that a file that is named is the request's, that no open failed and no read, but where the status is 3, and that the output
--- wasn't flushed
+-- the same; also, a file named in the failure is one of the request's, no open and no read failed unless the status is 3, and the output wasn't
+-- flushed
 pub record CarriesOut (request : Request) (result : Result (Unit {0}) Failure) (disk disk' : Disk) (out out' : Writer) : Type 0 where
   pub outcome : IsCarriedOut request result disk disk' out out'
   pub names : IfErr result (NamesFile (IsFileOf request))
   pub counts : TellsCounts result disk disk'
   pub unflushed : out'.counts.flushes ≡ out.counts.flushes
 
--- the output was flushed, and holds what it held; no other count of it has changed
+-- the output was flushed and keeps what it held; its other counts are unchanged
 pub record IsFlushed (out out' : Writer) : Type 0 where
   pub kept : Keeps out.held out'.held
   pub flushes : out'.counts.flushes ≢ out.counts.flushes
   pub failed : out'.counts.failed ≡ out.counts.failed
   pub empty : out'.counts.empty ≡ out.counts.empty
 
--- The flush of the output failed, which was said. The output keeps what it held.
+-- The flush of the output failed, and the failure was reported. The output keeps what it held.
 pub record FailsFlush (out out' errors errors' : Writer) : Type 0 where
   pub kept : Keeps out.held out'.held
   pub failed : out'.counts.failed ≢ out.counts.failed
   pub said : SaysOutput errors errors'
 
--- what was asked for was written whole behind what the output held, and then the output was flushed
+-- the request's output was written completely, after what the output held before, and then the output was flushed
 pub record IsDone (request : Request) (known : List ℕ → Option (List ℕ)) (out out' : Writer) : Type 0 where
   pub unflushed : Writer
   pub written : IsWritten request known out unflushed
   pub flushed : IsFlushed unflushed out'
 
--- What was asked for was refused by a library, with this exit status, which was said. The output keeps what it then held.
+-- A library refused the request, with this exit status, and the refusal was reported. The output keeps what it held at that point.
 pub record IsRefusalOf (status : ℕ) (request : Request) (known : List ℕ → Option (List ℕ)) (out out' errors errors' : Writer) : Type 0 where
   pub failure : Failure
   pub is_status : status_of failure ≡ status
@@ -164,25 +164,25 @@ pub record IsRefusalOf (status : ℕ) (request : Request) (known : List ℕ → 
   pub kept : Keeps unflushed.held out'.held
   pub said : Says failure errors errors'
 
--- what was asked for was refused, and no device failed nor did an allocation
+-- the request was refused, and neither I/O nor an allocation failed
 abbrev pub IsRefusal : Request → (List ℕ → Option (List ℕ)) → Writer → Writer → Writer → Writer → Type 0
 IsRefusal request known out out' errors errors' = IsRefusalOf 1 request known out out' errors errors'
 
--- the line that was asked for isn't there, which was said
+-- the requested line doesn't exist, and this was reported
 pub record IsLackOfLine (request : Request) (known : List ℕ → Option (List ℕ)) (errors errors' : Writer) : Type 0 where
   pub number : ℕ
   pub lacks : LacksLine request known number
   pub said : SaysText (codes "error: the type 1 file has no line " ++ decimal number ++ 10 ∷ []) errors errors'
 
--- An allocation failed, which was said: of a library, which refused what was asked for so; or for something else, and nothing was written.
+-- An allocation failed, and this was reported: either in a library, which refused the request for it, or elsewhere, and nothing was written.
 pub data IsOutOfMemory (request : Request) (known : List ℕ → Option (List ℕ)) (out out' errors errors' : Writer) : Type 0 where
   of_library : IsRefusalOf 4 request known out out' errors errors' → IsOutOfMemory request known out out' errors errors'
   of_other : Keeps out.held out'.held → SaysMemory errors errors' → IsOutOfMemory request known out out' errors errors'
 
--- Why a request isn't answered, where the status is 3. An open failed, or a read, so that one of the request's files can't be used, and
--- nothing was written. The open of a county's file failed, and nothing was written but for the counties before it. A read of a county's file
--- failed, and a library refused what was asked for. A source isn't UTF-8, and nothing was written. A write failed or took no byte: a
--- beginning was written, and a flush was tried. Or what was asked for was written whole, and the flush failed. Each of these was said.
+-- Why a request fails with status 3. An open or a read failed, so one of the request's files can't be used, and nothing was written. Or a
+-- county's file can't be opened, and only the extracts of the counties before it were written. Or a read of a county's file failed, and a library
+-- refused the request. Or a source isn't UTF-8, and nothing was written. Or a write failed or took no byte: a prefix was written, and a flush was
+-- attempted. Or everything was written, but the flush failed. Each of these was reported.
 pub data IsUnusable (request : Request) (disk disk' : Disk) (out out' errors errors' : Writer) : Type 0 where
   of_file : (name : List ℕ) → IsFileOf request name → IsFailed disk disk' → Keeps out.held out'.held → SaysFile name errors errors'
       → IsUnusable request disk disk' out out' errors errors'

@@ -1,4 +1,4 @@
--- The counties of codes, loaded one after the other from their files in a folder.
+-- The counties of a list of codes, loaded in order from their files in a folder.
 use Rattle.std.specs.Prelude.{◌≡◌, ◌≢◌, ℕ, List, ◌∷◌, ◌++◌, Option, ⊤}
 use Rattle.std.specs.List.{AllZip}
 use Rattle.tl_segments.specs.County.{CountyParts, CountyReaders, IsCountyFault, LoadsCounty}
@@ -11,18 +11,18 @@ use Rattle.commands.specs.Files.{Disk}
 use Rattle.commands.specs.declared.failure.Failure.{Failure}
 use Rattle.commands.specs.declared.failure.Failure.TheVariants.{Refusal, Memory, CountyFile}
 
--- the county of this code is loaded from its files in the folder, which hold the bytes that are known of them
+-- the county of this code is loaded from its files in the folder, whose bytes agree with what is known of them
 pub record IsCountyOf (known : List ℕ → Option (List ℕ)) (folder code : List ℕ) (county : CountyParts) : Type 0 where
   pub old : CountyReaders
   pub hold : HoldCounty known folder code old
   pub new : CountyReaders
   pub loads : LoadsCounty county old new
 
--- a county of each code, in their order
+-- one county for each code, in order
 abbrev pub AreCountiesOf : (List ℕ → Option (List ℕ)) → List ℕ → List (List ℕ) → List CountyParts → Type 0
 AreCountiesOf known folder codes counties = AllZip (IsCountyOf known folder) codes counties
 
--- the county of this code is refused so, for its files' first fault
+-- the county of this code is refused with this refusal, for its files' first fault
 pub record IsRefusedCounty (known : List ℕ → Option (List ℕ)) (folder code : List ℕ) (refusal : RefusalParts) : Type 0 where
   pub old : CountyReaders
   pub hold : HoldCounty known folder code old
@@ -31,7 +31,7 @@ pub record IsRefusedCounty (known : List ℕ → Option (List ℕ)) (folder code
   pub is_fault : IsCountyFault fault old new
   pub is_refusal : refusal ≡ load_fault.refusal fault
 
--- the county of one of the codes is refused so, and those before it are loaded
+-- the county of one of the codes is refused with this refusal, and those before it are loaded
 pub record HaveRefusedCounty (known : List ℕ → Option (List ℕ)) (folder : List ℕ) (codes : List (List ℕ))
     (refusal : RefusalParts) : Type 0 where
   pub before : List (List ℕ)
@@ -42,7 +42,7 @@ pub record HaveRefusedCounty (known : List ℕ → Option (List ℕ)) (folder : 
   pub loaded : AreCountiesOf known folder before counties
   pub refused : IsRefusedCounty known folder code refusal
 
--- a file of this name is one of the county of one of the codes
+-- a file of this name belongs to the county of one of the codes
 pub record IsFileOfCounties (folder : List ℕ) (codes : List (List ℕ)) (name : List ℕ) : Type 0 where
   pub before : List (List ℕ)
   pub code : List ℕ
@@ -50,8 +50,8 @@ pub record IsFileOfCounties (folder : List ℕ) (codes : List (List ℕ)) (name 
   pub are_codes : codes ≡ before ++ code ∷ behind
   pub is_file : IsFileOfCounty folder code name
 
--- Why counties aren't loaded: one is refused so, and where the status is 3 a read failed; or a file of theirs can't be opened; or an
--- allocation fails.
+-- Why counties can't be loaded: one is refused with this refusal, and a read failed if the status is 3; or one of their files can't be opened; or
+-- an allocation fails.
 abbrev pub TellsLoad : (RefusalParts → Type 0) → Disk → Disk → Failure → Type 0
 TellsLoad IsRefusedSo disk disk' (Refusal refusal) =
     IsRefusedSo refusal × (refusal_status refusal ≡ 3 → disk'.failed_reads ≢ disk.failed_reads)

@@ -1,4 +1,4 @@
--- The files of a county in a folder, by name, and what their readers hold.
+-- The files of a county in a folder, by name, and the bytes that their readers hold.
 use Rattle.std.specs.Prelude.{◌≡◌, ℕ, List, ◌++◌, codes, Option, ⊤}
 use Rattle.tl_segments.specs.County.{CountyReaders}
 use Rattle.tl_segments.specs.Loading.{Readers, readers}
@@ -10,7 +10,7 @@ use Rattle.commands.specs.declared.county.JoinedInputs.{JoinedInputs}
 use Rattle.commands.specs.declared.files.Input.{Input}
 use Rattle.commands.specs.declared.files.Input.TheVariants as input
 
--- how a file's name ends
+-- the extension of a county's file
 abbrev pub name_end : CountyFile → List ℕ
 name_end Rt1 = codes ".RT1"
 name_end Rt4 = codes ".RT4"
@@ -21,11 +21,11 @@ name_end Rt6 = codes ".RT6"
 abbrev pub file_name : List ℕ → List ℕ → CountyFile → List ℕ
 file_name folder code file = folder ++ codes "/TGR" ++ code ++ name_end file
 
--- a file of this name is one of the county's in the folder
+-- this is the name of one of the county's files in the folder
 abbrev pub IsFileOfCounty : List ℕ → List ℕ → List ℕ → Type 0
 IsFileOfCounty folder code name = (file : CountyFile) × (name ≡ file_name folder code file)
 
--- The readers are those of the files of types 4, 5 and 6 of a county in the folder, and of all its files.
+-- The readers hold the files of types 4, 5 and 6 of a county in the folder; below, all files of the county.
 pub record HoldJoined (known : List ℕ → Option (List ℕ)) (folder code : List ℕ) (readers : Readers) : Type 0 where
   pub rt4 : IsUnread (known (file_name folder code Rt4)) readers.rt4
   pub rt5 : IsUnread (known (file_name folder code Rt5)) readers.rt5
@@ -35,7 +35,7 @@ pub record HoldCounty (known : List ℕ → Option (List ℕ)) (folder code : Li
   pub rt1 : IsUnread (known (file_name folder code Rt1)) readers.rt1
   pub joined : HoldJoined known folder code readers.joined
 
--- the readers of a county's inputs
+-- the readers that a county's inputs hold
 abbrev pub joined_readers : {R : Type 0} → (R → Option (List ℕ)) → (R → ℕ) → JoinedInputs R → Readers
 joined_readers remaining failed_reads inputs =
     readers (input_remaining remaining) (input_failed_reads failed_reads) inputs.rt4 inputs.rt5 inputs.rt6
@@ -46,12 +46,12 @@ county_readers remaining failed_reads inputs = record {
   joined = joined_readers remaining failed_reads inputs.joined;
 }
 
--- there is a file
+-- the input has a file
 abbrev pub IsOpened : {R : Type 0} → Input R → Type 0
 IsOpened (input.Opened reader) = ⊤
 IsOpened input.Nothing = ⊥
 
--- what closing them counts, one after the other
+-- what closing the county's readers counts, one after the other
 pub record ClosesCounty (readers : CountyReaders) (failed failed' : ℕ) : Type 0 where
   pub after_rt1 : ℕ
   pub rt1 : CountsClose readers.rt1.failed failed after_rt1

@@ -1,4 +1,4 @@
--- What `dis` writes, and what it is refused for.
+-- What `dis` writes, and why it is refused.
 use Rattle.std.specs.Prelude.{◌≡◌, ℕ, List, Option, Some, Result}
 use Rattle.std.specs.Io.KnownBytes.{Keeps}
 use Rattle.bpf_insn.specs.Code.{IsCodeOf, IsFirstFault}
@@ -12,8 +12,7 @@ use Rattle.tl_fields.specs.Writing.{WritesText}
 use Rattle.tl_fields.specs.declared.writing.WriteFault.{WriteFault}
 use Rattle.commands.specs.declared.disassemble.Disassemble.{Disassemble}
 
--- The program, which holds the bytes that are known of it, has a code, whose text was written, or a beginning of it up to the fault of the
--- output.
+-- The program, whose bytes agree with what is known of them, has a code. The code's text was written, completely or up to the output's fault.
 pub record Writes (disassemble : Disassemble) (known : List ℕ → Option (List ℕ)) (result : Result (Unit {0}) WriteFault)
     (out out' : Writer) : Type 0 where
   pub program : List ℕ
@@ -22,7 +21,7 @@ pub record Writes (disassemble : Disassemble) (known : List ℕ → Option (List
   pub is_code : IsCodeOf program code
   pub written : WritesText (text_of code) result out out'
 
--- The program has no code: it is refused for its first fault, and nothing was written.
+-- The program has no code. It is refused for its first fault, and nothing was written.
 pub record IsRefused (disassemble : Disassemble) (known : List ℕ → Option (List ℕ)) (refusal : RefusalParts)
     (out out' : Writer) : Type 0 where
   pub program : List ℕ

@@ -1,4 +1,4 @@
--- What `explain` writes, and what it is refused for.
+-- What `explain` writes, and why it is refused.
 use Rattle.std.specs.Prelude.{◌≡◌, ◌≢◌, ◌⊎◌, ℕ, List, [], Option, Some, None, Result, Ok, Err, ⊤}
 use Rattle.std.specs.Borrow.{Bor}
 use Rattle.std.specs.Io.KnownBytes.{Keeps}
@@ -29,34 +29,34 @@ use Rattle.commands.specs.declared.explain.Explain.{Explain}
 use Rattle.commands.specs.declared.failure.Failure.{Failure}
 use Rattle.commands.specs.declared.failure.Failure.TheVariants as failure
 
--- the file of source lines has these bytes, as far as they are known; none if there is no such file
+-- the file of source lines holds these bytes, as far as they are known; no bytes if no file is given
 abbrev pub HoldsLines : (List ℕ → Option (List ℕ)) → Option (Bor (List ℕ)) → List ℕ → Type 0
 HoldsLines known None file = file ≡ []
 HoldsLines known (Some name) file = Keeps (known name.now) (Some file)
 
--- a file of this name is the file of source lines
+-- this is the name of the file of source lines
 abbrev pub IsLinesFile : Option (Bor (List ℕ)) → List ℕ → Type 0
 IsLinesFile None name = ⊥
 IsLinesFile (Some lines) name = name ≡ lines.now
 
--- why the file of source lines isn't read: it can't be used, or an allocation fails
+-- why the file of source lines can't be read: it can't be used, or an allocation fails
 abbrev pub TellsLines : Option (Bor (List ℕ)) → Disk → Disk → Failure → Type 0
 TellsLines lines disk disk' (failure.File name error) = IsLinesFile lines name.now × IsFailed disk disk'
 TellsLines lines disk disk' failure.Memory = ⊤
 TellsLines lines disk disk' failure = ⊥
 
--- the first fault of a program's bytes, or else of its jumps and its end
+-- the first fault of a program's bytes, or if they have none, of its jumps and its end
 abbrev pub IsFlowFault : List ℕ → ProgramFault → Type 0
 IsFlowFault program (Code fault) = code.IsFirstFault program fault × (fault ≢ code_fault.Memory)
 IsFlowFault program (Flow fault) = (code : List Insn) × IsCodeOf program code × flow.IsFirstFault code fault
 IsFlowFault program (Verify fault) = ⊥
 IsFlowFault program Memory = Unit {0}
 
--- a file of this name is one that is read
+-- the command reads a file of this name
 abbrev pub IsFileOf : Explain → List ℕ → Type 0
 IsFileOf explain name = (name ≡ explain.program.now) ⊎ IsLinesFile explain.lines name
 
--- what is explained: a program with its code, and source lines
+-- what is explained: a program with its code, and its source lines
 pub record Inputs (explain : Explain) (known : List ℕ → Option (List ℕ)) : Type 0 where
   pub program : List ℕ
   pub is_program : Keeps (known explain.program.now) (Some program)
@@ -67,8 +67,7 @@ pub record Inputs (explain : Explain) (known : List ℕ → Option (List ℕ)) :
   pub lines : List SourceLine
   pub are_lines : lines_in file ≡ Ok lines
 
--- The explanation of the verdict was written, or a beginning of it up to the fault of the output. If it was written whole, the program is
--- accepted.
+-- The explanation of the verdict was written, completely or up to the output's fault. If it was written completely, the program is accepted.
 pub record Writes (explain : Explain) (known : List ℕ → Option (List ℕ)) (result : Result (Unit {0}) WriteFault)
     (out out' : Writer) : Type 0 where
   pub inputs : Inputs explain known
@@ -78,8 +77,8 @@ pub record Writes (explain : Explain) (known : List ℕ → Option (List ℕ)) (
   pub accepted : result ≡ Ok tt → verdict ≡ Ok tt
   pub written : WritesText text result out out'
 
--- What `explain` is refused for: the program's bytes or its jumps, or the source lines, or an allocation that failed, and then nothing was
--- written; or the verdict, and then its explanation was written.
+-- Why `explain` is refused: for the program's bytes or jumps, for the source lines, or because an allocation failed, and nothing was written; or
+-- for the verdict, after its explanation was written.
 pub data IsRefused (explain : Explain) (known : List ℕ → Option (List ℕ)) (refusal : RefusalParts) (out out' : Writer) : Type 0 where
   of_program : (program : List ℕ) → Keeps (known explain.program.now) (Some program) → (fault : ProgramFault) → IsFlowFault program fault
       → refusal ≡ program_fault.refusal fault → out' ≡ out → IsRefused explain known refusal out out'

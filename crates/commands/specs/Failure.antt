@@ -1,4 +1,4 @@
--- Why a command isn't done: its exit status, and what is said of it.
+-- Why a command fails: its exit status, and what it reports.
 use Rattle.std.specs.Prelude.{◌≡◌, ◌≢◌, ℕ, List, [], ◌∷◌, ◌++◌, codes, decimal, ⊤, Result, Ok, Err}
 use Rattle.std.specs.Borrow.{Bor}
 use Rattle.bpf_insn.specs.CodeFault as code_fault
@@ -32,7 +32,7 @@ use Rattle.commands.specs.declared.files.ProgramInputFault.TheVariants as progra
 use Rattle.commands.specs.declared.failure.Failure.{Failure}
 use Rattle.commands.specs.declared.failure.Failure.TheVariants.{Refusal, Memory, Write, File, CountyFile, NotUtf8, NoLine, Filter, County, Output}
 
--- the exit status of the refusals of a class
+-- the exit status for a class of refusals
 abbrev pub class_status : Class → ℕ
 class_status class.Refused = 1
 class_status class.Device = 3
@@ -41,7 +41,7 @@ class_status class.Memory = 4
 abbrev pub refusal_status : RefusalParts → ℕ
 refusal_status refusal = class_status refusal.class
 
--- a line that the file doesn't have is a fault of usage, 2; a file or an output that can't be used is 3
+-- a line that the file doesn't have is a usage error (2); a file or an output that can't be used is 3
 abbrev pub status : Failure → ℕ
 status (Refusal refusal) = refusal_status refusal
 status (Filter refusal note) = refusal_status refusal
@@ -50,7 +50,7 @@ status Memory = 4
 status (NoLine number) = 2
 status failure = 3
 
--- what is wrong with the file of this name, and with a county's file
+-- why the file of this name, or a county's file, can't be used
 abbrev pub of_file : Bor (List ℕ) → FileFault → Failure
 of_file name (fault.Unusable error) = File name error
 of_file name fault.Memory = Memory
@@ -59,23 +59,23 @@ abbrev pub of_county_file : Bor (List ℕ) → Bor (List ℕ) → county_file.Co
 of_county_file folder code file (fault.Unusable error) = CountyFile folder code file error
 of_county_file folder code file fault.Memory = Memory
 
--- what is wrong with the program in the file of this name
+-- why the file of this name yields no program
 abbrev pub of_program : Bor (List ℕ) → ProgramInputFault → Failure
 of_program name (program_input.File fault) = of_file name fault
 of_program name (program_input.Code fault) = Refusal (code_fault.refusal fault)
 
--- what is wrong with the source in the file of this name
+-- why the source in the file of this name can't be assembled
 abbrev pub of_source : Bor (List ℕ) → SourceFault → Failure
 of_source name source.NotUtf8 = NotUtf8 name
 of_source name (source.Text text.Memory) = Memory
 of_source name (source.Text fault) = Refusal (text_fault.refusal fault)
 
--- why an extract isn't written whole
+-- why an extract isn't written completely
 abbrev pub of_extract : ExtractFault → Failure
 of_extract (extract.Write fault) = Write fault
 of_extract fault = Refusal (extract_fault.refusal fault)
 
--- why a text is no filter, and why a filter has no program
+-- why a text is not a filter, and why a filter can't be compiled
 abbrev pub IsOfFilter : FilterFault → Failure → Type 0
 IsOfFilter fault (Filter refusal note) = (fault ≢ filter.Memory) × (refusal ≡ filter_fault.refusal fault)
 IsOfFilter fault Memory = fault ≡ filter.Memory
@@ -86,12 +86,12 @@ IsOfCompile fault (Filter refusal note) = (fault ≡ compile.TooLong) × (refusa
 IsOfCompile fault Memory = fault ≡ compile.Memory
 IsOfCompile fault failure = ⊥
 
--- why the extract of one of several counties isn't written whole
+-- why the extract of one of several counties isn't written completely
 abbrev pub of_county_extract : Bor (List ℕ) → ExtractFault → Failure
 of_county_extract code (extract.Write fault) = Write fault
 of_county_extract code fault = County code (extract_fault.refusal fault)
 
--- why a file of one of several counties isn't open
+-- why a file of one of several counties can't be opened
 abbrev pub of_opening : Bor (List ℕ) → Bor (List ℕ) → county_file.CountyFile → FileFault → Failure
 of_opening folder code file (fault.Unusable error) = CountyFile folder code file error
 of_opening folder code file fault.Memory = County code memory
@@ -100,24 +100,24 @@ of_opening folder code file fault.Memory = County code memory
 abbrev pub SaysText : List ℕ → Writer → Writer → Type 0
 SaysText text errors errors' = (written : Result (Unit {0}) WriteFault) × WritesText text written errors errors'
 
--- the same of a line, with its end of line
+-- the line was written, with its end of line
 abbrev pub SaysLine : List ℕ → Writer → Writer → Type 0
 SaysLine text errors errors' = SaysText (text ++ 10 ∷ []) errors errors'
 
--- it is said that memory ran out
+-- the errors report that memory ran out
 abbrev pub SaysMemory : Writer → Writer → Type 0
 SaysMemory errors errors' = SaysLine (line memory) errors errors'
 
--- it is said of the file of this name why it can't be used
+-- the errors report why the file of this name can't be used
 abbrev pub SaysFile : List ℕ → Writer → Writer → Type 0
 SaysFile name errors errors' = (reason : List ℕ) × SaysText (codes "error: " ++ name ++ codes ": " ++ reason ++ 10 ∷ []) errors errors'
 
--- it is said why the output can't be written
+-- the errors report why the output can't be written
 abbrev pub SaysOutput : Writer → Writer → Type 0
 SaysOutput errors errors' = (reason : List ℕ) × SaysText (codes "error: the output can't be written: " ++ reason ++ 10 ∷ []) errors errors'
 
--- what is said of a failure: a refusal's line, for a filter with a note and for one of several counties with its code on a second line; and
--- else a line that begins with `error: `
+-- the report of a failure: for a refusal its line, followed by a note for a filter or by the code for one of several counties, on a second line;
+-- otherwise a line that starts with `error: `
 abbrev pub Says : Failure → Writer → Writer → Type 0
 Says (Refusal refusal) errors errors' = SaysLine (line refusal) errors errors'
 Says (Filter refusal note) errors errors' = SaysText (line refusal ++ 10 ∷ note.bytes ++ 10 ∷ []) errors errors'
@@ -130,23 +130,23 @@ Says (NotUtf8 name) errors errors' = SaysText (codes "error: " ++ name.now ++ co
 Says (NoLine number) errors errors' = SaysText (codes "error: the type 1 file has no line " ++ decimal number ++ 10 ∷ []) errors errors'
 Says (Output error) errors errors' = SaysOutput errors errors'
 
--- a file that is named in a failure is such a one
+-- a file named in the failure satisfies the predicate
 abbrev pub NamesFile : (List ℕ → Type 0) → Failure → Type 0
 NamesFile IsFile (File name error) = IsFile name.now
 NamesFile IsFile (CountyFile folder code file error) = IsFile (file_name folder.now code.now file)
 NamesFile IsFile failure = ⊤
 
--- no open failed and no read, but where the status is 3
+-- no open and no read failed, unless the status is 3
 abbrev pub TellsCounts : {T : Type 0} → Result T Failure → Disk → Disk → Type 0
 TellsCounts (Ok value) disk disk' = IsUnfailed disk disk'
 TellsCounts (Err failure) disk disk' = status failure ≢ 3 → IsUnfailed disk disk'
 
--- what stands where the failure is a fault of usage
+-- a value that a usage error leaves unchanged
 abbrev pub KeepsOnUsage : {T W : Type 0} → Result T Failure → W → W → Type 0
 KeepsOnUsage (Ok value) out out' = ⊤
 KeepsOnUsage (Err failure) out out' = status failure ≡ 2 → out' ≡ out
 
--- the text was written whole, or a beginning of it up to the fault of the output
+-- the text was written, completely or up to the output's fault
 abbrev pub WritesAs : List ℕ → Result (Unit {0}) Failure → Writer → Writer → Type 0
 WritesAs text (Ok done) out out' = WritesText text (Ok done) out out'
 WritesAs text (Err failure) out out' = (fault : WriteFault) × (failure ≡ Write fault) × WritesText text (Err fault) out out'

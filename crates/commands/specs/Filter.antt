@@ -1,4 +1,4 @@
--- The programs of filters' texts, and what a text that has none is refused for.
+-- The programs that filters compile to, and why a text without one is refused.
 use Rattle.std.specs.Prelude.{◌≡◌, ◌≤◌, ℕ, List, length, Option, IsUtf8, ⊤}
 use Rattle.std.specs.declared.alloc.Global.{Global}
 use Rattle.bpf_flow.specs.Flow.{IsForward}
@@ -20,8 +20,8 @@ use Rattle.refusals.specs.Refusal.{RefusalParts}
 use Rattle.commands.specs.declared.failure.Failure.{Failure}
 use Rattle.commands.specs.declared.failure.Failure.TheVariants.{Filter as AFilter, Memory}
 
--- The text spells a filter, and the program has a code that chooses the segments for which the filter is true, with their scores, and that
--- the verifier accepts.
+-- The text spells a filter. The program has a code that selects the segments for which the filter is true, with their scores, and the verifier
+-- accepts it.
 pub record IsProgramOf (text : List ℕ) (score : Option NumericColumn) (program : List ℕ) : Type 0 where
   pub filter : Filter Global
   pub is_text : IsFilterText text filter
@@ -31,17 +31,17 @@ pub record IsProgramOf (text : List ℕ) (score : Option NumericColumn) (program
   pub forward : IsForward code
   pub accepted : HasGoodAnnotation code
 
--- the text spells no filter, if it is UTF-8 and within the limit of bytes
+-- the text doesn't spell a filter, provided that it is UTF-8 and within the limit of bytes
 abbrev pub IsNoFilter : List ℕ → Type 0
 IsNoFilter text = length text ≤ TEXT_LIMIT → IsUtf8 text → (filter : Filter Global) → ¬ IsFilterText text filter
 
--- what a text is refused for: it spells no filter, or the filter's program is too long
+-- why a text is refused: it doesn't spell a filter, or the filter's program is too long
 pub data IsFilterRefusal (text : List ℕ) (score : Option NumericColumn) (refusal : RefusalParts) : Type 0 where
   of_text : (fault : FilterFault) → IsNoFilter text → refusal ≡ filter_fault.refusal fault → IsFilterRefusal text score refusal
   of_program : (filter : Filter Global) → IsFilterText text filter → IsTooLong (program_of filter score)
       → refusal ≡ compile_fault.refusal TooLong → IsFilterRefusal text score refusal
 
--- a failure for a filter alone
+-- a failure to compile the filter
 abbrev pub IsFilterFailure : List ℕ → Option NumericColumn → Failure → Type 0
 IsFilterFailure text score (AFilter refusal note) = IsFilterRefusal text score refusal
 IsFilterFailure text score Memory = ⊤

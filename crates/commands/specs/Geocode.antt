@@ -1,4 +1,4 @@
--- What `geocode` writes, and what it is refused for.
+-- What `geocode` writes, and why it is refused.
 use Rattle.std.specs.Prelude.{◌≡◌, ℕ, List, map, Option, Result}
 use Rattle.geocode.specs.HitLine.{hit_lines}
 use Rattle.geocode.specs.Query.{hits_of, parts_of}
@@ -10,11 +10,11 @@ use Rattle.tl_segments.specs.County.{CountyParts}
 use Rattle.commands.specs.Counties.{AreCountiesOf, HaveRefusedCounty}
 use Rattle.commands.specs.declared.geocoder.Geocode.{Geocode}
 
--- the counties that are asked for
+-- the codes of the requested counties
 abbrev pub codes_of : Geocode → List (List ℕ)
 codes_of geocode = map (λ code. code.now) geocode.codes.items
 
--- The lines of the hits over the counties that are asked for were written, or a beginning of them up to the fault of the output.
+-- The lines of the hits in the requested counties were written, completely or up to the output's fault.
 pub record Writes (geocode : Geocode) (known : List ℕ → Option (List ℕ)) (result : Result (Unit {0}) WriteFault)
     (out out' : Writer) : Type 0 where
   pub counties : List CountyParts

@@ -1,4 +1,4 @@
--- What `run` and `trace` read, and why they can't.
+-- What `run` and `trace` read, and why they fail to.
 use Rattle.std.specs.Prelude.{◌≡◌, ◌≢◌, ◌⊎◌, ℕ, List, Option, Some, ⊤}
 use Rattle.std.specs.Io.KnownBytes.{Keeps}
 use Rattle.bpf_insn.specs.CodeFault as code_fault
@@ -10,16 +10,16 @@ use Rattle.commands.specs.Files.{Disk, IsFailed, IsTooLong}
 use Rattle.commands.specs.declared.failure.Failure.{Failure}
 use Rattle.commands.specs.declared.failure.Failure.TheVariants.{Refusal, Memory, File, CountyFile}
 
--- a file of this name is the program's or one of the county's
+-- this is the name of the program's file or of one of the county's files
 abbrev pub IsInput : List ℕ → List ℕ → List ℕ → List ℕ → Type 0
 IsInput program folder code name = (name ≡ program) ⊎ IsFileOfCounty folder code name
 
--- these are the bytes of the program of this name and the readers of the county's files, which hold what is known of them
+-- the bytes of the program of this name and the readers of the county's files agree with what is known of them
 pub record HoldInputs (known : List ℕ → Option (List ℕ)) (name folder code program : List ℕ) (readers : CountyReaders) : Type 0 where
   pub is_program : Keeps (known name) (Some program)
   pub county : HoldCounty known folder code readers
 
--- The program of this name is too long, and refused so. The county's files hold the bytes that are known of them.
+-- The program of this name is too long, and is refused with this refusal. The bytes of the county's files agree with what is known of them.
 pub record HoldTooLong (name folder code : List ℕ) (known : List ℕ → Option (List ℕ)) (refusal : RefusalParts) : Type 0 where
   pub fault : CodeFault
   pub long : IsTooLong (known name) fault
@@ -27,7 +27,7 @@ pub record HoldTooLong (name folder code : List ℕ) (known : List ℕ → Optio
   pub readers : CountyReaders
   pub hold : HoldCounty known folder code readers
 
--- why a program and a county can't be read: the program is too long, or a file can't be used, or an allocation fails
+-- why a program and a county can't be read: the program is too long, a file can't be used, or an allocation fails
 abbrev pub TellsInputs : List ℕ → List ℕ → List ℕ → Disk → Disk → Failure → Type 0
 TellsInputs name folder code disk disk' (Refusal refusal) = HoldTooLong name folder code disk.known refusal
 TellsInputs name folder code disk disk' (File of error) = IsFailed disk disk'

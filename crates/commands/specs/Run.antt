@@ -1,4 +1,4 @@
--- What `run` writes, and what it is refused for.
+-- What `run` writes, and why it is refused.
 use Rattle.std.specs.Prelude.{◌≡◌, ℕ, List, Option, Result, Ok, Err}
 use Rattle.refusals.specs.Refusal.{RefusalParts}
 use Rattle.tl_fields.specs.Device.{Writer}
@@ -11,7 +11,7 @@ use Rattle.extract.specs.declared.fault.ExtractFault.TheVariants as extract
 use Rattle.commands.specs.Inputs.{HoldInputs}
 use Rattle.commands.specs.declared.run.Run.{Run}
 
--- the outcome of an extract of the program that is named over the county's files, which hold the bytes that are known of them
+-- the outcome of extracting with the named program from the county's files, whose bytes agree with what is known of them
 pub record IsOutcomeOf (run : Run) (known : List ℕ → Option (List ℕ)) (result : Result ℕ ExtractFault) (out out' : Writer) : Type 0 where
   pub program : List ℕ
   pub old : CountyReaders
@@ -19,12 +19,12 @@ pub record IsOutcomeOf (run : Run) (known : List ℕ → Option (List ℕ)) (res
   pub new : CountyReaders
   pub outcome : IsOutcome program result old new out out'
 
--- the extract was written, or a beginning of it up to the fault of the output
+-- the extract was written, completely or up to the output's fault
 abbrev pub Writes : Run → (List ℕ → Option (List ℕ)) → Result (Unit {0}) WriteFault → Writer → Writer → Type 0
 Writes run known (Ok done) out out' = (rows : ℕ) × IsOutcomeOf run known (Ok rows) out out'
 Writes run known (Err fault) out out' = IsOutcomeOf run known (Err (extract.Write fault)) out out'
 
--- the extract was refused so
+-- the extract was refused with this refusal
 abbrev pub IsRefused : Run → (List ℕ → Option (List ℕ)) → RefusalParts → Writer → Writer → Type 0
 IsRefused run known refusal out out' =
     (fault : ExtractFault) × (refusal ≡ extract_fault.refusal fault) × IsOutcomeOf run known (Err fault) out out'

@@ -1,4 +1,4 @@
--- What `select` writes, and what it is refused for.
+-- What `select` writes, and why it is refused.
 use Rattle.std.specs.Prelude.{◌≡◌, ◌⊎◌, ℕ, List, [], ◌∷◌, ◌++◌, map, Option, Result, Ok, Err, ◌≢◌, ⊤}
 use Rattle.extract.specs.ExtractFault as extract_fault
 use Rattle.extract.specs.Extracting.{IsOutcome}
@@ -16,11 +16,11 @@ use Rattle.commands.specs.declared.select.Select.{Select}
 use Rattle.commands.specs.declared.failure.Failure.{Failure}
 use Rattle.commands.specs.declared.failure.Failure.TheVariants.{Write, CountyFile, County}
 
--- the counties that are asked for
+-- the codes of the requested counties
 abbrev pub codes_of : Select → List (List ℕ)
 codes_of select = map (λ code. code.now) select.codes.items
 
--- a program over the counties in a folder, whose files hold the bytes that are known of them by name
+-- a program and the folder of the counties that it runs over, with what is known of the files' bytes by name
 pub record Selecting : Type 0 where
   pub known : List ℕ → Option (List ℕ)
   pub folder : List ℕ
@@ -29,7 +29,7 @@ pub record Selecting : Type 0 where
 abbrev pub selecting : (List ℕ → Option (List ℕ)) → List ℕ → List ℕ → Selecting
 selecting known folder program = record { known = known; folder = folder; program = program }
 
--- the outcome of the extract over the files of the county of a code
+-- the outcome of the extract from the files of the county of this code
 pub record IsCountyOutcome (over : Selecting) (code : List ℕ) (result : Result ℕ ExtractFault) (out out' : Writer) : Type 0 where
   pub old : CountyReaders
   pub hold : HoldCounty over.known over.folder code old
@@ -46,7 +46,7 @@ pub data WritesCounties (over : Selecting) (out : Writer) : List (List ℕ) → 
   more : {codes : List (List ℕ)} {between out' : Writer} (code : List ℕ) → WritesCounties over out codes between
       → WritesCounty over code between out' → WritesCounties over out (codes ++ code ∷ []) out'
 
--- the extracts of the counties before one of these codes were written, and it stops at that one so
+-- the extracts of the counties before one of these codes were written, and the command stopped at that one, as `StopsSo` describes
 pub record StopsAt (over : Selecting) (codes : List (List ℕ)) (out : Writer) (StopsSo : List ℕ → Writer → Type 0) : Type 0 where
   pub before : List (List ℕ)
   pub code : List ℕ
@@ -56,13 +56,13 @@ pub record StopsAt (over : Selecting) (codes : List (List ℕ)) (out : Writer) (
   pub written : WritesCounties over out before between
   pub stops : StopsSo code between
 
--- a county's extract is refused so, or memory runs out before its files are open, and nothing of it was written
+-- a county's extract is refused with this refusal, or memory runs out before the county's files are open and nothing of it was written
 abbrev pub IsCountyRefusal : Selecting → List ℕ → RefusalParts → Writer → Writer → Type 0
 IsCountyRefusal over code refusal out out' =
     ((fault : ExtractFault) × (refusal ≡ extract_fault.refusal fault) × IsCountyOutcome over code (Err fault) out out')
     ⊎ ((refusal ≡ memory) × (out' ≡ out))
 
--- how one county's extract ends: it is written, whole or up to a fault of the output; or it is refused; or a file of the county can't be
+-- how one county's extract ends: it is written, completely or up to the output's fault; or it is refused; or a file of the county can't be
 -- opened, and nothing is written
 abbrev pub SelectsCounty : Selecting → List ℕ → Result (Unit {0}) Failure → Writer → Writer → Type 0
 SelectsCounty over code (Ok done) out out' = WritesCounty over code out out'
@@ -71,7 +71,7 @@ SelectsCounty over code (Err (County of refusal)) out out' = (of.now ≡ code) �
 SelectsCounty over code (Err (CountyFile of_folder of_code file error)) out out' = out' ≡ out
 SelectsCounty over code (Err failure) out out' = ⊥
 
--- and those of several ones
+-- how the extracts of several counties end
 abbrev pub SelectsCounties : Selecting → List (List ℕ) → Result (Unit {0}) Failure → Writer → Writer → Type 0
 SelectsCounties over codes (Ok done) out out' = WritesCounties over out codes out'
 SelectsCounties over codes (Err (Write fault)) out out' =
@@ -82,24 +82,24 @@ SelectsCounties over codes (Err (CountyFile of_folder of_code file error)) out o
     StopsAt over codes out (λ code between. out' ≡ between)
 SelectsCounties over codes (Err failure) out out' = ⊥
 
--- a county is refused for a read that failed only where one did, and its files can't be opened only where an open failed
+-- a county is refused for a failed read only if a read failed, and its files can't be opened only if an open failed
 abbrev pub FailsAs : Failure → Disk → Disk → Type 0
 FailsAs (County code refusal) disk disk' = refusal_status refusal ≡ 3 → disk'.failed_reads ≢ disk.failed_reads
 FailsAs (CountyFile folder code file error) disk disk' = disk'.failed_opens ≢ disk.failed_opens
 FailsAs failure disk disk' = ⊤
 
--- the filter has a program, which selects so over the counties that are asked for
+-- the filter has a program, and its run over the requested counties is as `Selects` describes
 abbrev pub SelectsSo : Select → (List ℕ → Option (List ℕ)) → (Selecting → Type 0) → Type 0
 SelectsSo select known Selects = (program : List ℕ) × IsProgramOf select.filter.now select.compiling.score program
     × Selects (selecting known select.«data».now program)
 
--- the extracts of the counties were written in their order, or the beginning of them up to the fault of the output
+-- the extracts of the counties were written in order, completely or up to the output's fault
 abbrev pub Writes : Select → (List ℕ → Option (List ℕ)) → Result (Unit {0}) WriteFault → Writer → Writer → Type 0
 Writes select known (Ok done) out out' = SelectsSo select known (λ over. WritesCounties over out (codes_of select) out')
 Writes select known (Err fault) out out' = SelectsSo select known
     (λ over. StopsAt over (codes_of select) out (λ code between. IsCountyOutcome over code (Err (extract.Write fault)) between out'))
 
--- the county of this code is refused so, after the extracts of those before it were written
+-- the county of this code is refused with this refusal, after the extracts of the counties before it were written
 abbrev pub IsRefusedAt : Select → (List ℕ → Option (List ℕ)) → List ℕ → RefusalParts → Writer → Writer → Type 0
 IsRefusedAt select known code refusal out out' = SelectsSo select known
     (λ over. StopsAt over (codes_of select) out (λ of between. (of ≡ code) × IsCountyRefusal over of refusal between out'))

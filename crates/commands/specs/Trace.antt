@@ -1,4 +1,4 @@
--- What `trace` writes, and what it is refused for.
+-- What `trace` writes, and why it is refused.
 use Rattle.std.specs.Prelude.{◌≡◌, ◌<◌, ◌⊎◌, ℕ, suc, List, [], ◌∷◌, ◌++◌, length, codes, decimal, Option, Some, Result, Ok, Err}
 use Rattle.std.specs.List.{slice_get}
 use Rattle.std.specs.Option.{unwrap_or}
@@ -23,28 +23,28 @@ use Rattle.commands.specs.declared.trace.Trace.{Trace}
 use Rattle.commands.specs.declared.failure.Failure.{Failure}
 use Rattle.commands.specs.declared.failure.Failure.TheVariants.{Refusal, NoLine}
 
--- what is said of an outcome
+-- the text that reports an outcome
 abbrev pub outcome_text : Outcome → List ℕ
 outcome_text Running = codes "running"
 outcome_text (Exit answer score) = codes "exit " ++ decimal answer ++ codes " score " ++ decimal score
 outcome_text (Stuck place stuck) = codes "stuck place " ++ decimal place ++ codes " cause " ++ decimal
     (unwrap_or (cause.refusal stuck).number 0)
 
--- with its end of line
+-- the outcome's text with its end of line
 abbrev pub outcome_line : Outcome → List ℕ
 outcome_line outcome = outcome_text outcome ++ 10 ∷ []
 
--- this is the segment of a line of type 1, which counts from 1
+-- this is the segment on a line of type 1, counted from 1
 pub record IsSegmentOfLine (county : CountyParts) (line : ℕ) (segment : Contents) : Type 0 where
   pub place : ℕ
   pub is_place : line ≡ suc place
   pub is_segment : slice_get county.segments place ≡ Some segment
 
--- type 1 has no such line, which counts from 1
+-- type 1 has no such line, counted from 1
 abbrev pub HasNoLine : CountyParts → ℕ → Type 0
 HasNoLine county line = (line ≡ 0) ⊎ (length county.segments < line)
 
--- The program has a code, the county is loaded, and on the segment of the line the code has this outcome within the limit of steps.
+-- The program has a code, the county is loaded, and on the line's segment the code has this outcome within the limit of steps.
 pub record IsOutcomeOn (trace : Trace) (program : List ℕ) (old new : CountyReaders) (outcome : Outcome) : Type 0 where
   pub code : List Insn
   pub is_code : IsCodeOf program code
@@ -54,7 +54,7 @@ pub record IsOutcomeOn (trace : Trace) (program : List ℕ) (old new : CountyRea
   pub of_line : IsSegmentOfLine county trace.line segment
   pub traced : IsTraced code segment trace.limit outcome
 
--- The program has a code and the county is loaded, but there is no such line.
+-- The program has a code and the county is loaded, but the line doesn't exist.
 pub record IsWithoutLine (trace : Trace) (program : List ℕ) (old new : CountyReaders) : Type 0 where
   pub code : List Insn
   pub is_code : IsCodeOf program code
@@ -62,25 +62,25 @@ pub record IsWithoutLine (trace : Trace) (program : List ℕ) (old new : CountyR
   pub loads : LoadsCounty county old new
   pub no_line : HasNoLine county trace.line
 
--- why there is no outcome: the first fault of the program's bytes; or of the county's files, where the program has a code
+-- why there is no outcome: the first fault of the program's bytes, or of the county's files if the program has a code
 pub data IsTraceFault (program : List ℕ) (old new : CountyReaders) (refusal : RefusalParts) : Type 0 where
   of_code : (fault : CodeFault) → IsFirstFault program fault → refusal ≡ code_fault.refusal fault
       → new ≡ old → IsTraceFault program old new refusal
   of_county : (code : List Insn) → IsCodeOf program code → (fault : LoadFault) → IsCountyFault fault old new
       → refusal ≡ load_fault.refusal fault → IsTraceFault program old new refusal
 
--- how it ends: with an outcome, or with a refusal, or where there is no such line
+-- how the trace ends: with an outcome, with a refusal, or because the line doesn't exist
 abbrev pub EndsAs : Trace → List ℕ → CountyReaders → CountyReaders → Result Outcome Failure → Type 0
 EndsAs trace program old new (Ok outcome) = IsOutcomeOn trace program old new outcome
 EndsAs trace program old new (Err (Refusal refusal)) = IsTraceFault program old new refusal
 EndsAs trace program old new (Err (NoLine line)) = (line ≡ trace.line) × IsWithoutLine trace program old new
 EndsAs trace program old new (Err failure) = ⊥
 
--- they are read from the program and the county's files that are named
+-- the program and the readers hold the requested program's and county's files
 abbrev pub HoldAsked : Trace → (List ℕ → Option (List ℕ)) → List ℕ → CountyReaders → Type 0
 HoldAsked trace known program readers = HoldInputs known trace.program.now trace.«data».now trace.code.now program readers
 
--- The outcome was written, or a beginning of it up to the fault of the output.
+-- The outcome was written, completely or up to the output's fault.
 pub record Writes (trace : Trace) (known : List ℕ → Option (List ℕ)) (result : Result (Unit {0}) WriteFault)
     (out out' : Writer) : Type 0 where
   pub program : List ℕ
@@ -100,7 +100,7 @@ pub record IsRefused (trace : Trace) (known : List ℕ → Option (List ℕ)) (r
   pub fault : IsTraceFault program old new refusal
   pub unwritten : out' ≡ out
 
--- The line that was asked for isn't there.
+-- The requested line doesn't exist.
 pub record LacksLine (trace : Trace) (known : List ℕ → Option (List ℕ)) (line : ℕ) : Type 0 where
   pub is_line : line ≡ trace.line
   pub program : List ℕ

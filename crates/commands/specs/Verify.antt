@@ -1,4 +1,4 @@
--- What `verify` writes, and what it is refused for.
+-- What `verify` writes, and why it is refused.
 use Rattle.std.specs.Prelude.{◌≡◌, ℕ, List, [], ◌∷◌, ◌++◌, codes, Option, Some, Result}
 use Rattle.std.specs.Io.KnownBytes.{Keeps}
 use Rattle.bpf_insn.specs.declared.instruction.Insn.{Insn}
@@ -11,12 +11,11 @@ use Rattle.tl_fields.specs.Writing.{WritesText}
 use Rattle.tl_fields.specs.declared.writing.WriteFault.{WriteFault}
 use Rattle.commands.specs.declared.verify.Verify.{Verify}
 
--- what is said of a program that is accepted
+-- the text that reports that a program is accepted
 abbrev pub acceptance : List ℕ
 acceptance = codes "accepted" ++ 10 ∷ []
 
--- The program, which holds the bytes that are known of it, is accepted, which was written, or a beginning of it up to the fault of the
--- output.
+-- The program, whose bytes agree with what is known of them, is accepted. The acceptance was written, completely or up to the output's fault.
 pub record Writes (verify : Verify) (known : List ℕ → Option (List ℕ)) (result : Result (Unit {0}) WriteFault)
     (out out' : Writer) : Type 0 where
   pub program : List ℕ

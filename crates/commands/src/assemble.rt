@@ -1,4 +1,4 @@
-//! `asm`: the instruction words that a program text means.
+//! `asm`: assembles a program text to instruction words.
 ghost use Rattle.std.specs.Prelude.{◌≢◌, IfErr};
 ghost use Rattle.tl_fields.specs.Device.{writer};
 ghost use Rattle.commands.specs.Command.{CarriesOut};
@@ -12,15 +12,15 @@ use bpf_text::assemble_source;
 use std::alloc::Allocator;
 use tl_fields::CountedWrite;
 
-/// What `asm` is asked for.
+/// The arguments of `asm`.
 #[derive(Clone, Copy)]
 pub struct Assemble<'a> {
-    /// The program text's file.
+    /// The file of the program text.
     pub source: &'a str,
 }
 
 impl<'a> Assemble<'a> {
-    /// Reads the source to its end, and writes its words.
+    /// Reads the source to its end and writes its words.
     pub fn carry_out<A: Allocator + Copy, F: Files, W: CountedWrite>(
         self,
         alloc: A,

@@ -1,4 +1,4 @@
-//! `compile`: the program of a filter.
+//! `compile`: compiles a filter to a program.
 ghost use Rattle.std.specs.Prelude.{◌≢◌, IfErr};
 ghost use Rattle.tl_fields.specs.Device.{writer};
 ghost use Rattle.commands.specs.Command.{CarriesOut};
@@ -12,7 +12,7 @@ use crate::filter::Compiling;
 use std::alloc::Allocator;
 use tl_fields::CountedWrite;
 
-/// What `compile` is asked for.
+/// The arguments of `compile`.
 #[derive(Clone, Copy)]
 pub struct Compile<'a> {
     /// The file of the filter's text (CQL2).
@@ -21,7 +21,7 @@ pub struct Compile<'a> {
 }
 
 impl<'a> Compile<'a> {
-    /// Reads the filter to its end, and writes the words of its program.
+    /// Reads the filter to its end and writes the words of its program.
     pub fn carry_out<A: Allocator + Copy, F: Files, W: CountedWrite>(
         self,
         alloc: A,

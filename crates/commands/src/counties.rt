@@ -12,7 +12,7 @@ use refusals::Fault;
 use std::alloc::Allocator;
 use tl_segments::County;
 
-/// The counties of these codes, in their order. The files of a county are opened and read to their ends before those of the next one.
+/// Loads the counties of these codes, in order. Reads the files of each county to their ends before opening those of the next.
 pub fn load_counties<'a, A: Allocator + Copy, F: Files>(
     alloc: A,
     files: &mut F,
@@ -38,7 +38,7 @@ pub fn load_counties<'a, A: Allocator + Copy, F: Files>(
     Ok(counties)
 }
 
-/// Opens the files of a county in the folder of the data, and reads them to their ends.
+/// Opens the files of a county in the data folder and reads them to their ends.
 fn load_county<'a, A: Allocator + Copy, F: Files>(
     alloc: A,
     files: &mut F,

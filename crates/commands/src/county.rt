@@ -13,20 +13,20 @@ use std::alloc::{AllocError, Allocator};
 use tl_fields::{CountedRead, CountedWrite};
 use tl_segments::{County, CountyFile, LoadFault};
 
-/// The inputs of a county's four files.
+/// The inputs for a county's four files.
 pub struct CountyInputs<R> {
     pub rt1: Input<R>,
     pub joined: JoinedInputs<R>,
 }
 
-/// The inputs of the files whose lines are joined to those of type 1.
+/// The inputs for the files whose lines are joined to those of type 1.
 pub struct JoinedInputs<R> {
     pub rt4: Input<R>,
     pub rt5: Input<R>,
     pub rt6: Input<R>,
 }
 
-/// Why a county's file isn't open.
+/// Why a county's file can't be opened.
 #[derive(Clone, Copy)]
 pub struct CountyFileFault {
     pub file: CountyFile,
@@ -34,7 +34,7 @@ pub struct CountyFileFault {
 }
 
 impl<R: CountedRead> CountyInputs<R> {
-    /// The county of the inputs, which are read to their ends, or up to the first fault.
+    /// Loads the county from the inputs, which are read to their ends or up to the first fault.
     pub fn load<A: Allocator + Copy>(&mut self, alloc: A) -> Result<County<A>, LoadFault>
         ensures ok { IfOk result (λ county. LoadsCounty county (county_readers R.remaining R.failed_reads self.old)
             (county_readers R.remaining R.failed_reads self.new)) }
@@ -50,7 +50,7 @@ impl<R: CountedRead> CountyInputs<R> {
         )
     }
 
-    /// Writes the extract of the inputs, and answers the number of its rows.
+    /// Writes the extract from the inputs and returns the number of its rows.
     pub fn extract<A: Allocator + Copy, W: CountedWrite>(
         &mut self,
         alloc: A,
@@ -73,8 +73,8 @@ impl<R: CountedRead> CountyInputs<R> {
     }
 }
 
-/// Opens the files of a county in the folder of the data: those of types 1, 4, 5 and 6, in this order. There has to be a type 1 file; each
-/// of the others is an empty input where there is none.
+/// Opens the files of a county in the data folder, those of types 1, 4, 5 and 6, in this order. The type 1 file must exist. Each of the others is
+/// an empty input if it doesn't exist.
 pub fn open_county<A: Allocator + Copy, F: Files>(
     alloc: A,
     files: &mut F,
@@ -100,7 +100,7 @@ pub fn open_county<A: Allocator + Copy, F: Files>(
     }
 }
 
-/// Opens the files whose lines are joined to those of type 1. What is open is closed again where one of them can't be opened.
+/// Opens the files whose lines are joined to those of type 1. If one of them can't be opened, closes those that are open.
 fn open_joined<A: Allocator + Copy, F: Files>(
     alloc: A,
     files: &mut F,
@@ -133,7 +133,7 @@ fn open_joined<A: Allocator + Copy, F: Files>(
     }
 }
 
-/// Opens a county's file. That of type 1 has to be there, and another is an empty input where there is none.
+/// Opens a county's file. The type 1 file must exist. Another file is an empty input if it doesn't exist.
 fn open_file<A: Allocator + Copy, F: Files>(
     alloc: A,
     files: &mut F,
@@ -176,7 +176,7 @@ pub fn close_county<F: Files>(files: &mut F, inputs: CountyInputs<F::Reader>)
     close(files, rt6);
 }
 
-/// The name of a county's file, in the folder of the data.
+/// Returns the path of a county's file in the data folder.
 fn file_name<A: Allocator>(
     alloc: A,
     folder: &str,
@@ -192,7 +192,7 @@ fn file_name<A: Allocator>(
     Ok(name)
 }
 
-/// How the name of a county's file ends.
+/// Returns the extension of a county's file.
 pub fn name_end(file: CountyFile) -> &'static str
     ensures { result.now ≡ name_end file }
 {

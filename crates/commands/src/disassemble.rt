@@ -1,4 +1,4 @@
-//! `dis`: the program text of instruction words.
+//! `dis`: disassembles instruction words to a program text.
 ghost use Rattle.std.specs.Prelude.{◌≢◌, IfErr};
 ghost use Rattle.tl_fields.specs.Device.{writer};
 ghost use Rattle.commands.specs.Command.{CarriesOut};
@@ -13,7 +13,7 @@ use refusals::Fault;
 use std::alloc::Allocator;
 use tl_fields::CountedWrite;
 
-/// What `dis` is asked for.
+/// The arguments of `dis`.
 #[derive(Clone, Copy)]
 pub struct Disassemble<'a> {
     /// The program's file.
@@ -21,7 +21,7 @@ pub struct Disassemble<'a> {
 }
 
 impl<'a> Disassemble<'a> {
-    /// Reads the program to its end, and writes its text.
+    /// Reads the program to its end and writes its text.
     pub fn carry_out<A: Allocator + Copy, F: Files, W: CountedWrite>(
         self,
         alloc: A,

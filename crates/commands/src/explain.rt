@@ -1,4 +1,4 @@
-//! `explain`: a program with what the verifier knows before each instruction.
+//! `explain`: lists a program with what the verifier knows before each instruction.
 ghost use Rattle.std.specs.Prelude.{◌≢◌, IfOk, IfErr};
 ghost use Rattle.bpf_insn.specs.Code.{IsCodeOf};
 ghost use Rattle.bpf_explain.specs.SourceLines.{parts_of};
@@ -19,17 +19,17 @@ use refusals::{Fault, Refusal};
 use std::alloc::Allocator;
 use tl_fields::CountedWrite;
 
-/// What `explain` is asked for.
+/// The arguments of `explain`.
 #[derive(Clone, Copy)]
 pub struct Explain<'a> {
     /// The program's file.
     pub program: &'a str,
-    /// The file of the source lines, each `place TAB text`, if there is one.
+    /// The file of source lines, each of the form `place TAB text`, if one is given.
     pub lines: Option<&'a str>,
 }
 
 impl<'a> Explain<'a> {
-    /// Reads the program and the source lines to their ends, and writes the listing, up to the instruction that is refused if there is one.
+    /// Reads the program and the source lines to their ends and writes the listing, up to the refused instruction if there is one.
     ///
     /// A program whose bytes or jumps are refused has no listing.
     pub fn carry_out<A: Allocator + Copy, F: Files, W: CountedWrite>(
@@ -63,7 +63,7 @@ impl<'a> Explain<'a> {
     }
 }
 
-/// Reads the file of source lines to its end, if there is one.
+/// Reads the file of source lines to its end. Returns no bytes if none is given.
 fn read_lines_file<'a, A: Allocator, F: Files>(
     alloc: A,
     files: &mut F,
@@ -84,7 +84,7 @@ fn read_lines_file<'a, A: Allocator, F: Files>(
     }
 }
 
-/// Decodes a program and follows its jumps. Its bytes are freed before the verifier takes memory.
+/// Decodes a program and follows its jumps. Frees its bytes before the verifier allocates.
 fn flow_of<A: Allocator + Copy>(alloc: A, program: Vec<u8, A>) -> Result<Flow<A>, ProgramFault>
     ensures ok { IfOk result (λ flow. IsCodeOf program.items flow.code) }
     ensures err { IfErr result (IsFlowFault program.items) }
@@ -94,7 +94,7 @@ fn flow_of<A: Allocator + Copy>(alloc: A, program: Vec<u8, A>) -> Result<Flow<A>
     Ok(Flow::of(code)?)
 }
 
-/// Writes the listing, and says whether the verifier refuses the program.
+/// Writes the listing. Fails with the verdict's refusal if the verifier refuses the program.
 fn write_explained<'a, A: Allocator + Copy, W: CountedWrite>(
     alloc: A,
     flow: Flow<A>,

@@ -1,4 +1,4 @@
-//! Why a command isn't done: what is said of it, and its exit status.
+//! Why a command fails: what it reports, and its exit status.
 ghost use Rattle.std.specs.Prelude.{◌≡◌, ◌++◌, codes};
 ghost use Rattle.std.specs.List.{flat_map};
 ghost use Rattle.tl_fields.specs.Device.{writer};
@@ -31,31 +31,31 @@ pub const UNUSABLE: u8 = 3;
 
 pub const OUT_OF_MEMORY: u8 = 4;
 
-/// Why a command isn't done.
+/// Why a command fails.
 #[derive(Drop)]
 pub enum Failure<'a> {
-    /// A library refuses, or runs out of memory.
+    /// A library refuses the input or runs out of memory.
     Refusal(Refusal),
-    /// A filter is refused. The note says more of it for people.
+    /// A filter is refused. The note gives more detail for people.
     Filter {
         refusal: Refusal,
         note: ArrayString<128>,
     },
-    /// One of several counties, of this code, is refused.
+    /// The county of this code, one of several, is refused.
     County {
         code: &'a str,
         refusal: Refusal,
     },
     /// Another allocation fails, before anything is written.
     Memory,
-    /// The output isn't written whole.
+    /// The output isn't written completely.
     Write(WriteFault),
     /// The file of this name can't be opened or read.
     File {
         name: &'a str,
         error: io::Error,
     },
-    /// A county's file, in the folder of the data, can't be opened.
+    /// A county's file in the data folder can't be opened.
     CountyFile {
         data: &'a str,
         code: &'a str,
@@ -75,7 +75,7 @@ pub enum Failure<'a> {
 }
 
 impl<'a> Failure<'a> {
-    /// What is wrong with the file of this name.
+    /// Returns the failure for a file of this name that can't be opened or read.
     pub fn of_file(name: &'a str, fault: FileFault) -> Self
         ensures { result ≡ of_file name.entry fault }
     {
@@ -85,7 +85,7 @@ impl<'a> Failure<'a> {
         }
     }
 
-    /// What is wrong with the program in the file of this name.
+    /// Returns the failure for the program in the file of this name.
     pub fn of_program(name: &'a str, fault: ProgramInputFault) -> Self
         ensures { result ≡ of_program name.entry fault }
     {
@@ -95,7 +95,7 @@ impl<'a> Failure<'a> {
         }
     }
 
-    /// What is wrong with a county's file, in the folder of the data.
+    /// Returns the failure for a county's file in the data folder.
     pub fn of_county_file(data: &'a str, code: &'a str, fault: CountyFileFault) -> Self
         ensures { result ≡ of_county_file «data».entry code.entry fault.file fault.fault }
     {
@@ -111,7 +111,7 @@ impl<'a> Failure<'a> {
         }
     }
 
-    /// What is wrong with the source in the file of this name.
+    /// Returns the failure for the source in the file of this name.
     pub fn of_source(name: &'a str, fault: SourceFault) -> Self
         ensures { result ≡ of_source name.entry fault }
     {
@@ -122,7 +122,7 @@ impl<'a> Failure<'a> {
         }
     }
 
-    /// Why an extract isn't written whole.
+    /// Returns the failure for an extract that isn't written completely.
     pub fn of_extract(fault: ExtractFault) -> Self
         ensures { result ≡ of_extract fault }
     {
@@ -132,7 +132,7 @@ impl<'a> Failure<'a> {
         }
     }
 
-    /// Why a text is no filter.
+    /// Returns the failure for a text that isn't a filter.
     pub fn of_filter(text: &[u8], fault: FilterFault) -> Self
         ensures { IsOfFilter fault result }
     {
@@ -145,7 +145,7 @@ impl<'a> Failure<'a> {
         }
     }
 
-    /// Why a filter has no program.
+    /// Returns the failure for a filter that can't be compiled.
     pub fn of_compile(fault: CompileFault) -> Self
         ensures { IsOfCompile fault result }
     {
@@ -158,7 +158,7 @@ impl<'a> Failure<'a> {
         }
     }
 
-    /// Why the extract of one of several counties isn't written whole.
+    /// Returns the failure for one of several counties, whose extract isn't written completely.
     pub fn of_county_extract(code: &'a str, fault: ExtractFault) -> Self
         ensures { result ≡ of_county_extract code.entry fault }
     {
@@ -171,7 +171,7 @@ impl<'a> Failure<'a> {
         }
     }
 
-    /// Why a file of one of several counties, in the folder of the data, isn't open.
+    /// Returns the failure for a file of one of several counties that can't be opened in the data folder.
     pub fn of_opening(data: &'a str, code: &'a str, fault: CountyFileFault) -> Self
         ensures { result ≡ of_opening «data».entry code.entry fault.file fault.fault }
     {
@@ -184,7 +184,7 @@ impl<'a> Failure<'a> {
         }
     }
 
-    /// The exit status.
+    /// Returns the exit status.
     pub fn status(&self) -> u8
         ensures { result ≡ status self.now }
     {
@@ -198,7 +198,7 @@ impl<'a> Failure<'a> {
         }
     }
 
-    /// Says on one line what is wrong. A write that fails, or takes no byte, isn't tried again.
+    /// Reports the failure on `errors`. A write that fails or takes no byte isn't retried.
     pub fn report<E: CountedWrite>(&self, errors: &mut E)
         ensures { Says self.now (writer E.contents E.counts errors.old) (writer E.contents E.counts errors.new) }
     {
@@ -268,7 +268,7 @@ impl<T: Drop> From<AllocFailed<T>> for Failure<'_> {
     }
 }
 
-/// The exit status of the refusals of a class.
+/// Returns the exit status for refusals of this class.
 fn class_status(class: Class) -> u8
     ensures { result ≡ class_status class }
 {
@@ -279,7 +279,7 @@ fn class_status(class: Class) -> u8
     }
 }
 
-/// Writes the text whole, or up to the fault of the output.
+/// Writes the text completely or up to the output's fault.
 pub fn write<'a, W: CountedWrite>(out: &mut W, text: &[u8]) -> Result<(), Failure<'a>>
     ensures { WritesAs text.now result (writer W.contents W.counts out.old) (writer W.contents W.counts out.new) }
 {
@@ -289,7 +289,7 @@ pub fn write<'a, W: CountedWrite>(out: &mut W, text: &[u8]) -> Result<(), Failur
     }
 }
 
-/// Says the pieces, one after the other, up to the first that can't be written whole.
+/// Writes the pieces in order, up to the first that can't be written completely.
 fn say<E: CountedWrite>(errors: &mut E, pieces: &[&str])
     ensures { SaysText (flat_map (λ piece. piece.now) pieces.now)
         (writer E.contents E.counts errors.old) (writer E.contents E.counts errors.new) }
@@ -302,14 +302,14 @@ fn say<E: CountedWrite>(errors: &mut E, pieces: &[&str])
     }
 }
 
-/// Says why the file of this name can't be used.
+/// Reports why the file of this name can't be used.
 fn say_of_file<'p, E: CountedWrite>(errors: &mut E, name: &'p str, reason: &'p str)
     ensures { SaysFile name.now (writer E.contents E.counts errors.old) (writer E.contents E.counts errors.new) }
 {
     say(errors, &["error: ", name, ": ", reason, "\n"]);
 }
 
-/// Says why a county's file, whose name ends so, can't be used.
+/// Reports why a county's file, whose name has this extension, can't be used.
 fn say_of_county_file<'p, E: CountedWrite>(
     errors: &mut E,
     data: &'p str,
@@ -326,7 +326,7 @@ fn say_of_county_file<'p, E: CountedWrite>(
     );
 }
 
-/// What is said for people of a text that is no filter.
+/// Returns the note for people about a text that isn't a filter.
 fn filter_note(text: &[u8], fault: FilterFault) -> ArrayString<128> {
     let mut note = ArrayString::new();
     if let FilterFault::At { flaw, .. } = fault {
@@ -338,14 +338,14 @@ fn filter_note(text: &[u8], fault: FilterFault) -> ArrayString<128> {
     note
 }
 
-/// What is said for people of a filter that has no program.
+/// Returns the note for people about a filter that can't be compiled.
 fn compile_note(fault: CompileFault) -> ArrayString<128> {
     let mut note = ArrayString::new();
     let _ = write!(note, "{fault}");
     note
 }
 
-/// What an error of the system is called.
+/// Returns a short name for a system error.
 fn reason(error: io::Error) -> ArrayString<320> {
     let mut text = ArrayString::new();
     let name = match error.kind() {

@@ -18,10 +18,10 @@ use std::io::{BufReader, ErrorKind, Read};
 use std::{io, rt};
 use tl_fields::{Buffered, CountedRead, LONGEST_CONTENT, Stop, count_one};
 
-/// Why a file's bytes aren't there.
+/// Why a file's bytes can't be read.
 #[derive(Clone, Copy)]
 pub enum FileFault {
-    /// It can't be opened or read.
+    /// The file can't be opened or read.
     Unusable(io::Error),
     Memory,
 }
@@ -34,12 +34,12 @@ impl From<AllocError> for FileFault {
     }
 }
 
-/// Why a program's bytes aren't there.
+/// Why a program's bytes can't be read.
 #[derive(Clone, Copy)]
 pub enum ProgramInputFault {
     /// Its file can't be opened or read, or an allocation fails.
     File(FileFault),
-    /// It is longer than the limit, and this is its first fault: it has too many words, or its last one isn't whole.
+    /// The program is longer than the limit. Its first fault is that it has too many words, or that its last word is incomplete.
     Code(CodeFault),
 }
 
@@ -51,23 +51,23 @@ impl From<AllocError> for ProgramInputFault {
     }
 }
 
-/// The files, by name.
+/// Files, opened by name.
 pub trait Files {
     ghost use Rattle.commands.specs.Files.{CountsClose, CountsOpen, failed_if_there, remaining_if_there};
 
-    // It can't be dropped: each reader that was opened is closed, so no failed read is forgotten.
+    // It can't be dropped: each opened reader must be closed, so no failed read goes unnoticed.
     type Reader: CountedRead;
 
-    // The bytes of the file of a name, where they are known: none of a file that isn't there.
+    // The bytes of the file of this name, if they are known; none for a file that doesn't exist.
     ghost bytes: { Self → List ℕ → Option (List ℕ) } = { λ _ _. None };
 
-    // How many opens failed, but for want of memory, modulo 2^64.
+    // The number of failed opens, except those that ran out of memory, modulo 2^64.
     ghost failed_opens: { Self → ℕ };
 
-    // How many of the readers that were closed had a failed read, modulo 2^64.
+    // The number of closed readers with a failed read, modulo 2^64.
     ghost failed_reads: { Self → ℕ };
 
-    /// Opens a file for reading. The reader that it gives has a buffer of its own.
+    /// Opens a file for reading and returns a reader with its own buffer.
     fn open(&mut self, name: &str) -> io::Result<Self::Reader>
         ensures known { IfOk result (λ reader. Keeps (bytes self.old name.now) (Self.Reader.remaining reader)) }
         ensures unread { IfOk result (λ reader. Self.Reader.failed_reads reader ≡ 0) }
@@ -75,7 +75,7 @@ pub trait Files {
         ensures failures { CountsOpen result (failed_opens self.old) (failed_opens self.new) }
         ensures reads { failed_reads self.new ≡ failed_reads self.old };
 
-    /// Opens a file for reading, where there is one of the name. Any other open that fails is an error.
+    /// Opens a file for reading. Returns `None` if it doesn't exist; any other failure is an error.
     fn open_if_there(&mut self, name: &str) -> io::Result<Option<Self::Reader>>
         ensures known { IfOk result (λ opened. Keeps (bytes self.old name.now) (remaining_if_there Self.Reader.remaining opened)) }
         ensures unread { IfOk result (λ opened. failed_if_there Self.Reader.failed_reads opened ≡ 0) }
@@ -90,7 +90,7 @@ pub trait Files {
         ensures reads { CountsClose (Self.Reader.failed_reads reader) (failed_reads self.old) (failed_reads self.new) };
 }
 
-/// The files of the system.
+/// The system's files.
 #[derive(Drop)]
 pub struct SystemFiles<'a, R> {
     runtime: &'a R,
@@ -98,7 +98,7 @@ pub struct SystemFiles<'a, R> {
     failed_reads: u64,
 }
 
-// A reader fetches as many bytes at once.
+// The number of bytes that a reader fetches at once.
 pub const INPUT_BUFFER: usize = 65536;
 
 impl<'a, R> SystemFiles<'a, R> {
@@ -168,7 +168,7 @@ fn open_buffered<R: rt::Files + AllocGlobal>(
     Ok(Buffered::new(reader))
 }
 
-/// Returns what was opened, and nothing where there is no such file. Any other open that failed is an error.
+/// Returns the opened value, or `None` if the file doesn't exist. Any other failure is an error.
 fn if_there<T>(opened: io::Result<T>) -> io::Result<Option<T>>
     ensures { IsIfThere opened result }
 {
@@ -193,7 +193,7 @@ pub fn open<F: Files>(files: &mut F, name: &str) -> Result<F::Reader, FileFault>
     }
 }
 
-/// Opens a file where there is one of the name. Where there is none the input is empty.
+/// Opens a file, or returns an empty input if it doesn't exist.
 pub fn open_if_there<F: Files>(files: &mut F, name: &str) -> Result<Input<F::Reader>, FileFault>
     ensures known { IfOk result (λ input. IsUnread (F.bytes files.old name.now)
         (input_reader F.Reader.remaining F.Reader.failed_reads input)) }
@@ -219,10 +219,10 @@ pub fn close<F: Files>(files: &mut F, input: Input<F::Reader>)
     }
 }
 
-// A file is read in pieces of this size.
+// The size of the pieces in which a file is read.
 const PIECE: usize = 4096;
 
-/// The bytes from where the reader stands to its end. No read is tried again.
+/// Reads the rest of the reader's bytes, to its end. No read is retried.
 pub fn read_to_end<A: Allocator, R: CountedRead>(
     alloc: A,
     reader: &mut R,
@@ -239,7 +239,7 @@ pub fn read_to_end<A: Allocator, R: CountedRead>(
             Err(error) => return Err(FileFault::Unusable(error)),
         }
     }
-    // More bytes than there is memory.
+    // No memory holds this many bytes.
     Err(FileFault::Memory)
 }
 
@@ -264,10 +264,10 @@ pub fn read_file<A: Allocator, F: Files>(
     }
 }
 
-// So many bytes of a program are kept at most: one word more shows that it has more than the limit.
+// The largest number of bytes of a program that are kept: one word past the limit shows that the program is too long.
 pub const MOST_KEPT: usize = 8 * (WORD_LIMIT + 1);
 
-/// Appends as much of what was read as is kept.
+/// Appends what was read, as long as no more than `MOST_KEPT` bytes are kept.
 fn keep<A: Allocator>(kept: &mut Vec<u8, A>, read: &[u8]) -> Result<(), AllocError>
     ensures { (before : List ℕ) → kept.old.items ≡ take MOST_KEPT before
         → IfOk result (λ _. kept.new.items ≡ take MOST_KEPT (before ++ read.now)) }
@@ -276,7 +276,7 @@ fn keep<A: Allocator>(kept: &mut Vec<u8, A>, read: &[u8]) -> Result<(), AllocErr
     kept.extend_from_slice(&read[..room.min(read.len())])
 }
 
-/// Returns what was kept of a program, with its length modulo 8, or its first fault if it is too long.
+/// Returns the kept bytes of a program, or its first fault if it is too long. `remainder` is the program's length modulo 8.
 fn complete<A: Allocator>(kept: Vec<u8, A>, remainder: usize) -> Result<Vec<u8, A>, CodeFault>
     ensures ok { (program : List ℕ) → kept.items ≡ take MOST_KEPT program
         → IfOk result (λ whole. (whole.items ≡ program) × (length whole.items ≤ 8 * WORD_LIMIT)) }
@@ -292,10 +292,10 @@ fn complete<A: Allocator>(kept: Vec<u8, A>, remainder: usize) -> Result<Vec<u8, 
     Err(CodeFault::NotWhole)
 }
 
-/// Reads a program from where the reader stands to its end. No read is tried again.
+/// Reads a program from the reader's position to its end. No read is retried.
 ///
-/// A program that is too long is refused by its length: its bytes past the limit are read and not kept, so a file of any length takes no more
-/// memory than the limit of words and one more.
+/// A program that is too long is refused for its length. Its bytes past the limit are read but not kept, so a file of any length takes no more
+/// memory than one word over the limit.
 pub fn read_program<A: Allocator, R: CountedRead>(
     alloc: A,
     input: &mut R,
@@ -324,7 +324,7 @@ pub fn read_program<A: Allocator, R: CountedRead>(
             Err(error) => return Err(ProgramInputFault::File(FileFault::Unusable(error))),
         }
     }
-    // More bytes than a file has.
+    // No file has this many bytes.
     Err(ProgramInputFault::File(FileFault::Memory))
 }
 

@@ -1,4 +1,4 @@
-//! Filters' texts, and the programs that they mean.
+//! Filters' texts, and the programs they compile to.
 ghost use Rattle.std.specs.Prelude.{IfErr, IfOk};
 ghost use Rattle.commands.specs.Filter.{IsFilterFailure, IsProgramOf};
 
@@ -9,17 +9,17 @@ use cql2_code::compile;
 use cql2_text::read;
 use std::alloc::{Allocator, Global};
 
-/// What a filter is compiled with.
+/// The options for compiling a filter.
 #[derive(Clone, Copy)]
 pub struct Compiling {
-    /// The column whose number is the score of the segments that are selected, 0 without one.
+    /// The column whose number is a selected segment's score. Without one, the score is 0.
     pub score: Option<NumericColumn>,
-    /// The filter's allocator, which is a part of its type.
+    /// The filter's allocator, which is part of its type.
     pub filters: Global,
 }
 
 impl Compiling {
-    /// The program of a filter's text, as its bytes.
+    /// Compiles the filter in a text and returns the program's bytes.
     pub fn program<'a, A: Allocator + Copy>(
         self,
         alloc: A,

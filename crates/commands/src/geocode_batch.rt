@@ -1,4 +1,4 @@
-//! `geocode-batch`: where the addresses of a file are, over counties.
+//! `geocode-batch`: geocodes the addresses in a file over counties.
 ghost use Rattle.std.specs.Prelude.{◌≡◌, ◌≢◌, List, IfErr, IfOk};
 ghost use Rattle.addresses.specs.Address.{AddressParts, address_in};
 ghost use Rattle.batch.specs.Lines.{lines_of, lines_of_all};
@@ -18,21 +18,21 @@ use refusals::{Fault, Refusal};
 use std::alloc::{Allocator, Global};
 use tl_fields::CountedWrite;
 
-/// What `geocode-batch` is asked for.
+/// The arguments of `geocode-batch`.
 #[derive(Drop)]
 pub struct GeocodeBatch<'a> {
     /// The file of the addresses (CSV).
     pub addresses: &'a str,
     /// The folder of the county files.
     pub data: &'a str,
-    /// The counties: five digits each, of the state and of the county in it.
+    /// The counties' codes: five digits each, the state's and then the county's in it.
     pub codes: Vec<&'a str>,
-    /// The allocator of CSV records, which is a part of their type.
+    /// The allocator for CSV records, which is part of their type.
     pub tables: Global,
 }
 
 impl<'a> GeocodeBatch<'a> {
-    /// Reads the file of addresses and the counties, and then writes the header and the lines of each address.
+    /// Reads the file of addresses and the counties, and then writes the header and each address's lines.
     ///
     /// A file of addresses that has a fault is refused before anything is written.
     pub fn carry_out<A: Allocator + Copy, F: Files, W: CountedWrite>(
@@ -74,7 +74,7 @@ fn check_addresses(tables: Global, file: &[u8]) -> Result<(), AddressFault>
     Ok(())
 }
 
-/// Writes the header, and then the lines of each address of a file that has no fault.
+/// Writes the header and then each address's lines. The file has no fault.
 fn write_batch<'a, A: Allocator + Copy, W: CountedWrite>(
     alloc: A,
     tables: Global,
@@ -90,7 +90,7 @@ fn write_batch<'a, A: Allocator + Copy, W: CountedWrite>(
         Ok(()) => {}
         Err(failure) => return Err(failure),
     }
-    // The file has no fault, so only an allocation fails here and below.
+    // The file has no fault, so only an allocation can fail here and below.
     let mut addresses = match Addresses::of(tables, file) {
         Ok(addresses) => addresses,
         Err(fault) => return Err(Failure::Refusal(fault.refusal())),
@@ -109,7 +109,7 @@ fn write_batch<'a, A: Allocator + Copy, W: CountedWrite>(
     }
 }
 
-/// Writes the lines of the address in a row.
+/// Writes the lines for a row's address.
 fn write_lines<'a, A: Allocator + Copy, W: CountedWrite>(
     alloc: A,
     tables: Global,

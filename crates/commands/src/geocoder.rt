@@ -1,4 +1,4 @@
-//! `geocode`: where a house number is, over counties.
+//! `geocode`: finds where a house number is, over counties.
 ghost use Rattle.std.specs.Prelude.{◌≢◌, IfErr};
 ghost use Rattle.tl_fields.specs.Device.{writer};
 ghost use Rattle.commands.specs.Command.{CarriesOut};
@@ -14,18 +14,18 @@ use geocode::{Hit, Query};
 use std::alloc::Allocator;
 use tl_fields::CountedWrite;
 
-/// What `geocode` is asked for.
+/// The arguments of `geocode`.
 #[derive(Drop)]
 pub struct Geocode<'a> {
     /// The folder of the county files.
     pub data: &'a str,
     pub query: Query<'a>,
-    /// The counties: five digits each, of the state and of the county in it.
+    /// The counties' codes: five digits each, the state's and then the county's in it.
     pub codes: Vec<&'a str>,
 }
 
 impl<'a> Geocode<'a> {
-    /// Loads the counties, and then writes the lines of the hits.
+    /// Loads the counties and then writes the hits' lines.
     pub fn carry_out<A: Allocator + Copy, F: Files, W: CountedWrite>(
         self,
         alloc: A,
@@ -46,7 +46,7 @@ impl<'a> Geocode<'a> {
     }
 }
 
-/// Writes the lines of hits, one after the other, up to the first that can't be written whole.
+/// Writes the hits' lines in order, up to the first that can't be written completely.
 fn write_lines<'a, W: CountedWrite>(out: &mut W, hits: &[Hit]) -> Result<(), Failure<'a>>
     ensures { WritesAs (hit_lines hits.now) result (writer W.contents W.counts out.old) (writer W.contents W.counts out.new) }
 {

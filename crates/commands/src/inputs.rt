@@ -1,4 +1,4 @@
-//! What `run` and `trace` read: a program and a county.
+//! The inputs of `run` and `trace`: a program and a county.
 ghost use Rattle.std.specs.Prelude.{IfErr, IfOk};
 ghost use Rattle.commands.specs.County.{IsOpened, county_readers};
 ghost use Rattle.commands.specs.Failure.{NamesFile, TellsCounts};
@@ -10,7 +10,7 @@ use crate::failure::Failure;
 use crate::files::{Files, open, read_program};
 use std::alloc::Allocator;
 
-/// A program's bytes, and the inputs of a county.
+/// A program's bytes and a county's inputs.
 pub struct Inputs<A: Allocator, R> {
     pub program: Vec<u8, A>,
     pub county: CountyInputs<R>,

@@ -1,4 +1,4 @@
-//! The commands: each reads the files that it is asked for, and writes to an output and an error writer that the caller gives.
+//! The commands. Each reads the files that its request names, and writes to an output and an error writer that the caller passes in.
 #![tactic(auto)]
 
 mod assemble;

@@ -5,22 +5,22 @@ ghost use Rattle.std.specs.Io.KnownBytes.{Appends};
 use std::fmt;
 use tl_fields::{CountedWrite, write_whole};
 
-/// A line for people, said piece by piece. A write that fails, or takes no byte, isn't tried again, not after `Interrupted` either, as the
-/// `write!` of a writer would; and nothing is said behind it.
+/// A line for people, written piece by piece. A write that fails or takes no byte isn't retried, not even after `Interrupted`, as `write!` on a
+/// writer would, and nothing is written after it.
 #[derive(Drop)]
 pub struct Line<'a, W> {
     out: &'a mut W,
 }
 
 impl<'a, W> Line<'a, W> {
-    /// The line goes to `out`.
+    /// Creates a line that is written to `out`.
     pub fn new(out: &'a mut W) -> Self {
         Line { out }
     }
 }
 
 impl<W: CountedWrite> fmt::Write for Line<'_, W> {
-    // What was said stands behind what was written before.
+    // The text follows what was written before.
     ghost write_str_gives = { λ old text new. (new.out.ghost_name ≡ old.out.ghost_name)
         × Appends (W.contents old.out.now) (W.contents new.out.now) text };
 

@@ -1,4 +1,4 @@
-//! What a command is asked for, done, and its exit status.
+//! A request, its execution, and its exit status.
 ghost use Rattle.std.specs.Prelude.{◌≡◌, ◌≢◌, ◌≤◌, ◌⊎◌};
 ghost use Rattle.tl_fields.specs.Device.{writer};
 ghost use Rattle.commands.specs.Command.{CarriesOut, FailsFlush, IsDone, IsFlushed, IsLackOfLine, IsOutOfMemory, IsRefusal, IsUnusable};
@@ -20,7 +20,7 @@ use crate::verify::Verify;
 use std::alloc::Allocator;
 use tl_fields::CountedWrite;
 
-/// What a command is asked for.
+/// A command and its arguments.
 #[derive(Drop)]
 pub enum Request<'a> {
     Run(Run<'a>),
@@ -36,11 +36,10 @@ pub enum Request<'a> {
 }
 
 impl<'a> Request<'a> {
-    /// Does what is asked for, says on `errors` what prevents it, and answers the exit status.
+    /// Carries out the request, reports any failure on `errors`, and returns the exit status.
     ///
-    /// 0 is done, also where no row was chosen; 1 refused; 2 a line that the file doesn't have; 3 a file or an output that can't be used, also a
-    /// source that isn't UTF-8; 4 want of memory. But for 2, a flush of `out` has been tried by then. A write to `errors` that fails changes
-    /// nothing.
+    /// 0 means success, even if no row was selected; 1 refused; 2 a line that the file doesn't have; 3 a file or an output that can't be used, or
+    /// a source that isn't UTF-8; 4 out of memory. Except for 2, a flush of `out` has been attempted. A failed write to `errors` changes nothing.
     pub fn answer<A: Allocator + Copy, F: Files, W: CountedWrite, E: CountedWrite>(
         self,
         alloc: A,
@@ -65,7 +64,7 @@ impl<'a> Request<'a> {
             (writer W.contents W.counts out.old) (writer W.contents W.counts out.new)
             (writer E.contents E.counts errors.old) (writer E.contents E.counts errors.new) }
         ensures flushed { result ≢ 2 → (W.counts out.new).flushes ≢ (W.counts out.old).flushes }
-        // An open that failed is never passed over, nor a read.
+        // No failed open or read is ignored.
         ensures opens { result ≢ 3 → F.failed_opens files.new ≡ F.failed_opens files.old }
         ensures reads { result ≢ 3 → F.failed_reads files.new ≡ F.failed_reads files.old }
     {
@@ -74,7 +73,7 @@ impl<'a> Request<'a> {
             Err(failure) => {
                 failure.report(errors);
                 let status = failure.status();
-                // A fault of usage leaves the output alone.
+                // A usage error leaves the output alone.
                 if status == USAGE {
                     return status;
                 }
@@ -84,7 +83,7 @@ impl<'a> Request<'a> {
         }
     }
 
-    /// Reads the files that are asked for, and writes what comes of them.
+    /// Reads the requested files and writes the result.
     fn carry_out<A: Allocator + Copy, F: Files, W: CountedWrite>(
         self,
         alloc: A,
@@ -111,7 +110,7 @@ impl<'a> Request<'a> {
     }
 }
 
-/// Flushes the output of a command that is done, and answers its exit status.
+/// Flushes the output of a completed command and returns its exit status.
 fn flush<W: CountedWrite, E: CountedWrite>(out: &mut W, errors: &mut E) -> u8
     ensures status { (result ≡ 0) ⊎ (result ≡ 3) }
     ensures done { result ≡ 0 → IsFlushed (writer W.contents W.counts out.old) (writer W.contents W.counts out.new) }

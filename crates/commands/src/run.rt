@@ -1,4 +1,4 @@
-//! `run`: the rows of the segments that a program chooses in a county's files.
+//! `run`: writes the rows of the segments that a program selects in a county's files.
 ghost use Rattle.std.specs.Prelude.{◌≢◌, IfErr};
 ghost use Rattle.tl_fields.specs.Device.{writer};
 ghost use Rattle.commands.specs.Command.{CarriesOut};
@@ -13,14 +13,14 @@ use crate::inputs::{Inputs, open_inputs};
 use std::alloc::Allocator;
 use tl_fields::CountedWrite;
 
-/// What `run` is asked for.
+/// The arguments of `run`.
 #[derive(Clone, Copy)]
 pub struct Run<'a> {
     /// The program's file.
     pub program: &'a str,
     /// The folder of the county files.
     pub data: &'a str,
-    /// The county: five digits, of the state and of the county in it.
+    /// The county's code: five digits, the state's and then the county's in it.
     pub code: &'a str,
 }
 

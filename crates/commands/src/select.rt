@@ -1,4 +1,4 @@
-//! `select`: the rows of the segments for which a filter is true, over counties.
+//! `select`: writes the rows of the segments for which a filter is true, over counties.
 ghost use Rattle.std.specs.Prelude.{◌≡◌, ◌≢◌, ℕ, List, map, IfErr};
 ghost use Rattle.tl_fields.specs.Device.{writer};
 ghost use Rattle.commands.specs.Command.{CarriesOut};
@@ -16,7 +16,7 @@ use crate::filter::Compiling;
 use std::alloc::Allocator;
 use tl_fields::CountedWrite;
 
-/// What `select` is asked for.
+/// The arguments of `select`.
 #[derive(Drop)]
 pub struct Select<'a> {
     /// The filter's text (CQL2).
@@ -24,12 +24,12 @@ pub struct Select<'a> {
     pub compiling: Compiling,
     /// The folder of the county files.
     pub data: &'a str,
-    /// The counties: five digits each, of the state and of the county in it.
+    /// The counties' codes: five digits each, the state's and then the county's in it.
     pub codes: Vec<&'a str>,
 }
 
 impl<'a> Select<'a> {
-    /// Compiles the filter, and then writes the extract of each county, up to the first fault.
+    /// Compiles the filter and then writes each county's extract, up to the first fault.
     pub fn carry_out<A: Allocator + Copy, F: Files, W: CountedWrite>(
         self,
         alloc: A,
@@ -56,7 +56,7 @@ impl<'a> Select<'a> {
     }
 }
 
-/// Writes the extracts of the counties of these codes, in their order, up to the first fault.
+/// Writes the extracts of the counties of these codes, in order, up to the first fault.
 fn select_counties<'a, A: Allocator + Copy, F: Files, W: CountedWrite>(
     alloc: A,
     files: &mut F,
@@ -83,7 +83,7 @@ fn select_counties<'a, A: Allocator + Copy, F: Files, W: CountedWrite>(
     Ok(())
 }
 
-/// Opens the files of a county in the folder of the data, and writes its extract.
+/// Opens the files of a county in the data folder and writes its extract.
 fn select_county<'a, A: Allocator + Copy, F: Files, W: CountedWrite>(
     alloc: A,
     files: &mut F,

@@ -1,4 +1,4 @@
-//! `trace`: what a program comes to on one segment of a county.
+//! `trace`: runs a program on one segment of a county.
 ghost use Rattle.tl_fields.specs.Device.{writer};
 ghost use Rattle.commands.specs.Command.{CarriesOut};
 ghost use Rattle.commands.specs.Failure.{KeepsOnUsage};
@@ -21,23 +21,23 @@ use std::alloc::Allocator;
 use tl_fields::{CountedRead, CountedWrite};
 use tl_segments::{County, Segment};
 
-/// What `trace` is asked for.
+/// The arguments of `trace`.
 #[derive(Clone, Copy)]
 pub struct Trace<'a> {
     /// The program's file.
     pub program: &'a str,
     /// The folder of the county files.
     pub data: &'a str,
-    /// The segment's line in the type 1 file, counted from 1. It needn't be there.
+    /// The segment's line in the type 1 file, counted from 1. It need not exist.
     pub line: u64,
-    /// How many steps are made at most.
+    /// The maximum number of steps.
     pub limit: u64,
-    /// The county: five digits, of the state and of the county in it.
+    /// The county's code: five digits, the state's and then the county's in it.
     pub code: &'a str,
 }
 
 impl<'a> Trace<'a> {
-    /// Opens the program and then the county's files, reads the program to its end and then the county, and writes the outcome.
+    /// Opens the program and then the county's files, reads the program and then the county to their ends, and writes the outcome.
     pub fn carry_out<A: Allocator + Copy, F: Files, W: CountedWrite>(
         self,
         alloc: A,
@@ -65,7 +65,7 @@ impl<'a> Trace<'a> {
         }
     }
 
-    /// What the program comes to on the segment. It needn't be one that is accepted.
+    /// Runs the program on the segment and returns the outcome. The program need not be accepted by the verifier.
     fn outcome<A: Allocator + Copy, R: CountedRead>(
         self,
         alloc: A,
@@ -90,7 +90,7 @@ impl<'a> Trace<'a> {
     }
 }
 
-/// The segment of a line of type 1, which counts from 1.
+/// Returns the segment on a line of type 1, counted from 1.
 fn segment_of_line<A: Allocator>(county: &County<A>, line: u64) -> Option<&Segment<A>>
     ensures { MatchOption result (HasNoLine county.now line) (λ segment. IsSegmentOfLine county.now line segment.now) }
 {
@@ -98,7 +98,7 @@ fn segment_of_line<A: Allocator>(county: &County<A>, line: u64) -> Option<&Segme
     county.segments().get(place)
 }
 
-/// The line that is written of an outcome, with its end.
+/// Returns the text that is written for an outcome, with its end of line.
 fn outcome_line(outcome: Outcome) -> ArrayString<64>
     ensures { result.bytes ≡ outcome_line outcome }
 {
@@ -120,7 +120,7 @@ fn outcome_line(outcome: Outcome) -> ArrayString<64>
     }
 }
 
-/// Two numbers, each behind what it is, and the end of the line.
+/// Returns two numbers, each after its name, and the end of the line.
 fn numbers_line(first_name: &str, first: u64, second_name: &str, second: u64) -> ArrayString<64>
     requires { length first_name.now + length second_name.now ≤ 23 }
     ensures { result.bytes ≡ first_name.now ++ decimal first ++ second_name.now ++ decimal second ++ 10 ∷ [] }

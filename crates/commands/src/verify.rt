@@ -1,4 +1,4 @@
-//! `verify`: whether a program is accepted.
+//! `verify`: checks whether a program is accepted.
 ghost use Rattle.tl_fields.specs.Device.{writer};
 ghost use Rattle.commands.specs.Command.{CarriesOut};
 ghost use Rattle.commands.specs.Failure.{status};
@@ -16,7 +16,7 @@ use refusals::Fault;
 use std::alloc::Allocator;
 use tl_fields::CountedWrite;
 
-/// What `verify` is asked for.
+/// The arguments of `verify`.
 #[derive(Clone, Copy)]
 pub struct Verify<'a> {
     /// The program's file.
@@ -24,7 +24,7 @@ pub struct Verify<'a> {
 }
 
 impl<'a> Verify<'a> {
-    /// Reads the program to its end, and says that it is accepted, if it is.
+    /// Reads the program to its end, and writes that it is accepted if it is.
     pub fn carry_out<A: Allocator + Copy, F: Files, W: CountedWrite>(
         self,
         alloc: A,
@@ -47,7 +47,7 @@ impl<'a> Verify<'a> {
     }
 }
 
-/// Returns the verdict on a program. Its bytes are freed before the verifier takes memory.
+/// Returns the verdict on a program. Frees its bytes before the verifier allocates.
 fn check_owned<A: Allocator + Copy>(alloc: A, program: Vec<u8, A>) -> Result<(), ProgramFault>
     ensures ok { OnOk result ((code : List Insn) × IsSafeProgram program.items code) }
     ensures err { IfErr result (IsProgramFault program.items) }

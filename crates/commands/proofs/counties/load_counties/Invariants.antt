@@ -3,7 +3,7 @@ use Rattle.commands.specs.Counties.{AreCountiesOf}
 use Rattle.commands.specs.Files.{IsUnfailed, disk}
 use Rattle.commands.proofs.counties.load_counties.Given as goal
 
--- the counties of the codes so far; what is known of the files stays, and no open has failed and no read
+-- the counties of the codes so far are loaded; what is known of the files stays the same, and no open and no read failed
 abbrev pub invariant-loop-code : goal.invariant-loop-code
 invariant-loop-code g l = record {
   loaded : AreCountiesOf (g.F.Files.bytes l.initial.files) l.folder (map (λ code. code.now) (take l.code-index l.codes)) l.counties.items;

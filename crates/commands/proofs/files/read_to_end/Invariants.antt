@@ -2,7 +2,7 @@ use Rattle.std.proofs.Common.{◌≡◌}
 use Rattle.std.specs.Io.KnownBytes.{Consumes}
 use Rattle.commands.proofs.files.read_to_end.Given as goal
 
--- the bytes are what was read, and no read has failed
+-- the bytes are what was read, and no read failed
 abbrev pub invariant-loop : goal.invariant-loop
 invariant-loop g l = record {
   read : Consumes (g.R.Read.remaining l.initial.reader) (g.R.Read.remaining l.reader) l.bytes.items;

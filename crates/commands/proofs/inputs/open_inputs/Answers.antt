@@ -29,7 +29,7 @@ module _ (disk disk' : Disk) (name folder code : Bor (List ℕ)) (left : Option 
     hold = hold;
   }
 
--- the file that is named then
+-- the file named in that failure
 module _ (name folder code : Bor (List ℕ)) where
   program_named : (of : ProgramInputFault) → NamesFile (IsInput name.now folder.now code.now) (of_program name of)
   program_named (input.File (fault.Unusable error)) = inl refl

@@ -5,7 +5,7 @@ use Rattle.commands.specs.Select.{WritesCounties, selecting}
 use Rattle.commands.proofs.CountiesLemmas.{texts}
 use Rattle.commands.proofs.select.select_counties.Given as goal
 
--- the extracts of the counties of the codes so far were written; what is known of the files stays, and no open has failed and no read
+-- the extracts of the counties of the codes so far were written; what is known of the files stays the same, and no open and no read failed
 abbrev pub invariant-loop-code : goal.invariant-loop-code
 invariant-loop-code g l = record {
   written : WritesCounties (selecting (g.F.Files.bytes l.initial.files) l.folder l.program)
