@@ -1,6 +1,6 @@
-//! The arguments of a command line, and what they ask for.
+//! The arguments of a command line, and what they request.
 
-// How a help ends, behind its examples.
+// The end of a help text, after its examples.
 macro_rules! help_end {
     ($examples:literal) => {
         concat!(
@@ -34,7 +34,7 @@ use commands::Request;
 pub use serve::Serve;
 use std::alloc::{AllocError, Global};
 
-/// What the program is called for.
+/// What the arguments request.
 #[derive(Drop)]
 pub enum Invocation<'a> {
     /// A command over files.
@@ -42,7 +42,7 @@ pub enum Invocation<'a> {
     Serve(Serve<'a>),
 }
 
-/// Reads the arguments after the program's name.
+/// Reads the arguments that follow the program's name.
 pub fn read_arguments<'a>(
     alloc: Global,
     arguments: &'a [&'a str],
@@ -55,7 +55,7 @@ pub fn read_arguments<'a>(
     }
 }
 
-/// What the command over files of this name is asked for.
+/// Returns the request of the command over files with this name.
 fn request<'a>(
     alloc: Global,
     name: &str,
@@ -76,7 +76,7 @@ fn request<'a>(
     }
 }
 
-/// The program and its commands, for the parser of arguments.
+/// Returns the program and its commands for the argument parser.
 fn program_command<'a>(alloc: Global) -> Result<Command<'a>, AllocError> {
     Command::new(alloc, "extractd")
         .bin_name("extractd")?

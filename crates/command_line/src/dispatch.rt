@@ -12,11 +12,11 @@ use commands::{Files, Request};
 use std::alloc::Global;
 use tl_fields::CountedWrite;
 
-/// Does what the arguments after the program's name ask for, and answers the exit status.
+/// Carries out what the arguments after the program's name request, and returns the exit status.
 ///
-/// 0 is done, also where no row was chosen; 1 refused; 2 usage, also a call for help, and a line that the file doesn't have; 3 a file or an
-/// output that can't be used, also a source that isn't UTF-8; 4 out of memory. But for 2, and arguments that ran out of memory, a flush
-/// of `out` has been tried by then. Diagnostics go to `errors`; a write to it that fails changes nothing.
+/// 0 means success, even if no row was selected; 1 refused; 2 usage, including a call for help and a line that the file doesn't have; 3 a file or
+/// an output that can't be used, or a source that isn't UTF-8; 4 out of memory. Except for 2, and for arguments that ran out of memory, a flush
+/// of `out` has been attempted. Diagnostics go to `errors`; a failed write to it changes nothing.
 pub fn command<F: Files, W: CountedWrite, E: CountedWrite>(
     alloc: Global,
     arguments: &[&str],
@@ -35,13 +35,13 @@ pub fn command<F: Files, W: CountedWrite, E: CountedWrite>(
         (disk F.bytes F.failed_opens F.failed_reads files.old) (disk F.bytes F.failed_opens F.failed_reads files.new)
         (writer W.contents W.counts out.old) (writer W.contents W.counts out.new)
         (writer E.contents E.counts errors.old) (writer E.contents E.counts errors.new) }
-    // Nothing is written if the arguments run out of memory.
+    // Nothing is written if reading the arguments runs out of memory.
     ensures memory { result ≡ 4
         → ((out.new ≡ out.old) × SaysMemory (writer E.contents E.counts errors.old) (writer E.contents E.counts errors.new))
         ⊎ ((request : Request) × IsOutOfMemory request (F.bytes files.old)
         (writer W.contents W.counts out.old) (writer W.contents W.counts out.new)
         (writer E.contents E.counts errors.old) (writer E.contents E.counts errors.new)) }
-    // An open that failed is never passed over, nor a read.
+    // No failed open or read is ignored.
     ensures opens { result ≢ 3 → F.failed_opens files.new ≡ F.failed_opens files.old }
     ensures reads { result ≢ 3 → F.failed_reads files.new ≡ F.failed_reads files.old }
 {

@@ -1,4 +1,4 @@
-//! What is wrong with the arguments of a command line.
+//! Faults in the arguments of a command line.
 ghost use Rattle.std.specs.Prelude.{◌≡◌, ◌≢◌};
 ghost use Rattle.std.specs.IoError.{error_kind};
 ghost use Rattle.std.specs.declared.io.ErrorKind.TheVariants as io_kind;
@@ -18,20 +18,20 @@ use std::{fmt, io};
 use tl_fields::CountedWrite;
 use tl_segments::NAME_LENGTH;
 
-/// Why the arguments ask for nothing.
+/// Why the arguments don't form a request.
 #[derive(Drop)]
 pub enum ArgumentsFault<'a> {
     /// An argument isn't UTF-8.
     NotUtf8,
-    /// Their form, or a call for help. The error prints the text for the user.
+    /// A syntax error or a call for help. The error prints the text for the user.
     Usage(clap::Error),
-    /// The argument of this name isn't there.
+    /// The argument of this name is missing.
     Missing(&'static str),
-    /// This county isn't five digits.
+    /// This county code isn't five digits.
     Code(&'a str),
-    /// More counties than are taken: so many.
+    /// This number of counties is over the limit.
     TooManyCodes(usize),
-    /// This value of the option isn't 1 to so many digits.
+    /// The option's value isn't 1 to `most_digits` digits.
     Number {
         name: &'static str,
         most_digits: usize,
@@ -39,17 +39,17 @@ pub enum ArgumentsFault<'a> {
     },
     /// This name isn't 1 to 30 bytes.
     Name(&'a str),
-    /// No column of this name has numbers.
+    /// This isn't the name of a numeric column.
     Score(&'a str),
     /// This port isn't 1 to 65535.
     Port(&'a str),
-    /// `serve`, which is no command over files.
+    /// `serve`, which is not a command over files.
     Serve,
     Memory,
 }
 
 impl ArgumentsFault<'_> {
-    /// The exit status.
+    /// Returns the exit status.
     pub fn status(&self) -> u8
         ensures usage { self.now ≢ ArgumentsFault.Memory → result ≡ 2 }
         ensures memory { self.now ≡ ArgumentsFault.Memory → result ≡ 4 }
@@ -61,7 +61,7 @@ impl ArgumentsFault<'_> {
         }
     }
 
-    /// Says what is wrong. A write that fails, or takes no byte, isn't tried again.
+    /// Reports the fault on `errors`. A write that fails or takes no byte isn't retried.
     pub fn report<E: CountedWrite>(&self, errors: &mut E)
         ensures memory { self.now ≡ ArgumentsFault.Memory
             → SaysMemory (writer E.contents E.counts errors.old) (writer E.contents E.counts errors.new) }
@@ -73,7 +73,7 @@ impl ArgumentsFault<'_> {
         let _ = self.say(&mut Line::new(errors));
     }
 
-    /// Says what is wrong but for want of memory.
+    /// Writes the report, except for `Memory`.
     fn say<E: CountedWrite>(&self, line: &mut Line<'_, E>) -> fmt::Result {
         match self {
             ArgumentsFault::NotUtf8 => write!(line, "error: an argument isn't UTF-8\n"),
@@ -119,7 +119,7 @@ impl ArgumentsFault<'_> {
     }
 }
 
-// Of reading the arguments from the system: one that isn't UTF-8, or want of memory.
+// The system fails to read the arguments if one isn't UTF-8 or if memory runs out.
 impl From<io::Error> for ArgumentsFault<'_> {
     ghost from_gives = { λ error fault. (error_kind error ≡ io_kind.OutOfMemory → fault ≡ Memory)
         × (error_kind error ≢ io_kind.OutOfMemory → fault ≡ NotUtf8) };

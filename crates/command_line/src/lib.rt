@@ -1,4 +1,4 @@
-//! The command line: what its arguments ask for, done over files, an output and an error writer that the caller gives.
+//! The command line: reads the arguments and carries out their request, over files, an output and an error writer that the caller passes in.
 #![tactic(auto)]
 
 mod arguments;

@@ -1,4 +1,4 @@
-//! Options and other arguments that several commands take.
+//! Options and other arguments shared by several commands.
 ghost use Rattle.std.specs.Prelude.{◌≤◌, IfOk, vec_len};
 
 use crate::fault::ArgumentsFault;
@@ -8,7 +8,7 @@ use cql2::{Column, NumericColumn};
 use cql2_text::column_named;
 use std::alloc::Global;
 
-/// The option `--name VALUE`, which has to be given.
+/// Returns the required option `--name VALUE`.
 pub fn option<'a>(alloc: Global, name: &'a str, value: &'a str, help: &'a str) -> Arg<'a> {
     Arg::new(alloc, name)
         .long(name)
@@ -18,7 +18,7 @@ pub fn option<'a>(alloc: Global, name: &'a str, value: &'a str, help: &'a str) -
         .action(ArgAction::Set)
 }
 
-/// The value of an argument that has to be given.
+/// Returns the value of a required argument.
 pub fn value<'a>(
     matches: &ArgMatches<'a>,
     name: &'static str,
@@ -26,10 +26,10 @@ pub fn value<'a>(
     matches.get_str(name).ok_or(ArgumentsFault::Missing(name))
 }
 
-/// The file that a system calls its standard input.
+/// The system's file name for standard input.
 const STANDARD_INPUT: &str = "/dev/stdin";
 
-/// The name of a file that has to be given. `-` is the standard input.
+/// Returns the value of a required file name. `-` is standard input.
 pub fn file<'a>(
     matches: &ArgMatches<'a>,
     name: &'static str,
@@ -40,7 +40,7 @@ pub fn file<'a>(
     }
 }
 
-/// The argument `CODE`, a county, which has to be given.
+/// Returns the required argument `CODE`, a county.
 pub fn county_option<'a>(alloc: Global) -> Arg<'a> {
     Arg::new(alloc, "code")
         .value_name("CODE")
@@ -49,12 +49,12 @@ pub fn county_option<'a>(alloc: Global) -> Arg<'a> {
         .action(ArgAction::Set)
 }
 
-/// The county's code: five digits.
+/// Returns the county's code: five digits.
 pub fn code<'a>(matches: &ArgMatches<'a>) -> Result<&'a str, ArgumentsFault<'a>> {
     five_digits(value(matches, "code")?)
 }
 
-/// The arguments `CODE`, counties, of which one has to be given.
+/// Returns the argument `CODE`, one or more counties.
 pub fn counties_option<'a>(alloc: Global) -> Arg<'a> {
     Arg::new(alloc, "code")
         .value_name("CODE")
@@ -64,10 +64,10 @@ pub fn counties_option<'a>(alloc: Global) -> Arg<'a> {
         .action(ArgAction::Append)
 }
 
-/// As many counties are taken at most.
+/// The maximum number of counties.
 pub const MOST_CODES: usize = 100000;
 
-/// The counties' codes, one at least: five digits each.
+/// Returns the counties' codes: at least one, five digits each.
 pub fn codes<'a>(
     alloc: Global,
     matches: &ArgMatches<'a>,
@@ -95,7 +95,7 @@ fn five_digits<'a>(code: &'a str) -> Result<&'a str, ArgumentsFault<'a>> {
     Ok(code)
 }
 
-/// The option `--score COLUMN`.
+/// Returns the option `--score COLUMN`.
 pub fn score_option<'a>(alloc: Global) -> Arg<'a> {
     option(
         alloc,
@@ -106,7 +106,7 @@ pub fn score_option<'a>(alloc: Global) -> Arg<'a> {
     .required(false)
 }
 
-/// What a filter is compiled with.
+/// Returns the options for compiling a filter.
 pub fn compiling<'a>(
     alloc: Global,
     matches: &ArgMatches<'a>,
@@ -120,7 +120,7 @@ pub fn compiling<'a>(
     })
 }
 
-/// The column of this name that has numbers, or is a coordinate.
+/// Returns the column of this name if it holds numbers or a coordinate.
 fn numeric_column<'a>(name: &'a str) -> Result<NumericColumn, ArgumentsFault<'a>> {
     match column_named(name.as_bytes()) {
         Some(Column::Numeric(column)) => Ok(column),
@@ -128,7 +128,7 @@ fn numeric_column<'a>(name: &'a str) -> Result<NumericColumn, ArgumentsFault<'a>
     }
 }
 
-/// The number of an option that has to be given: 1 to so many digits.
+/// Returns the value of a required option: a number of 1 to `most_digits` digits.
 pub fn number<'a>(
     matches: &ArgMatches<'a>,
     name: &'static str,
@@ -146,7 +146,7 @@ pub fn number<'a>(
     text.parse().map_err(|_| fault)
 }
 
-/// The port: 1 to 65535.
+/// Returns the port: 1 to 65535.
 pub fn port<'a>(matches: &ArgMatches<'a>) -> Result<u16, ArgumentsFault<'a>> {
     let text = value(matches, "port")?;
     match text.parse() {

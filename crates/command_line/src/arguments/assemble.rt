@@ -12,7 +12,7 @@ pub fn command<'a>(alloc: Global) -> Result<Command<'a>, AllocError> {
         .arg(option(alloc, "source", "FILE", "The program, as text"))
 }
 
-/// What the arguments that were matched ask for.
+/// Returns the request that the matched arguments make.
 pub fn request<'a>(matches: &ArgMatches<'a>) -> Result<Assemble<'a>, ArgumentsFault<'a>> {
     Ok(Assemble {
         source: value(matches, "source")?,

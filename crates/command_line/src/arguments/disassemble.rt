@@ -17,7 +17,7 @@ pub fn command<'a>(alloc: Global) -> Result<Command<'a>, AllocError> {
         ))
 }
 
-/// What the arguments that were matched ask for.
+/// Returns the request that the matched arguments make.
 pub fn request<'a>(matches: &ArgMatches<'a>) -> Result<Disassemble<'a>, ArgumentsFault<'a>> {
     Ok(Disassemble {
         program: value(matches, "program")?,

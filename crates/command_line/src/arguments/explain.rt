@@ -33,7 +33,7 @@ Example:
         .required(false))
 }
 
-/// What the arguments that were matched ask for.
+/// Returns the request that the matched arguments make.
 pub fn request<'a>(matches: &ArgMatches<'a>) -> Result<Explain<'a>, ArgumentsFault<'a>> {
     Ok(Explain {
         program: value(matches, "program")?,

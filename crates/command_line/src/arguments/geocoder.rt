@@ -39,7 +39,7 @@ Example:
         .arg(counties_option(alloc))
 }
 
-/// What the arguments that were matched ask for.
+/// Returns the request that the matched arguments make.
 pub fn request<'a>(
     alloc: Global,
     matches: &ArgMatches<'a>,
@@ -55,7 +55,7 @@ pub fn request<'a>(
     })
 }
 
-/// The query that the values of these options make.
+/// Returns the query that these options' values make.
 fn query<'a>(
     number: &'a str,
     name: &'a str,
@@ -73,7 +73,7 @@ fn query<'a>(
     }
 }
 
-/// The option's value isn't 1 to 11 digits.
+/// Returns the fault for an option whose value isn't 1 to 11 digits.
 fn no_number<'a>(name: &'static str, text: &'a str) -> ArgumentsFault<'a> {
     ArgumentsFault::Number {
         name,

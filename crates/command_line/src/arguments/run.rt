@@ -26,7 +26,7 @@ pub fn command<'a>(alloc: Global) -> Result<Command<'a>, AllocError> {
         .arg(county_option(alloc))
 }
 
-/// What the arguments that were matched ask for.
+/// Returns the request that the matched arguments make.
 pub fn request<'a>(matches: &ArgMatches<'a>) -> Result<Run<'a>, ArgumentsFault<'a>> {
     Ok(Run {
         program: value(matches, "program")?,

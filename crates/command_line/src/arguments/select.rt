@@ -25,7 +25,7 @@ Example:
         .arg(counties_option(alloc))
 }
 
-/// What the arguments that were matched ask for.
+/// Returns the request that the matched arguments make.
 pub fn request<'a>(
     alloc: Global,
     matches: &ArgMatches<'a>,

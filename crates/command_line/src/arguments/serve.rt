@@ -6,16 +6,16 @@ use crate::options::{codes, counties_option, option, port, value};
 use clap::{ArgMatches, Command};
 use std::alloc::{AllocError, Global};
 
-/// What `serve` is asked for.
+/// The arguments of `serve`.
 #[derive(Drop)]
 pub struct Serve<'a> {
     /// The folder of the county files.
     pub data: &'a str,
-    /// The port, from 1 on.
+    /// The port, at least 1.
     pub port: u16,
-    /// The counties: five digits each, of the state and of the county in it.
+    /// The counties' codes: five digits each, the state's and then the county's in it.
     pub codes: Vec<&'a str>,
-    // A server takes no more of them.
+    // A server takes at most this many.
     ghost few: { vec_len codes ≤ 100_000 },
 }
 
@@ -41,7 +41,7 @@ Example:
         .arg(counties_option(alloc))
 }
 
-/// What the arguments that were matched ask for.
+/// Returns the request that the matched arguments make.
 pub fn request<'a>(
     alloc: Global,
     matches: &ArgMatches<'a>,

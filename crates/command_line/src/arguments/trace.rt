@@ -39,10 +39,10 @@ Example:
         .arg(county_option(alloc))
 }
 
-// A number has as many digits at most, so that each is below 2^64.
+// The maximum number of digits of a number, so that each is below 2^64.
 const MOST_DIGITS: usize = 19;
 
-/// What the arguments that were matched ask for.
+/// Returns the request that the matched arguments make.
 pub fn request<'a>(matches: &ArgMatches<'a>) -> Result<Trace<'a>, ArgumentsFault<'a>> {
     Ok(Trace {
         program: value(matches, "program")?,
