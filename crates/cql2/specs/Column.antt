@@ -1,4 +1,4 @@
--- The columns that a filter may name, and their values (TIGER/Line 2006, record type 1).
+-- The columns that a filter can name, and their values (TIGER/Line 2006, record type 1).
 use Rattle.std.specs.Prelude.{ℕ, ℤ, pos, List, reverse, Option, Some, None, option_map, if◌then◌else◌}
 use Rattle.std.specs.Ordering.{int_eq}
 use Rattle.tl_fields.specs.Coordinate.{coordinate_of}
@@ -53,21 +53,21 @@ text_places Cfcc = type1.CFCC
 text_places Cousubl = type1.COUSUBL
 text_places Cousubr = type1.COUSUBR
 
--- a coordinate of 0 counts as none: the files have no place on the equator or on the prime meridian
+-- a coordinate of 0 counts as missing: the files have no place on the equator or the prime meridian
 abbrev pub unless_zero : Option ℤ → Option ℤ
 unless_zero None = None
 unless_zero (Some millionths) = if int_eq millionths (pos 0) then None else Some millionths
 
--- the value of a numeric column in a record, or none where it is NULL: its field has no number
+-- the value of a numeric column in a record; none, that is NULL, if its field has no number
 abbrev pub numeric_value : NumericColumn → List ℕ → Option ℤ
 numeric_value (Number column) line = option_map pos (number_of (field_at (number_places column) line))
 numeric_value (Coordinate column) line = unless_zero (coordinate_of (field_at (coordinate_places column) line))
 
--- the bytes without the blanks at their end
+-- the bytes without trailing blanks
 abbrev pub trim_end : List ℕ → List ℕ
 trim_end bytes = reverse (without_blanks_before (reverse bytes))
 
--- the value of a text column, or none where it is NULL: its field is blank
+-- the value of a text column; none, that is NULL, if its field is blank
 abbrev pub text_value : TextColumn → List ℕ → Option (List ℕ)
 text_value column line =
     let field = field_at (text_places column) line in if is_blank field then None else Some (trim_end field)

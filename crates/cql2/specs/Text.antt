@@ -1,15 +1,15 @@
--- Texts, as bytes: their order, and those that may stand in a filter.
+-- Texts as bytes: their order, and which of them a filter can hold.
 use Rattle.std.specs.Prelude.{ℕ, Bool, true, false, ◌&&◌, ◌||◌, ◌==◌, not, nat_le, nat_lt, List, [], ◌∷◌, length, reverse}
 use Rattle.std.specs.List.{list_all}
 use Rattle.tl_segments.specs.declared.name.TheConstants.{NAME_LENGTH}
 
--- the last byte is no blank
+-- the last byte is not a blank
 abbrev pub ends_filled : List ℕ → Bool
 ends_filled [] = false
 ends_filled (byte ∷ []) = not (byte == 32)
 ends_filled (byte ∷ next ∷ bytes) = ends_filled (next ∷ bytes)
 
--- no control characters, at most as many bytes as a name has, the last of which is no blank
+-- no control characters, no more bytes than a name has, and a last byte that is not a blank
 abbrev pub is_text : List ℕ → Bool
 is_text bytes = list_all (λ byte. nat_le 32 byte && nat_lt byte 256) bytes && nat_le (length bytes) NAME_LENGTH && ends_filled bytes
 
@@ -19,7 +19,7 @@ is_same [] (byte ∷ other) = false
 is_same (byte ∷ text) [] = false
 is_same (byte ∷ text) (wanted ∷ other) = byte == wanted && is_same text other
 
--- one text is less than another: byte by byte, and a beginning is less than the whole
+-- one text is less than another, byte by byte; a prefix is less than the whole
 abbrev pub is_less : List ℕ → List ℕ → Bool
 is_less text [] = false
 is_less [] (byte ∷ other) = true

@@ -1,4 +1,4 @@
--- The truth of a filter on a segment (CQL2, 21-065r2: an expression is true, false or NULL). A segment is selected where its filter is true.
+-- The truth of a filter on a segment (CQL2, 21-065r2: an expression is true, false or NULL). A filter selects a segment if it is true on it.
 use Rattle.std.specs.Prelude.{ℕ, ◌+◌, Bool, true, false, not, ◌||◌, nat_le, List, length, take, Option, Some, None, is_none, option_map, if◌then◌else◌}
 use Rattle.std.specs.Bool.{beq}
 use Rattle.std.specs.List.{list_any}
@@ -14,7 +14,7 @@ use Rattle.cql2.specs.declared.column.Column.TheVariants.{Numeric, Text}
 use Rattle.cql2.specs.declared.filter.Filter.{Filter}
 use Rattle.cql2.specs.declared.filter.Filter.TheVariants.{Constant, And', Or', Not', IsNull, CompareNumber, CompareText, Like, HasNumber, HasName}
 
--- the truth tables of AND, OR and NOT: false decides AND alone, and true decides OR, whatever the other one is
+-- the truth tables of AND, OR and NOT: false decides AND, and true decides OR, whatever the other operand is
 abbrev pub and : Option Bool → Option Bool → Option Bool
 and (Some true) other = other
 and (Some false) other = Some false
@@ -40,14 +40,14 @@ is_null (Text column) line = is_none (text_value column line)
 abbrev pub has_number : ℕ → RangeFields → Bool
 has_number number range = lies_on number range.fraddl range.toaddl || lies_on number range.fraddr range.toaddr
 
--- The segment has a name among its own and its first alternate ones, as many as are looked at. If it has more, and none of these is the
--- name, it isn't known.
+-- The segment has this name, as its own or as one of its first `most` alternate names. If it has more alternate names and none of those is this
+-- one, the answer is unknown.
 abbrev pub has_name : List ℕ → ℕ → Contents → Option Bool
 has_name text most segment =
     if list_any (λ name. name_equals name text) (take (1 + most) (names_of segment)) then Some true
     else (if nat_le (length segment.names) most then Some false else None)
 
--- the truth of a filter, none where it is neither true nor false
+-- the truth of a filter; none if it is neither true nor false
 abbrev pub truth : {A : Type 0} → Filter A → Contents → Option Bool
 truth (Constant value) segment = Some value
 truth (And' p first q second) segment = and (truth first segment) (truth second segment)
@@ -63,7 +63,7 @@ truth (Like column pattern) segment =
 truth (HasNumber house) segment = Some (list_any (has_number house.number) (ranges_of segment))
 truth (HasName text limit) segment = has_name text.bytes.items limit.number segment
 
--- it is known to be this
+-- the truth is known to be this
 abbrev pub is : Option Bool → Bool → Bool
 is None asked = false
 is (Some truth) asked = beq truth asked

@@ -1,4 +1,4 @@
-//! The columns of a segment's record that a filter may name (TIGER/Line 2006, record type 1).
+//! The columns of a segment's record that a filter can name (TIGER/Line 2006, record type 1).
 ghost use Rattle.std.specs.Prelude.{◌≡◌};
 ghost use Rattle.cql2.specs.Column.{coordinate_places, number_places, text_places};
 
@@ -66,7 +66,7 @@ pub enum Column {
 }
 
 impl NumberColumn {
-    /// Returns the places of the column's fields.
+    /// Returns the positions of the column's fields.
     pub fn places(self) -> Places
         ensures { result ≡ number_places self }
     {
@@ -93,7 +93,7 @@ impl NumberColumn {
 }
 
 impl CoordinateColumn {
-    /// Returns the places of the column's fields.
+    /// Returns the positions of the column's fields.
     pub fn places(self) -> Places
         ensures { result ≡ coordinate_places self }
     {
@@ -107,7 +107,7 @@ impl CoordinateColumn {
 }
 
 impl TextColumn {
-    /// Returns the places of the column's fields.
+    /// Returns the positions of the column's fields.
     pub fn places(self) -> Places
         ensures { result ≡ text_places self }
     {

@@ -5,7 +5,7 @@ use crate::pattern::Pattern;
 use crate::text::Text;
 use std::alloc::Allocator;
 
-/// How one value is compared with another.
+/// A comparison operator.
 #[derive(Clone, Copy)]
 pub enum Comparison {
     Equal,
@@ -16,7 +16,7 @@ pub enum Comparison {
     GreaterOrEqual,
 }
 
-/// A filter. AND and OR of many terms lean to the left: `a OR b OR c` is `Or(Or(a, b), c)`.
+/// A filter. Chains of AND and OR nest to the left: `a OR b OR c` is `Or(Or(a, b), c)`.
 pub enum Filter<A: Allocator> {
     /// `TRUE` or `FALSE`.
     Constant(bool),
@@ -27,14 +27,14 @@ pub enum Filter<A: Allocator> {
     CompareNumber(NumericColumn, Comparison, Literal),
     CompareText(TextColumn, Comparison, Text<A>),
     Like(TextColumn, Pattern<A>),
-    /// Some range of the segment has the house number on some side.
+    /// The house number lies on some side of some range of the segment.
     HasNumber(HouseNumber),
-    /// The segment's own name is this text, or one of its first alternate names is.
+    /// The segment's own name or one of its first alternate names is this text.
     HasName(Text<A>, NameLimit),
 }
 
 impl<A: Allocator> Drop for Filter<A> {
-    // A chain of terms is as deep as it is long, so its own drop is a loop.
+    // A chain of terms is as deep as it is long, so it is dropped in a loop.
     fn drop(mut self) {
         loop {
             match self {

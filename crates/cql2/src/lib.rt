@@ -1,4 +1,4 @@
-//! Filters over street segments in OGC's Common Query Language (CQL2, 21-065r2): what they say, and on which segments they are true.
+//! Filters over street segments in OGC's Common Query Language (CQL2, 21-065r2): their meaning, and the segments on which they are true.
 #![tactic(auto)]
 
 mod column;

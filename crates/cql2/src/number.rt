@@ -1,8 +1,8 @@
-//! Numbers that are written in a filter.
+//! Numbers in a filter.
 ghost use Rattle.std.specs.Prelude.{◌<◌, ◌^◌, FitsSigned};
 ghost use Rattle.std.specs.Int.{w64};
 
-/// A number that a column is compared with; of a coordinate, millionths of a degree.
+/// A number that a column is compared with; for a coordinate, in millionths of a degree.
 #[derive(Clone, Copy)]
 pub struct Literal {
     pub number: i64,
@@ -16,7 +16,7 @@ pub struct HouseNumber {
     ghost fits: { number < 2 ^ 64 },
 }
 
-/// How many alternate names are looked at beside a segment's own name.
+/// The number of alternate names to check besides a segment's own name.
 #[derive(Clone, Copy)]
 pub struct NameLimit {
     pub number: u16,
