@@ -1,4 +1,4 @@
--- Tokens that differ in where their bytes lie spell the same.
+-- Tokens that differ only in where their bytes are in memory spell the same filter.
 use Rattle.std.proofs.Common.{◌≡◌, ℕ, Bool, true, false, List, [], ◌∷◌, refl, sym, ap, ◌∙◌, subst}
 use denote.Ref.{Bor}
 use Rattle.tl_segments.specs.declared.name.TheConstants.{NAME_LENGTH}
@@ -31,7 +31,7 @@ use Rattle.cql2_text.specs.declared.token.Numeral.{Numeral}
 use Rattle.cql2_text.specs.declared.token.Token.{Token}
 use Rattle.cql2_text.specs.declared.token.Token.TheVariants.{Close, Comma, Compared, Keyword, Number, Open, Text}
 
--- a token without bytes
+-- a token that holds no bytes
 abbrev is_plain : Token → Bool
 is_plain (Number numeral) = false
 is_plain (Text spelling) = false
@@ -42,7 +42,7 @@ plain-same _ _ (same token) plain = refl
 plain-same _ _ (numbers numeral other sign whole decimals) plain = cc
 plain-same _ _ (texts spelling other bytes) plain = cc
 
--- the same first token, and tokens after it that are alike
+-- the same first token, followed by tokens that are alike
 pub record SameFirst (token : Token) (tokens others : List Token) : Type 0 where
   pub later : List Token
   pub is : others ≡ token ∷ later
@@ -65,7 +65,7 @@ same-first : (token : Token) (tokens others : List Token) → is_plain token ≡
     → SameFirst token tokens others
 same-first token tokens others plain alike = first-by (token ∷ tokens) others token tokens alike refl plain
 
--- numbers alike, and the tokens after them
+-- a number that is alike, and the tokens after it
 pub record LikeNumber (numeral : Numeral) (tokens others : List Token) : Type 0 where
   pub another : Numeral
   pub later : List Token
@@ -109,7 +109,7 @@ like-number-by _ _ numeral tokens (next first other rest later like alike) is =
     let rests : rest ≡ tokens = cc in
     number-by first other numeral tokens later like firsts (subst (λ (l : List Token). AreLike l later) rests alike)
 
--- texts alike, and the tokens after them
+-- a text that is alike, and the tokens after it
 pub record LikeText (spelling : Bor (List ℕ)) (tokens others : List Token) : Type 0 where
   pub another : Bor (List ℕ)
   pub later : List Token
@@ -135,7 +135,7 @@ like-text-by _ _ spelling tokens (next first other rest later like alike) is =
     let rests : rest ≡ tokens = cc in
     text-by first other spelling tokens later like firsts (subst (λ (l : List Token). AreLike l later) rests alike)
 
--- other tokens spell the same, up to a rest that is alike
+-- the other tokens spell the same, and the remaining tokens are alike
 pub record Moved (Spelled : List Token → List Token → Type 0) (words rest : List Token) : Type 0 where
   pub after : List Token
   pub alike : AreLike rest after
@@ -509,7 +509,7 @@ module _ {A : Type 0} where
       let inner = moved-predicate words others rest made alike is in
       record { after = inner.after; alike = inner.alike; is = predicate inner.is }
 
-  -- the same of all of the tokens
+  -- the same for all tokens
   pub all-moved : (depth : ℕ) (production : Production) (words others : List Token) (made : Filter A) → AreLike words others
       → Spells depth production words [] made → Spells depth production others [] made
   all-moved depth production words others made alike is =

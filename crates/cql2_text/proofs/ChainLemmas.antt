@@ -1,4 +1,4 @@
--- Parts with a token between them: what is spelled from the left, read from the first part on.
+-- Parts with a token between them: a definition that recurses on the left, read from the first part on.
 use Rattle.std.proofs.Common.{◌≡◌, ◌≢◌, ℕ, List, ◌∷◌, refl, ap, ◌∙◌}
 use Rattle.cql2.specs.declared.filter.Comparison.TheVariants.{Equal}
 use Rattle.cql2.specs.declared.filter.Filter.{Filter}
@@ -11,14 +11,14 @@ use Rattle.cql2_text.specs.declared.token.Keyword.TheVariants as word
 use Rattle.cql2_text.specs.declared.token.Token.{Token}
 use Rattle.cql2_text.specs.declared.token.Token.TheVariants.{Comma, Keyword}
 
--- from a filter and the tokens after it to all of the parts and the tokens after these
+-- a chain from a filter and the tokens after it to the filter of all parts and the tokens after them
 pub data Chain {A : Type 0} (between : Token) (Part : List Token → List Token → Filter A → Type 0)
     (Joins : Filter A → Filter A → Filter A → Type 0) : List Token → Filter A → List Token → Filter A → Type 0 where
   ends : {words : List Token} {made : Filter A} → Chain between Part Joins words made words made
   goes_on : {middle after rest : List Token} {first second joined made : Filter A} → Part middle after second → Joins first second joined
       → Chain between Part Joins after joined rest made → Chain between Part Joins (between ∷ middle) first rest made
 
--- the same, from a filter that says what the first one says
+-- the same, from a filter with the same content as the first one
 pub record ReadChain {A : Type 0} (between : Token) (Part : List Token → List Token → Filter A → Type 0)
     (Joins : Filter A → Filter A → Filter A
     → Type 0) (words : List Token) (read : Filter A) (rest : List Token) (made : Filter A) : Type 0 where
@@ -26,7 +26,7 @@ pub record ReadChain {A : Type 0} (between : Token) (Part : List Token → List 
   pub same : content read ≡ content first
   pub chain : Chain between Part Joins words first rest made
 
--- a first part, and the chain after it
+-- a first part and the chain after it
 pub record FirstPart {A : Type 0} (between : Token) (Part : List Token → List Token → Filter A → Type 0)
     (Joins : Filter A → Filter A → Filter A → Type 0) (words rest : List Token) (made : Filter A) : Type 0 where
   pub first : Filter A
@@ -34,7 +34,7 @@ pub record FirstPart {A : Type 0} (between : Token) (Part : List Token → List 
   pub part : Part words after first
   pub chain : Chain between Part Joins after first rest made
 
--- a next part, joined with what was before, and the chain after it
+-- a next part, joined with the parts before it, and the chain after it
 pub record NextPart {A : Type 0} (between : Token) (Part : List Token → List Token → Filter A → Type 0)
     (Joins : Filter A → Filter A → Filter A
     → Type 0) (words : List Token) (first : Filter A) (rest : List Token) (made : Filter A) : Type 0 where
@@ -102,7 +102,7 @@ module _ {A : Type 0} where
   expression-parts {rest = rest} (one_term {made = made} is) = record { first = made; after = rest; part = is; chain = ends }
   expression-parts (either before is joins) = later-part (expression-parts before) is joins
 
--- what follows a term doesn't begin with AND
+-- the tokens after a term don't begin with AND
 module _ {A : Type 0} {Part : List Token → List Token → Filter A → Type 0} {Joins : Filter A → Filter A → Filter A → Type 0} where
   pub lacks-and : {words rest : List Token} {first made : Filter A} → Chain (Keyword word.Or) Part Joins words first rest made
       → Lacks word.And rest → Lacks word.And words

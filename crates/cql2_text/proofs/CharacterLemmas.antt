@@ -1,4 +1,4 @@
--- Characters, and the texts that they make.
+-- Characters and the texts that they form.
 use Rattle.std.proofs.Common.{◌≡◌, ℕ, ◌+◌, ◌-◌, ◌≤◌, Bool, true, false, ◌==◌, nat_le, List, [], ◌∷◌, ◌++◌, length, refl, sym, ap, ◌∙◌}
 use Rattle.std.proofs.Common.{arith, append_assoc, append-nil, length-append}
 use Rattle.std.specs.List.{flat_map, list_all}
@@ -33,7 +33,7 @@ high-character second rest least most =
     let back : second + 64 - 64 ≡ second = omega arith in
     record { spelled = rw (plain, wide, wider, back) refl; is_one = grind (arith, nat_tests) }
 
--- one character more
+-- one more character
 pub characters-more : (spelling bytes text rest : List ℕ) (byte : ℕ) → spelling ≡ flat_map character_text bytes ++ text
     → IsCharacter text byte rest → spelling ≡ flat_map character_text (bytes ++ byte ∷ []) ++ rest
 characters-more spelling bytes text rest byte so_far next =
@@ -42,13 +42,13 @@ characters-more spelling bytes text rest byte so_far next =
 pub all-more : (p : ℕ → Bool) (bytes : List ℕ) (byte : ℕ) → list_all p bytes ≡ true → p byte ≡ true → list_all p (bytes ++ byte ∷ []) ≡ true
 all-more p bytes byte all one = rw (list_all-append p bytes (byte ∷ []), all, one) refl
 
--- characters so far, and more of them up to all that there are
+-- the characters so far, and the remaining ones
 pub record MoreCharacters (so_far text bytes : List ℕ) : Type 0 where
   pub more : List ℕ
   pub joined : bytes ≡ so_far ++ more
   pub has : HasCharacters text more
 
--- the next one of them
+-- the next character
 pub record NextCharacter (so_far text bytes : List ℕ) : Type 0 where
   pub byte : ℕ
   pub after : List ℕ
@@ -88,7 +88,7 @@ pub last-character : (so_far text bytes : List ℕ) → MoreCharacters so_far te
 last-character so_far text bytes are none = last-by are.more so_far text bytes are.joined are.has none
 
 module _ {so_far text bytes items after : List ℕ} {byte : ℕ} where
-  -- the characters so far with the next one
+  -- the characters so far, followed by the next one
   pub pushed-character : (next : NextCharacter so_far text bytes) → byte ≡ next.byte → after ≡ next.after → items ≡ so_far ++ byte ∷ []
       → MoreCharacters items after bytes
   pushed-character next same rest pushed = rw (pushed, same, rest) next.later

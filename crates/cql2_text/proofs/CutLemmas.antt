@@ -7,7 +7,7 @@ use Rattle.cql2_text.specs.declared.token.Token.{Token}
 use Rattle.cql2_text.proofs.LexerLemmas.{token-shorter}
 use Rattle.cql2_text.proofs.ViewLemmas.{blank-at, one-token}
 
--- a whole text is these tokens
+-- the whole text consists of these tokens
 pub data Cuts : List ℕ → List Token → Type 0 where
   ended : Cuts [] []
   blank : (byte : ℕ) (text : List ℕ) (tokens : List Token) → is_white_space byte ≡ true → Cuts text tokens → Cuts (byte ∷ text) tokens
@@ -20,7 +20,7 @@ cuts-of text _ _ more (white_space {byte = byte} {rest = rest} {tokens = tokens}
 cuts-of text _ _ more (token {middle = middle} {rest = rest} {next = first} {tokens = tokens} is lexes) cuts =
     rw append_assoc (cuts-of text middle tokens (first ∷ more) lexes (cut middle rest first more is cuts))
 
--- tokens so far, and more of them up to all that there are
+-- the tokens so far, and the remaining ones
 pub record MoreTokens (so_far : List Token) (text : List ℕ) (words : List Token) : Type 0 where
   pub before : List Token
   pub more : List Token
@@ -56,7 +56,7 @@ blank-step so_far text after words byte are begun is =
       cuts = blank-by text after are.more byte are.cuts begun is;
     }
 
--- a first token, and the tokens after it
+-- a first token and the tokens after it
 pub record FirstToken (text : List ℕ) (more : List Token) : Type 0 where
   pub rest : List ℕ
   pub first : Token

@@ -1,4 +1,4 @@
--- Tokens that a text begins with.
+-- The tokens at the start of a text.
 use Rattle.std.proofs.Common.{◌≡◌, ℕ, ◌+◌, ◌-◌, ◌<◌, ◌≤◌, Bool, true, false, ◌||◌, ◌==◌, List, [], ◌∷◌, ◌++◌, length}
 use Rattle.std.proofs.Common.{take, drop, Option, Some, None, IfSome, refl}
 use Rattle.std.proofs.Common.{sym, ap, ◌∙◌, subst, arith, length-append}
@@ -53,7 +53,7 @@ none-starts : (rest : List ℕ) → begins is_name_start rest ≡ true → begin
 none-starts [] starts is_none = cc
 none-starts (byte ∷ rest) starts is_none = start-is-byte byte starts is_none
 
--- the longest name at the front of a text that begins as names do
+-- the longest name at the start of a text that begins like a name
 word-starts : (word rest : List ℕ) → begins is_name_start (word ++ rest) ≡ true → IsLongest is_name_byte word rest
     → begins is_name_start word ≡ true
 word-starts [] rest starts longest = absurd (none-starts rest starts longest.longest)
@@ -71,7 +71,7 @@ has-no-decimals text after [] rest point is longest none =
     subst (λ (t : List ℕ). HasDecimals t t []) (sym e) (no_decimals rest longest.longest)
 has-no-decimals text after (digit ∷ digits) rest point is longest none = absurd (omega arith)
 
--- a token takes a byte at least
+-- a token has at least one byte
 begins-some : (p : ℕ → Bool) (word : List ℕ) → begins p word ≡ true → 1 ≤ length word
 begins-some p [] begun = cc
 begins-some p (byte ∷ word) begun = omega arith
@@ -106,7 +106,7 @@ token-shorter _ _ _ (numeric_literal numeral sign after rest signs are fraction)
     omega (arith, are.some, decimals-le _ _ _ fraction, length-append sign (whole ++ after), length-append whole after)
 token-shorter _ _ _ (character_literal spelling rest paired single) = omega (arith, length-append spelling.now (39 ∷ rest))
 
--- a text and one token more
+-- a text and one more token
 pub lexes-white-space : (text rest after : List ℕ) (tokens : List Token) (byte : ℕ) → Lexes text rest tokens → rest ≡ byte ∷ after
     → is_white_space byte ≡ true → Lexes text after tokens
 lexes-white-space text rest after tokens byte so_far is space =
@@ -120,7 +120,7 @@ module _ {text rest after : List ℕ} {first known : ℕ} {token : Token} where
   pub token-after : text ≡ first ∷ rest → first ≡ known → IsToken (known ∷ rest) after token → IsToken text after token
   token-after is same begun = subst (λ (t : List ℕ). IsToken t after token) (sym (text-after text rest first known is same)) begun
 
--- a number with a sign or without one
+-- a number with or without a sign
 pub signed-number : (read : Option (Token × Bor (List ℕ))) (is_negative : Bool) (sign text rest : List ℕ) → text ≡ sign ++ rest
     → IsSign is_negative sign
     → IfSome read (λ found. (s : List ℕ) → IsSign is_negative s → IsToken (s ++ rest) found.1.now found.0)
@@ -129,7 +129,7 @@ signed-number None is_negative sign text rest is signs read = tt
 signed-number (Some found) is_negative sign text rest is signs read =
     subst (λ (t : List ℕ). IsToken t found.1.now found.0) (sym is) (read sign signs)
 
--- a text cut at its closing quote
+-- a text, cut at its closing quote
 pub text-cut : (spelling : Bor (List ℕ)) (text : List ℕ) (index : ℕ) → spelling.now ≡ take index text → IsClosingQuote text index
     → IsToken (39 ∷ text) (take (length text - (index + 1)) (drop (index + 1) text)) (Text spelling)
 text-cut spelling text index same quote =

@@ -1,4 +1,4 @@
--- The longest front of such bytes.
+-- The longest prefix of bytes that satisfy a predicate.
 use Rattle.std.proofs.Common.{◌≡◌, ℕ, ◌+◌, ◌-◌, ◌≤◌, Bool, true, false, not, List, [], ◌∷◌, suc, length, cond, Some, None, take, drop, refl}
 use Rattle.std.proofs.Common.{sym, arith, nat_lt}
 use Rattle.std.proofs.lemmas.List.{take_all, length-drop}

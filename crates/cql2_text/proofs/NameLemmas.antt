@@ -1,4 +1,4 @@
--- What the tables of names hold.
+-- The contents of the tables of names.
 use Rattle.std.proofs.Common.{◌≡◌, Some, None, refl}
 use Rattle.cql2.specs.declared.column.Column.{Column as AColumn}
 use Rattle.cql2.specs.declared.column.Column.TheVariants.{Numeric, Text}

@@ -1,4 +1,4 @@
--- What follows from the digits of a number.
+-- Facts about the digits of a number.
 use Rattle.std.proofs.Common.{◌≡◌, ℕ, Bool, ◌&&◌, nat_le, ◌+◌, ◌-◌, ◌*◌, ◌^◌, ◌<◌, ◌≤◌, true, false, List, length, get_or}
 use Rattle.std.proofs.Common.{take, if◌then◌else◌, Some, None, IfSome, refl, arith, rules}
 use Rattle.std.specs.List.{list_all}
@@ -14,18 +14,18 @@ use Rattle.tl_fields.specs.Number.{decimal_in, is_decimal}
 digits_model : IsNumeralModel (λ ds. list_all is_ascii_digit ds ≡ true) (digits_value 10)
 digits_model = numerals_by_value _ (search rules)
 
--- k digits or fewer write a number below 10 ^ k
+-- at most k digits write a number below 10 ^ k
 pub digits_value-lt : (ds : List ℕ) (k : ℕ) → list_all is_ascii_digit ds ≡ true → length ds ≤ k → digits_value 10 ds < 10 ^ k
 digits_value-lt ds k digits short = digits_value_short digits_model ds k digits short
 
--- the value so far, and one more digit
+-- the value so far, with one more digit
 pub digits_value-next : (ds : List ℕ) (i value : ℕ) → i < length ds → is_ascii_digit (get_or ds i 0) ≡ true
     → value ≡ digits_value 10 (take i ds) → value * 10 + (get_or ds i 0 - 48) ≡ digits_value 10 (take (i + 1) ds)
 digits_value-next ds i value inside digit so_far =
     let worth : digit_value (get_or ds i 0) ≡ get_or ds i 0 - 48 = grind (arith, nat_tests) in
     rw (digits_value_more 10 ds i inside, worth, so_far) refl
 
--- digits so far, and one more
+-- the digits so far, with one more
 pub list_all-next : (ds : List ℕ) (i : ℕ) → i < length ds → is_ascii_digit (get_or ds i 0) ≡ true
     → list_all is_ascii_digit (take i ds) ≡ true → list_all is_ascii_digit (take (i + 1) ds) ≡ true
 list_all-next ds i inside digit so_far = rw (list_all_more is_ascii_digit ds i 0 inside, so_far, digit) refl
@@ -37,11 +37,11 @@ decimal_in-lt-by most ds true is =
     digits_value-lt ds most parts.1 (leb-true _ _ (and_parts (nat_le 1 (length ds)) _ parts.0).1)
 decimal_in-lt-by most ds false is = tt
 
--- bytes of a length that a number may have
+-- bytes whose count is allowed for a number
 pub decimal_in-few : (most : ℕ) (ds : List ℕ) → 1 ≤ length ds → length ds ≤ most
     → decimal_in most ds ≡ (if list_all is_ascii_digit ds then Some (digits_value 10 ds) else None)
 decimal_in-few most ds some few = rw (le-leb 1 (length ds) some, le-leb (length ds) most few) refl
 
--- digits write a number below the power of ten of their count
+-- digits write a number below ten to the power of their count
 pub decimal_in-lt : (most : ℕ) (ds : List ℕ) → IfSome (decimal_in most ds) (λ n. n < 10 ^ most)
 decimal_in-lt most ds = decimal_in-lt-by most ds _ refl

@@ -12,7 +12,7 @@ use Rattle.cql2_text.specs.Character.{IsCharacter, character_text}
 use Rattle.cql2_text.proofs.CharacterLemmas.{some-text}
 use Rattle.cql2_text.specs.Pattern.{IsPattern, IsPatternByte, IsSamePattern, ReadsPattern, any, escaped, is_special, next, ordinary, start, wanted_by}
 
--- a text that begins with a byte of ASCII
+-- a text that begins with an ASCII byte
 starts-with : (text rest : List ℕ) (byte known : ℕ) → IsCharacter text byte rest → byte ≡ known → text ≡ character_text known ++ rest
 starts-with text rest byte known is same = is.spelled ∙ ap (λ (b : ℕ). character_text b ++ rest) same
 
@@ -37,7 +37,7 @@ pub bytes-more : (pattern : List PatternByte) (byte : PatternByte) → are_bytes
     → are_bytes (pattern ++ byte ∷ []) ≡ true
 bytes-more pattern byte all one = rw (list_all-append is_byte pattern (byte ∷ []), all, one) refl
 
--- what a pattern's byte is by the character that a text begins with
+-- the meaning of a pattern byte, by the character that the text begins with
 abbrev HasMeaning : Bool → ℕ → List ℕ → PatternByte → List ℕ → Type 0
 HasMeaning ignores_case byte after wanted rest =
     ((byte ≡ 95) × (wanted ≡ Any) × (after ≡ rest))
@@ -106,7 +106,7 @@ no-percent ignores_case text wanted rest is percent =
     let e : v.byte ≡ 37 = percent-byte text v.byte v.after v.is percent in
     is-other v (rw e refl) (λ f. omega arith) (λ f. omega arith)
 
--- a text as a pattern's bytes, and whether it's open
+-- a text as the bytes of a pattern, with whether it is open
 pub data PatternOf (ignores_case : Bool) : List ℕ → List PatternByte → Bool → Type 0 where
   closed : PatternOf ignores_case [] [] false
   opened : PatternOf ignores_case (37 ∷ []) [] true
@@ -121,7 +121,7 @@ pattern-joined ignores_case spelling _ _ later is_open start is = is
 pattern-joined ignores_case spelling _ _ later is_open (next {text = text} {byte = byte} {wanted = wanted} before is_byte) is =
     rw append_assoc (pattern-joined ignores_case spelling text wanted (byte ∷ later) is_open before (more is_byte is))
 
--- bytes of a pattern so far, and more of them up to all that there are
+-- the pattern bytes so far, and the remaining ones
 pub record MoreBytes (ignores_case : Bool) (so_far : List PatternByte) (text : List ℕ) (wanted : List PatternByte) (is_open : Bool)
     : Type 0 where
   pub later : List PatternByte
@@ -137,7 +137,7 @@ all-bytes ignores_case spelling wanted false is =
     let has = pattern-joined ignores_case spelling [] wanted [] false is closed in
     record { later = wanted; joined = refl; has = rw append-nil at has }
 
--- the next one of them
+-- the next pattern byte
 pub record NextByte (ignores_case : Bool) (so_far : List PatternByte) (text : List ℕ) (wanted : List PatternByte) (is_open : Bool)
     : Type 0 where
   pub byte : PatternByte
@@ -185,14 +185,14 @@ module _ {ignores_case : Bool} {so_far : List PatternByte} {text : List ℕ} {wa
   pub at-percent : MoreBytes ignores_case so_far text wanted is_open → text ≡ 37 ∷ [] → (so_far ≡ wanted) × (true ≡ is_open)
   at-percent are percent = percent-by ignores_case so_far wanted text are.later is_open are.joined are.has percent
 
-  -- the bytes so far with the next one
+  -- the pattern bytes so far, followed by the next one
   pub pushed-byte : {items : List PatternByte} {after : List ℕ} {byte : PatternByte}
       (following : NextByte ignores_case so_far text wanted is_open)
       → byte ≡ following.byte → after ≡ following.after → items ≡ so_far ++ byte ∷ []
       → MoreBytes ignores_case items after wanted is_open
   pushed-byte following same rest pushed = rw (pushed, same, rest) following.more_bytes
 
--- what `short` returns, where the pattern that a literal is has these bytes
+-- the result of `short` for a literal whose pattern has these bytes
 module _ {A : Type 0} (result : Result (Pattern A) TextFlaw) (items : List PatternByte) (is_open : Bool) (width : ℕ)
     (pattern : Pattern A) where
   short-by : (r : Result (Pattern A) TextFlaw) → IfOk r (λ read. read.wanted.items ≡ items) → IfOk r (λ read. read.is_open ≡ is_open)

@@ -1,4 +1,4 @@
--- What is spelled takes tokens.
+-- Every production consumes tokens.
 use Rattle.std.proofs.Common.{ℕ, ◌<◌, ◌≤◌, Bool, List, length, ap, arith}
 use Rattle.cql2.specs.declared.column.NumericColumn.{NumericColumn}
 use Rattle.cql2.specs.declared.column.TextColumn.{TextColumn}

@@ -1,4 +1,4 @@
--- What is spelled where the first tokens are known.
+-- What is spelled if the first tokens are known.
 use Rattle.std.proofs.Common.{◌≡◌, ◌≢◌, ℕ, suc, List, ◌∷◌, Some, refl, ap, ◌∙◌}
 use Rattle.cql2.specs.declared.column.Column.{Column as AColumn}
 use Rattle.cql2.specs.declared.column.NumericColumn.{NumericColumn}

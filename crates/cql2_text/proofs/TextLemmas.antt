@@ -1,4 +1,4 @@
--- Texts without the blanks at their ends.
+-- Texts without trailing blanks.
 use Rattle.std.proofs.Common.{◌≡◌, ℕ, ◌≤◌, Bool, true, false, ◌&&◌, ◌==◌, nat_le, nat_lt, List, [], ◌∷◌, ◌++◌, length, reverse, refl}
 use Rattle.std.proofs.Common.{subst, arith, if◌then◌else◌}
 use Rattle.std.specs.List.{list_all}
@@ -70,7 +70,7 @@ ends-filled-reverse [] bytes is some = absurd (omega arith)
 ends-filled-reverse (byte ∷ rest) bytes is some =
     rw (reverse-cons byte rest) (ends-filled-more (reverse rest) byte (front-filled bytes byte rest is))
 
--- a compared text is one that a filter may hold
+-- a text that is compared with a column is one that a filter can hold
 pub text-is : (bytes : List ℕ) → list_all is_character bytes ≡ true → 1 ≤ length (trim_end bytes) → length (trim_end bytes) ≤ NAME_LENGTH
     → is_text (trim_end bytes) ≡ true
 text-is bytes all some few =

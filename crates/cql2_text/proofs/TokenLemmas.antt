@@ -1,4 +1,4 @@
--- Tokens whose first one is known.
+-- Tokens of which the first is known.
 use Rattle.std.proofs.Common.{◌≡◌, List, ◌∷◌, ap, ◌∙◌}
 use Rattle.cql2_text.specs.declared.token.Keyword.{Keyword as AKeyword}
 use Rattle.cql2_text.specs.declared.token.Token.{Token}

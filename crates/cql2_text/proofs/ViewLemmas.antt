@@ -1,4 +1,4 @@
--- Which token a text begins with, by its first byte.
+-- The token at the start of a text, by the text's first byte.
 use Rattle.std.proofs.Common.{◌≡◌, ◌≢◌, ℕ, Bool, true, false, ◌==◌, if◌then◌else◌, List, [], ◌∷◌, ◌++◌, length}
 use Rattle.std.proofs.Common.{Option, Some, None, ◌⊎◌, inl, inr, IfNone, refl, sym, ap, ◌∙◌, subst, arith}
 use Rattle.std.specs.Char.{is_ascii_digit}
@@ -21,7 +21,7 @@ use Rattle.cql2_text.specs.declared.token.Numeral.{Numeral}
 use Rattle.cql2_text.specs.declared.token.Token.{Token}
 use Rattle.cql2_text.specs.declared.token.Token.TheVariants.{Close, Column, Comma, Compared, Keyword, Number, Open, Text, UnknownColumn}
 
--- the longest front of such bytes is one
+-- the longest prefix of such bytes is unique
 pub longest-one : (p : ℕ → Bool) (front rest another after : List ℕ) → IsLongest p front rest → IsLongest p another after
     → front ++ rest ≡ another ++ after → (front ≡ another) × (rest ≡ after)
 longest-one p [] rest [] after is also same_text = (refl, same_text)
@@ -41,7 +41,7 @@ longest-one p (byte ∷ front) rest (first ∷ another) after is also same_text 
     let tails = longest-one p front rest another after before later texts in
     (cc (bytes, tails.0), tails.1)
 
--- the token that a word is
+-- the token of a word
 abbrev pub word_token : Option AKeyword → Option AColumn → Token
 word_token (Some named) column = Keyword named
 word_token None (Some column) = Column column
@@ -71,7 +71,7 @@ sign_kind byte =
 abbrev pub kind_of : ℕ → Kind
 kind_of byte = if is_name_start byte then NameKind else (if is_ascii_digit byte then DigitKind else sign_kind byte)
 
--- a token by the kind of its first byte, and what follows that byte
+-- a token by the kind of its first byte and the bytes after it
 pub data View : Kind → ℕ → List ℕ → List ℕ → Token → Type 0 where
   opening : (byte : ℕ) (rest : List ℕ) → View OpenKind byte rest rest Open
   closing : (byte : ℕ) (rest : List ℕ) → View CloseKind byte rest rest Close
@@ -199,7 +199,7 @@ view-by first byte later after rest token kind is same_text same_kind =
     let kinds = subst (λ (k : Kind). View k byte later rest token) same_kind moved in
     subst (λ (t : List ℕ). View kind byte t rest token) texts kinds
 
--- what follows a byte, as a token of the kind of that byte
+-- the bytes after the first one, as a token of that byte's kind
 pub view-at : (text rest : List ℕ) (token : Token) (byte : ℕ) (after : List ℕ) (kind : Kind) → IsToken text rest token → text ≡ byte ∷ after
     → kind_of byte ≡ kind → View kind byte after rest token
 view-at text rest token byte after kind is begun same_kind =
@@ -237,7 +237,7 @@ one-literal _ rest _ after (other byte text plain are) (other first more plain_t
     let tails = one-literal text rest more after are also texts single alone in
     (cc (bytes, tails.0), tails.1)
 
--- decimals by equations
+-- decimals in terms of equations
 abbrev DecimalsBy : List ℕ → List ℕ → List ℕ → Type 0
 DecimalsBy text rest digits =
     ((rest ≡ text) × (digits ≡ []) × (begins (λ byte. byte == 46) text ≡ false))
@@ -347,7 +347,7 @@ one-token text rest after token another is also =
     let second = view-at text after another first.byte first.after (kind_of first.byte) also first.is refl in
     one-view (kind_of first.byte) first.byte first.after rest after token another first.view second
 
--- a text that begins with a quote has a closing one
+-- a text that begins with a quote has a closing quote
 literal-by : (byte : ℕ) (text rest : List ℕ) (token : Token) → View TextKind byte text rest token
     → ((spelling after : List ℕ) → text ≡ spelling ++ 39 ∷ after → ArePaired spelling → begins is_quote after ≡ false → ⊥) → ⊥
 literal-by _ _ _ _ (literal byte spelling text rest is paired single) missing = missing spelling.now rest is paired single
@@ -356,7 +356,7 @@ pub literal-at : (text rest : List ℕ) (token : Token) → IsToken (39 ∷ text
     → ((spelling after : List ℕ) → text ≡ spelling ++ 39 ∷ after → ArePaired spelling → begins is_quote after ≡ false → ⊥) → ⊥
 literal-at text rest token is missing = literal-by 39 text rest token (view-at (39 ∷ text) rest token 39 text TextKind is refl refl) missing
 
--- a name in double quotes ends in one
+-- a name that begins with a double quote ends with one
 quoted-by : (byte : ℕ) (text rest : List ℕ) (token : Token) (name after : List ℕ) → View QuotedKind byte text rest token
     → text ≡ name ++ after → IsLongest is_name_byte name after → begins (λ first. first == 34) after ≡ false → ⊥
 quoted-by _ _ _ _ name after (quoted byte word text rest token is names found) same_text longest missing =
@@ -369,7 +369,7 @@ pub quoted-at : (text rest : List ℕ) (token : Token) (name after : List ℕ) �
 quoted-at text rest token name after is same_text longest missing =
     quoted-by 34 text rest token name after (view-at (34 ∷ text) rest token 34 text QuotedKind is refl refl) same_text longest missing
 
--- a number begins with a digit after its sign
+-- a number has a digit after its sign
 number-begins : (numeral : Numeral) (text rest : List ℕ) → AreNumber numeral text rest → begins is_ascii_digit text ≡ false → ⊥
 number-begins numeral text rest are missing = digits-begin numeral.whole.now are.after text are.digits are.is missing
 
@@ -410,7 +410,7 @@ pub none-then : {X : Type 0} {P Q : Type 0} (found : Option X) → IfNone found 
 none-then None is then_so = then_so is
 none-then (Some x) is then_so = tt
 
--- a byte that is no sign
+-- a byte that is not a sign
 pub record IsNoSign (byte : ℕ) : Type 0 where
   pub no_opening : byte ≢ 40
   pub no_closing : byte ≢ 41

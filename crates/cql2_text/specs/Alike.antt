@@ -1,4 +1,4 @@
--- Tokens that differ at most in where their bytes lie.
+-- Tokens that differ at most in where their bytes are in memory.
 use Rattle.std.specs.Prelude.{◌≡◌, ℕ, List, [], ◌∷◌}
 use denote.Ref.{Bor}
 use Rattle.cql2_text.specs.declared.token.Numeral.{Numeral}

@@ -1,4 +1,4 @@
--- The characters of a characterLiteral: those of Latin-1 (U+0020 to U+007E, U+00A0 to U+00FF), each one byte as in the Bureau's files.
+-- The characters of a characterLiteral: those of Latin-1 (U+0020 to U+007E, U+00A0 to U+00FF), each stored as one byte as in the Bureau's files.
 use Rattle.std.specs.Prelude.{◌≡◌, ℕ, ◌-◌, ◌≤◌, Bool, true, ◌&&◌, ◌||◌, ◌==◌, nat_le, if◌then◌else◌, List, [], ◌∷◌, ◌++◌, length}
 use Rattle.std.specs.List.{flat_map, list_all}
 use Rattle.cql2.specs.Column.{trim_end}
@@ -6,7 +6,7 @@ use Rattle.cql2.specs.Column.{trim_end}
 abbrev pub is_character : ℕ → Bool
 is_character byte = (nat_le 32 byte && nat_le byte 126) || (nat_le 160 byte && nat_le byte 255)
 
--- how a character is written: a quote as two, and each other one in UTF-8
+-- the spelling of a character: a quote is doubled, and any other character is in UTF-8
 abbrev pub character_text : ℕ → List ℕ
 character_text byte =
     if byte == 39 then 39 ∷ 39 ∷ []
@@ -14,18 +14,17 @@ character_text byte =
     else (if nat_le byte 191 then 194 ∷ byte ∷ []
     else 195 ∷ (byte - 64) ∷ []))
 
--- a text begins with a character, which the rest follows
+-- a text begins with a character, followed by the rest
 pub record IsCharacter (spelling : List ℕ) (byte : ℕ) (rest : List ℕ) : Type 0 where
   pub spelled : spelling ≡ character_text byte ++ rest
   pub is_one : is_character byte ≡ true
 
--- between its quotes a literal has these characters
+-- the literal has these characters between its quotes
 pub record HasCharacters (spelling bytes : List ℕ) : Type 0 where
   pub spelled : spelling ≡ flat_map character_text bytes
   pub characters : list_all is_character bytes ≡ true
 
--- A literal's text, as it is compared with a column of this width: blanks at its end don't count, it isn't empty, and it's no longer
--- than the column.
+-- A literal's text as it is compared with a column of this width: without trailing blanks, not empty, and no longer than the column.
 pub record IsComparedText (width : ℕ) (spelling text : List ℕ) : Type 0 where
   pub bytes : List ℕ
   pub has_characters : HasCharacters spelling bytes

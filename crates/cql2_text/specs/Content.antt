@@ -1,4 +1,4 @@
--- What a filter says, wherever its parts lie in memory.
+-- The content of a filter, regardless of where its parts are in memory.
 use Rattle.std.specs.Prelude.{ℕ, ℤ, Bool, List}
 use Rattle.cql2.specs.declared.column.Column.{Column}
 use Rattle.cql2.specs.declared.column.NumericColumn.{NumericColumn}

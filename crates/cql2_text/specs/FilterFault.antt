@@ -1,4 +1,4 @@
--- The refusal of a filter's fault.
+-- The refusal for a filter's fault.
 use Rattle.refusals.specs.Refusal.{RefusalParts, at_character, memory}
 use Rattle.cql2_text.specs.FilterFlaw as filter_flaw
 use Rattle.cql2_text.specs.declared.fault.FilterFault.{FilterFault}

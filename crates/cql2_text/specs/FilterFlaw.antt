@@ -1,4 +1,4 @@
--- The refusal of a flaw in a filter's text, without its position.
+-- The refusal for a flaw in a filter's text, without its position.
 use Rattle.std.specs.Prelude.{codes}
 use Rattle.refusals.specs.Refusal.{RefusalParts, refused}
 use Rattle.cql2_text.specs.declared.fault.FilterFlaw.{FilterFlaw}

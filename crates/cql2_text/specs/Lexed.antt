@@ -16,7 +16,7 @@ use Rattle.cql2_text.specs.declared.token.Token.TheVariants.{Keyword, Column, Un
 abbrev pub is_white_space : ℕ → Bool
 is_white_space byte = byte == 32 || byte == 9 || byte == 13 || byte == 10
 
--- a name is made of letters, digits and underscores, and doesn't begin with a digit
+-- a name consists of letters, digits and underscores, and doesn't begin with a digit
 abbrev pub is_name_start : ℕ → Bool
 is_name_start byte = is_ascii_alphabetic byte || byte == 95
 
@@ -29,7 +29,7 @@ is_equals byte = byte == 61
 abbrev pub is_quote : ℕ → Bool
 is_quote byte = byte == 39
 
--- a text begins with such a byte
+-- a text begins with a byte that satisfies the predicate
 abbrev pub begins : (ℕ → Bool) → List ℕ → Bool
 begins is_such [] = false
 begins is_such (byte ∷ text) = is_such byte
@@ -42,13 +42,13 @@ sign_of LessOrEqual = 60 ∷ 61 ∷ []
 sign_of Greater = 62 ∷ []
 sign_of GreaterOrEqual = 62 ∷ 61 ∷ []
 
--- a sign is as long as can be
+-- a comparison operator is as long as possible
 abbrev pub goes_on : Comparison → List ℕ → Bool
 goes_on Less rest = begins (λ byte. byte == 61 || byte == 62) rest
 goes_on Greater rest = begins (λ byte. byte == 61) rest
 goes_on comparison rest = false
 
--- such bytes, as many as there are
+-- the longest prefix of bytes that satisfy the predicate
 pub record IsLongest (is_such : ℕ → Bool) (bytes rest : List ℕ) : Type 0 where
   pub such : list_all is_such bytes ≡ true
   pub longest : begins is_such rest ≡ false
@@ -58,36 +58,36 @@ pub record IsWord (word rest : List ℕ) : Type 0 where
   pub starts : begins is_name_start word ≡ true
   pub longest : IsLongest is_name_byte word rest
 
--- one digit or more
+-- one or more digits
 pub record AreDigits (digits rest : List ℕ) : Type 0 where
   pub some : 1 ≤ length digits
   pub longest : IsLongest is_ascii_digit digits rest
 
--- a point and decimals that a text begins with, or no point with a digit after it
+-- a point with decimals at the start of a text, or no point that is followed by a digit
 pub data HasDecimals : List ℕ → List ℕ → List ℕ → Type 0 where
   no_point : (rest : List ℕ) → begins (λ byte. byte == 46) rest ≡ false → HasDecimals rest rest []
   no_decimals : (rest : List ℕ) → begins is_ascii_digit rest ≡ false → HasDecimals (46 ∷ rest) (46 ∷ rest) []
   decimals : (digits rest : List ℕ) → AreDigits digits rest → HasDecimals (46 ∷ (digits ++ rest)) rest digits
 
--- a sign before a number
+-- the sign of a number
 abbrev pub IsSign : Bool → List ℕ → Type 0
 IsSign true sign = sign ≡ 45 ∷ []
 IsSign false sign = (sign ≡ []) ⊎ (sign ≡ 43 ∷ [])
 
--- the quotes of a text stand in pairs
+-- the quotes in a text come in pairs
 pub data ArePaired : List ℕ → Type 0 where
   none : ArePaired []
   pair : (text : List ℕ) → ArePaired text → ArePaired (39 ∷ 39 ∷ text)
   other : (byte : ℕ) (text : List ℕ) → is_quote byte ≡ false → ArePaired text → ArePaired (byte ∷ text)
 
--- a quote stands here, after pairs, that isn't one of a pair
+-- the quote at this index is not one of a pair, and the quotes before it are paired
 pub record IsClosingQuote (text : List ℕ) (index : ℕ) : Type 0 where
   pub within : index < length text
   pub paired : ArePaired (take index text)
   pub split : text ≡ take index text ++ 39 ∷ drop (index + 1) text
   pub single : begins is_quote (drop (index + 1) text) ≡ false
 
--- the text that a token begins with it, and the rest of the text
+-- a text, the rest of it after its first token, and that token
 pub data IsToken : List ℕ → List ℕ → Token → Type 0 where
   left_paren : (rest : List ℕ) → IsToken (40 ∷ rest) rest Open
   right_paren : (rest : List ℕ) → IsToken (41 ∷ rest) rest Close
@@ -109,7 +109,7 @@ pub data IsToken : List ℕ → List ℕ → Token → Type 0 where
   character_literal : (spelling : Bor (List ℕ)) (rest : List ℕ) → ArePaired spelling.now → begins is_quote rest ≡ false
       → IsToken (39 ∷ (spelling.now ++ 39 ∷ rest)) rest (Text spelling)
 
--- A text, up to the rest of it, is these tokens. White space may stand before each and at the end.
+-- A text up to the rest consists of these tokens. White space may precede each token and end the text.
 pub data Lexes (text : List ℕ) : List ℕ → List Token → Type 0 where
   start : Lexes text text []
   white_space : {byte : ℕ} {rest : List ℕ} {tokens : List Token} → is_white_space byte ≡ true → Lexes text (byte ∷ rest) tokens

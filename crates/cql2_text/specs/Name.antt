@@ -1,4 +1,4 @@
--- Keywords and the names of columns, in either case (TIGER/Line 2006, record type 1).
+-- Keywords and column names, in upper or lower case (TIGER/Line 2006, record type 1).
 use Rattle.std.specs.Prelude.{ℕ, List, codes, Option}
 use Rattle.std.specs.List.{find}
 use Rattle.std.specs.Str.{str_eq_ignore_ascii_case}
@@ -76,7 +76,7 @@ column_name (Numeric (Number column)) = number_name column
 column_name (Numeric (Coordinate column)) = coordinate_name column
 column_name (Text column) = text_name column
 
--- the keyword that a word is, and the column that has a name
+-- the keyword that a word spells, and the column of a name
 abbrev pub keyword_named : List ℕ → Option Keyword
 keyword_named word = find (λ keyword. str_eq_ignore_ascii_case (keyword_text keyword) word) KEYWORDS
 

@@ -10,7 +10,7 @@ use Rattle.cql2_text.specs.declared.token.Numeral.{Numeral}
 abbrev pub signed : Bool → ℕ → ℤ
 signed is_negative amount = if is_negative then neg_ℤ (pos amount) else pos amount
 
--- the amount of a column's number, which has up to 18 digits, and no fraction
+-- the absolute value for a column of numbers, which has up to 18 digits and no fraction
 abbrev pub in_range : Option ℕ → Result ℕ FilterFlaw
 in_range (Some amount) = Ok amount
 in_range None = Err NumberRange
@@ -19,13 +19,13 @@ abbrev pub whole_amount : ℕ → List ℕ → List ℕ → Result ℕ FilterFla
 whole_amount most whole [] = in_range (decimal_in most whole)
 whole_amount most whole (digit ∷ decimals) = Err WrongType
 
--- the millionths that decimals are, of which there are up to six
+-- decimals as millionths; there are at most six
 abbrev pub parts_of : List ℕ → Option ℕ
 parts_of [] = Some 0
 parts_of (digit ∷ decimals) =
     elim (decimal_in 6 (digit ∷ decimals)) [ Some parts ↦ Some (parts * 10 ^ (6 - length (digit ∷ decimals))) | None ↦ None ]
 
--- a coordinate has fewer than 1000 degrees
+-- a coordinate is below 1000 degrees
 abbrev pub millionths : Option ℕ → Option ℕ → Result ℕ FilterFlaw
 millionths (Some degrees) (Some parts) = if nat_lt degrees 1000 then Ok (degrees * 1000000 + parts) else Err NumberRange
 millionths (Some degrees) None = Err NumberRange
@@ -39,11 +39,11 @@ abbrev pub signed_by : Bool → Result ℕ FilterFlaw → Result ℤ FilterFlaw
 signed_by is_negative (Ok amount) = Ok (signed is_negative amount)
 signed_by is_negative (Err flaw) = Err flaw
 
--- the number of a numeral that is compared with a column
+-- the value of a numeral that is compared with a column
 abbrev pub number_of : NumericColumn → Numeral → Result ℤ FilterFlaw
 number_of column numeral = signed_by numeral.is_negative (amount_of column numeral)
 
--- a numeral without a fraction that isn't negative, of a limited number of digits
+-- a nonnegative numeral without a fraction and with a limited number of digits
 abbrev pub count_of : ℕ → Numeral → Result ℕ FilterFlaw
 count_of most numeral =
     elim (whole_amount most numeral.whole.now numeral.decimals.now) [
@@ -55,7 +55,7 @@ count_of most numeral =
 abbrev pub house_number_of : Numeral → Result ℕ FilterFlaw
 house_number_of numeral = count_of 11 numeral
 
--- up to 5000 alternate names may be looked at
+-- at most 5000 alternate names can be checked
 abbrev pub up_to_5000 : Result ℕ FilterFlaw → Result ℕ FilterFlaw
 up_to_5000 (Ok amount) = if nat_le amount 5000 then Ok amount else Err NumberRange
 up_to_5000 (Err flaw) = Err flaw

@@ -1,4 +1,4 @@
--- Positions in a text: a line, and a character of it, both counted from 1.
+-- Positions in a text: a line, and a character in it, both counted from 1.
 use Rattle.std.specs.Prelude.{ℕ, ◌+◌, Bool, ◌&&◌, ◌==◌, nat_le, nat_lt, if◌then◌else◌, List}
 use Rattle.std.specs.List.{count_by, fold}
 use Rattle.cql2_text.specs.declared.fault.FilterFault.{FilterFault}
@@ -8,21 +8,22 @@ use Rattle.cql2_text.specs.declared.fault.FilterFlaw.{FilterFlaw}
 abbrev pub is_line_feed : ℕ → Bool
 is_line_feed byte = byte == 10
 
--- a byte of a character that an earlier byte begins
+-- a byte that continues a character
 abbrev pub is_continuation : ℕ → Bool
 is_continuation byte = nat_le 128 byte && nat_lt byte 192
 
--- the line of what follows so much of a text
+-- the line of the byte after this prefix of a text
 abbrev pub line_after : List ℕ → ℕ
 line_after front = 1 + count_by is_line_feed front
 
--- The character of its line that follows so much of a text: a line feed begins a line, and the other bytes that begin a character count.
+-- The position in its line of the character after this prefix of a text. A line feed begins a line; every other byte that begins a character
+-- counts as one.
 abbrev pub next_column : ℕ → ℕ → ℕ
 next_column column byte = if is_line_feed byte then 1 else (if is_continuation byte then column else column + 1)
 
 abbrev pub column_after : List ℕ → ℕ
 column_after front = fold next_column 1 front
 
--- the fault that a flaw is, after so much of a text
+-- a flaw, placed after this prefix of a text
 abbrev pub fault_after : List ℕ → FilterFlaw → FilterFault
 fault_after front flaw = At (line_after front) (column_after front) flaw

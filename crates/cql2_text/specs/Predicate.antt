@@ -1,4 +1,4 @@
--- Predicates and functions by their tokens (CQL2, 21-065r2, annex B).
+-- Predicates and functions in terms of their tokens (CQL2, 21-065r2, annex B).
 use Rattle.std.specs.Prelude.{◌≡◌, ◌+◌, ◌-◌, ℕ, Bool, true, false, List, ◌∷◌, map, Ok, Option, Some, None}
 use denote.Ref.{Bor}
 use Rattle.std.specs.declared.boxed.Box.{Box}
@@ -29,7 +29,7 @@ use Rattle.cql2_text.specs.declared.token.Numeral.{Numeral}
 use Rattle.cql2_text.specs.declared.token.Token.{Token}
 use Rattle.cql2_text.specs.declared.token.Token.TheVariants.{Keyword, Column, Compared, Open, Close, Comma, Number, Text}
 
--- both of two filters, either of them, and the opposite of one
+-- the conjunction and the disjunction of two filters, and the negation of one
 abbrev pub IsBoth : {A : Type 0} → Filter A → Filter A → Filter A → Type 0
 IsBoth {A = A} first second made = (p : Box (Unit {0}) A) × ((q : Box (Unit {0}) A) × (made ≡ filter.And' p first q second))
 
@@ -39,29 +39,29 @@ IsEither {A = A} first second made = (p : Box (Unit {0}) A) × ((q : Box (Unit {
 abbrev pub IsNot : {A : Type 0} → Filter A → Filter A → Type 0
 IsNot {A = A} inner made = (p : Box (Unit {0}) A) × (made ≡ filter.Not' p inner)
 
--- how many bytes a column has
+-- the number of bytes in a column
 abbrev pub width_of : TextColumn → ℕ
 width_of column = (text_places column).1 + 1 - (text_places column).0
 
--- propertyName, or CASEI(propertyName): tokens up to the rest of them
+-- propertyName or CASEI(propertyName): the tokens up to the rest
 abbrev pub IsSubject : Subject → List Token → List Token → Type 0
 IsSubject (subject.Numeric c) words rest = words ≡ Column (column.Numeric c) ∷ rest
 IsSubject (subject.Text c) words rest = words ≡ Column (column.Text c) ∷ rest
 IsSubject (subject.Casei c) words rest = words ≡ Keyword word.Casei ∷ Open ∷ Column (column.Text c) ∷ Close ∷ rest
 
--- numericLiteral, as a column has numbers
+-- numericLiteral, as a number of the column
 pub record IsNumber (column : NumericColumn) (words rest : List Token) (literal : Literal) : Type 0 where
   pub numeral : Numeral
   pub spelled : words ≡ Number numeral ∷ rest
   pub value : number_of column numeral ≡ Ok literal.number
 
--- characterLiteral, as it is compared with a column of this width
+-- characterLiteral, as a text that is compared with a column of this width
 pub record IsText {A : Type 0} (width : ℕ) (words rest : List Token) (text : AText A) : Type 0 where
   pub spelling : Bor (List ℕ)
   pub spelled : words ≡ Text spelling ∷ rest
   pub compared : IsComparedText width spelling.now text.bytes.items
 
--- CASEI(characterLiteral), as the pattern that a text is but for the case of letters
+-- CASEI(characterLiteral), as the pattern that matches the text in either case
 pub record IsCaseiText {A : Type 0} (column : TextColumn) (words rest : List Token) (pattern : Pattern A) : Type 0 where
   pub inner : List Token
   pub text : AText A
@@ -76,7 +76,7 @@ pub record IsLikeColumn {A : Type 0} (c : TextColumn) (ignores_case : Bool) (wor
   pub spelled : words ≡ Text spelling ∷ rest
   pub like : IsLikePattern (width_of c) ignores_case spelling.now pattern
 
--- but for case, texts are the same or not
+-- CASEI allows only the comparisons `=` and `<>`
 abbrev pub is_compared : Subject → Comparison → Bool
 is_compared (subject.Casei c) Equal = true
 is_compared (subject.Casei c) NotEqual = true
@@ -110,7 +110,7 @@ SpellsLike {A = A} (subject.Casei c) words rest made =
     (inner : List Token) × ((pattern : Pattern A) × (words ≡ Keyword word.Casei ∷ Open ∷ inner)
     × IsLikeColumn c true inner (Close ∷ rest) pattern × (made ≡ filter.Like c pattern))
 
--- at least one number, and at most another
+-- at least one number and at most another
 abbrev pub IsWithin : {A : Type 0} → NumericColumn → Literal → Literal → Filter A → Type 0
 IsWithin c low high made = IsBoth (filter.CompareNumber c GreaterOrEqual low) (filter.CompareNumber c LessOrEqual high) made
 
@@ -123,7 +123,7 @@ pub record SpellsBetween {A : Type 0} (c : NumericColumn) (words rest : List Tok
   pub second : IsNumber c middle rest high
   pub within : IsWithin c low high made
 
--- what NOT may stand before
+-- the predicates that NOT may precede
 pub data SpellsNegatable {A : Type 0} : Subject → List Token → List Token → Filter A → Type 0 where
   is_like : {s : Subject} {words rest : List Token} {made : Filter A} → SpellsLike s words rest made
       → SpellsNegatable s (Keyword word.Like ∷ words) rest made
@@ -138,7 +138,7 @@ column_of (subject.Numeric c) = Some (column.Numeric c)
 column_of (subject.Text c) = Some (column.Text c)
 column_of (subject.Casei c) = None
 
--- what is said of a subject
+-- a predicate about a subject, after the subject
 pub data SpellsOf {A : Type 0} (s : Subject) : List Token → List Token → Filter A → Type 0 where
   binary_comparison : {comparison : Comparison} {words rest : List Token} {made : Filter A} → SpellsComparison s comparison words rest made
       → SpellsOf s (Compared comparison ∷ words) rest made
@@ -156,7 +156,7 @@ pub record SpellsHasNumber (words rest : List Token) (house : HouseNumber) : Typ
   pub spelled : words ≡ Open ∷ Number numeral ∷ Close ∷ rest
   pub value : house_number_of numeral ≡ Ok house.number
 
--- how many alternate names HAS_NAME looks at
+-- the number of alternate names that HAS_NAME checks
 pub data SpellsLimit : List Token → List Token → NameLimit → Type 0 where
   given : {rest : List Token} {limit : NameLimit} (numeral : Numeral) → name_limit_of numeral ≡ Ok limit.number
       → SpellsLimit (Comma ∷ Number numeral ∷ rest) rest limit

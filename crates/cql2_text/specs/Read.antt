@@ -1,4 +1,4 @@
--- What is read where tokens spell something: that, up to the rest of the tokens. Only an allocation may fail.
+-- The result of reading tokens that spell something: what they spell, and the tokens after it. Only an allocation can fail.
 use Rattle.std.specs.Prelude.{◌≡◌, ◌≢◌, List, ◌∷◌, Result, MatchResult}
 use denote.Ref.{Bor}
 use Rattle.cql2.specs.declared.filter.Filter.{Filter}
@@ -13,6 +13,6 @@ abbrev pub IsRead : {A : Type 0} → Result (Filter A × Bor (List Token)) Synta
 IsRead {A = A} result rest made =
     MatchResult result (λ read. (read.1.now ≡ rest) × (content read.0 ≡ content made)) (λ fault. fault ≡ Memory)
 
--- tokens don't begin with a keyword
+-- the tokens don't begin with this keyword
 abbrev pub Lacks : AKeyword → List Token → Type 0
 Lacks word words = (rest : List Token) → words ≢ Keyword word ∷ rest

@@ -1,4 +1,4 @@
--- Which filter a text spells (CQL2, 21-065r2, annex B: a constructor for each production).
+-- The filter that a text spells (CQL2, 21-065r2, annex B: one constructor per production).
 use Rattle.std.specs.Prelude.{ℕ, suc, List, [], ◌∷◌}
 use Rattle.cql2.specs.declared.filter.Filter.{Filter}
 use Rattle.cql2_text.specs.Lexed.{Lexes}
@@ -14,8 +14,8 @@ pub data Production : Type 0 where
   Factor : Production
   Primary : Production
 
--- The tokens, up to the rest of them, are a production that means a filter, with parentheses nested at most to this depth. Those of functions
--- and lists don't count.
+-- The tokens, up to the rest, form a production that means the filter, with parentheses nested at most to this depth. The parentheses of
+-- functions and lists don't count.
 pub data Spells {A : Type 0} : ℕ → Production → List Token → List Token → Filter A → Type 0 where
   one_term : {depth : ℕ} {words rest : List Token} {made : Filter A} → Spells depth Term words rest made
       → Spells depth Expression words rest made
@@ -36,7 +36,7 @@ pub data Spells {A : Type 0} : ℕ → Production → List Token → List Token 
   predicate : {depth : ℕ} {words rest : List Token} {made : Filter A} → SpellsPredicate words rest made
       → Spells depth Primary words rest made
 
--- the whole text is tokens, and all of them are a booleanExpression that means the filter, with up to 64 parentheses in one another
+-- the whole text consists of tokens, which form a booleanExpression that means the filter, with parentheses nested up to 64 deep
 pub record IsFilterText {A : Type 0} (text : List ℕ) (made : Filter A) : Type 0 where
   pub tokens : List Token
   pub lexed : Lexes text [] tokens

@@ -1,4 +1,4 @@
-//! Characters of a characterLiteral: those of Latin-1, each one byte as in the Bureau's files.
+//! Characters of a characterLiteral: those of Latin-1, each stored as one byte as in the Bureau's files.
 ghost use Rattle.std.specs.Prelude.{◌≡◌, ◌∷◌, ◌≤◌, ◌<◌, ℕ, List, length, IfOk, IfSome, MatchOption, MatchResult};
 ghost use Rattle.tl_segments.specs.declared.name.TheConstants.{NAME_LENGTH};
 ghost use Rattle.cql2.specs.Column.{trim_end};
@@ -10,7 +10,7 @@ use crate::syntax_fault::TextFlaw;
 use cql2::Text;
 use std::alloc::Allocator;
 
-/// The character that the inside of a literal begins with, as one byte, and what follows it.
+/// Returns the first character inside a literal, as one byte, and the text after it.
 pub(crate) fn character(spelling: &[u8]) -> Option<(u8, &[u8])>
     ensures is { IfSome result (λ read. IsCharacter spelling.now read.0 read.1.now) }
     ensures shorter { IfSome result (λ read. length read.1.now < length spelling.now) }
@@ -36,7 +36,7 @@ pub(crate) fn character(spelling: &[u8]) -> Option<(u8, &[u8])>
     }
 }
 
-/// A quote is written as two.
+/// Reads a quote's second half. A quote inside a literal is doubled.
 fn quote(second: u8, rest: &[u8]) -> Option<(u8, &[u8])>
     ensures is { IfSome result (λ read. IsCharacter (39 ∷ second ∷ rest.now) read.0 read.1.now) }
     ensures only { (byte : ℕ) (after : List ℕ) → IsCharacter (39 ∷ second ∷ rest.now) byte after
@@ -49,7 +49,7 @@ fn quote(second: u8, rest: &[u8]) -> Option<(u8, &[u8])>
     }
 }
 
-/// A character from U+00A0 to U+00BF, by the second byte of its UTF-8.
+/// Reads a character from U+00A0 to U+00BF by the second byte of its UTF-8.
 fn low(second: u8, rest: &[u8]) -> Option<(u8, &[u8])>
     ensures is { IfSome result (λ read. IsCharacter (194 ∷ second ∷ rest.now) read.0 read.1.now) }
     ensures only { (byte : ℕ) (after : List ℕ) → IsCharacter (194 ∷ second ∷ rest.now) byte after
@@ -62,7 +62,7 @@ fn low(second: u8, rest: &[u8]) -> Option<(u8, &[u8])>
     }
 }
 
-/// A character from U+00C0 to U+00FF, by the second byte of its UTF-8.
+/// Reads a character from U+00C0 to U+00FF by the second byte of its UTF-8.
 fn high(second: u8, rest: &[u8]) -> Option<(u8, &[u8])>
     ensures is { IfSome result (λ read. IsCharacter (195 ∷ second ∷ rest.now) read.0 read.1.now) }
     ensures only { (byte : ℕ) (after : List ℕ) → IsCharacter (195 ∷ second ∷ rest.now) byte after
@@ -75,7 +75,7 @@ fn high(second: u8, rest: &[u8]) -> Option<(u8, &[u8])>
     }
 }
 
-/// The bytes of the inside of a literal.
+/// Returns the characters inside a literal, one byte each.
 fn bytes_of<A: Allocator + Copy>(alloc: A, spelling: &[u8]) -> Result<Vec<u8, A>, TextFlaw>
     ensures ok { IfOk result (λ bytes. HasCharacters spelling.now bytes.items) }
     ensures reads { (bytes : List ℕ) → HasCharacters spelling.now bytes
@@ -103,7 +103,7 @@ fn without_trailing_blanks(bytes: &[u8]) -> &[u8]
     rest
 }
 
-/// The text that is compared with a column of this width.
+/// Returns the text that is compared with a column of this width.
 pub(crate) fn compared_text<A: Allocator + Copy>(
     alloc: A,
     spelling: &[u8],

@@ -1,4 +1,4 @@
-//! Why a text is no filter.
+//! Why a text is not a filter.
 ghost use Rattle.std.specs.Prelude.{◌≡◌};
 ghost use Rattle.cql2_text.specs.FilterFlaw as filter_flaw;
 ghost use Rattle.cql2_text.specs.declared.fault.FilterFault.TheVariants.{Memory};
@@ -7,7 +7,7 @@ use refusals::{Fault, Refusal};
 use std::alloc::{AllocError, AllocFailed};
 use thiserror::Error;
 
-/// What should stand where something else does. The derived text is for people.
+/// The construct expected in place of something else. The derived text is for people.
 #[derive(Clone, Copy, Debug, PartialEq, Eq, Error)]
 pub enum Expected {
     #[error("UTF-8")]
@@ -48,7 +48,7 @@ pub enum Expected {
     Escaped,
 }
 
-/// What is wrong with a filter's text. The derived text is for people.
+/// A flaw in a filter's text. The derived text is for people.
 #[derive(Clone, Copy, Debug, PartialEq, Eq, Error)]
 pub enum FilterFlaw {
     #[error("expected {0}")]
@@ -67,14 +67,14 @@ pub enum FilterFlaw {
     TooLong,
 }
 
-/// Why a text is no filter, or that an allocation failed.
+/// Why a text is not a filter, or that an allocation failed.
 #[derive(Clone, Copy, Debug, PartialEq, Eq, Error)]
 pub enum FilterFault {
     #[error("line {line}, column {column}: {flaw}")]
     At {
         /// The line, counted from 1.
         line: u32,
-        /// The character of the line, counted from 1.
+        /// The character in the line, counted from 1.
         column: u32,
         flaw: FilterFlaw,
     },

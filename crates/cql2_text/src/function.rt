@@ -19,10 +19,10 @@ use cql2::{CoordinateColumn, Filter, NameLimit, NumericColumn};
 use std::alloc::Allocator;
 use tl_segments::NAME_LENGTH;
 
-/// How many alternate names are looked at where a filter doesn't say.
+/// The default number of alternate names to check.
 const NAMES: u16 = 63;
 
-/// A numericLiteral.
+/// Takes a numericLiteral and returns the tokens after it.
 fn numeral<'a>(words: &'a [Token<'a>]) -> Result<(Numeral<'a>, &'a [Token<'a>]), SyntaxFault>
     ensures { MatchResult result (λ read. words.now ≡ token.Number read.0 ∷ read.1.now)
         (λ fault. (numeral : Numeral) (rest : List Token) → words.now ≢ token.Number numeral ∷ rest) }
@@ -36,7 +36,7 @@ fn numeral<'a>(words: &'a [Token<'a>]) -> Result<(Numeral<'a>, &'a [Token<'a>]),
     }
 }
 
-/// A house number in parentheses, after HAS_NUMBER.
+/// Reads a house number in parentheses, after HAS_NUMBER.
 pub(crate) fn has_number<'a, A: Allocator + Copy>(
     words: &'a [Token<'a>],
 ) -> Result<(Filter<A>, &'a [Token<'a>]), SyntaxFault>
@@ -53,7 +53,7 @@ pub(crate) fn has_number<'a, A: Allocator + Copy>(
     }
 }
 
-/// A name in parentheses, and how many alternate names are looked at, after HAS_NAME.
+/// Reads a name in parentheses, and the number of alternate names to check, after HAS_NAME.
 pub(crate) fn has_name<'a, A: Allocator + Copy>(
     alloc: A,
     words: &'a [Token<'a>],
@@ -69,7 +69,7 @@ pub(crate) fn has_name<'a, A: Allocator + Copy>(
     Ok((Filter::HasName(name, limit), rest))
 }
 
-/// How many alternate names are looked at: what follows a comma, if there is one.
+/// Reads the number of alternate names to check, if a comma follows. Otherwise returns the default.
 fn names<'a>(words: &'a [Token<'a>]) -> Result<(NameLimit, &'a [Token<'a>]), SyntaxFault>
     ensures ok { IfOk result (λ read. SpellsLimit words.now read.1.now read.0) }
     ensures reads { (rest : List Token) (limit : ALimit) → SpellsLimit words.now (token.Close ∷ rest) limit
@@ -87,7 +87,7 @@ fn names<'a>(words: &'a [Token<'a>]) -> Result<(NameLimit, &'a [Token<'a>]), Syn
     }
 }
 
-/// A box in parentheses, after STARTS_IN.
+/// Reads a box in parentheses, after STARTS_IN.
 pub(crate) fn starts_in<'a, A: Allocator + Copy>(
     alloc: A,
     words: &'a [Token<'a>],
@@ -116,7 +116,7 @@ pub(crate) fn starts_in<'a, A: Allocator + Copy>(
     Ok((filter, rest))
 }
 
-/// What follows BBOX.
+/// Takes BBOX and returns the tokens after it.
 fn bbox_word<'a>(words: &'a [Token<'a>]) -> Result<&'a [Token<'a>], SyntaxFault>
     ensures { MatchResult result (λ rest. words.now ≡ token.Keyword word.Bbox ∷ rest.now)
         (λ fault. (rest : List Token) → words.now ≢ token.Keyword word.Bbox ∷ rest) }

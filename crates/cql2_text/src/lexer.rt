@@ -1,4 +1,4 @@
-//! Text cut into tokens.
+//! Splitting a text into tokens.
 ghost use Rattle.std.specs.Prelude.{◌≡◌, ◌<◌, ◌++◌, ◌∷◌, [], true, false, not, ◌==◌, ℕ, List, length, IfOk, IfSome, IfNone, MatchOption};
 ghost use Rattle.std.specs.Char.{is_ascii_digit};
 ghost use Rattle.std.specs.List.{position};
@@ -11,18 +11,18 @@ use crate::token::{Numeral, Token};
 use cql2::Comparison;
 use std::alloc::{AllocError, Allocator};
 
-/// The tokens of a text, up to its end or to something that begins none.
+/// The tokens of a text, up to its end or to the first byte that begins no token.
 #[derive(Drop)]
 pub(crate) struct Tokens<'a, A: Allocator> {
     pub tokens: Vec<Token<'a>, A>,
-    /// Where each token begins.
+    /// The offset of each token.
     pub starts: Vec<usize, A>,
-    /// The text after the tokens, which is empty unless something begins no token.
+    /// The text after the tokens, which is empty unless it begins no token.
     pub rest: &'a [u8],
 }
 
 impl<'a, A: Allocator + Copy> Tokens<'a, A> {
-    /// Cuts a text into tokens.
+    /// Splits a text into tokens.
     pub fn of(alloc: A, text: &'a [u8]) -> Result<Tokens<'a, A>, AllocError>
         ensures ok { IfOk result (λ read. Lexes text.now read.rest.now read.tokens.items) }
         ensures reads { (words : List AToken) → Lexes text.now [] words
@@ -50,7 +50,7 @@ impl<'a, A: Allocator + Copy> Tokens<'a, A> {
         })
     }
 
-    /// The offset of a token, given by how many tokens are left from it on, or of the text after the tokens.
+    /// Returns the offset of the token from which `left` tokens remain, or of the text after the tokens if none remain.
     pub fn start(&self, text: &[u8], left: usize) -> usize {
         let end = text.len().saturating_sub(self.rest.len());
         let index = self.starts.len().saturating_sub(left);
@@ -76,7 +76,7 @@ pub(crate) fn is_name_byte(byte: u8) -> bool
     byte.is_ascii_alphanumeric() || byte == b'_'
 }
 
-/// The token that a text begins with, and what follows it.
+/// Returns the first token of a text and the text after it.
 fn first_token<'a>(text: &'a [u8]) -> Option<(Token<'a>, &'a [u8])>
     ensures is { IfSome result (λ read. IsToken text.now read.1.now read.0) }
     ensures none { IfNone result ((rest : List ℕ) (token : AToken) → IsToken text.now rest token → ⊥) }
@@ -98,7 +98,7 @@ fn first_token<'a>(text: &'a [u8]) -> Option<(Token<'a>, &'a [u8])>
     }
 }
 
-/// What follows a byte that a text begins with.
+/// Returns the text after its first byte, if that is `byte`.
 fn after_byte(text: &[u8], byte: u8) -> Option<&[u8]>
     ensures { MatchOption result (begins (λ first. first == byte) text.now ≡ false) (λ rest. text.now ≡ byte ∷ rest.now) }
 {
@@ -108,7 +108,7 @@ fn after_byte(text: &[u8], byte: u8) -> Option<&[u8]>
     }
 }
 
-/// The comparison that begins with `<`, whose rest is given.
+/// Returns the comparison that begins with `<`, given the text after it.
 fn less<'a>(text: &'a [u8]) -> (Token<'a>, &'a [u8])
     ensures { IsToken (60 ∷ text.now) result.1.now result.0 }
 {
@@ -121,7 +121,7 @@ fn less<'a>(text: &'a [u8]) -> (Token<'a>, &'a [u8])
     (Token::Compared(Comparison::Less), text)
 }
 
-/// The comparison that begins with `>`, whose rest is given.
+/// Returns the comparison that begins with `>`, given the text after it.
 fn greater<'a>(text: &'a [u8]) -> (Token<'a>, &'a [u8])
     ensures { IsToken (62 ∷ text.now) result.1.now result.0 }
 {
@@ -131,7 +131,7 @@ fn greater<'a>(text: &'a [u8]) -> (Token<'a>, &'a [u8])
     }
 }
 
-/// A characterLiteral after its opening quote.
+/// Reads a characterLiteral after its opening quote.
 fn text_token<'a>(text: &'a [u8]) -> Option<(Token<'a>, &'a [u8])>
     ensures is { IfSome result (λ read. IsToken (39 ∷ text.now) read.1.now read.0) }
     ensures none { IfNone result ((rest : List ℕ) (token : AToken) → IsToken (39 ∷ text.now) rest token → ⊥) }
@@ -140,7 +140,7 @@ fn text_token<'a>(text: &'a [u8]) -> Option<(Token<'a>, &'a [u8])>
     Some((Token::Text(&text[..end]), &text[end + 1..]))
 }
 
-/// Where a quote stands that isn't one of a pair.
+/// Returns the index of the first quote that is not one of a pair.
 fn closing_quote(text: &[u8]) -> Option<usize>
     ensures is { IfSome result (λ index. IsClosingQuote text.now index) }
     ensures only { (spelling rest : List ℕ) → text.now ≡ spelling ++ 39 ∷ rest → ArePaired spelling → begins is_quote rest ≡ false
@@ -159,7 +159,7 @@ fn closing_quote(text: &[u8]) -> Option<usize>
     None
 }
 
-/// A column's name in double quotes, after the first of them.
+/// Reads a column's name in double quotes, after the first of them.
 fn quoted_name<'a>(text: &'a [u8]) -> Option<(Token<'a>, &'a [u8])>
     ensures is { IfSome result (λ read. IsToken (34 ∷ text.now) read.1.now read.0) }
     ensures none { IfNone result ((rest : List ℕ) (token : AToken) → IsToken (34 ∷ text.now) rest token → ⊥) }
@@ -172,7 +172,7 @@ fn quoted_name<'a>(text: &'a [u8]) -> Option<(Token<'a>, &'a [u8])>
     }
 }
 
-/// A keyword or a name.
+/// Reads a keyword or a name.
 fn word<'a>(text: &'a [u8]) -> Option<(Token<'a>, &'a [u8])>
     ensures is { IfSome result (λ read. IsToken text.now read.1.now read.0) }
     ensures none { IfNone result (begins is_name_start text.now ≡ false) }
@@ -184,7 +184,7 @@ fn word<'a>(text: &'a [u8]) -> Option<(Token<'a>, &'a [u8])>
     }
 }
 
-/// The keyword or the name that a text begins with.
+/// Returns the keyword or name at the start of a text, and the text after it.
 fn named<'a>(text: &'a [u8]) -> (Token<'a>, &'a [u8])
     requires { begins is_name_start text.now ≡ true }
     ensures { IsToken text.now result.1.now result.0 }
@@ -199,7 +199,7 @@ fn named<'a>(text: &'a [u8]) -> (Token<'a>, &'a [u8])
     }
 }
 
-/// Whether a name may begin so.
+/// Returns whether a name can begin like this.
 fn begins_name(text: &[u8]) -> bool
     ensures { result ≡ begins is_name_start text.now }
 {
@@ -209,7 +209,7 @@ fn begins_name(text: &[u8]) -> bool
     }
 }
 
-/// The letters, digits and underscores that a text begins with, and what follows them.
+/// Splits a text after the letters, digits and underscores that it begins with.
 fn split_name(text: &[u8]) -> (&[u8], &[u8])
     ensures all { text.now ≡ result.0.now ++ result.1.now }
     ensures longest { IsLongest is_name_byte result.0.now result.1.now }
@@ -220,7 +220,7 @@ fn split_name(text: &[u8]) -> (&[u8], &[u8])
     }
 }
 
-/// The digits that a text begins with, and what follows them.
+/// Splits a text after the digits that it begins with.
 fn split_digits(text: &[u8]) -> (&[u8], &[u8])
     ensures all { text.now ≡ result.0.now ++ result.1.now }
     ensures longest { IsLongest is_ascii_digit result.0.now result.1.now }
@@ -231,7 +231,7 @@ fn split_digits(text: &[u8]) -> (&[u8], &[u8])
     }
 }
 
-/// Where a byte stands that isn't a name's.
+/// Returns the index of the first byte that can't be part of a name.
 fn name_end(text: &[u8]) -> Option<usize>
     ensures value { result ≡ position (λ byte. not (is_name_byte byte)) text.now }
     ensures within { IfSome result (λ index. index < length text.now) }
@@ -239,7 +239,7 @@ fn name_end(text: &[u8]) -> Option<usize>
     text.iter().position(|byte| !is_name_byte(*byte))
 }
 
-/// Where a byte stands that is no digit.
+/// Returns the index of the first byte that is not a digit.
 fn digits_end(text: &[u8]) -> Option<usize>
     ensures value { result ≡ position (λ byte. not (is_ascii_digit byte)) text.now }
     ensures within { IfSome result (λ index. index < length text.now) }
@@ -247,7 +247,7 @@ fn digits_end(text: &[u8]) -> Option<usize>
     text.iter().position(|byte| !byte.is_ascii_digit())
 }
 
-/// A numericLiteral after its sign.
+/// Reads a numericLiteral after its sign.
 fn number<'a>(is_negative: bool, text: &'a [u8]) -> Option<(Token<'a>, &'a [u8])>
     ensures is { IfSome result (λ read. (sign : List ℕ) → IsSign is_negative sign → IsToken (sign ++ text.now) read.1.now read.0) }
     ensures none { IfNone result (begins is_ascii_digit text.now ≡ false) }
@@ -265,7 +265,7 @@ fn number<'a>(is_negative: bool, text: &'a [u8]) -> Option<(Token<'a>, &'a [u8])
     Some((Token::Number(numeral), rest))
 }
 
-/// The digits after a point that a text begins with, if there are any, and what follows them.
+/// Returns the digits after a point at the start of a text, if there are any, and the text after them.
 fn fraction(text: &[u8]) -> (&[u8], &[u8])
     ensures { HasDecimals text.now result.1.now result.0.now }
 {

@@ -1,4 +1,4 @@
-//! Filters read from text (OGC CQL2, 21-065r2, Text encoding).
+//! Reading filters from text (OGC CQL2, 21-065r2, Text encoding).
 #![tactic(auto)]
 
 mod character;

@@ -10,18 +10,18 @@ use crate::fault::FilterFlaw;
 use crate::token::Numeral;
 use cql2::{HouseNumber, Literal, NameLimit, NumericColumn};
 
-/// The most digits of a column's number.
+/// The maximum number of digits in a column's number.
 const MOST_DIGITS: usize = 18;
-/// The most digits of a house number.
+/// The maximum number of digits in a house number.
 const MOST_HOUSE_DIGITS: usize = 11;
-/// The most decimals of a coordinate.
+/// The maximum number of decimals in a coordinate.
 const MOST_DECIMALS: usize = 6;
-/// A coordinate has fewer degrees.
+/// The bound that a coordinate's degrees are below.
 const DEGREES: u64 = 1000;
-/// The most alternate names that a segment has.
+/// The maximum number of alternate names that a segment has.
 const MOST_NAMES: u64 = 5000;
 
-/// The number that a numeral writes, as a column's fields have it.
+/// Returns a numeral's value in the unit of the column's fields.
 pub(crate) fn literal_of(column: NumericColumn, numeral: Numeral) -> Result<Literal, FilterFlaw>
     ensures { MatchResult result (λ literal. number_of column numeral.entry ≡ Ok literal.number)
         (λ flaw. number_of column numeral.entry ≡ Err flaw) }
@@ -40,7 +40,7 @@ pub(crate) fn literal_of(column: NumericColumn, numeral: Numeral) -> Result<Lite
     }
 }
 
-/// A whole number, of a limited number of digits.
+/// Returns a whole number with at most `most` digits.
 fn whole_amount(whole: &[u8], decimals: &[u8], most: usize) -> Result<u64, FilterFlaw>
     requires few { most ≤ 18 }
     ensures value { result ≡ whole_amount most whole.now decimals.now }
@@ -55,7 +55,7 @@ fn whole_amount(whole: &[u8], decimals: &[u8], most: usize) -> Result<u64, Filte
     }
 }
 
-/// Degrees as millionths.
+/// Returns degrees as millionths.
 fn millionths(numeral: Numeral) -> Result<u64, FilterFlaw>
     ensures value { result ≡ millionths (decimal_in 18 numeral.entry.whole.now) (parts_of numeral.entry.decimals.now) }
     ensures small { IfOk result (λ amount. amount < 10 ^ 18) }
@@ -73,7 +73,7 @@ fn millionths(numeral: Numeral) -> Result<u64, FilterFlaw>
     }
 }
 
-/// The millionths that decimals are.
+/// Returns decimals as millionths.
 fn parts_of(decimals: &[u8]) -> Option<u64>
     ensures value { result ≡ parts_of decimals.now }
     ensures small { IfSome result (λ parts. parts < 10 ^ 12) }
@@ -85,7 +85,7 @@ fn parts_of(decimals: &[u8]) -> Option<u64>
     Some(parts * unit(decimals.len()))
 }
 
-/// The millionths that the last decimal stands for, by the number of decimals.
+/// Returns the millionths that the last decimal stands for, given the number of decimals.
 fn unit(decimals: usize) -> u64
     ensures value { result ≡ 10 ^ (6 - decimals) }
     ensures small { result ≤ 1000000 }
@@ -113,7 +113,7 @@ fn signed(is_negative: bool, amount: u64) -> Literal
     Literal { number }
 }
 
-/// The number that digits write, of which there are one or more, up to a number of them.
+/// Returns the number that 1 to `most` digits write.
 fn decimal(digits: &[u8], most: usize) -> Option<u64>
     requires few { most ≤ 18 }
     ensures value { result ≡ decimal_in most digits.now }
@@ -139,7 +139,7 @@ fn decimal_value(digits: &[u8]) -> Option<u64>
     Some(value)
 }
 
-/// A house number.
+/// Returns a house number.
 pub(crate) fn house_number(numeral: Numeral) -> Result<HouseNumber, FilterFlaw>
     ensures { MatchResult result (λ house. house_number_of numeral.entry ≡ Ok house.number)
         (λ flaw. house_number_of numeral.entry ≡ Err flaw) }
@@ -150,7 +150,7 @@ pub(crate) fn house_number(numeral: Numeral) -> Result<HouseNumber, FilterFlaw>
     }
 }
 
-/// How many alternate names are looked at.
+/// Returns the number of alternate names to check.
 pub(crate) fn name_limit(numeral: Numeral) -> Result<NameLimit, FilterFlaw>
     ensures { MatchResult result (λ limit. name_limit_of numeral.entry ≡ Ok limit.number) (λ flaw. name_limit_of numeral.entry ≡ Err flaw) }
 {
@@ -167,7 +167,7 @@ pub(crate) fn name_limit(numeral: Numeral) -> Result<NameLimit, FilterFlaw>
     }
 }
 
-/// A whole number that isn't negative, of a limited number of digits.
+/// Returns a nonnegative whole number with at most `most` digits.
 fn count(numeral: Numeral, most: usize) -> Result<u64, FilterFlaw>
     requires { most ≤ 18 }
     ensures value { result ≡ count_of most numeral.entry }

@@ -1,4 +1,4 @@
-//! Tokens read as a filter.
+//! Parsing tokens into a filter.
 ghost use Rattle.std.specs.Prelude.{◌≡◌, ◌<◌, ◌∷◌, [], List, length, ◌≢◌, IfOk, Err, MatchOption, MatchResult};
 ghost use Rattle.cql2.specs.declared.filter.Filter.{Filter};
 ghost use Rattle.cql2_text.specs.Content.{content};
@@ -17,10 +17,10 @@ use crate::token::{Keyword, Token};
 use cql2::Filter;
 use std::alloc::Allocator;
 
-/// The most parentheses that may be open at once.
+/// The maximum number of open parentheses.
 const MOST_PARENTHESES: u32 = 64;
 
-/// The filter that all of the tokens spell.
+/// Returns the filter that all the tokens spell.
 pub(crate) fn filter<'a, A: Allocator + Copy>(
     alloc: A,
     words: &'a [Token<'a>],
@@ -36,7 +36,7 @@ pub(crate) fn filter<'a, A: Allocator + Copy>(
     Err(SyntaxFault::unexpected(rest, Expected::End))
 }
 
-/// Terms that are joined by OR.
+/// Reads terms joined by OR.
 #[cycle(parsing)]
 fn expression<'a, A: Allocator + Copy>(
     alloc: A,
@@ -57,7 +57,7 @@ fn expression<'a, A: Allocator + Copy>(
     Ok((filter, rest))
 }
 
-/// Factors that are joined by AND.
+/// Reads factors joined by AND.
 #[cycle(parsing)]
 fn term<'a, A: Allocator + Copy>(
     alloc: A,
@@ -78,7 +78,7 @@ fn term<'a, A: Allocator + Copy>(
     Ok((filter, rest))
 }
 
-/// A primary, or its opposite.
+/// Reads a primary, or NOT and a primary.
 #[cycle(parsing)]
 fn factor<'a, A: Allocator + Copy>(
     alloc: A,
@@ -102,7 +102,7 @@ fn factor<'a, A: Allocator + Copy>(
     }
 }
 
-/// An expression in parentheses, or a predicate.
+/// Reads an expression in parentheses, or a predicate.
 #[cycle(parsing)]
 fn primary<'a, A: Allocator + Copy>(
     alloc: A,
@@ -113,7 +113,7 @@ fn primary<'a, A: Allocator + Copy>(
     ensures ok { IfOk result (λ read. Spells depth Primary words.now read.1.now read.0) }
     ensures reads { (rest : List Token) (made : Filter A) → Spells depth Primary words.now rest made → IsRead result rest made }
 
-    // A parenthesis inside as many others as there may be is refused.
+    // A parenthesis is refused if the maximum number of parentheses is already open.
     ensures too_deep { (rest : List Token) → depth ≡ 0 → words.now ≡ token.Open ∷ rest
         → result ≡ Err (syntax_fault.At (length words.now) 0 FilterFlaw.TooDeep) }
 {
@@ -133,7 +133,7 @@ fn primary<'a, A: Allocator + Copy>(
     }
 }
 
-/// The first token, and those after it.
+/// Returns the first token and those after it.
 pub(crate) fn next<'a>(words: &'a [Token<'a>]) -> Option<(Token<'a>, &'a [Token<'a>])>
     ensures { MatchOption result (words.now ≡ []) (λ read. words.now ≡ read.0 ∷ read.1.now) }
 {
@@ -141,7 +141,7 @@ pub(crate) fn next<'a>(words: &'a [Token<'a>]) -> Option<(Token<'a>, &'a [Token<
     Some((*first, rest))
 }
 
-/// What follows an opening parenthesis.
+/// Takes an opening parenthesis and returns the tokens after it.
 pub(crate) fn opening<'a>(words: &'a [Token<'a>]) -> Result<&'a [Token<'a>], SyntaxFault>
     ensures { MatchResult result (λ rest. words.now ≡ token.Open ∷ rest.now)
         (λ fault. (rest : List Token) → words.now ≢ token.Open ∷ rest) }
@@ -152,7 +152,7 @@ pub(crate) fn opening<'a>(words: &'a [Token<'a>]) -> Result<&'a [Token<'a>], Syn
     }
 }
 
-/// What follows a closing parenthesis.
+/// Takes a closing parenthesis and returns the tokens after it.
 pub(crate) fn closing<'a>(words: &'a [Token<'a>]) -> Result<&'a [Token<'a>], SyntaxFault>
     ensures { MatchResult result (λ rest. words.now ≡ token.Close ∷ rest.now)
         (λ fault. (rest : List Token) → words.now ≢ token.Close ∷ rest) }
@@ -163,7 +163,7 @@ pub(crate) fn closing<'a>(words: &'a [Token<'a>]) -> Result<&'a [Token<'a>], Syn
     }
 }
 
-/// What follows a comma.
+/// Takes a comma and returns the tokens after it.
 pub(crate) fn comma<'a>(words: &'a [Token<'a>]) -> Result<&'a [Token<'a>], SyntaxFault>
     ensures { MatchResult result (λ rest. words.now ≡ token.Comma ∷ rest.now)
         (λ fault. (rest : List Token) → words.now ≢ token.Comma ∷ rest) }
@@ -174,7 +174,7 @@ pub(crate) fn comma<'a>(words: &'a [Token<'a>]) -> Result<&'a [Token<'a>], Synta
     }
 }
 
-/// Both filters.
+/// Returns the conjunction of two filters.
 pub(crate) fn both<A: Allocator + Copy>(
     alloc: A,
     first: Filter<A>,
@@ -187,7 +187,7 @@ pub(crate) fn both<A: Allocator + Copy>(
     Ok(Filter::And(first, second))
 }
 
-/// Either filter.
+/// Returns the disjunction of two filters.
 pub(crate) fn either<A: Allocator + Copy>(
     alloc: A,
     first: Filter<A>,
@@ -200,7 +200,7 @@ pub(crate) fn either<A: Allocator + Copy>(
     Ok(Filter::Or(first, second))
 }
 
-/// The opposite of a filter.
+/// Returns the negation of a filter.
 pub(crate) fn negated<A: Allocator + Copy>(
     alloc: A,
     inner: Filter<A>,

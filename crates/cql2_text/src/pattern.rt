@@ -12,7 +12,7 @@ use crate::syntax_fault::TextFlaw;
 use cql2::{Pattern, PatternByte};
 use std::alloc::Allocator;
 
-/// The pattern byte that a character is, also in the other case where case is ignored.
+/// Returns the pattern byte of a character, which matches either case if case is ignored.
 fn literal(byte: u8, ignores_case: bool) -> PatternByte
     ensures wanted { result ≡ wanted_by ignores_case byte }
     ensures is_byte { is_byte result ≡ true }
@@ -24,7 +24,7 @@ fn literal(byte: u8, ignores_case: bool) -> PatternByte
     }
 }
 
-/// What the inside of a literal begins with as a pattern, and what follows it: `_` is any character, and `\` makes the next one an
+/// Returns the pattern byte at the start of a literal's inside, and the text after it. `_` is any character, and `\` makes the next character an
 /// ordinary one.
 fn pattern_byte<'a>(
     spelling: &[u8],
@@ -53,14 +53,14 @@ fn pattern_byte<'a>(
     }
 }
 
-/// Whether it's `%`, `_` or `\`.
+/// Returns whether the byte is `%`, `_` or `\`.
 fn is_special(byte: u8) -> bool
     ensures { result ≡ is_special byte }
 {
     byte == b'%' || byte == b'_' || byte == b'\\'
 }
 
-/// Whether nothing but `%` is left.
+/// Returns whether only `%` is left.
 fn is_percent(text: &[u8]) -> bool
     ensures { IsTrue result ↔ (text.now ≡ 37 ∷ []) }
 {
@@ -70,7 +70,7 @@ fn is_percent(text: &[u8]) -> bool
     }
 }
 
-/// A pattern no longer than a column.
+/// Returns a pattern, provided it is no longer than the column.
 fn short<A: Allocator>(
     wanted: Vec<PatternByte, A>,
     is_open: bool,
@@ -88,7 +88,7 @@ fn short<A: Allocator>(
     Ok(Pattern { wanted, is_open })
 }
 
-/// The pattern that the inside of a literal is. It is open where `%` ends it.
+/// Returns the pattern inside a literal. It is open if it ends in `%`.
 pub(crate) fn pattern<A: Allocator + Copy>(
     alloc: A,
     spelling: &[u8],
@@ -112,7 +112,7 @@ pub(crate) fn pattern<A: Allocator + Copy>(
     short(wanted, false, width)
 }
 
-/// The pattern that a text is, but for the case of letters.
+/// Returns the pattern that matches a text in either case.
 pub(crate) fn same_but_for_case<A: Allocator + Copy>(
     alloc: A,
     bytes: &[u8],

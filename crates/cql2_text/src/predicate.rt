@@ -33,7 +33,7 @@ use crate::token::{Keyword, Token};
 use cql2::{Column, Comparison, Filter, Literal, NumericColumn, Pattern, Text, TextColumn};
 use std::alloc::Allocator;
 
-/// What a predicate speaks of.
+/// The subject of a predicate.
 #[derive(Clone, Copy)]
 pub(crate) enum Subject {
     Numeric(NumericColumn),
@@ -42,7 +42,7 @@ pub(crate) enum Subject {
     Casei(TextColumn),
 }
 
-/// A predicate, a function, or TRUE or FALSE.
+/// Reads a predicate, a function, TRUE or FALSE.
 pub(crate) fn predicate<'a, A: Allocator + Copy>(
     alloc: A,
     words: &'a [Token<'a>],
@@ -73,7 +73,7 @@ pub(crate) fn predicate<'a, A: Allocator + Copy>(
     }
 }
 
-/// A column, or one whose case is ignored.
+/// Reads a column, or a column in CASEI.
 fn first_subject<'a>(words: &'a [Token<'a>]) -> Result<(Subject, &'a [Token<'a>]), SyntaxFault>
     ensures ok { IfOk result (λ read. IsSubject read.0 words.now read.1.now) }
     ensures reads { (s : Subject) (rest : List Token) → IsSubject s words.now rest
@@ -95,7 +95,7 @@ fn first_subject<'a>(words: &'a [Token<'a>]) -> Result<(Subject, &'a [Token<'a>]
     }
 }
 
-/// A text column in parentheses, after CASEI.
+/// Reads a text column in parentheses, after CASEI.
 fn casei_column<'a>(words: &'a [Token<'a>]) -> Result<(TextColumn, &'a [Token<'a>]), SyntaxFault>
     ensures { MatchResult result (λ read. words.now ≡ token.Open ∷ token.Column (column.Text read.0) ∷ token.Close ∷ read.1.now)
         (λ fault. (c : TextColumn) (rest : List Token) → words.now ≢ token.Open ∷ token.Column (column.Text c) ∷ token.Close ∷ rest) }
@@ -116,7 +116,7 @@ fn casei_column<'a>(words: &'a [Token<'a>]) -> Result<(TextColumn, &'a [Token<'a
     }
 }
 
-/// What is said of a subject.
+/// Reads a predicate about a subject, after the subject.
 fn of_subject<'a, A: Allocator + Copy>(
     alloc: A,
     subject: Subject,
@@ -149,7 +149,7 @@ fn of_subject<'a, A: Allocator + Copy>(
     }
 }
 
-/// Whether a subject may be compared so: but for case, texts are the same or not.
+/// Returns whether a subject allows this comparison. CASEI allows only `=` and `<>`.
 fn is_compared(subject: Subject, comparison: Comparison) -> bool
     ensures { result ≡ is_compared subject comparison }
 {
@@ -161,7 +161,7 @@ fn is_compared(subject: Subject, comparison: Comparison) -> bool
     }
 }
 
-/// NULL or NOT NULL, after IS.
+/// Reads NULL or NOT NULL, after IS.
 fn null<'a, A: Allocator + Copy>(
     alloc: A,
     subject: Subject,
@@ -185,7 +185,7 @@ fn null<'a, A: Allocator + Copy>(
     }
 }
 
-/// The column of a subject whose case isn't ignored.
+/// Returns the column of a subject that isn't in CASEI.
 fn column_of(subject: Subject) -> Option<Column>
     ensures { result ≡ column_of subject }
 {
@@ -196,7 +196,7 @@ fn column_of(subject: Subject) -> Option<Column>
     }
 }
 
-/// What follows NULL.
+/// Takes NULL and returns the tokens after it.
 fn null_word<'a>(words: &'a [Token<'a>]) -> Result<&'a [Token<'a>], SyntaxFault>
     ensures { MatchResult result (λ rest. words.now ≡ token.Keyword word.Null ∷ rest.now)
         (λ fault. (rest : List Token) → words.now ≢ token.Keyword word.Null ∷ rest) }
@@ -207,7 +207,7 @@ fn null_word<'a>(words: &'a [Token<'a>]) -> Result<&'a [Token<'a>], SyntaxFault>
     }
 }
 
-/// What NOT may stand before: LIKE, BETWEEN and IN.
+/// Reads the predicates that NOT may precede: LIKE, BETWEEN and IN.
 fn negatable<'a, A: Allocator + Copy>(
     alloc: A,
     subject: Subject,
@@ -244,7 +244,7 @@ fn negatable<'a, A: Allocator + Copy>(
     }
 }
 
-/// A subject compared with the literal that the tokens begin with.
+/// Compares a subject with the literal that the tokens begin with.
 fn compared<'a, A: Allocator + Copy>(
     alloc: A,
     subject: Subject,
@@ -278,7 +278,7 @@ fn compared<'a, A: Allocator + Copy>(
     }
 }
 
-/// How many bytes a column has.
+/// Returns the number of bytes in a column.
 fn width(column: TextColumn) -> usize
     ensures value { result ≡ width_of column }
     ensures small { result ≤ NAME_LENGTH }
@@ -287,14 +287,14 @@ fn width(column: TextColumn) -> usize
     places.1 + 1 - places.0
 }
 
-/// A number that a column is compared with.
+/// Reads a number that a column is compared with.
 pub(crate) fn number<'a>(
     column: NumericColumn,
     words: &'a [Token<'a>],
 ) -> Result<(Literal, &'a [Token<'a>]), SyntaxFault>
     ensures ok { IfOk result (λ read. IsNumber column words.now read.1.now read.0) }
 
-    // A number that the column can't have is refused, with its flaw.
+    // A number that is out of the column's range is refused for its flaw.
     ensures refused { (numeral : Numeral) (rest : List Token) (flaw : FilterFlaw) → words.now ≡ token.Number numeral ∷ rest
         → number_of column numeral ≡ Err flaw → result ≡ Err (syntax_fault.At (length words.now) 0 flaw) }
     ensures reads { (rest : List Token) (literal : ALiteral) → IsNumber column words.now rest literal
@@ -315,7 +315,7 @@ pub(crate) fn number<'a>(
     }
 }
 
-/// The inside of a characterLiteral.
+/// Returns the inside of a characterLiteral.
 fn spelling<'a>(words: &'a [Token<'a>]) -> Result<(&'a [u8], &'a [Token<'a>]), SyntaxFault>
     ensures { MatchResult result (λ read. words.now ≡ token.Text read.0 ∷ read.1.now)
         (λ fault. (spelling : Bor (List ℕ)) (rest : List Token) → words.now ≢ token.Text spelling ∷ rest) }
@@ -332,7 +332,7 @@ fn spelling<'a>(words: &'a [Token<'a>]) -> Result<(&'a [u8], &'a [Token<'a>]), S
     }
 }
 
-/// A text that is compared with a column of this width.
+/// Reads a text that is compared with a column of this width.
 pub(crate) fn text<'a, A: Allocator + Copy>(
     alloc: A,
     width: usize,
@@ -351,7 +351,7 @@ pub(crate) fn text<'a, A: Allocator + Copy>(
     }
 }
 
-/// What follows CASEI and an opening parenthesis.
+/// Takes CASEI and an opening parenthesis and returns the tokens after them.
 fn casei<'a>(words: &'a [Token<'a>]) -> Result<&'a [Token<'a>], SyntaxFault>
     ensures { MatchResult result (λ rest. words.now ≡ token.Keyword word.Casei ∷ token.Open ∷ rest.now)
         (λ fault. (rest : List Token) → words.now ≢ token.Keyword word.Casei ∷ token.Open ∷ rest) }
@@ -368,7 +368,7 @@ fn casei<'a>(words: &'a [Token<'a>]) -> Result<&'a [Token<'a>], SyntaxFault>
     }
 }
 
-/// A column that is the same as `CASEI('..')`.
+/// Reads `CASEI('..')`, which the column equals in either case.
 fn casei_same<'a, A: Allocator + Copy>(
     alloc: A,
     column: TextColumn,
@@ -387,7 +387,7 @@ fn casei_same<'a, A: Allocator + Copy>(
     }
 }
 
-/// A pattern for a column.
+/// Reads a pattern for a column.
 fn column_pattern<'a, A: Allocator + Copy>(
     alloc: A,
     column: TextColumn,
@@ -405,7 +405,7 @@ fn column_pattern<'a, A: Allocator + Copy>(
     }
 }
 
-/// A column that is like a pattern.
+/// Reads a pattern that the column matches.
 fn like<'a, A: Allocator + Copy>(
     alloc: A,
     column: TextColumn,
@@ -418,7 +418,7 @@ fn like<'a, A: Allocator + Copy>(
     Ok((Filter::Like(column, pattern), rest))
 }
 
-/// A column that is like a pattern in either case.
+/// Reads a pattern in CASEI that the column matches in either case.
 fn casei_like<'a, A: Allocator + Copy>(
     alloc: A,
     column: TextColumn,
@@ -434,7 +434,7 @@ fn casei_like<'a, A: Allocator + Copy>(
     Ok((Filter::Like(column, pattern), rest))
 }
 
-/// A column between two numbers.
+/// Reads the two numbers that a column is between.
 fn between<'a, A: Allocator + Copy>(
     alloc: A,
     column: NumericColumn,
@@ -450,7 +450,7 @@ fn between<'a, A: Allocator + Copy>(
     Ok((filter, rest))
 }
 
-/// What follows AND.
+/// Takes AND and returns the tokens after it.
 fn and_word<'a>(words: &'a [Token<'a>]) -> Result<&'a [Token<'a>], SyntaxFault>
     ensures { MatchResult result (λ rest. words.now ≡ token.Keyword word.And ∷ rest.now)
         (λ fault. (rest : List Token) → words.now ≢ token.Keyword word.And ∷ rest) }
@@ -461,7 +461,7 @@ fn and_word<'a>(words: &'a [Token<'a>]) -> Result<&'a [Token<'a>], SyntaxFault>
     }
 }
 
-/// A column that is at least one number and at most another.
+/// Returns the filter for a column that is at least one number and at most another.
 pub(crate) fn within<A: Allocator + Copy>(
     alloc: A,
     column: NumericColumn,
@@ -475,7 +475,7 @@ pub(crate) fn within<A: Allocator + Copy>(
     both(alloc, first, second)
 }
 
-/// A subject that is one of the literals in parentheses.
+/// Reads the literals in parentheses, one of which the subject equals.
 fn among<'a, A: Allocator + Copy>(
     alloc: A,
     subject: Subject,
@@ -491,7 +491,7 @@ fn among<'a, A: Allocator + Copy>(
     Ok((filter, rest))
 }
 
-/// A subject that is one of some literals.
+/// Reads a list of literals, one of which the subject equals.
 fn list<'a, A: Allocator + Copy>(
     alloc: A,
     subject: Subject,

@@ -1,4 +1,4 @@
-//! Texts read as filters.
+//! Reading texts as filters.
 ghost use Rattle.std.specs.Prelude.{◌≡◌, ◌<◌, ◌≤◌, ◌+◌, length, take, IfOk, Err, MatchResult};
 ghost use Rattle.std.specs.Str.{IsUtf8};
 ghost use Rattle.std.specs.Str.Lossy.{utf8_valid_len};
@@ -15,7 +15,7 @@ use crate::syntax_fault::SyntaxFault;
 use cql2::Filter;
 use std::alloc::Allocator;
 
-/// The most bytes that a filter's text may have.
+/// The maximum number of bytes in a filter's text.
 pub const TEXT_LIMIT: usize = 1_048_576;
 
 /// Reads a text as a filter.
@@ -29,7 +29,7 @@ pub fn read<A: Allocator + Copy>(alloc: A, text: &[u8]) -> Result<Filter<A>, Fil
     // A text that is too long is refused at its first byte over the limit.
     ensures too_long { TEXT_LIMIT < length text.now → result ≡ Err (fault_after (take TEXT_LIMIT text.now) FilterFlaw.TooLong) }
 
-    // Another one that isn't UTF-8 is refused at its first bad byte.
+    // Any other text that isn't UTF-8 is refused at its first invalid byte.
     ensures not_utf8 { length text.now ≤ TEXT_LIMIT → ¬ (IsUtf8 text.now)
         → result ≡ Err (fault_after (take (utf8_valid_len text.now) text.now) (FilterFlaw.Syntax Expected.Utf8)) }
 {
@@ -69,7 +69,7 @@ fn read_utf8<A: Allocator + Copy>(alloc: A, text: &[u8]) -> Result<Filter<A>, Fi
     }
 }
 
-/// The first bytes of a text: as many as are asked for, or all if it has fewer.
+/// Returns the first `count` bytes of a text, or all of them if it is shorter.
 fn front(text: &[u8], count: usize) -> &[u8]
     ensures { result.now ≡ take count text.now }
 {
@@ -80,7 +80,7 @@ fn front(text: &[u8], count: usize) -> &[u8]
     }
 }
 
-/// The fault that a flaw is, after so much of a text.
+/// Returns the fault for a flaw after this prefix of a text.
 fn fault_after(front: &[u8], flaw: FilterFlaw) -> FilterFault
     requires { length front.now ≤ TEXT_LIMIT }
     ensures { result ≡ fault_after front.now flaw }
@@ -92,7 +92,7 @@ fn fault_after(front: &[u8], flaw: FilterFlaw) -> FilterFault
     }
 }
 
-/// The line, counted from 1, of what follows so much of a text.
+/// Returns the line, counted from 1, of the byte after this prefix of a text.
 fn line_after(front: &[u8]) -> u32
     requires { length front.now ≤ TEXT_LIMIT }
     ensures { result ≡ line_after front.now }
@@ -106,7 +106,7 @@ fn line_after(front: &[u8]) -> u32
     line
 }
 
-/// The character of its line, counted from 1, of what follows so much of a text.
+/// Returns the character in its line, counted from 1, after this prefix of a text.
 fn column_after(front: &[u8]) -> u32
     requires { length front.now ≤ TEXT_LIMIT }
     ensures { result ≡ column_after front.now }
@@ -118,7 +118,7 @@ fn column_after(front: &[u8]) -> u32
     column
 }
 
-/// The column after a byte.
+/// Returns the column after a byte.
 fn next_column(column: u32, byte: u8) -> u32
     requires { column ≤ TEXT_LIMIT }
     ensures value { result ≡ next_column column byte }
@@ -133,7 +133,7 @@ fn next_column(column: u32, byte: u8) -> u32
     }
 }
 
-/// Whether a byte belongs to a character that an earlier byte begins.
+/// Returns whether a byte continues a character.
 pub(crate) fn is_continuation(byte: u8) -> bool
     ensures { result ≡ is_continuation byte }
 {

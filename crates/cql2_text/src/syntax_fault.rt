@@ -1,4 +1,4 @@
-//! Faults of tokens, before their lines and columns are known.
+//! Faults in tokens, before their lines and columns are known.
 ghost use Rattle.std.specs.Prelude.{◌≡◌, ◌-◌, length};
 ghost use Rattle.cql2_text.specs.declared.syntax_fault.SyntaxFault.TheVariants as syntax_fault;
 ghost use Rattle.cql2_text.specs.declared.syntax_fault.TextFlaw.TheVariants as text_flaw;
@@ -7,17 +7,17 @@ use crate::fault::{Expected, FilterFlaw};
 use crate::token::Token;
 use std::alloc::{AllocError, AllocFailed};
 
-/// What is wrong with the inside of a characterLiteral.
+/// A flaw inside a characterLiteral.
 #[derive(Clone, Copy, Drop)]
 pub(crate) enum TextFlaw {
-    /// Something else is expected at this offset from the opening quote, in bytes.
+    /// Something else is expected at this offset after the opening quote, in bytes.
     At { offset: usize, expected: Expected },
     Long,
     Memory,
 }
 
 impl TextFlaw {
-    /// Something else is expected where this much of a literal's inside is left.
+    /// Returns the flaw for a construct that is expected where `rest` of a literal's inside begins.
     pub fn expected(spelling: &[u8], rest: &[u8], expected: Expected) -> TextFlaw
         ensures { result ≡ text_flaw.At (length spelling.now - length rest.now) expected }
     {
@@ -44,13 +44,13 @@ impl<T: Drop> From<AllocFailed<T>> for TextFlaw {
     }
 }
 
-/// What is wrong with tokens.
+/// A fault in a sequence of tokens.
 #[derive(Clone, Copy)]
 pub(crate) enum SyntaxFault {
     At {
-        /// How many tokens are left, the one at fault among them.
+        /// The number of tokens left, including the one at fault.
         left: usize,
-        /// How many bytes after that token's first one the fault is.
+        /// The offset of the fault from that token's first byte, in bytes.
         offset: usize,
         flaw: FilterFlaw,
     },
@@ -66,7 +66,7 @@ impl From<AllocError> for SyntaxFault {
 }
 
 impl SyntaxFault {
-    /// The first of these tokens has a flaw.
+    /// Returns the fault for a flaw of the first token.
     pub fn at(words: &[Token], flaw: FilterFlaw) -> SyntaxFault
         ensures { result ≡ syntax_fault.At (length words.now) 0 flaw }
     {
@@ -77,14 +77,14 @@ impl SyntaxFault {
         }
     }
 
-    /// Something else than the first of these tokens is expected.
+    /// Returns the fault for a construct that is expected instead of the first token.
     pub fn unexpected(words: &[Token], expected: Expected) -> SyntaxFault
         ensures { result ≡ syntax_fault.At (length words.now) 0 (FilterFlaw.Syntax expected) }
     {
         SyntaxFault::at(words, FilterFlaw::Syntax(expected))
     }
 
-    /// The first of these tokens is a characterLiteral that has a flaw.
+    /// Returns the fault for a flaw in the characterLiteral that is the first token.
     pub fn in_text(words: &[Token], flaw: TextFlaw) -> SyntaxFault
         ensures long { flaw ≡ TextFlaw.Long → result ≡ syntax_fault.At (length words.now) 0 FilterFlaw.LongText }
         ensures memory { flaw ≡ TextFlaw.Memory → result ≡ syntax_fault.Memory }

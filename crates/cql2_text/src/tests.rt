@@ -1,4 +1,4 @@
-//! Filters that were worked by hand.
+//! Filters whose results were worked out by hand.
 use crate::fault::{Expected, FilterFault, FilterFlaw};
 use crate::name::column_name;
 use crate::{TEXT_LIMIT, read};
@@ -6,8 +6,8 @@ use cql2::{Column, Comparison, Filter, NumericColumn, Pattern, PatternByte};
 use refusals::Fault;
 use std::alloc::{AllocError, Global};
 
-// A text and what it is read as, in front of its parts: the operator first. A coordinate is in millionths, a text in the bytes of Latin-1,
-// and of a pattern `?` is any byte, `~x` an x in either case, `*` whatever follows. `|` is a line feed.
+// A text and the filter it is read as, in prefix notation. A coordinate is in millionths, and a text in Latin-1. In a pattern, `?` is any byte,
+// `~x` an x in either case, and `*` anything that follows. `|` is a line feed.
 const READ: &str = r#"
 ZIPL = 36067 ;; (= ZIPL 36067)
 zipl=+36067 ;; (= ZIPL 36067)
@@ -161,7 +161,7 @@ fn sign(comparison: Comparison) -> &'static str {
     }
 }
 
-// Writes the operator and the column.
+// Appends the operator and the column.
 fn push_subject(text: &mut String, operator: &str, column: Column) -> Result<(), AllocError> {
     text.push_str(operator)?;
     text.push(' ')?;
@@ -200,7 +200,7 @@ fn push_leaf(alloc: Global, text: &mut String, filter: &Filter<Global>) -> Resul
     }
 }
 
-// Writes a filter, in parentheses.
+// Appends a filter in parentheses.
 fn push_filter(
     alloc: Global,
     text: &mut String,
@@ -249,7 +249,7 @@ fn with_line_feeds(alloc: Global, row: &str) -> Result<Vec<u8>, AllocError> {
     Ok(text)
 }
 
-// What a text is read as, or why it's refused.
+// Returns what a text is read as, or why it is refused.
 fn outcome(alloc: Global, row: &str) -> Result<String, AllocError> {
     let text = with_line_feeds(alloc, row)?;
     match read(alloc, &text) {
@@ -278,7 +278,7 @@ fn reads(rt: HostRuntime) -> Result<(), std::test::Fail> {
     Ok(())
 }
 
-// A word a number of times, then TRUE, then another word as many times.
+// Returns a word repeated `times` times, then TRUE, then another word repeated as often.
 fn repeated(alloc: Global, before: &str, after: &str, times: usize) -> Result<String, AllocError> {
     let mut text = String::new(alloc);
     for _ in 0..times {
@@ -315,7 +315,7 @@ fn parentheses_and_chains(rt: HostRuntime) -> Result<(), std::test::Fail> {
     Ok(())
 }
 
-// A text, and the column whose name is nearest to the unknown one in it. `|` is a line feed.
+// A text, and the column name nearest to the unknown one in it. `|` is a line feed.
 const NEAREST: &str = r#"
 fenam = 1 ;; FENAME
 NAME = 1 ;; FENAME
@@ -327,7 +327,7 @@ CFC ;; CFCC
 ZIPL = 'x' ;; none
 "#;
 
-// The column's name that is nearest to the unknown one in a text.
+// Returns the column name nearest to the unknown one in a text.
 fn nearest_in(alloc: Global, row: &str) -> Result<&'static str, AllocError> {
     let text = with_line_feeds(alloc, row)?;
     let fault = read(alloc, &text).err();

@@ -1,7 +1,7 @@
-//! What a filter's text is made of.
+//! The tokens of a filter's text.
 use cql2::{Column, Comparison};
 
-/// A word that has a meaning of its own, in either case.
+/// A reserved word, in upper or lower case.
 #[derive(Clone, Copy)]
 pub(crate) enum Keyword {
     And,
@@ -21,13 +21,13 @@ pub(crate) enum Keyword {
     Bbox,
 }
 
-/// A numericLiteral, by its parts.
+/// A numericLiteral, split into its parts.
 #[derive(Clone, Copy)]
 pub(crate) struct Numeral<'a> {
     pub is_negative: bool,
     /// The digits before the point.
     pub whole: &'a [u8],
-    /// The digits after the point, none where there is no point.
+    /// The digits after the point; none if there is no point.
     pub decimals: &'a [u8],
 }
 
@@ -43,6 +43,6 @@ pub(crate) enum Token<'a> {
     Close,
     Comma,
     Number(Numeral<'a>),
-    /// A characterLiteral, without the quotes round it.
+    /// A characterLiteral, without its quotes.
     Text(&'a [u8]),
 }
