@@ -1,4 +1,4 @@
--- The verifier accepts a question's program: it goes forward, and what its instructions need is known before each of them.
+-- The verifier accepts a question's program: its jumps go forward, and what each instruction needs is known before it.
 use Rattle.std.proofs.Common.{◌≡◌, ℕ, ◌+◌, ℤ, pos, Bool, true, false, not, is_some, List, [], ◌∷◌, ◌++◌, Option, Some, if◌then◌else◌, refl}
 use Rattle.std.proofs.Common.{sym, ap, ◌∙◌, subst, arith, append_assoc, lit<}
 use Rattle.std.specs.Prelude.{FitsSigned}
@@ -31,11 +31,11 @@ use Rattle.cql2_code.proofs.Program.{chosen_begins, code_of, has_all, has_chosen
 use Rattle.cql2_code.proofs.Good.{AreGoodAt, BranchAt, IsGoodAt, Rests, all_good, good-append, good_branch, good_jump, good_passes}
 use Rattle.cql2_code.proofs.Good.{good_there, is_immediate, is_register, needs_at}
 
--- a code at a place, with two ways out where nothing more is needed
+-- a code at a place, with two exits that need nothing more
 abbrev Settled : List Insn → ℕ → List Insn → ℕ → Type 0
 Settled code place insns beyond = Placed (Rests code) code place insns beyond
 
--- a place with instructions that need nothing more, or with what follows them if there are none, needs nothing more
+-- a place with instructions that need nothing more, possibly none, needs nothing more
 rests_at : (code : List Insn) (place : ℕ) (insns : List Insn) → HasAt code place insns → needed_by insns resting ≡ resting
     → Rests code (place + word_count insns) → Rests code place
 rests_at code place [] has needs end = let e : place + 0 ≡ place = omega arith in subst (Rests code) e end
@@ -89,7 +89,7 @@ comparison_good code place comparison operand beyond fits =
     subst (λ (insns : List Insn). Settled code place insns beyond → AreGoodAt code place insns) (comparison_is comparison operand beyond)
     (comparison_by_good code place (is_narrow operand) comparison operand beyond fits)
 
--- the code of a test
+-- the code of a test needs nothing more
 
 test_needs : (test : Test) (falls : Bool) (beyond : ℕ) → needed_by (test_code test falls beyond) resting ≡ resting
 test_needs test falls beyond =
@@ -109,7 +109,7 @@ test_good code test falls beyond place sound placed =
     (all_good code place front answered (has_front code place front back placed.has) needs (subject_passes test.subject sound.subject))
     (comparison_good code (place + word_count front) (jumping test falls) test.operand beyond sound.operand after)
 
--- a question that is decided
+-- nor does the code of a decided question
 
 decided_needs : (found falls : Bool) (beyond : ℕ) → needed_by (question_code (Decided found) falls beyond) resting ≡ resting
 decided_needs true true beyond = refl
@@ -129,7 +129,7 @@ decided_good code found falls beyond place placed = by_test (beq found falls) pl
     by_test true placed = tt
     by_test false placed = (good_jump code place beyond placed.has.0 placed.target, tt)
 
--- the code of a question needs nothing but the record's pointer, and each of its instructions is good
+-- the code of a question needs only the record's pointer, and each of its instructions is good
 
 question_needs : (question : Question) (falls : Bool) (beyond : ℕ) → needed_by (question_code question falls beyond) resting ≡ resting
 question_needs (Decided found) falls beyond = decided_needs found falls beyond
@@ -210,7 +210,7 @@ ends_in_exit middle chosen last =
     (append_assoc middle (chosen ++ last ∷ []) (Exit ∷ [])
     ∙ ap (λ (rest : List Insn). middle ++ rest) (append_assoc chosen (last ∷ []) (Exit ∷ [])))
 
--- the program of a question goes forward
+-- the program of a question only jumps forward
 pub program_is_forward : (score : Option NumericColumn) (question : Question) → IsSound question → IsForward (program score question)
 program_is_forward score question sound = record {
   jumps = λ place insn distance at jumps. (good_at score question sound place insn at).leads distance jumps;
@@ -220,7 +220,7 @@ program_is_forward score question sound = record {
   );
 }
 
--- its annotation is good to its end, so the verifier accepts it
+-- its annotation is good throughout, so the verifier accepts it
 pub program_is_accepted : (score : Option NumericColumn) (question : Question) → IsSound question
     → HasGoodAnnotation (program score question)
 program_is_accepted score question sound = (

@@ -1,4 +1,4 @@
--- Questions about bytes answer whether the record has them.
+-- A question about bytes answers whether the record has them.
 use Rattle.std.proofs.Common.{◌≡◌, ℕ, zero, suc, ◌+◌, ◌*◌, ◌<◌, ◌≤◌, ◌^◌, ◌==◌, pos, Bool, true, false, ◌&&◌, List, [], ◌∷◌, ◌++◌, length}
 use Rattle.std.proofs.Common.{get_or, take, drop, replicate, slice_index, refl, sym, ap, ◌∙◌, arith, length-take, length-drop}
 use Rattle.std.specs.Int.{w64, cast_signed, cast_unsigned}
@@ -21,7 +21,7 @@ use Rattle.cql2_code.specs.declared.question.Chunk.TheVariants.{Byte, Word, Doub
 use Rattle.cql2_code.proofs.JoinLemmas.{and_assoc, and_true, both_answers}
 use Rattle.cql2_code.proofs.NumberLemmas.{compared, small_fits}
 
--- the numbers of a list are bytes
+-- every number in the list is a byte
 abbrev pub AreSmall : List ℕ → Type 0
 AreSmall [] = Unit {0}
 AreSmall (byte ∷ bytes) = (byte < 2 ^ 8) × AreSmall bytes
@@ -44,7 +44,7 @@ pub small_blanks : (count : ℕ) → AreSmall (replicate count 32)
 small_blanks zero = tt
 small_blanks (suc count) = (omega arith, small_blanks count)
 
--- some bytes begin with others
+-- a list of bytes begins with another
 abbrev pub begins : List ℕ → List ℕ → Bool
 begins bytes [] = true
 begins [] (wanted ∷ others) = false
@@ -85,7 +85,7 @@ value_below (suc count) (byte ∷ bytes) short small =
     let first = small.0 in
     rw pow-succ' (omega arith)
 
--- a chunk is compared with an operand of its bits
+-- a chunk is compared with an operand of the same bits
 equal_words : (x y : ℕ) → x < 2 ^ 64 → y < 2 ^ 64
     → is_met (condition_of Equal) Bits64 x (cast_unsigned w64 (cast_signed w64 y)) ≡ (x == y)
 equal_words x y small others =
@@ -109,7 +109,7 @@ module _ (segment : Contents) (is : IsSegment segment) where
   small_rest : (at : ℕ) → AreSmall (drop at segment.bytes)
   small_rest at = small_drop at segment.bytes (small_from segment.bytes is.bytes.bytes)
 
-  -- the first of the bytes from an offset on, and the others
+  -- the first byte from an offset on, and the rest
   pub first_byte : (at : ℕ) → at < 228 → drop at segment.bytes ≡ get_or segment.bytes at 0 ∷ drop (at + 1) segment.bytes
   first_byte at within = drop_more segment.bytes at 0 (omega (arith, long))
 
@@ -122,7 +122,7 @@ module _ (segment : Contents) (is : IsSegment segment) where
       let one : get_or segment.bytes at 0 + 256 * 0 ≡ get_or segment.bytes at 0 = omega arith in
       ap bytes_value (first_of at 0 within) ∙ one
 
-  -- a byte of the record is compared as it is
+  -- a test of a byte compares its value
   pub byte_told : (at : ℕ) (comparison : Comparison) (byte : ℕ) → at < 228 → byte < 2 ^ 8
       → answer (byte_test at comparison byte) segment ≡ compares comparison (pos (get_or segment.bytes at 0)) (pos byte)
   byte_told at comparison byte within small =
@@ -141,7 +141,7 @@ module _ (segment : Contents) (is : IsSegment segment) where
       value_below 8 (take (chunk_length chunk) rest) (omega (arith, length-take (chunk_length chunk) rest))
       (small_take (chunk_length chunk) rest (small_rest at))
 
-  -- the record has as many bytes as a chunk has
+  -- the record has these bytes, which are as long as a chunk
   chunk_found : (chunk : Chunk) (at : ℕ) (bytes : List ℕ) → length bytes ≡ chunk_length chunk → AreSmall bytes → at + length bytes ≤ 228
       → answer (chunk_test chunk at bytes) segment ≡ begins (drop at segment.bytes) bytes
   chunk_found chunk at bytes same small within =
@@ -183,7 +183,7 @@ module _ (segment : Contents) (is : IsSegment segment) where
       ∙ sym (found_parts at (a ∷ b ∷ c ∷ d ∷ []) (next ∷ bytes))
   few_found at bytes small within = each_found at bytes small within
 
-  -- the record has these bytes from an offset on
+  -- the record has these bytes at an offset
   pub bytes_found : (at : ℕ) (bytes : List ℕ) → AreSmall bytes → at + length bytes ≤ 228
       → answer (has_bytes at bytes) segment ≡ begins (drop at segment.bytes) bytes
   bytes_found at (a ∷ b ∷ c ∷ d ∷ e ∷ f ∷ g ∷ h ∷ []) small within =

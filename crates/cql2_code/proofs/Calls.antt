@@ -1,4 +1,4 @@
--- What a run does at the calls of a filter's program.
+-- What a run of a filter's program does at calls.
 use Rattle.std.proofs.Common.{◌≡◌, ℕ, ◌+◌, ◌-◌, ◌<◌, ◌^◌, true, is_some, [], ◌∷◌, length, Some, refl, sym, ap, ◌∙◌, arith}
 use Rattle.std.proofs.lemmas.Bool.Decides.{nat_tests}
 use Rattle.bpf_helpers.proofs.WriteLemmas.{write-nothing}
@@ -18,14 +18,14 @@ use Rattle.std.specs.Prelude.{slice_get}
 use Rattle.cql2_code.specs.Layout.{call}
 use Rattle.cql2_code.proofs.Steps.{with_1, with_2, Begins, Does, Scratch, Setting, after_at, changes, goes, running, state}
 
--- after a call register 0 holds the answer, and registers 1 to 5 hold nothing
+-- after a call, register 0 holds the answer, and registers 1 to 5 hold nothing
 
--- a call that writes nothing leaves the frame's length
+-- a call that writes nothing keeps the frame's length
 pub nothing_written : (frame : FrameContents) (at : ℕ) → length frame.bytes ≡ FRAME_LENGTH
     → length (write_bytes frame at []).bytes ≡ FRAME_LENGTH
 nothing_written frame at whole = ap length (write-nothing frame.bytes at) ∙ whole
 
--- registers and frame after a call, by its answer and its second argument
+-- the registers and the frame after a call, by its answer and its second argument
 abbrev pub answered : Scratch → ℕ → ℕ → Scratch
 answered from answer second = record {
   v0 = value.Number answer;
@@ -66,7 +66,7 @@ calls_ranges on from =
     changes on (call 4) (CallHelper helper.Ranges (0 ∷ 0 ∷ 0 ∷ [])) from (answered from (length (ranges_of on.segment)) 0) (λ place. refl)
     (λ place next. refl)
 
--- any number is allowed
+-- every 64-bit number is allowed
 pub any_allowed : (number : ℕ) → number < 2 ^ 64 → is_allowed (between 0 (2 ^ 64 - 1)) number ≡ true
 any_allowed number fits = grind (arith, nat_tests)
 
@@ -77,7 +77,7 @@ calls_in_range on from range house fits_range fits_house =
     (answered from (sides house (slice_get (ranges_of on.segment) range)) house)
     (λ place. rw (any_allowed range fits_range, any_allowed house fits_house)) (λ place next. refl)
 
--- the score is emitted
+-- the setting after the score is emitted
 abbrev pub scored : Setting → ℕ → Setting
 scored on score = record on { score = score }
 

@@ -1,4 +1,4 @@
--- Numbers that are kept by casts.
+-- Numbers that casts leave unchanged.
 use Rattle.std.proofs.Common.{◌≡◌, ℕ, ◌<◌, ◌^◌, ℤ, pos, ap, ◌∙◌, arith, to_z, of_z, w64}
 use Rattle.std.proofs.lemmas.Int.{to_z_pos}
 

@@ -1,4 +1,4 @@
--- Bytes as little-endian numbers, and what is asked of several at once.
+-- Bytes as little-endian numbers, and questions about several bytes at once.
 use Rattle.std.proofs.Common.{◌≡◌, ℕ, zero, suc, ◌+◌, ◌-◌, ◌<◌, ◌≤◌, List, [], ◌∷◌, ◌++◌, length, true, false, refl, ap, ◌∙◌, arith}
 use Rattle.std.specs.Prelude.{take, replicate}
 use Rattle.std.proofs.lemmas.List.{take-replicate}
@@ -28,7 +28,7 @@ eight_bytes (a ∷ b ∷ []) count = absurd (omega arith)
 eight_bytes (a ∷ []) count = absurd (omega arith)
 eight_bytes [] count = absurd (omega arith)
 
--- a byte, and more
+-- one byte, and more
 pub has_each-more : (at : ℕ) (bytes : List ℕ) (byte : ℕ) (rest : List ℕ) → bytes ≡ byte ∷ rest → 0 < length rest
     → has_each at bytes ≡ Joined true (byte_test at Equal byte) (has_each (at + 1) rest)
 has_each-more at bytes byte [] is some = absurd (omega arith)
@@ -60,17 +60,17 @@ has_bytes-more at bytes (a ∷ b ∷ []) (next ∷ rest) is count some = absurd 
 has_bytes-more at bytes (a ∷ []) (next ∷ rest) is count some = absurd (omega arith)
 has_bytes-more at bytes [] (next ∷ rest) is count some = absurd (omega arith)
 
--- as many blanks as a field has
+-- as many blanks as are asked about
 pub blank_bytes : (at count : ℕ) → count ≤ 30 → has_bytes at (take count (replicate 30 32)) ≡ is_blank at count
 blank_bytes at count few = ap (has_bytes at) (take-replicate count 30 32 few)
 
--- what is left of a field is greater than no text if it isn't blank
+-- the rest of a field is greater than an empty text if it isn't blank
 pub greater_blank : (at left : ℕ) (text : List ℕ) → 0 < left → length text ≡ 0 → is_greater at left text ≡ Opposite (is_blank at left)
 greater_blank at zero text some none = absurd (omega arith)
 greater_blank at (suc left) [] some none = refl
 greater_blank at (suc left) (byte ∷ text) some none = absurd (omega arith)
 
--- it is greater than a text by its first byte, or by what follows
+-- the rest of a field is greater than a text, by the first byte or by the bytes after it
 pub greater_more : (at left : ℕ) (text : List ℕ) (byte : ℕ) (rest : List ℕ) → 0 < left → text ≡ byte ∷ rest
     → is_greater at left text
     ≡ Joined false (byte_test at Greater byte) (Joined true (byte_test at Equal byte) (is_greater (at + 1) (left - 1) rest))

@@ -1,4 +1,4 @@
--- The parts of a question's code: comparisons, and two questions that are joined.
+-- The parts of a question's code: comparisons, and pairs of joined questions.
 use Rattle.std.proofs.Common.{◌≡◌, ℤ, ℕ, ◌+◌, pos, Bool, true, false, List, [], ◌∷◌, ◌++◌, if◌then◌else◌, refl, sym, subst, arith}
 use Rattle.bpf_insn.specs.Arithmetic.{immediate_operand}
 use Rattle.bpf_insn.specs.Code.{word_count}
@@ -11,11 +11,11 @@ use Rattle.cql2_code.proofs.Steps.{HasAt, has_back, has_front}
 use Rattle.cql2_code.specs.Question.{Question}
 use Rattle.cql2_code.specs.declared.question.Test.{Test}
 
--- the comparison by which a test's code jumps: the opposite one if it falls through when the test holds
+-- the comparison of a test's jump: the opposite one if the code falls through when the test holds
 abbrev pub jumping : Test → Bool → Comparison
 jumping test falls = if falls then opposite test.comparison else test.comparison
 
--- the code of a comparison, by whether its operand fits an immediate
+-- the code of a comparison, by whether an immediate holds its operand
 abbrev pub comparison_by : Bool → Comparison → ℤ → ℕ → List Insn
 comparison_by true comparison operand beyond = jump_if comparison (Immediate operand) (pos beyond) ∷ []
 comparison_by false comparison operand beyond =
@@ -31,7 +31,7 @@ comparison_is comparison operand beyond = by_size (is_narrow operand)
     by_size true = refl
     by_size false = refl
 
--- two codes, one after the other: the places where they begin and end, the words of the second one, and how far it jumps past its end
+-- two consecutive codes: the places where they begin and end, the number of words in the second one, and the distance that it jumps past its end
 pub record Joint : Type 0 where
   pub start : ℕ
   pub middle : ℕ
@@ -50,14 +50,14 @@ joint_of place first second beyond = record {
   is = let count = word_count-append first second in omega arith;
 }
 
--- where the first of them jumps to
+-- the place that the first one jumps to
 abbrev pub first_jump : Joint → Bool → Bool → ℕ
 first_jump joint falls neutral = joint.middle + first_beyond falls neutral joint.words joint.beyond
 
 pub jumps_on : (joint : Joint) → joint.middle + (joint.words + joint.beyond) ≡ joint.end + joint.beyond
 jumps_on joint = let e = joint.is in omega arith
 
--- what holds at both ways out of the second one holds where the first one jumps to
+-- what holds at both exits of the second one holds where the first one jumps to
 pub first_target : (Such : ℕ → Type 0) (joint : Joint) (falls neutral : Bool) → Such joint.end → Such (joint.end + joint.beyond)
     → Such (first_jump joint falls neutral)
 first_target Such joint true true end target = subst Such (sym (jumps_on joint)) target
@@ -65,7 +65,7 @@ first_target Such joint false true end target = subst Such (sym joint.is) end
 first_target Such joint true false end target = subst Such (sym joint.is) end
 first_target Such joint false false end target = subst Such (sym (jumps_on joint)) target
 
--- a code at a place, with its two ways out: its end, and a number of words past it
+-- a code at a place with its two exits: its end, and a number of words past it
 pub record Placed (Such : ℕ → Type 0) (code : List Insn) (place : ℕ) (insns : List Insn) (beyond : ℕ) : Type 0 where
   pub has : HasAt code place insns
   pub end : Such (place + word_count insns)
@@ -83,7 +83,7 @@ second_placed Such code place insns others beyond placed =
       target = subst (λ (p : ℕ). Such (p + beyond)) (sym e) placed.target;
     }
 
--- two questions that are joined, and their ways out
+-- two joined questions and their exits
 pub record Pair : Type 0 where
   pub neutral : Bool
   pub first : Question

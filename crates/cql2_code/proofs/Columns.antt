@@ -1,4 +1,4 @@
--- The numbers by which helper functions know columns.
+-- The ids of columns in calls of helper functions.
 use Rattle.std.proofs.Common.{◌≡◌, ℕ, zero, suc, ◌<◌, ◌≤◌, ◌^◌, true, [], ◌∷◌, refl, arith, lit≤}
 use Rattle.std.specs.Prelude.{get_or}
 use Rattle.std.proofs.lemmas.Bool.Decides.{nat_tests}
@@ -43,7 +43,7 @@ coordinate_small Frlat = lit≤ tt
 coordinate_small Tolong = lit≤ tt
 coordinate_small Tolat = lit≤ tt
 
--- helper functions accept them
+-- helper functions accept the ids
 
 small_allowed : (most number : ℕ) → number ≤ most → is_allowed (between 0 most) number ≡ true
 small_allowed most number small = grind (arith, nat_tests)
@@ -54,7 +54,7 @@ field_allowed column = small_allowed 16 (field_id column) (field_small column)
 pub coordinate_allowed : (column : CoordinateColumn) → is_allowed (between 0 3) (coordinate_id column) ≡ true
 coordinate_allowed column = small_allowed 3 (coordinate_id column) (coordinate_small column)
 
--- their answers have 64 bits
+-- the answers have 64 bits
 
 field_meets : (column : NumberColumn) → MeetsSignature helper.Field (field_id column ∷ 0 ∷ 0 ∷ [])
 field_meets column = record { count = refl; each = each; within = tt }

@@ -28,7 +28,7 @@ use Rattle.cql2_code.proofs.Refused.{longer}
 use Rattle.cql2_code.proofs.Sound.{asks_soundly}
 use Rattle.cql2_code.proofs.Whole.{program_answers}
 
--- the code is a filter's program
+-- the code is the filter's program
 abbrev pub IsProgram : {A : Type 0} → List Insn → Filter A → Option NumericColumn → Type 0
 IsProgram code filter score = code ≡ program score (asks_whether filter true)
 
@@ -53,14 +53,14 @@ pub accepted : {A : Type 0} (code : List Insn) (filter : Filter A) (score : Opti
 accepted code filter score is =
     subst HasGoodAnnotation (sym is) (program_is_accepted score (asks_whether filter true) (asks_soundly filter true))
 
--- what follows a program's question, written from its end on
+-- the code after a program's question, written back to front
 pub end_written : {one two three : List Insn} (score : Option NumericColumn) → one ≡ answer_code 0 → two ≡ answer_code 1 ++ one
     → three ≡ score_code score ++ two → three ≡ chosen_code score ++ answer_code 0
 end_written score first second third =
     third ∙ ap (λ (rest : List Insn). score_code score ++ rest) (second ∙ ap (λ (rest : List Insn). answer_code 1 ++ rest) first)
     ∙ sym (append_assoc (score_code score) (answer_code 1) (answer_code 0))
 
--- the question jumps past the part that follows if the answer is yes
+-- the question jumps past the next part if the answer is yes
 pub chosen_words : {one three : List Insn} (score : Option NumericColumn) → one ≡ answer_code 0
     → three ≡ chosen_code score ++ answer_code 0 → word_count three - word_count one ≡ word_count (chosen_code score)
 chosen_words score first all =
@@ -68,7 +68,7 @@ chosen_words score first all =
     let last = ap word_count first in
     omega arith
 
--- a program, put together from its end on
+-- a program, assembled back to front
 pub program_written : {question : Question} {exits : Exits} {end whole : List Insn} (score : Option NumericColumn)
     → end ≡ chosen_code score ++ answer_code 0 → exits.falls ≡ true → exits.beyond ≡ word_count (chosen_code score)
     → Writes question exits end whole → copy w6 r1 ∷ whole ≡ program score question
@@ -87,7 +87,7 @@ end_refused score question front is refused = record {
       (subst IsTooLong (sym is) (longer front (refused.too_long other)));
 }
 
--- it is refused if the code of its question is
+-- a program is refused if its question's code is
 pub question_refused : {question : Question} {exits : Exits} {end : List Insn} {fault : CompileFault} (score : Option NumericColumn)
     → end ≡ chosen_code score ++ answer_code 0 → exits.falls ≡ true → exits.beyond ≡ word_count (chosen_code score)
     → Refuses question exits end fault → MayBeRefused (program score question) fault
@@ -97,7 +97,7 @@ question_refused {question} score last falls beyond refused = record {
       (longer (copy w6 r1 ∷ []) (refused.too_long other));
 }
 
--- what a result's code has, if there is one
+-- a property of a result's code, if there is one
 pub if_ok : {E : Type 0} {whole : List Insn} (P : List Insn → Type 0) (result : Result (List Insn) E) → IfOk result (λ code. code ≡ whole)
     → P whole → IfOk result P
 if_ok {E} {whole} P result same holds =

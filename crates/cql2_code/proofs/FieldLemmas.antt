@@ -1,4 +1,4 @@
--- The fields of text columns by their offsets and widths, and the texts in them.
+-- The fields of text columns, by offset and width, and the texts in them.
 use Rattle.std.proofs.Common.{◌≡◌, ℕ, ◌+◌, ◌-◌, ◌≤◌, Bool, true, false, not, ◌&&◌, List, length, take, drop, Option, Some, None}
 use Rattle.std.proofs.Common.{option_map, is_none, if◌then◌else◌, refl, sym, ap, ◌∙◌, arith, lit≤, length-take, length-drop}
 use Rattle.std.specs.Bool.{beq}
@@ -56,7 +56,7 @@ text_value_is column segment =
     ap (λ (field : List ℕ). if are_blank field then None else Some (trim_end field)) (field_at_is column segment)
     ∙ ap (λ (text : List ℕ). if are_blank (field_of column segment) then None else Some text) (trim_end_is (field_of column segment))
 
--- a field isn't blank, and its text has a property
+-- the field isn't blank, and its text has the property
 abbrev pub has_text : (List ℕ → Bool) → List ℕ → Bool
 has_text property field = not (are_blank field) && property (trimmed field)
 
@@ -70,7 +70,7 @@ text_asked property field asked = by_blank (are_blank field)
     by_blank true = refl
     by_blank false = refl
 
--- whether a column's value has a property, asked for either truth
+-- whether a column's value has the property, asked for either truth value
 pub value_asked : (property : List ℕ → Bool) (column : TextColumn) (segment : Contents) (asked : Bool)
     → has_text (λ text. beq (property text) asked) (field_of column segment)
     ≡ is_truth (option_map property (text_value column segment.bytes)) asked
@@ -94,7 +94,7 @@ module _ (segment : Contents) (is : IsSegment segment) (column : TextColumn) whe
     length-drop (offset_of column) segment.bytes,
   )
 
-  -- what is left of a column after some bytes is blank
+  -- the rest of a column after some bytes is blank
   pub rest_found : (count : ℕ) → count ≤ width_of column
       → answer (is_blank (offset_of column + count) (width_of column - count)) segment ≡ are_blank (drop count (field_of column segment))
   rest_found count few =

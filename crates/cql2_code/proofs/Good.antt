@@ -1,4 +1,4 @@
--- Instructions of a code that pass the verifier's checks, and jumps that lead on.
+-- Instructions that pass the verifier's checks, and jumps whose targets are instructions.
 use Rattle.std.proofs.Common.{◌≡◌, ℕ, zero, suc, ◌+◌, ◌-◌, ◌<◌, ◌≤◌, ◌^◌, ℤ, pos, ◌+ℤ◌, Bool, true, false, is_some, List, [], ◌∷◌, ◌++◌}
 use Rattle.std.proofs.Common.{length, Option, Some, None, Ok, ◌⊎◌, inl, inr, refl, sym, ap, ◌∙◌, subst, arith}
 use Rattle.std.specs.Int.{w64}
@@ -27,12 +27,12 @@ use Rattle.cql2_code.proofs.Known.{Held, annotation_of, any_number, before, noth
 use Rattle.cql2_code.proofs.Passes.{AllPass, Passes, needed_by}
 use Rattle.cql2_code.proofs.Steps.{conditional_jump, HasAt}
 
--- an instruction at a place passes its checks, and its jump leads on
+-- an instruction at a place passes its checks, and its jump has a valid target
 pub record IsGoodAt (code : List Insn) (place : ℕ) (insn : Insn) : Type 0 where
   pub passes : PassesAt (annotation_of code) place insn
   pub leads : (distance : ℤ) → jump_distance insn ≡ Some distance → LeadsOn code place distance
 
--- instructions from a place on are good, each of them
+-- each instruction from a place on is good
 abbrev pub AreGoodAt : List Insn → ℕ → List Insn → Type 0
 AreGoodAt code place [] = Unit {0}
 AreGoodAt code place (insn ∷ rest) = IsGoodAt code place insn × AreGoodAt code (place + length (spelling insn)) rest
@@ -45,7 +45,7 @@ good-append code place (insn ∷ a) b one two =
     let e : place + word_count (insn ∷ a) ≡ place + length (spelling insn) + word_count a = omega arith in
     (one.0, good-append code (place + length (spelling insn)) a b one.1 (subst (λ (p : ℕ). AreGoodAt code p b) e two))
 
--- the one at any place is
+-- so the instruction at any place is good
 pub good_there : (code : List Insn) (base : ℕ) (rest : List Insn) → AreGoodAt code base rest → (place : ℕ) (insn : Insn)
     → instruction_at rest place ≡ Some insn → IsGoodAt code (base + place) insn
 good_there code base [] good place insn at = absurd cc
@@ -68,11 +68,11 @@ good_there code base (first ∷ rest) good (suc place) insn at =
         subst (λ (p : ℕ). IsGoodAt code p insn) e
         (again (suc place - length (spelling first)) (sym (instruction_at-behind first rest (suc place) past) ∙ at))
 
--- what the annotation says at a place
+-- the annotation's state at a place
 abbrev pub Needs : List Insn → ℕ → AbstractState → Type 0
 Needs code place state = annotation_of code place ≡ state
 
--- instructions at a place need what the first one needs
+-- consecutive instructions need what the first one needs
 pub needs_at : (code : List Insn) (place : ℕ) (insns : List Insn) (end : AbstractState) → HasAt code place insns
     → Needs code (place + word_count insns) end → Needs code place (needed_by insns end)
 needs_at code place [] end has is = let e : place + 0 ≡ place = omega arith in subst (λ (p : ℕ). Needs code p end) e is
@@ -81,7 +81,7 @@ needs_at code place (insn ∷ rest) end has is = ap state_before has.0
 not_some : {A : Type 0} {B : Type 0} (x : A) → None ≡ Some x → B
 not_some x e = absurd cc
 
--- an instruction that passes is good if the annotation says after it what is needed there
+-- an instruction that passes is good if the annotation holds the needed state after it
 pub good_passes : (code : List Insn) (place : ℕ) (insn : Insn) (needed : AbstractState) → instruction_at code place ≡ Some insn
     → Needs code (place + length (spelling insn)) needed → Passes insn needed → IsGoodAt code place insn
 good_passes code place insn needed at is passes = record {
@@ -107,7 +107,7 @@ all_good code place (insn ∷ rest) end has is all =
 
 -- jumps
 
--- an instruction begins at a place, and needs nothing but the record's pointer
+-- an instruction begins at a place, and needs only the record's pointer
 pub record Rests (code : List Insn) (place : ℕ) : Type 0 where
   pub begins : is_some (instruction_at code place) ≡ true
   pub needs : Needs code place resting
@@ -118,7 +118,7 @@ same_distance distance other e = cc
 same_place : (place other : ℕ) → pos place ≡ pos other → place ≡ other
 same_place place other e = cc
 
--- a jump leads by its distance
+-- a jump leads to the place at its distance
 leads_there : (code : List Insn) (place beyond : ℕ) (distance : ℤ) → Some (pos beyond) ≡ Some distance → Rests code (place + 1 + beyond)
     → LeadsOn code place distance
 leads_there code place beyond distance jumps target =
@@ -130,7 +130,7 @@ leads_there code place beyond distance jumps target =
       begins = target.begins;
     }
 
--- and nowhere else
+-- and to no other place
 only_there : (place beyond : ℕ) (distance : ℤ) (to : ℕ) → Some (pos beyond) ≡ Some distance → pos (place + 1) +ℤ distance ≡ pos to
     → place + 1 + beyond ≡ to
 only_there place beyond distance to jumps leads =
@@ -150,18 +150,18 @@ good_jump code place beyond at target = record {
   leads = λ distance jumps. leads_there code place beyond distance jumps target;
 }
 
--- what is known before a conditional jump: a number in register 0, and in register 1 if it is compared with that
+-- the state before a conditional jump: a number in register 0, and in register 1 if it is an operand
 abbrev held_before : Source → Held
 held_before (Immediate number) = record nothing { v0 = any_number }
 held_before (Register register) = record nothing { v0 = any_number; v1 = any_number }
 
--- what it tells of its operands if it is taken, and if it isn't
+-- what the jump implies for its operands if it is taken, and if it isn't
 unfoldable told : Condition → Source → Bool → Option Narrowed
 told condition (Immediate number) taken =
     refine condition Bits64 (between 0 (2 ^ 64 - 1)) (single (low_bits w64 (immediate_operand number))) taken
 told condition (Register register) taken = refine condition Bits64 (between 0 (2 ^ 64 - 1)) (between 0 (2 ^ 64 - 1)) taken
 
--- what is known on an edge of it
+-- the state on an edge of the jump
 abbrev edge_by : Condition → Source → Option Narrowed → AbstractState
 edge_by condition source told =
     on_edge (record { registers = registers_of (held_before source); frame = unwritten })
@@ -173,12 +173,12 @@ edge condition source taken = edge_by condition source (told condition source ta
 abbrev edges : Condition → Source → Edges
 edges condition source = record { next = edge condition source false; target = edge condition source true }
 
--- the operand of a conditional jump is an immediate, or register 1
+-- the operand of a conditional jump is an immediate or register 1
 pub data IsOperand : Source → Type 0 where
   is_immediate : (number : ℤ) → IsOperand (Immediate number)
   is_register : IsOperand (Register r1)
 
--- on its edges no more is needed than the record's pointer
+-- the edges of the jump need only the record's pointer
 edge_rests : (condition : Condition) (source : Source) (told : Option Narrowed) → IsOperand source
     → IsWithin (edge_by condition source told) resting
 edge_rests condition source None operand = tt
@@ -196,7 +196,7 @@ unfolding told
 branch_passes condition source beyond (is_immediate number) = refl
 branch_passes condition source beyond is_register = refl
 
--- a conditional jump at a place, with ways on that need nothing more
+-- a conditional jump at a place, both of whose targets need nothing more
 pub record BranchAt (code : List Insn) (place : ℕ) (condition : Condition) (source : Source) (beyond : ℕ) : Type 0 where
   pub at : instruction_at code place ≡ Some (conditional_jump condition source beyond)
   pub next : Rests code (place + 1)

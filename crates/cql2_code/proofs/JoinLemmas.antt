@@ -6,7 +6,7 @@ use Rattle.cql2.specs.Truth.{and, is, negation, or}
 use Rattle.cql2_code.specs.Lowering.{if_asked}
 use Rattle.cql2_code.specs.Question.{Question, answer, joined}
 
--- AND and OR, asked for either truth
+-- AND and OR, asked for either truth value
 
 pub and_joins : (first second : Option Bool) (asked : Bool)
     → joined asked (is first asked) (is second asked) ≡ is (and first second) asked
@@ -58,7 +58,7 @@ not_exchanges (Some true) false = refl
 not_exchanges (Some false) false = refl
 not_exchanges None false = refl
 
--- laws of tests
+-- laws about tests
 
 pub is_it : (found : Bool) → found ≡ beq found true
 is_it true = refl
@@ -94,7 +94,7 @@ and_swap true false = refl
 and_swap false true = refl
 and_swap false false = refl
 
--- joined by yes: both; by no: either
+-- joined with neutral answer yes: both; with no: either
 pub joins_both : (first second : Bool) → joined true first second ≡ (first && second)
 joins_both true second = refl
 joins_both false second = refl
@@ -103,7 +103,7 @@ pub joins_either : (first second : Bool) → joined false first second ≡ (firs
 joins_either true second = refl
 joins_either false second = refl
 
--- the answers of two joined questions, from those of each
+-- the answers of two joined questions, from the answers of each
 pub joined_answers : (neutral : Bool) {a b c d : Bool} → a ≡ b → c ≡ d → joined neutral a c ≡ joined neutral b d
 joined_answers neutral {b = b} {c = c} first second = ap (λ (x : Bool). joined neutral x c) first ∙ ap (joined neutral b) second
 

@@ -1,4 +1,4 @@
--- What is known before each instruction of a filter's program. It can be read off the instruction itself: what it needs, and no more.
+-- The state before each instruction of a filter's program. The instruction alone determines it: exactly what it needs, and no more.
 use Rattle.std.proofs.Common.{ℕ, zero, suc, ◌+◌, ◌-◌, ◌*◌, ◌/◌, ◌^◌, pos, false, List, [], ◌∷◌, get_or, Option, Some, None, sym, ◌∙◌, subst}
 use Rattle.std.specs.Prelude.{unsigned_abs}
 use Rattle.std.proofs.lemmas.Bool.{false≢true}
@@ -22,7 +22,7 @@ use Rattle.bpf_verify.specs.Annotation.{Annotation}
 use Rattle.bpf_verify.specs.AbstractState.{AbstractState, Unreached, Reached, IsWithin, entry}
 use Rattle.bpf_verify.proofs.StateLaws.{reflexive}
 
--- what is known of registers 0 to 3 and of the frame; register 6 has the record's pointer
+-- the contents of registers 0 to 3 and of the frame; register 6 holds the record's pointer
 pub record Held : Type 0 where
   pub v0 : Kind
   pub v1 : Kind
@@ -30,7 +30,7 @@ pub record Held : Type 0 where
   pub v3 : Kind
   pub frame : map.Contents
 
--- pointers to the record's first byte, and to one of the frame's
+-- pointers to the first byte of the record and to a byte of the frame
 abbrev pub to_record : Kind
 to_record = Record (offsets.between (pos 0) (pos 0))
 
@@ -44,14 +44,14 @@ registers_of held =
 abbrev pub knowing : Held → AbstractState
 knowing held = Reached (record { registers = registers_of held; frame = held.frame })
 
--- between tests nothing else is known
+-- between tests, nothing else is known
 abbrev pub nothing : Held
 nothing = record { v0 = Nothing; v1 = Nothing; v2 = Nothing; v3 = Nothing; frame = unwritten }
 
 abbrev pub resting : AbstractState
 resting = knowing nothing
 
--- numbers up to a greatest one, and any number
+-- the numbers up to a maximum, and any number
 abbrev pub up_to : ℕ → Kind
 up_to most = Number (between 0 most)
 
@@ -74,11 +74,11 @@ compared = knowing (record nothing { v0 = any_number; v1 = any_number })
 abbrev pub given_two : AbstractState
 given_two = knowing (record nothing { v1 = any_number; v2 = any_number })
 
--- a name's number in register 1, and a pointer into the frame in register 2
+-- a name's index in register 1, and a pointer into the frame in register 2
 abbrev pub pointed : ℕ → AbstractState
 pointed at = knowing (record nothing { v1 = any_number; v2 = frame_at at })
 
--- the frame after a number of words of a name were stored
+-- the frame after a number of a name's words were stored
 abbrev pub stored : ℕ → map.Contents
 stored zero = unwritten
 stored (suc word) = mark (touch (stored word) (480 + 4 * word) (480 + 4 * word + 3)) (480 + 4 * word) 4
@@ -87,8 +87,7 @@ stored (suc word) = mark (touch (stored word) (480 + 4 * word) (480 + 4 * word +
 abbrev pub named : ℕ → AbstractState
 named words = knowing (record { v0 = Nothing; v1 = any_number; v2 = frame_at 480; v3 = Number (single 30); frame = stored words })
 
--- what is known before an instruction, by the register that a number is moved into, that another is copied into, or that a wide load
--- fills, and by the helper function that is called
+-- the state before an instruction, by the register that receives a number, a copy or a wide load, and by the helper function that is called
 abbrev pub before_move : ℕ → AbstractState
 before_move register = get_or (resting ∷ resting ∷ given_any ∷ pointed 480 ∷ []) register resting
 
@@ -102,7 +101,7 @@ abbrev pub before_call : ℕ → AbstractState
 before_call helper =
     get_or (resting ∷ given 16 ∷ given 16 ∷ resting ∷ resting ∷ given_two ∷ resting ∷ named 8 ∷ given_any ∷ given 3 ∷ []) helper resting
 
--- a word of the name is stored after those before it
+-- a word of the name is stored after the words before it
 abbrev pub before_store : ℕ → AbstractState
 before_store back = named ((32 - back) / 4)
 
@@ -115,7 +114,7 @@ before_alu operation register (Register source) = before_copy register
 before_alu Move register (Immediate number) = before_move register
 before_alu operation register (Immediate number) = pointed FRAME_LENGTH
 
--- what is known before an instruction
+-- the state before an instruction
 abbrev pub before : Insn → AbstractState
 before (Alu operation width destination source) = before_alu operation destination.number source
 before (JumpIf condition width left right distance) = before_compare right
@@ -147,7 +146,7 @@ within_unwritten frame = record {
       let held = map.slot_kind frame slot in subst (kind.IsWithin held) (sym (get_or-alike SLOTS slot Nothing)) (to_nothing held);
 }
 
--- registers 0 to 3 of what is known, one by one
+-- registers 0 to 3 of one state know more than those of another, one by one
 pub record KnowsMore (held other : Held) : Type 0 where
   pub v0 : kind.IsWithin held.v0 other.v0
   pub v1 : kind.IsWithin held.v1 other.v1
@@ -168,7 +167,7 @@ knows_more held other more = record { registers = each; frame = more.frame }
     each (suc (suc (suc zero))) = more.v3
     each (suc (suc (suc (suc register)))) = same.registers (suc (suc (suc (suc register))))
 
--- between tests all of it is forgotten
+-- between tests, everything is forgotten
 pub rests_after : (held : Held) → IsWithin (knowing held) resting
 rests_after held = knows_more held nothing (record {
   v0 = to_nothing held.v0;

@@ -1,4 +1,4 @@
--- The questions about a text column and a pattern have the answers that LIKE gives.
+-- The questions about a text column and a pattern have the answers of LIKE.
 use Rattle.std.proofs.Common.{◌≡◌, ℕ, zero, suc, ◌+◌, ◌-◌, ◌<◌, ◌≤◌, ◌==◌, nat_le, Bool, true, false, not, ◌&&◌, ◌||◌, List, [], ◌∷◌}
 use Rattle.std.proofs.Common.{length, map, get_or, take, drop, Option, Some, None, option_map, if◌then◌else◌, refl, sym, ap, ◌∙◌, arith}
 use Rattle.std.specs.Bool.{beq}
@@ -23,17 +23,17 @@ use Rattle.cql2_code.proofs.TrimLemmas.{trimmed, trimmed_blank}
 
 -- Fields and patterns
 
--- a field begins with what a pattern wants
+-- the field begins with the bytes that the pattern wants
 abbrev wants : List PatternByte → List ℕ → Bool
 wants [] field = true
 wants (wanted ∷ pattern) [] = false
 wants (wanted ∷ pattern) (byte ∷ field) = is_byte_wanted wanted byte && wants pattern field
 
--- after the wanted bytes it is blank
+-- the field is blank after the wanted bytes
 abbrev closes : List PatternByte → List ℕ → Bool
 closes pattern field = are_blank (drop (length pattern) field)
 
--- it isn't blank from the last wanted byte on
+-- the field isn't blank from the last wanted byte on
 abbrev fills : List PatternByte → List ℕ → Bool
 fills [] field = not (are_blank field)
 fills (wanted ∷ []) field = not (are_blank field)
@@ -49,7 +49,7 @@ fills_is (wanted ∷ next ∷ pattern) (byte ∷ field) long =
     let one_less : length (wanted ∷ next ∷ pattern) - 1 ≡ suc (length (next ∷ pattern) - 1) = omega arith in
     ap (λ (count : ℕ). not (are_blank (drop count (byte ∷ field)))) one_less ∙ fills_is (next ∷ pattern) field (omega arith)
 
--- the text in a field is like no bytes: there is none, or the pattern is open
+-- the text in a field matches a pattern of no bytes: the field is blank, or the pattern is open
 like_nothing : (is_open : Bool) (field : List ℕ) → is_text_like [] is_open (trimmed field) ≡ (is_open || are_blank field)
 like_nothing true [] = refl
 like_nothing false [] = refl
@@ -61,7 +61,7 @@ like_nothing is_open (byte ∷ field) = by_blank is_open (are_blank (byte ∷ fi
     by_blank false true = refl
     by_blank false false = refl
 
--- it is like one byte and others
+-- the text matches a pattern of one byte and more
 like_more : (wanted : PatternByte) (pattern : List PatternByte) (is_open : Bool) (byte : ℕ) (field : List ℕ)
     → is_text_like (wanted ∷ pattern) is_open (trimmed (byte ∷ field))
     ≡ (not (are_blank (byte ∷ field)) && (is_byte_wanted wanted byte && is_text_like pattern is_open (trimmed field)))
@@ -89,7 +89,7 @@ last_wanted false true false = refl
 last_wanted false false true = refl
 last_wanted false false false = refl
 
--- a blank rest has no text that is like one byte or more
+-- a blank rest has no text that matches a pattern of one or more bytes
 rest_like : (blank_byte wanted_byte : Bool) (wanted : PatternByte) (pattern : List PatternByte) (is_open : Bool) (field : List ℕ)
     → (wanted_byte && has_text (is_text_like (wanted ∷ pattern) is_open) field)
     ≡ (not (blank_byte && are_blank field) && (wanted_byte && is_text_like (wanted ∷ pattern) is_open (trimmed field)))
@@ -105,8 +105,8 @@ rest_like blank_byte wanted_byte wanted pattern is_open field = by_blank blank_b
     by_blank true wanted_byte false is = refl
     by_blank false wanted_byte false is = refl
 
--- A field isn't blank and its text is like a pattern: the field begins with what the pattern wants, is blank after it unless the pattern is
--- open, and isn't blank from the last wanted byte on.
+-- A field isn't blank and its text matches a pattern exactly if the field begins with the bytes that the pattern wants, is blank after them
+-- unless the pattern is open, and isn't blank from the last wanted byte on.
 like_parts : (pattern : List PatternByte) (is_open : Bool) (field : List ℕ) → length pattern ≤ length field
     → (wants pattern field && ((is_open || closes pattern field) && fills pattern field)) ≡ has_text (is_text_like pattern is_open) field
 like_parts [] is_open field long =
@@ -128,7 +128,7 @@ like_parts (wanted ∷ next ∷ pattern) is_open (byte ∷ field) long =
     ∙ rest_like (byte == 32) (is_byte_wanted wanted byte) next pattern is_open field
     ∙ sym (has_more wanted (next ∷ pattern) is_open byte field)
 
--- a text is like no pattern that is longer than its field
+-- no text matches a pattern that is longer than the text's field
 like_long : (pattern : List PatternByte) (is_open : Bool) (field : List ℕ) → length field < length pattern
     → is_text_like pattern is_open (trimmed field) ≡ false
 like_long [] is_open field longer = absurd (omega arith)
@@ -146,7 +146,7 @@ no_blank (Exactly wanted) byte filled are is = grind (arith, nat_tests)
 no_blank (EitherCase letter) byte filled are is = grind (arith, nat_tests)
 no_blank Any byte filled are is = absurd (false≢true filled)
 
--- if the last wanted byte is no blank, a field that begins with the wanted bytes isn't blank there
+-- if the last wanted byte is not a blank, a field that begins with the wanted bytes isn't blank there
 filled_on : (pattern : List PatternByte) (field : List ℕ) → ends_filled pattern ≡ true → are_bytes pattern ≡ true
     → wants pattern field ≡ true → fills pattern field ≡ true
 filled_on [] field filled are is = absurd (false≢true filled)
@@ -157,7 +157,7 @@ filled_on (wanted ∷ []) (byte ∷ field) filled are is =
 filled_on (wanted ∷ next ∷ pattern) (byte ∷ field) filled are is =
     filled_on (next ∷ pattern) field filled (and_parts (is_byte wanted) _ are).1 (and_parts (is_byte_wanted wanted byte) _ is).1
 
--- Bytes that are wanted of the record
+-- Wanted bytes of the record
 
 wants_take : (pattern : List PatternByte) (count : ℕ) (bytes : List ℕ) → length pattern ≤ count
     → wants pattern bytes ≡ wants pattern (take count bytes)
@@ -167,7 +167,7 @@ wants_take (wanted ∷ pattern) (suc count) [] few = refl
 wants_take (wanted ∷ pattern) (suc count) (byte ∷ bytes) few =
     ap (λ (rest : Bool). is_byte_wanted wanted byte && rest) (wants_take pattern count bytes (omega arith))
 
--- a pattern wants exactly these bytes, if some were found
+-- a pattern wants exactly these bytes, if it has exact bytes
 abbrev pub Spells : Option (List ℕ) → List PatternByte → Type 0
 Spells None pattern = Unit {0}
 Spells (Some bytes) pattern = pattern ≡ map Exactly bytes
@@ -194,7 +194,7 @@ small_wanted (byte ∷ bytes) are =
     let parts = and_parts (is_byte (Exactly byte)) (are_bytes (map Exactly bytes)) are in
     (ltb-true byte 256 parts.0, small_wanted bytes parts.1)
 
--- a pattern whose bytes are looked for within the record, from an offset on
+-- a pattern whose bytes are within the record, at an offset
 pub record Fits (at : ℕ) (pattern : List PatternByte) : Type 0 where
   pub within : at + length pattern ≤ 228
   pub are : are_bytes pattern ≡ true
@@ -289,7 +289,7 @@ module _ (segment : Contents) (is : IsSegment segment) (column : TextColumn) (pa
   filled_here : ends_filled pattern ≡ true → wants pattern (field_of column segment) ≡ true → fills pattern (field_of column segment) ≡ true
   filled_here filled wanted = filled_on pattern (field_of column segment) filled fits.are wanted
 
-  -- after as many bytes as the field has comes nothing
+  -- nothing follows after as many bytes as the field has
   whole_closes : length pattern ≡ width_of column → closes pattern (field_of column segment) ≡ true
   whole_closes whole =
       let long = field_long segment is column in
@@ -336,7 +336,7 @@ module _ (segment : Contents) (is : IsSegment segment) (column : TextColumn) (pa
       sym (ap (λ (like : Bool). not (are_blank (field_of column segment)) && like) unlike
       ∙ and_false (not (are_blank (field_of column segment))))
 
-  -- a column isn't NULL and is like a pattern
+  -- a column isn't NULL and matches a pattern
   pub like_found : (is_open : Bool) → answer (is_like column pattern is_open) segment
       ≡ has_text (is_text_like pattern is_open) (field_of column segment)
   like_found is_open = like_by is_open (nat_le (length pattern) (width_of column)) refl
@@ -348,7 +348,7 @@ module _ (segment : Contents) (is : IsSegment segment) (column : TextColumn) (pa
       both_answers (ap not (null_found segment is column)) (ap not (like_found is_open))
       ∙ unlike (are_blank (field_of column segment)) (is_text_like pattern is_open (trimmed (field_of column segment)))
 
-  -- LIKE, asked for either truth
+  -- LIKE, asked for either truth value
   pub asks_like_rightly : (is_open asked : Bool) → answer (asks_like column pattern is_open asked) segment
       ≡ is_truth (option_map (is_text_like pattern is_open) (text_value column segment.bytes)) asked
   asks_like_rightly is_open asked = like_asked is_open asked ∙ value_asked (is_text_like pattern is_open) column segment asked

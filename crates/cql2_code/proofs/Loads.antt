@@ -1,4 +1,4 @@
--- What a run does at the loads of a filter's program: a chunk of the record is its number.
+-- What a run of a filter's program does at loads: a chunk of the record is loaded as its number.
 use Rattle.std.proofs.Common.{◌≡◌, ℕ, ◌+◌, ◌≤◌, pos, Bool, true, false, List, length, Some, Result, Ok, if◌then◌else◌, refl, ap, ◌∙◌, arith}
 use Rattle.std.proofs.lemmas.Bool.{false≢true}
 use Rattle.bpf_insn.specs.declared.value.Value.{Value}
@@ -26,7 +26,7 @@ if_true : {A : Type 0} (test : Bool) (x y : A) → test ≡ true → (if test th
 if_true true x y is = refl
 if_true false x y is = absurd (false≢true is)
 
--- the number of bytes from an offset on
+-- the number formed by the bytes at an offset
 part : (bytes : List ℕ) (i count : ℕ)
     → number_of (take count (drop (0 + i) (map Byte bytes))) ≡ Some (bytes_value (take count (drop i bytes)))
 part bytes i count =

@@ -1,4 +1,4 @@
--- A filter's questions have the answers that its truth gives.
+-- A filter's questions have the answers that its truth determines.
 use Rattle.std.proofs.Common.{◌≡◌, Bool, not, is_none, refl, sym, ap, ◌∙◌}
 use Rattle.std.specs.Bool.{beq}
 use Rattle.tl_segments.specs.Segment.{Contents, IsSegment}
@@ -25,7 +25,7 @@ null_rightly segment is (Numeric column) = ap not (has_value_rightly column segm
 null_rightly segment is (Text column) =
     null_found segment is column ∙ sym (text_null (field_of column segment)) ∙ sym (ap is_none (text_value_is column segment))
 
--- the question whether a filter is true, and the one whether it is false
+-- the questions whether a filter is true and whether it is false
 pub asks_rightly : {A : Type 0} (segment : Contents) → IsSegment segment → (filter : Filter A) (asked : Bool)
     → answer (asks_whether filter asked) segment ≡ is (truth filter segment) asked
 asks_rightly segment is (Constant value) asked = refl

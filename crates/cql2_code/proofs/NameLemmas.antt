@@ -26,12 +26,12 @@ use Rattle.cql2_code.proofs.JoinLemmas.{and_assoc, both_answers}
 use Rattle.cql2_code.proofs.NumberLemmas.{compared, small_fits}
 use Rattle.cql2_code.proofs.PartLemmas.{part_asked, passes}
 
--- Blanks after what is wanted make no difference
+-- Blanks after the wanted bytes make no difference
 
 lower_blank : (byte : ℕ) → (to_ascii_lowercase byte == 32) ≡ (byte == 32)
 lower_blank byte = grind (arith, nat_tests)
 
--- a name equals a byte and others, by its first byte
+-- a name equals a byte and more, by its first byte
 equals_more : (byte : ℕ) (name : List ℕ) (letter : ℕ) (wanted : List ℕ) → name_equals (byte ∷ name) (letter ∷ wanted)
     ≡ (to_ascii_lowercase byte == to_ascii_lowercase letter && name_equals name wanted)
 equals_more byte name letter wanted = sym (and_assoc (to_ascii_lowercase byte == to_ascii_lowercase letter)
@@ -75,7 +75,7 @@ block_equals text name few are =
     let long = are.length in
     ap (name_equals name) (block_taken text few) ∙ padded_equal name text (30 - length text) (omega arith)
 
--- tests that agree on all parts find the same
+-- tests that agree on all parts find the same parts
 any_same : {X : Type 0} (P : X → Type 0) (good other : X → Bool) (count : ℕ) (parts : List X) → All P parts
     → ((part : X) → P part → good part ≡ other part) → list_any good (take count parts) ≡ list_any other (take count parts)
 any_same P good other zero parts all same = refl
@@ -95,7 +95,7 @@ name_found wanted (Some name) = refl
 at_least_is_less : (m n : ℕ) → nat_le m n ≡ nat_lt m (suc n)
 at_least_is_less m n = grind (arith, nat_tests)
 
--- what a segment's names say: one of them is the wanted one, and there are no more
+-- what a segment's names imply: one of them is the wanted one, and there are no more
 
 known_named : (found whole : Bool)
     → found ≡ is_truth (if found then Some true else (if whole then Some false else None)) true
@@ -121,7 +121,7 @@ module _ (segment : Contents) (is : IsSegment segment) where
       compared GreaterOrEqual (pos (length segment.names)) (pos at) (small_fits _ (omega arith)) (small_fits at (omega arith))
       ∙ at_least_is_less at (length segment.names)
 
-  -- one from a number on is the wanted one
+  -- a name with this index or a later one is the wanted one
   named_found : (wanted : List ℕ) (at more : ℕ) → at + more ≤ 2 ^ 62 → answer (is_named_from wanted at more) segment
       ≡ list_any (λ name. name_equals name (take 30 wanted)) (take more (drop at (names_of segment)))
   unfolding is_named_from
@@ -149,7 +149,7 @@ module _ (segment : Contents) (is : IsSegment segment) where
       let few = is.few_names in
       compared LessOrEqual (pos (length segment.names)) (pos most) (small_fits _ (omega arith)) (small_fits most (omega arith))
 
-  -- a name, asked for either truth
+  -- a name, asked for either truth value
   pub has_name_rightly : (text : List ℕ) (most : ℕ) → length text ≤ 30 → most < 2 ^ 16 → (asked : Bool)
       → answer (asks_has_name text most asked) segment ≡ is_truth (has_name text most segment) asked
   has_name_rightly text most few small true =

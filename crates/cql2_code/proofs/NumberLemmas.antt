@@ -1,4 +1,4 @@
--- Tests compare numbers as they are, with their signs, and have the answers that a comparison with a numeric column gives.
+-- Tests compare numbers as signed numbers, and have the answers of a comparison with a numeric column.
 use Rattle.std.proofs.Common.{◌≡◌, ℕ, zero, suc, ◌<◌, ◌^◌, ◌==◌, ℤ, pos, negsuc, Bool, true, false, not, nat_le, nat_lt, List, drop}
 use Rattle.std.proofs.Common.{slice_index, Option, Some, None, IfSome, is_none, is_some, option_map, if◌then◌else◌, refl, sym}
 use Rattle.std.proofs.Common.{ap, ◌∙◌, arith, rules}
@@ -33,7 +33,7 @@ use Rattle.cql2_code.specs.Lowering.{compares_number, has_value, holds_of_zero, 
 use Rattle.cql2_code.specs.Question.{Joined, answer, condition_of, coordinate_id, field_id, joined, value}
 use Rattle.cql2_code.proofs.JoinLemmas.{is_it, isnt_it, joined_answers, not_not}
 
--- signed numbers of 64 bits are compared as they are
+-- signed 64-bit numbers are compared by value
 
 word_small : (number : ℤ) → FitsSigned w64 number → cast_unsigned w64 number < 2 ^ 64
 word_small number fits = search rules
@@ -41,7 +41,7 @@ word_small number fits = search rules
 kept : (number : ℤ) → FitsSigned w64 number → low_bits w64 (cast_unsigned w64 number) ≡ cast_unsigned w64 number
 kept number fits = let small = word_small number fits in omega arith
 
--- a number, written into 64 bits and read again
+-- a number, written as 64 bits and read back
 abbrev read : ℤ → ℤ
 read number = cast_signed w64 (low_bits w64 (cast_unsigned w64 number))
 
@@ -68,7 +68,7 @@ compared GreaterOrEqual x y fits others = ap (λ (z : ℤ). int_le z (read x)) (
 pub small_fits : (n : ℕ) → n < 2 ^ 63 → FitsSigned w64 (pos n)
 small_fits n small = search rules
 
--- the opposite of a comparison holds if it doesn't
+-- the opposite of a comparison holds if the comparison doesn't
 
 less_is_not : (m n : ℕ) → nat_lt m n ≡ not (nat_le n m)
 less_is_not m n = grind (arith, nat_tests)
@@ -91,7 +91,7 @@ opposite_compares LessOrEqual x y = int_less y x
 opposite_compares Greater x y = int_at_most x y
 opposite_compares GreaterOrEqual x y = int_less x y
 
--- the number of a column is what helper functions tell
+-- helper functions return a column's number
 
 number_told : (column : NumberColumn) (line : List ℕ)
     → field_number line (field_id column) ≡ number_of (field_at (number_places column) line)
@@ -141,7 +141,7 @@ word_told (Number column) segment =
 word_told (Coordinate column) segment =
     coordinate_told column segment.bytes ∙ word_unless_zero (coordinate_of (field_at (coordinate_places column) segment.bytes))
 
--- a column's values have 64 bits
+-- a column's values fit into 64 bits
 
 number_fits : (found : Option ℕ) → ((n : ℕ) → found ≡ Some n → n < 2 ^ 63) → IfSome (option_map pos found) (FitsSigned w64)
 number_fits None small = tt
@@ -212,11 +212,11 @@ pub none_is : {X : Type 0} (found : Option X) → not (is_some found) ≡ is_non
 none_is None = refl
 none_is (Some value) = refl
 
--- a comparison of a word with a literal
+-- a word compares with a literal in this way
 abbrev is_so : Comparison → ℕ → ℤ → Bool
 is_so comparison word literal = is_met (condition_of comparison) Bits64 word (cast_unsigned w64 literal)
 
--- a value, if there is one, compares so with a literal
+-- a value, if there is one, compares with a literal in this way
 abbrev pub compared_value : Comparison → ℤ → Option ℤ → Option Bool
 compared_value comparison literal found = option_map (λ number. compares comparison number literal) found
 
@@ -225,7 +225,7 @@ word_compares : (comparison : Comparison) (literal : ℤ) (found : Option ℤ) �
 word_compares comparison literal None fits others = refl
 word_compares comparison literal (Some number) fits others = compared comparison number literal fits others ∙ is_it _
 
--- 0 doesn't compare so with the literal, so none does either
+-- if the comparison doesn't hold for 0, a missing value needs no separate test
 word_alone : (comparison : Comparison) (literal : ℤ) (found : Option ℤ) → IfSome found (FitsSigned w64) → FitsSigned w64 literal
     → holds_of_zero comparison literal ≡ false
     → is_so comparison (coordinate_word found) literal ≡ is (compared_value comparison literal found) true
@@ -254,7 +254,7 @@ opposite_of_value comparison literal None = refl
 opposite_of_value comparison literal (Some number) =
     sym (is_it _) ∙ opposite_compares comparison number literal ∙ isnt_it (compares comparison number literal)
 
--- a comparison with a column, asked for either truth
+-- a comparison with a column, asked for either truth value
 pub compares_number_rightly : (column : NumericColumn) (comparison : Comparison) (literal : ℤ) (segment : Contents)
     → FitsSigned w64 literal → (asked : Bool)
     → answer (compares_number column (if asked then comparison else opposite comparison) literal) segment

@@ -1,4 +1,4 @@
--- The numbers of a filter's tests in its instructions.
+-- The operands of a filter's tests in its instructions.
 use Rattle.std.proofs.Common.{◌≡◌, ℕ, ◌+◌, ◌*◌, ◌/◌, ◌%◌, ◌<◌, ◌^◌, ℤ, pos, negsuc, Bool, true, false, not, List, [], ◌∷◌, length, map}
 use Rattle.std.proofs.Common.{Some, refl, sym, ap, ◌∙◌, arith}
 use Rattle.std.specs.Prelude.{FitsSigned, int_le, int_lt, nat_le, nat_lt, slice_index}
@@ -16,14 +16,14 @@ use Rattle.cql2.specs.declared.filter.Comparison.TheVariants.{Equal, NotEqual, L
 use Rattle.cql2_code.specs.Layout.{opposite}
 use Rattle.cql2_code.specs.Question.{bytes_value, condition_of}
 
--- a wide load of a number's halves loads the number
+-- a wide load of a number's two halves loads the number
 pub wide_is : (number : ℕ) → number < 2 ^ 64 → wide_number (cast_signed w32 (number % 2 ^ 32)) (cast_signed w32 (number / 2 ^ 32)) ≡ number
 wide_is number fits =
     let low = of_z-to_z w32 (number % 2 ^ 32) (omega arith) in
     let high = of_z-to_z w32 (number / 2 ^ 32) (omega arith) in
     omega (arith, low, high)
 
--- a signed number as a 64-bit operand has 64 bits
+-- a signed number as a 64-bit operand fits into 64 bits
 pub operand_fits : (number : ℤ) → FitsSigned w64 number → immediate_operand number < 2 ^ 64
 operand_fits (pos n) fits = let h = fits.sfits in omega arith
 operand_fits (negsuc n) fits = let h = fits.sfits in omega arith
@@ -33,7 +33,7 @@ pub number_of-bytes : (bytes : List ℕ) → number_of (map Byte bytes) ≡ Some
 number_of-bytes [] = refl
 number_of-bytes (byte ∷ bytes) = ap (option_map (λ rest. byte + 256 * rest)) (number_of-bytes bytes)
 
--- the low half of a number whose sign is extended
+-- the low half of a sign-extended number
 low_of_signed : (z : ℤ) → mag z < 2 ^ 31 → immediate_operand z % 2 ^ 32 ≡ cast_unsigned w32 z
 low_of_signed (pos n) small = omega arith
 low_of_signed (negsuc n) small = omega arith
@@ -50,7 +50,7 @@ low_bytes n =
     let fourth : n / 16777216 % 256 ≡ n % 2 ^ 32 / 16777216 % 256 = omega arith in
     cc
 
--- bytes of a word
+-- the bytes of a word
 abbrev HasBytes : List ℕ → Type 0
 HasBytes bytes = (i : ℕ) → slice_index bytes i < 2 ^ 8
 
@@ -107,7 +107,7 @@ int_less (negsuc m) (negsuc n) = less_is_not n m
 int_at_most : (x y : ℤ) → int_le x y ≡ not (int_lt y x)
 int_at_most x y = sym (ap not (int_less y x) ∙ not_not (int_le x y))
 
--- a number of 64 bits with its sign
+-- a 64-bit number as a signed one
 abbrev signed : ℕ → ℤ
 signed x = cast_signed w64 (low_bits w64 x)
 

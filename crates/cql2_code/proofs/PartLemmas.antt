@@ -1,4 +1,4 @@
--- Questions about one part of a segment after another, its names or its ranges, answer whether some part passes a test.
+-- Questions about one part of a segment after another, its names or its ranges, answer whether any part passes a test.
 use Rattle.std.proofs.Common.{◌≡◌, ℕ, zero, suc, ◌+◌, nat_lt, Bool, true, false, ◌&&◌, ◌||◌, List, [], ◌∷◌, length, take, drop, slice_get}
 use Rattle.std.proofs.Common.{Option, Some, None, if◌then◌else◌, refl, ap, ◌∙◌, arith}
 use Rattle.std.specs.List.{list_any}
@@ -8,7 +8,7 @@ use Rattle.tl_segments.specs.Segment.{Contents}
 use Rattle.cql2_code.specs.Question.{Question, Joined, answer}
 use Rattle.cql2_code.proofs.JoinLemmas.{and_false, both_answers, either_answers}
 
--- there is a part, and it passes
+-- the part exists and passes
 abbrev pub passes : {X : Type 0} → (X → Bool) → Option X → Bool
 passes good None = false
 passes good (Some part) = good part
@@ -17,7 +17,7 @@ any_none : {X : Type 0} (good : X → Bool) (count : ℕ) → list_any good (tak
 any_none good zero = refl
 any_none good (suc count) = refl
 
--- the part of this number passes, or one after it
+-- the part with this index passes, or a later one
 any_from : {X : Type 0} (good : X → Bool) (parts : List X) (at more : ℕ)
     → (passes good (slice_get parts at) || list_any good (take more (drop (suc at) parts)))
     ≡ list_any good (take (suc more) (drop at parts))
@@ -40,7 +40,7 @@ any_past good (part ∷ parts) (suc at) more =
     ap (λ (inside : Bool). inside && list_any good (take (suc more) (drop at parts))) (less_more at (length parts))
     ∙ any_past good parts at more
 
--- three questions: whether there is a part of this number, whether it passes, and whether one of those after it does
+-- three questions: whether the part with this index exists, whether it passes, and whether a later one does
 pub record AsksPart {X : Type 0} (good : X → Bool) (parts : List X) (at more : ℕ) (segment : Contents) : Type 0 where
   pub inside : Question
   pub here : Question
@@ -58,7 +58,7 @@ module _ {X : Type 0} (good : X → Bool) (parts : List X) (at more : ℕ) (segm
       ∙ ap (λ (number : ℕ). passes good (slice_get parts at) || list_any good (take more (drop number parts))) next
       ∙ any_from good parts at more
 
-  -- whether there is a part of this number may be asked first
+  -- the code may ask first whether the part exists
   pub part_asked : (asks : AsksPart good parts at more segment) (milestone : Bool)
       → answer (if milestone then Joined true asks.inside (Joined false asks.here asks.rest) else Joined false asks.here asks.rest) segment
       ≡ list_any good (take (suc more) (drop at parts))

@@ -1,4 +1,4 @@
--- What is asked of names and ranges, one after the other.
+-- Questions about names and ranges, one after the other.
 use Rattle.std.proofs.Common.{◌≡◌, ℕ, zero, suc, ◌+◌, pos, true, false, List, refl, sym, ap, inl, inr, arith}
 use Rattle.std.proofs.lemmas.Bool.{cases_Bool}
 use Rattle.bpf_insn.specs.declared.instruction.Insn.{Insn}
@@ -12,7 +12,7 @@ use Rattle.cql2_code.specs.declared.question.Subject.TheVariants.{InRange, NameI
 use Rattle.cql2_code.proofs.Refused.{refuses_as, second_refused}
 use Rattle.cql2_code.proofs.Written.{written_as}
 
--- of none of them anything holds
+-- nothing holds for any of no parts
 pub lies_from-none : (house at : ℕ) → lies_from house at 0 ≡ Decided false
 unfolding lies_from
 lies_from-none house at = refl
@@ -21,7 +21,7 @@ pub is_named_from-none : (wanted : List ℕ) (at : ℕ) → is_named_from wanted
 unfolding is_named_from
 is_named_from-none wanted at = refl
 
--- the house number lies on the first range, or on one after it
+-- the house number lies on the first range or on a later one
 abbrev pub lies_here : ℕ → ℕ → ℕ → Question
 lies_here house at more = Joined false (test (InRange at house) NotEqual (pos 0)) (lies_from house (at + 1) more)
 
@@ -34,7 +34,7 @@ pub lies_from-milestone : (house at more : ℕ) → is_milestone at ≡ true
 unfolding lies_from
 lies_from-milestone house at more there = rw there refl
 
--- the first name is the wanted one, or one after it is
+-- the first name or a later one is the wanted one
 abbrev pub is_named_here : List ℕ → ℕ → ℕ → Question
 is_named_here wanted at more = Joined false (test (NameIs at wanted) NotEqual (pos 0)) (is_named_from wanted (at + 1) more)
 
@@ -48,7 +48,7 @@ pub is_named_from-milestone : (wanted : List ℕ) (at more : ℕ) → is_milesto
 unfolding is_named_from
 is_named_from-milestone wanted at more there = rw there refl
 
--- what is asked from the first range on is refused if what is asked from a later one on is
+-- the question from the first range on is refused if the question from a later one on is
 pub lies_from-here_refused : {exits : Exits} {old : List Insn} {fault : CompileFault} (house : ℕ) (at more : ℕ)
     → Refuses (lies_here house at more) exits old fault → Refuses (lies_from house at (suc more)) exits old fault
 lies_from-here_refused house at more refused = elim (cases_Bool (is_milestone at)) [
@@ -65,7 +65,7 @@ lies_from-refused house (suc at) more all is refused =
     let here = refuses_as (λ new written. written_as (ap (λ (n : ℕ). lies_from house n more) next) written) refused in
     lies_from-refused house at (suc more) all (omega arith) (lies_from-here_refused house at more (second_refused here))
 
--- what is asked from the first name on is refused if what is asked from a later one on is
+-- the question from the first name on is refused if the question from a later one on is
 pub is_named_from-here_refused : {exits : Exits} {old : List Insn} {fault : CompileFault} (wanted : List ℕ) (at more : ℕ)
     → Refuses (is_named_here wanted at more) exits old fault → Refuses (is_named_from wanted at (suc more)) exits old fault
 is_named_from-here_refused wanted at more refused = elim (cases_Bool (is_milestone at)) [

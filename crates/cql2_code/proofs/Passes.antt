@@ -1,4 +1,4 @@
--- The verifier passes the instructions of a filter's program that are no jumps, one after the other.
+-- Every instruction of a filter's program that is not a jump passes the verifier's checks, one after the other.
 use Rattle.std.proofs.Common.{◌≡◌, ℕ, ◌+◌, ◌-◌, ◌/◌, ◌%◌, ◌^◌, ◌<◌, ◌≤◌, pos, Bool, true, false, List, [], ◌∷◌, ◌++◌, Option, Some, None}
 use Rattle.std.proofs.Common.{Ok, if◌then◌else◌, refl, sym, subst, arith, rules, lit<}
 use Rattle.std.specs.Prelude.{nat_le}
@@ -33,14 +33,14 @@ use Rattle.cql2_code.proofs.Operands.{wide_is}
 use Rattle.cql2_code.proofs.Known.{Held, KnowsMore, answered, any_number, before, compared, given, given_any, given_two, knowing}
 use Rattle.cql2_code.proofs.Known.{knows_more, named, nothing, pointed, rests_after, resting, stored, to_record, up_to, within_unwritten}
 
--- an instruction that is no jump passes, and what is known after it is enough there
+-- an instruction that is not a jump passes, and the state after it suffices there
 pub record Passes (insn : Insn) (needed : AbstractState) : Type 0 where
   pub after : AbstractState
   pub passes : transfer (before insn) insn ≡ Ok (record { next = after; target = Unreached })
   pub straight : jump_distance insn ≡ None
   pub within : IsWithin after needed
 
--- what instructions need before them, by what is needed after them
+-- the state that instructions need before them, given the state needed after them
 abbrev pub needed_by : List Insn → AbstractState → AbstractState
 needed_by [] end = end
 needed_by (insn ∷ rest) end = before insn
@@ -61,7 +61,7 @@ all_pass-append (insn ∷ a) b end one two = (
   all_pass-append a b end one.1 two,
 )
 
--- an instruction after which this is known
+-- an instruction with this state after it
 passes : (insn : Insn) (held other : Held) → transfer (before insn) insn ≡ Ok (record { next = knowing held; target = Unreached })
     → jump_distance insn ≡ None → KnowsMore held other → Passes insn (knowing other)
 passes insn held other is straight more =
@@ -75,7 +75,7 @@ among number most small = record { low = omega arith; high = small }
 fewer : (low high most : ℕ) → high ≤ most → kind.IsWithin (Number (between low high)) (up_to most)
 fewer low high most small = record { low = omega arith; high = small }
 
--- numbers that are moved
+-- moves of numbers
 
 pub passes_move_0 : (number : ℕ) → number < 2 ^ 64 → Passes (move w0 (pos number)) answered
 passes_move_0 number fits =
@@ -91,7 +91,7 @@ passes_move_1 number most small =
 pub passes_exit : (needed : AbstractState) → Passes Exit needed
 passes_exit needed = record { after = Unreached; passes = refl; straight = refl; within = tt }
 
--- an instruction that takes numbers into register 0
+-- an instruction that puts a number into register 0
 takes : (insn : Insn) (low high : ℕ) (frame : map.Contents) → high < 2 ^ 64
     → (let held : Held = record nothing { v0 = Number (between low high); frame = frame } in
     transfer (before insn) insn ≡ Ok (record { next = knowing held; target = Unreached }))
@@ -141,7 +141,7 @@ passes_load Byte i within = takes (load Byte i) 0 (2 ^ 8 - 1) map.unwritten (lit
 passes_load Word i within = takes (load Word i) 0 (2 ^ 32 - 1) map.unwritten (lit< tt) (rw (lies_inside i 4 within)) refl
 passes_load DoubleWord i within = takes (load DoubleWord i) 0 (2 ^ 64 - 1) map.unwritten (lit< tt) (rw (lies_inside i 8 within)) refl
 
--- numbers by their halves
+-- numbers, by their halves
 
 -- the number of a wide load
 abbrev wide : ℕ → ℕ
@@ -162,7 +162,7 @@ passes_wide_load_1 number fits =
       frame = maps.reflexive map.unwritten;
     })
 
--- register 2 gets a number
+-- register 2 receives a number
 passes_second : (insn : Insn) (number : ℕ) → number ≤ 2 ^ 64 - 1
     → (let held : Held = record nothing { v1 = any_number; v2 = Number (single number) } in
     transfer (before insn) insn ≡ Ok (record { next = knowing held; target = Unreached }))
@@ -192,7 +192,7 @@ before_set_number number = by_size (nat_le number 2147483647)
     by_size true = refl
     by_size false = refl
 
--- an instruction after which exactly this is known
+-- an instruction with exactly this state after it
 exactly : (insn : Insn) (needed : AbstractState) → transfer (before insn) insn ≡ Ok (record { next = needed; target = Unreached })
     → jump_distance insn ≡ None → Passes insn needed
 exactly insn needed is straight = record { after = needed; passes = is; straight = straight; within = reflexive needed }
@@ -274,7 +274,7 @@ subject_passes (subject.InRange range house) sound =
 subject_passes (subject.NameIs name wanted) sound = name_is_passes name wanted sound.0
 subject_passes (subject.Load chunk at) sound = (passes_load chunk at sound, tt)
 
--- the code of a subject needs nothing but the record's pointer
+-- the code of a subject needs only the record's pointer
 pub subject_rests : (s : Subject) → needed_by (subject_code s) answered ≡ resting
 subject_rests (subject.Number column) = refl
 subject_rests (subject.HasNumber column) = refl

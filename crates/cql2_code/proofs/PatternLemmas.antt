@@ -1,4 +1,4 @@
--- What a pattern wants exactly, and how it ends.
+-- The exact bytes of a pattern, and how it ends.
 use Rattle.std.proofs.Common.{◌≡◌, ℕ, suc, ◌+◌, ◌-◌, ◌==◌, ◌<◌, ◌≤◌, Bool, not, true, false, List, [], ◌∷◌, ◌++◌, length, map, take, drop}
 use Rattle.std.proofs.Common.{get_or, slice_get, Option, None, Some, refl, sym, ap, ◌∙◌, subst, arith, take-append-drop}
 use Rattle.std.proofs.lemmas.Bool.{le-leb, lt-leb}
@@ -11,14 +11,14 @@ use Rattle.cql2_code.specs.Lowering.{is_wanted, offset_of, width_of}
 use Rattle.cql2_code.specs.Question.{Decided, Joined, Question}
 use Rattle.cql2_code.proofs.LikeLemmas.{Spells, spells}
 
--- a byte is wanted, and more
+-- one wanted byte, and more
 pub is_each_wanted-more : (at : ℕ) (pattern : List PatternByte) (wanted : PatternByte) (rest : List PatternByte)
     → pattern ≡ wanted ∷ rest → 0 < length rest
     → is_each_wanted at pattern ≡ Joined true (is_wanted at wanted) (is_each_wanted (at + 1) rest)
 is_each_wanted-more at pattern wanted [] is some = absurd (omega arith)
 is_each_wanted-more at pattern wanted (next ∷ rest) is some = ap (is_each_wanted at) is
 
--- the last byte that is wanted, if there is one, is no blank
+-- the last wanted byte, if there is one, is not a blank
 abbrev pub is_last_filled : Option PatternByte → Bool
 is_last_filled None = false
 is_last_filled (Some wanted) = is_filled wanted
@@ -41,12 +41,12 @@ ends_filled-last_byte (byte ∷ next ∷ bytes) =
     let place : suc (length (next ∷ bytes) - 1) ≡ length (byte ∷ next ∷ bytes) - 1 = omega arith in
     ends_filled-last_byte (next ∷ bytes) ∙ ap (λ (n : ℕ). is_last_byte_filled (slice_get (byte ∷ next ∷ bytes) n)) place
 
--- exact bytes are found
+-- the exact bytes of a pattern made of exact bytes
 pub exact_bytes-exactly : (bytes : List ℕ) → exact_bytes (map Exactly bytes) ≡ Some bytes
 exact_bytes-exactly [] = refl
 exact_bytes-exactly (byte ∷ bytes) = rw (exact_bytes-exactly bytes) refl
 
--- after exact bytes, none are found if none are found of the rest
+-- a pattern has no exact bytes if its rest after some exact bytes has none
 exact_bytes-none : (front : List ℕ) (rest : List PatternByte) → exact_bytes rest ≡ None → exact_bytes (map Exactly front ++ rest) ≡ None
 exact_bytes-none [] rest none = none
 exact_bytes-none (byte ∷ front) rest none = rw (exact_bytes-none front rest none) refl
@@ -66,7 +66,7 @@ exact_bytes-other pattern bytes at within front other =
     let none = not_exact (get_or pattern at (Exactly 0)) (drop (at + 1) pattern) other in
     ap exact_bytes parts ∙ exact_bytes-none bytes (get_or pattern at (Exactly 0) ∷ drop (at + 1) pattern) none
 
--- a pattern of which exact bytes are found wants these
+-- a pattern with exact bytes wants exactly these
 pub spelled : (pattern : List PatternByte) (bytes : List ℕ) → exact_bytes pattern ≡ Some bytes → pattern ≡ map Exactly bytes
 spelled pattern bytes found = subst (λ (some : Option (List ℕ)). Spells some pattern) found (spells pattern)
 
@@ -75,7 +75,7 @@ pub is_like-long : (column : TextColumn) (pattern : List PatternByte) (is_open :
     → is_like column pattern is_open ≡ Decided false
 is_like-long column pattern is_open long = rw (lt-leb (length pattern) (width_of column) long) refl
 
--- one that isn't
+-- a pattern that isn't
 abbrev pub with_ends : TextColumn → List PatternByte → Bool → Question → Question
 with_ends column pattern is_open first = both first (ends_so is_open (ends_filled pattern) column (length pattern))
 

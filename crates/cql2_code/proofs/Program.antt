@@ -10,7 +10,7 @@ use Rattle.cql2_code.specs.Question.{Question}
 use Rattle.cql2_code.proofs.Runs.{Stands}
 use Rattle.cql2_code.proofs.Steps.{Begins, HasAt, has_back, has_front}
 
--- the instructions after others are at the place after them
+-- instructions after others are at the place after those
 has_rest : (before rest : List Insn) → HasAt (before ++ rest) (word_count before) rest
 has_rest before [] = tt
 has_rest before (insn ∷ rest) =
@@ -31,7 +31,7 @@ chosen_begins code place None has = ap is_some has.0
 chosen_begins code place (Some (column.Number field)) has = ap is_some has.0
 chosen_begins code place (Some (column.Coordinate end)) has = ap is_some has.0
 
--- the code of a program's question, and its ways out
+-- the code of a program's question, and its exits
 module _ (score : Option NumericColumn) (question : Question) where
   abbrev pub code_of : List Insn
   code_of = program score question

@@ -1,4 +1,4 @@
--- What is known before each instruction of a filter's program is proper.
+-- The state before each instruction of a filter's program is proper.
 use Rattle.std.proofs.Common.{ℕ, zero, suc, ◌+◌, ◌-◌, ◌*◌, ◌/◌, ◌^◌, ◌<◌, ◌≤◌, ℤ, pos, List, [], ◌∷◌, get_or, Option, Some, None, refl}
 use Rattle.std.proofs.Common.{arith, lit≤, lit<}
 use Rattle.std.specs.Prelude.{FitsSigned, unsigned_abs}
@@ -34,7 +34,7 @@ frame_at_proper at within = at_proper (pos at) (record { sfits = omega arith })
 up_to_proper : (most : ℕ) → most < 2 ^ 64 → kind.IsProper (up_to most)
 up_to_proper most fits = record { ordered = omega arith; fits = fits }
 
--- what is known of registers 0 to 3 is proper, one by one
+-- the states of registers 0 to 3 are proper, one by one
 record AreProper (held : Held) : Type 0 where
   v0 : kind.IsProper held.v0
   v1 : kind.IsProper held.v1
@@ -102,7 +102,7 @@ named_proper words few =
     knowing_proper (record { v0 = Nothing; v1 = any_number; v2 = frame_at 480; v3 = Number (single 30); frame = stored words })
     (record { v0 = tt; v1 = any_proper; v2 = frame_at_proper 480 (lit≤ tt); v3 = thirty }) (stored_proper words few)
 
--- states of a list, and the one past its end
+-- the states in a list, and the one past its end
 abbrev AllProper : List AbstractState → Type 0
 AllProper [] = Unit {0}
 AllProper (x ∷ xs) = IsProper x × AllProper xs

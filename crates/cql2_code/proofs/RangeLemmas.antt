@@ -38,7 +38,7 @@ module _ (segment : Contents) (is : IsSegment segment) where
       let few = is.few_ranges in
       compared Greater (pos (length (ranges_of segment))) (pos at) (small_fits _ (omega arith)) (small_fits at (omega arith))
 
-  -- it lies on one from a number on
+  -- it lies on a range with this index or a later one
   lies_found : (house at more : ℕ) → at + more ≤ 2 ^ 62
       → answer (lies_from house at more) segment ≡ list_any (has_number house) (take more (drop at (ranges_of segment)))
   unfolding lies_from
@@ -58,7 +58,7 @@ module _ (segment : Contents) (is : IsSegment segment) where
   lies_on_some house count few small =
       lies_found house 0 count (omega arith) ∙ ap (list_any (has_number house)) (take_all count (ranges_of segment) few)
 
-  -- a house number, asked for either truth
+  -- a house number, asked for either truth value
   pub has_number_rightly : (house : ℕ) (asked : Bool)
       → answer (asks_has_number house asked) segment ≡ is_truth (Some (list_any (has_number house) (ranges_of segment))) asked
   has_number_rightly house asked =

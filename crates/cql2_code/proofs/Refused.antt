@@ -1,4 +1,4 @@
--- Codes that are refused, since they are too long.
+-- Codes that are refused for being too long.
 use Rattle.std.proofs.Common.{◌≡◌, Some, Bool, true, false, ◌||◌, List, ◌++◌, refl, sym, ap, ◌∙◌, subst, append_assoc, arith, if◌then◌else◌}
 use Rattle.std.proofs.lemmas.List.Folds.{list_any-append}
 use Rattle.std.proofs.lemmas.Result.{MatchResult-weaker}
@@ -15,13 +15,13 @@ use Rattle.cql2_code.specs.declared.fault.CompileFault.{CompileFault}
 use Rattle.cql2_code.specs.declared.fault.CompileFault.TheVariants.{TooLong}
 use Rattle.cql2_code.specs.declared.question.Exits.{Exits}
 
--- a code that ends with one that is too long is too long itself
+-- a code is too long if it ends with one that is too long
 pub longer : (front : List Insn) {code : List Insn} → IsTooLong code → IsTooLong (front ++ code)
 longer front {code} (has_many_words many) = has_many_words (let sum = word_count-append front code in omega arith)
 longer front {code} (has_far_jump far) =
     has_far_jump (list_any-append is_far_jump front code ∙ ap (λ (b : Bool). list_any is_far_jump front || b) far ∙ or-true _)
 
--- a question's code is refused if that of another one is, which would be the same
+-- a question's code is refused if the identical code of another question is
 pub refuses_as : {question other : Question} {exits others : Exits} {old olds : List Insn} {fault : CompileFault}
     → ((new : List Insn) → Writes question exits old new → Writes other others olds new) → Refuses question exits old fault
     → Refuses other others olds fault
@@ -32,13 +32,13 @@ pub puts_as : {T : Type 0} {question other : Question} {exits others : Exits} {o
     → Puts result other others olds new
 puts_as result new same puts = MatchResult-weaker result puts (λ _ written. same new written) (λ fault refused. refuses_as same refused)
 
--- a call is refused as one that it made was
+-- a call is refused if a call that it makes is
 pub puts_refused : {T : Type 0} {question : Question} {exits : Exits} {old : List Insn} {fault : CompileFault} (result : Result T CompileFault)
     (new : List Insn) → IsErrAnd result (λ same. same ≡ fault) → Refuses question exits old fault → Puts result question exits old new
 puts_refused {T} {question} {exits} {old} (Err same) new is refused = subst (Refuses question exits old) (sym is) refused
 puts_refused (Ok none) new is refused = absurd is
 
--- a call answers the fault of one that it made
+-- a call returns the fault of a call that it makes
 pub refused_by : {T : Type 0} {code : List Insn} {fault : CompileFault} (result : Result T CompileFault)
     → IsErrAnd result (λ same. same ≡ fault) → MayBeRefused code fault → IfErr result (λ fault. fault ≡ TooLong → IsTooLong code)
 refused_by (Err same) is refused = λ too_long. refused.too_long (sym is ∙ too_long)
@@ -62,7 +62,7 @@ pub second_refused_if : {second : Question} {exits : Exits} {old : List Insn} {f
 second_refused_if neutral first true refused = second_refused refused
 second_refused_if neutral first false refused = refused
 
--- what is asked after a pattern's bytes is refused
+-- the code after a pattern's bytes is refused
 pub puts_before_refused : {second : Question} {exits : Exits} {old : List Insn} {fault : CompileFault} (result : Result Exits CompileFault)
     (new : List Insn) → IsErrAnd result (λ same. same ≡ fault) → Refuses second exits old fault → PutsBefore result (Some second) exits old new
 puts_before_refused {second} {exits} {old} (Err same) new is refused =

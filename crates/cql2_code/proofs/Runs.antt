@@ -1,4 +1,4 @@
--- Runs of a question's code: they reach the way out that belongs to the answer.
+-- Runs of a question's code: they reach the exit that belongs to the answer.
 use Rattle.std.proofs.Common.{◌≡◌, ℕ, ◌+◌, pos, Bool, true, false, not, is_some, List, [], ◌∷◌, if◌then◌else◌, refl, sym, ap, ◌∙◌, subst}
 use Rattle.std.proofs.Common.{arith}
 use Rattle.std.specs.Prelude.{FitsSigned}
@@ -25,7 +25,7 @@ use Rattle.cql2_code.proofs.Steps.{with_0, with_1, Begins, Reaches, Does, JumpsA
 use Rattle.cql2_code.proofs.Steps.{jumps_by_immediate, jumps_by_register, loads_wide_1, running, state, stays, steps_on}
 use Rattle.cql2_code.proofs.Subjects.{Takes, takes}
 
--- a run that reaches a place, whatever registers and frame hold there
+-- a run that reaches a place, whatever the registers and the frame hold there
 pub record Arrives (on : Setting) (from : Configuration) (place : ℕ) : Type 0 where
   pub scratch : Scratch
   pub reaches : Reaches on from (running on scratch place)
@@ -46,11 +46,11 @@ arrives_by : (on : Setting) (from scratch : Scratch) (place to : ℕ) → runnin
 arrives_by on from scratch place to is =
     record { scratch = scratch; reaches = steps_on on _ (running on scratch to) _ is (stays on (running on scratch to)) }
 
--- the place that a question's code reaches if it has this answer
+-- the exit that a question's code takes for this answer
 abbrev pub way_out : Bool → Bool → ℕ → ℕ → ℕ
 way_out falls answer end beyond = if beq answer falls then end else end + beyond
 
--- the condition of a test's jump, by which answer falls through
+-- the condition of a test's jump, given the answer that falls through
 taken_to : (comparison : Comparison) (falls : Bool) (x y end beyond : ℕ)
     → (if is_met (condition_of (if falls then opposite comparison else comparison)) Bits64 x y then end + beyond else end)
     ≡ way_out falls (is_met (condition_of comparison) Bits64 x y) end beyond
@@ -67,11 +67,11 @@ taken_to comparison false x y end beyond = by_answer (is_met (condition_of compa
     by_answer true = refl
     by_answer false = refl
 
--- a code at a place, with two ways out where instructions begin
+-- a code at a place, with two exits where instructions begin
 abbrev pub Stands : List Insn → ℕ → List Insn → ℕ → Type 0
 Stands code place insns beyond = Placed (Begins code) code place insns beyond
 
--- registers and frame once the number that a test looks at is in register 0
+-- the registers and the frame once register 0 holds the number that a test looks at
 abbrev taken : Setting → Test → Scratch → Scratch
 taken on test from = with_0 from (number_in test.subject on.segment)
 
@@ -80,7 +80,7 @@ abbrev is_taken : Setting → Test → Bool → Bool
 is_taken on test falls =
     is_met (condition_of (jumping test falls)) Bits64 (number_in test.subject on.segment) (immediate_operand test.operand)
 
--- the place that it reaches, by the place after it
+-- the place that the jump reaches, given the place after it
 abbrev jumped : Setting → Test → Bool → ℕ → ℕ → ℕ
 jumped on test falls beyond end = if is_taken on test falls then end + beyond else end
 
@@ -121,7 +121,7 @@ wide_compares on from test falls beyond place fits stands =
     loads = subst (λ (n : ℕ). Does on (wide_load w1 operand) (taken on test from) (with_1 (taken on test from) n))
         (wide_is operand (operand_fits test.operand fits)) (loads_wide_1 on (taken on test from) _ _)
 
--- instructions at a place reach the place that a test's jump reaches
+-- the instructions at a place lead to the place that a test's jump reaches
 abbrev Compares : Setting → Scratch → Test → Bool → ℕ → ℕ → List Insn → Type 0
 Compares on from test falls beyond place insns =
     Stands on.code place insns beyond
@@ -167,7 +167,7 @@ test_leads on test falls beyond place sound segment stands scratch =
     first : Takes on test.subject scratch
     first = takes on test.subject scratch sound.subject segment
 
--- a question that is decided: nothing, or a jump
+-- a decided question: no instruction, or a jump
 decided_leads : (on : Setting) (found falls : Bool) (beyond place : ℕ)
     → Stands on.code place (question_code (Decided found) falls beyond) beyond
     → Leads on place (way_out falls found (place + word_count (question_code (Decided found) falls beyond)) beyond)
@@ -183,7 +183,7 @@ decided_leads on found falls beyond place stands = by_test (beq found falls) sta
         subst (Arrives on (running on scratch place)) e (record { scratch = scratch; reaches = stays on (running on scratch place) })
     by_test false stands scratch = arrives_by on scratch scratch place _ (jumps on scratch place beyond stands.has.0 stands.target)
 
--- the first question decides, or the second one
+-- the first question decides, or the second one does
 decides : (on : Setting) (joint : Joint) (falls neutral a b : Bool)
     → Leads on joint.start (way_out neutral a joint.middle (first_beyond falls neutral joint.words joint.beyond))
     → Leads on joint.middle (way_out falls b joint.end joint.beyond)
@@ -203,7 +203,7 @@ exchanged true false end beyond = refl
 exchanged false true end beyond = refl
 exchanged false false end beyond = refl
 
--- from the first instruction of a question's code a run reaches the way out of its answer
+-- from the first instruction of a question's code, a run reaches the exit for its answer
 pub question_leads : (on : Setting) (question : Question) (falls : Bool) (beyond place : ℕ) → IsSound question → IsSegment on.segment
     → Stands on.code place (question_code question falls beyond) beyond
     → Leads on place (way_out falls (answer question on.segment) (place + word_count (question_code question falls beyond)) beyond)

@@ -1,4 +1,4 @@
--- Each test of a filter's questions is sound: its numbers are of their types, and it reads bytes of the record.
+-- Each test in a filter's questions is sound: its numbers are within their types, and it reads bytes of the record.
 use Rattle.std.proofs.Common.{◌≡◌, ℕ, zero, suc, ◌+◌, ◌-◌, ◌<◌, ◌≤◌, ◌^◌, ◌==◌, ℤ, pos, nat_le, Bool, true, false, List, [], ◌∷◌}
 use Rattle.std.proofs.Common.{◌++◌, length, map, replicate, slice_index, Option, Some, None, if◌then◌else◌, refl, sym, ap, ◌∙◌, arith}
 use Rattle.std.proofs.Common.{rules}
@@ -120,7 +120,7 @@ wanted_sound_by at pattern (Some bytes) exact spelled fits =
 wanted_sound : (at : ℕ) (pattern : List PatternByte) → Fits at pattern → IsSound (are_wanted at pattern)
 wanted_sound at pattern fits = wanted_sound_by at pattern (exact_bytes pattern) refl (spells pattern) fits
 
--- what is left of a column after some bytes
+-- the rest of a column after some bytes
 rest_sound : (column : TextColumn) (count : ℕ) → count ≤ width_of column
     → IsSound (is_blank (offset_of column + count) (width_of column - count))
 rest_sound column count few =

@@ -1,4 +1,4 @@
--- Instructions of a filter's program, one by one: what a run does at each of them.
+-- What a run of a filter's program does at each instruction.
 use Rattle.std.proofs.Common.{◌≡◌, ℕ, ◌+◌, ℤ, pos, Bool, true, false, is_some, List, [], ◌∷◌, ◌++◌, length, Option, Some, Ok, Err}
 use Rattle.std.proofs.Common.{if◌then◌else◌, refl, sym, ap, ◌∙◌, subst, arith}
 use Rattle.std.specs.Prelude.{nat_lt}
@@ -28,7 +28,7 @@ use Rattle.bpf_meaning.specs.declared.state.State.{State}
 use Rattle.tl_segments.specs.Segment.{Contents}
 use Rattle.cql2_code.specs.Layout.{copy, jump, move, r0, r1, r10, w0, w1, w2, w3}
 
--- instructions are at a place, one after the other
+-- these instructions follow one another from a place
 abbrev pub HasAt : List Insn → ℕ → List Insn → Type 0
 HasAt code place [] = Unit {0}
 HasAt code place (insn ∷ rest) = (instruction_at code place ≡ Some insn) × HasAt code (place + length (spelling insn)) rest
@@ -37,7 +37,7 @@ HasAt code place (insn ∷ rest) = (instruction_at code place ≡ Some insn) × 
 abbrev pub Begins : List Insn → ℕ → Type 0
 Begins code place = is_some (instruction_at code place) ≡ true
 
--- a code that runs on a segment, and the score so far
+-- a code that runs on a segment, with the score so far
 pub record Setting : Type 0 where
   pub code : List Insn
   pub segment : Contents
@@ -54,7 +54,7 @@ pub record Scratch : Type 0 where
   pub frame : FrameContents
   pub whole : length frame.bytes ≡ FRAME_LENGTH
 
--- the same with a number in one of the registers
+-- the same, with a number in one of the registers
 abbrev pub with_0 : Scratch → ℕ → Scratch
 with_0 scratch number = record scratch { v0 = value.Number number }
 
@@ -67,14 +67,14 @@ with_2 scratch number = record scratch { v2 = value.Number number }
 abbrev pub with_3 : Scratch → ℕ → Scratch
 with_3 scratch number = record scratch { v3 = value.Number number }
 
--- a pointer to the record's first byte, and one past the frame's last
+-- pointers to the record's first byte and past the frame's last byte
 abbrev pub to_record : Value
 to_record = value.Pointer (record { area = area.Record; offset = pos 0 })
 
 abbrev pub to_frame : Value
 to_frame = value.Pointer (record { area = area.Frame; offset = pos FRAME_LENGTH })
 
--- the state at a place, where register 6 points to the record
+-- the state at a place, with the record's pointer in register 6
 abbrev pub state : Setting → Scratch → ℕ → State
 state on scratch place = record {
   place = place;
@@ -87,7 +87,7 @@ state on scratch place = record {
 abbrev pub running : Setting → Scratch → ℕ → Configuration
 running on scratch place = Running (state on scratch place)
 
--- some run from a configuration reaches another
+-- some run from one configuration reaches another
 pub record Reaches (on : Setting) (from to : Configuration) : Type 0 where
   pub run : List Configuration
   pub follows : FollowSteps on.code on.segment from run
@@ -96,7 +96,7 @@ pub record Reaches (on : Setting) (from to : Configuration) : Type 0 where
 pub stays : (on : Setting) (from : Configuration) → Reaches on from from
 stays on from = record { run = []; follows = tt; ends = refl }
 
--- a step, and then a run
+-- a step, followed by a run
 pub steps_on : (on : Setting) (state : State) (next to : Configuration) → next ≡ after on.code on.segment state → Reaches on next to
     → Reaches on (Running state) to
 steps_on on state next to is reaches = record { run = next ∷ reaches.run; follows = (is, reaches.follows); ends = reaches.ends }
@@ -119,7 +119,7 @@ and_on on from middle to a b = record {
   ends = last-append from middle a.run b.run a.ends ∙ b.ends;
 }
 
--- the first of instructions at a place are there, and the others are after them
+-- a prefix of the instructions at a place is there, and the others follow it
 
 pub has_front : (code : List Insn) (place : ℕ) (a b : List Insn) → HasAt code place (a ++ b) → HasAt code place a
 has_front code place [] b has = tt
@@ -132,20 +132,20 @@ has_back code place (insn ∷ a) b has =
     let e : place + length (spelling insn) + word_count a ≡ place + word_count (insn ∷ a) = omega arith in
     subst (λ (p : ℕ). HasAt code p b) e (has_back code (place + length (spelling insn)) a b has.1)
 
--- an instruction begins at the place of instructions, or of what follows them if there are none
+-- an instruction begins at the place after these instructions, or after none of them
 pub begins_at : (code : List Insn) (place : ℕ) (insns : List Insn) → HasAt code place insns → Begins code (place + word_count insns)
     → Begins code place
 begins_at code place [] has end = let e : place + 0 ≡ place = omega arith in subst (Begins code) e end
 begins_at code place (insn ∷ rest) has end = ap is_some has.0
 
--- what comes next, by the instruction at the place
+-- the next configuration, by the instruction at the place
 pub after_at : (on : Setting) (from : State) (insn : Insn) → instruction_at on.code from.place ≡ Some insn
     → after on.code on.segment from
     ≡ next_of on.segment from (instruction_effect on.code on.segment from (from.place + length (spelling insn)) insn)
 unfolding after
 after_at on from insn at = ap (λ (found : Option Insn). next_of on.segment from (effect_of on.code on.segment from found)) at
 
--- going on to a place where an instruction begins
+-- continuing at a place where an instruction begins
 pub goes : (on : Setting) (from : State) (place : ℕ) (change : Change) → Begins on.code place
     → next_of on.segment from (go_on on.code place change) ≡ Running (record (carry_out on.segment from change) { place = place })
 goes on from place change begins = by_test (is_some (instruction_at on.code place)) begins
@@ -157,17 +157,17 @@ goes on from place change begins = by_test (is_some (instruction_at on.code plac
     by_test true is = refl
     by_test false is = absurd (false≢true is)
 
--- an instruction goes on to the next one, with other registers or another frame
+-- an instruction continues with the next one, with other registers or another frame
 pub record Does (on : Setting) (insn : Insn) (from to : Scratch) : Type 0 where
   pub step : (place : ℕ) → instruction_at on.code place ≡ Some insn → Begins on.code (place + length (spelling insn))
       → running on to (place + length (spelling insn)) ≡ after on.code on.segment (state on from place)
 
--- instructions go on, one after the other, to what follows them
+-- instructions run one after the other, to the place after them
 pub record Runs (on : Setting) (insns : List Insn) (from to : Scratch) : Type 0 where
   pub reaches : (place : ℕ) → HasAt on.code place insns → Begins on.code (place + word_count insns)
       → Reaches on (running on from place) (running on to (place + word_count insns))
 
--- no instruction, and one before others
+-- no instruction, and an instruction before others
 pub no_more : {on : Setting} {scratch : Scratch} → Runs on [] scratch scratch
 no_more {on} {scratch} = record {
   reaches = λ place has end.
@@ -218,7 +218,7 @@ changes on insn change from to effect made = record {
       ∙ goes on (state on from place) next change begins ∙ ap (λ (s : State). Running s) (made place next));
 }
 
--- numbers that are moved or loaded into registers
+-- moves and loads of numbers into registers
 
 pub moves_0 : (on : Setting) (from : Scratch) (number : ℕ) → Does on (move w0 (pos number)) from (with_0 from number)
 moves_0 on from number =
@@ -246,7 +246,7 @@ loads_wide_2 on from low high =
     changes on (WideLoad w2 low high) (SetRegister w2 (value.Number (wide_number low high))) from (with_2 from (wide_number low high))
     (λ place. refl) (λ place next. refl)
 
--- registers that are copied
+-- copies of registers
 
 pub copies_0_to_1 : (on : Setting) (from : Scratch) (number : ℕ)
     → Does on (copy w1 r0) (with_0 from number) (with_1 (with_0 from number) number)
@@ -260,13 +260,13 @@ copies_10_to_2 on from =
 
 -- jumps
 
--- one that is always taken
+-- a jump that is always taken
 pub jumps : (on : Setting) (scratch : Scratch) (place beyond : ℕ) → instruction_at on.code place ≡ Some (jump (pos beyond))
     → Begins on.code (place + 1 + beyond) → running on scratch (place + 1 + beyond) ≡ after on.code on.segment (state on scratch place)
 jumps on scratch place beyond at target =
     sym (after_at on (state on scratch place) (jump (pos beyond)) at ∙ goes on (state on scratch place) (place + 1 + beyond) Nothing target)
 
--- one that may be taken
+-- a jump that may be taken
 branches : (on : Setting) (scratch : Scratch) (place beyond : ℕ) (taken : Bool) → Begins on.code (place + 1)
     → Begins on.code (place + 1 + beyond)
     → next_of on.segment (state on scratch place)
@@ -278,7 +278,7 @@ branches on scratch place beyond false next target = goes on (state on scratch p
 abbrev pub conditional_jump : Condition → Source → ℕ → Insn
 conditional_jump condition source beyond = JumpIf condition Bits64 r0 source (pos beyond)
 
--- a conditional jump at a place, with ways on
+-- a conditional jump at a place, with two targets
 pub record JumpsAt (on : Setting) (place : ℕ) (condition : Condition) (source : Source) (beyond : ℕ) : Type 0 where
   pub at : instruction_at on.code place ≡ Some (conditional_jump condition source beyond)
   pub next : Begins on.code (place + 1)

@@ -30,7 +30,7 @@ use Rattle.cql2_code.proofs.Calls.{answered, any_allowed}
 use Rattle.cql2_code.proofs.Operands.{word_bytes}
 use Rattle.cql2_code.proofs.Steps.{Does, Runs, Scratch, Setting, changes, no_more, goes_on, state, to_frame}
 
--- the frame with a word stored
+-- the frame after a word is stored
 
 pub stored_whole : (memory : List FrameByte) (at number : ℕ) → at + 4 ≤ length memory → length (store memory at 4 number) ≡ length memory
 stored_whole memory at number within =
@@ -54,7 +54,7 @@ stores on from offset at number is within =
     (stored from at (immediate_operand number) within)
     (λ place. rw (is, lies)) (λ place next. refl)
 
--- memory with bytes of a name at the name's offset
+-- memory that holds bytes of a name at the name's offset
 pub record Holds (memory : List FrameByte) (bytes : List ℕ) : Type 0 where
   pub front : List FrameByte
   pub rest : List FrameByte
@@ -69,7 +69,7 @@ holds_none memory whole = record {
   is = sym (take-append-drop 480 memory) ∙ ap (λ (l : List FrameByte). l ++ drop 480 memory) (sym (append-nil (take 480 memory)));
 }
 
--- four more are stored
+-- four more bytes are stored
 holds_more : (memory : List FrameByte) (bytes : List ℕ) (at number : ℕ) → at ≡ 480 + length bytes → Holds memory bytes
     → Holds (store memory at 4 number) (bytes ++ bytes_low_first 0 4 number)
 holds_more memory bytes at number at_is holds = record {
@@ -105,7 +105,7 @@ name_read memory bytes long holds =
     ∙ ap (λ (l : List FrameByte). take 30 l) (drop_at holds.front (map Byte bytes ++ holds.rest) 480 holds.front_is)
     ∙ take-append-le 30 (map Byte bytes) holds.rest (let name = length-map bytes Byte in omega arith) ∙ take-map Byte 30 bytes
 
--- parts of bytes are bytes
+-- parts of a list of bytes are bytes
 
 bytes_of_drop : (count : ℕ) (bytes : List ℕ) → ((i : ℕ) → slice_index bytes i < 2 ^ 8) → (i : ℕ) → slice_index (drop count bytes) i < 2 ^ 8
 bytes_of_drop zero bytes fits i = fits i
@@ -118,7 +118,7 @@ bytes_of_take (suc count) [] fits i = fits i
 bytes_of_take (suc count) (byte ∷ bytes) fits zero = fits 0
 bytes_of_take (suc count) (byte ∷ bytes) fits (suc i) = bytes_of_take count bytes (λ j. fits (suc j)) i
 
--- the number of a word of a name, as it is stored
+-- the number that stores a word of a name
 abbrev word_number : ℕ → List ℕ → ℕ
 word_number word wanted = immediate_operand (cast_signed w32 (bytes_value (take 4 (drop (4 * word) wanted))))
 
@@ -131,14 +131,14 @@ word_is wanted word sound small =
     let all = sound.length in
     word_bytes (take 4 part) (omega arith) (bytes_of_take 4 part (bytes_of_drop (4 * word) wanted sound.bytes))
 
--- stores after which the frame has a name; nothing else changes
+-- stores that put a name into the frame and change nothing else
 pub record Stores (on : Setting) (insns : List Insn) (from : Scratch) (wanted : List ℕ) : Type 0 where
   pub frame : FrameContents
   pub whole : length frame.bytes ≡ FRAME_LENGTH
   pub holds : Holds frame.bytes (take 32 wanted)
   pub runs : Runs on insns from (record from { frame = frame; whole = whole })
 
--- a word of it, and then those after it
+-- a word of the name, and then the later ones
 stores_word : (on : Setting) (from : Scratch) (wanted : List ℕ) (word : ℕ) (rest : List Insn) → AreBytes 32 wanted
     → (word < 8) × (pos FRAME_LENGTH +ℤ negsuc (31 - 4 * word) ≡ pos (480 + 4 * word)) × Holds from.frame.bytes (take (4 * word) wanted)
     → ((next : Scratch) → Holds next.frame.bytes (take (4 * word + 4) wanted) → Stores on rest next wanted)
@@ -202,7 +202,7 @@ to_name = value.Pointer (record { area = area.Frame; offset = pos 480 })
 abbrev pub name_arguments : Scratch → ℕ → Scratch
 name_arguments from name = record from { v1 = value.Number name; v2 = to_name; v3 = value.Number 30 }
 
--- whether a segment's name of this number equals bytes
+-- whether the segment's name with this index equals the bytes
 abbrev pub equals : Setting → ℕ → List ℕ → ℕ
 equals on name bytes = truth (is_name bytes (slice_get (names_of on.segment) name))
 

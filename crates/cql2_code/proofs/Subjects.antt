@@ -17,12 +17,12 @@ use Rattle.cql2_code.proofs.Steps.{with_0, with_1, with_2, Does, Runs, Scratch, 
 use Rattle.cql2_code.proofs.Steps.{moves_3, and_then, no_more, goes_on}
 use Rattle.cql2_code.proofs.Stores.{Holds, Stores, calls_name_is, moves_to_name, name_arguments, name_read, name_stored, to_name}
 
--- a subject's code leaves its number in register 0, whatever the others hold
+-- a subject's code leaves its number in register 0, whatever the other registers hold
 pub record Takes (on : Setting) (subject : Subject) (from : Scratch) : Type 0 where
   pub to : Scratch
   pub runs : Runs on (subject_code subject) from (with_0 to (number_in subject on.segment))
 
--- a number into register 2, by its size
+-- a number is put into register 2, by its size
 sets_2 : (on : Setting) (from : Scratch) (number : ℕ) → number < 2 ^ 64 → Does on (set_number w2 number) from (with_2 from number)
 sets_2 on from number fits = by_size (nat_le number 2147483647)
   where
@@ -44,7 +44,7 @@ takes_in_range on range house from sound =
           (goes_on (calls_in_range on from range house (omega arith) sound.1) no_more));
     }
 
--- a name, which is stored in the frame, and what it is compared with
+-- a name that is stored in the frame and compared
 takes_name_is : (on : Setting) (name : ℕ) (wanted : List ℕ) (from : Scratch) → IsSoundSubject (NameIs name wanted)
     → Takes on (NameIs name wanted) from
 takes_name_is on name wanted from sound = record {
@@ -72,7 +72,7 @@ takes_name_is on name wanted from sound = record {
     call_7 : Does on (call 7) (name_arguments with_name name) (answered with_name (number_in (NameIs name wanted) on.segment) 480)
     call_7 = calls_name_is on with_name name (take 30 wanted) (let fits = sound.0 in omega arith) reads
 
--- every sound subject's code does
+-- every sound subject's code does this
 pub takes : (on : Setting) (subject : Subject) (from : Scratch) → IsSoundSubject subject → IsSegment on.segment → Takes on subject from
 takes on (Number column) from sound segment = record {
   to = answered from 0 0;

@@ -1,4 +1,4 @@
--- The questions about a text column and a text have the answers that a comparison gives.
+-- The questions about a text column and a text have the answers of a comparison.
 use Rattle.std.proofs.Common.{◌≡◌, ℕ, zero, suc, ◌+◌, ◌<◌, ◌≤◌, ◌==◌, nat_le, nat_lt, Bool, true, false, not, ◌&&◌, ◌||◌, List, [], ◌∷◌}
 use Rattle.std.proofs.Common.{length, map, get_or, take, drop, option_map, if◌then◌else◌, refl, sym, ap, ◌∙◌, arith}
 use Rattle.std.specs.Bool.{beq}
@@ -26,7 +26,7 @@ use Rattle.cql2_code.proofs.JoinLemmas.{both_answers, either_answers, is_it, isn
 use Rattle.cql2_code.proofs.LikeLemmas.{like_found}
 use Rattle.cql2_code.proofs.TrimLemmas.{trimmed, trimmed_blank}
 
--- Texts that may be in a filter
+-- Texts that a filter can hold
 
 -- no byte is below a blank, and the last one is above it
 abbrev pub IsFine : List ℕ → Type 0
@@ -118,7 +118,7 @@ less_trimmed (first ∷ field) (byte ∷ text) fine =
     by_blank true is rest = blank_less (first ∷ field) byte text is fine
     by_blank false is rest = ap (λ (less : Bool). nat_lt first byte || first == byte && less) rest
 
--- a text is less than the one in a field, by their first bytes
+-- a text is less than the text in a field, by their first bytes
 greater_more : (first : ℕ) (field : List ℕ) (byte : ℕ) (text : List ℕ) → 32 ≤ byte
     → (nat_lt byte first || first == byte && is_text_less text (trimmed field)) ≡ is_text_less (byte ∷ text) (trimmed (first ∷ field))
 greater_more first field byte text least = by_blank (are_blank (first ∷ field)) refl
@@ -163,7 +163,7 @@ module _ (segment : Contents) (is : IsSegment segment) where
       ∙ greater_more (get_or segment.bytes at 0) (take left (drop (at + 1) segment.bytes)) byte text (fine_first byte text fine)
       ∙ sym (ap (λ (field : List ℕ). is_text_less (byte ∷ text) (trimmed field)) (first_of segment is at left (omega arith)))
 
--- Equality is likeness
+-- Equality is LIKE without wildcards
 
 like_same : (text wanted : List ℕ) → is_text_like (map Exactly wanted) false text ≡ is_same text wanted
 like_same [] [] = refl
@@ -192,7 +192,7 @@ compares_blank LessOrEqual (byte ∷ text) fails some = fails
 compares_blank Greater (byte ∷ text) fails some = refl
 compares_blank GreaterOrEqual (byte ∷ text) fails some = refl
 
--- a property that nothing has makes sure that the field isn't blank
+-- a property that the empty text lacks implies that the field isn't blank
 unless_blank : (property : List ℕ → Bool) (field : List ℕ) → property [] ≡ false → has_text property field ≡ property (trimmed field)
 unless_blank property field fails = by_blank (are_blank field) refl
   where
@@ -258,7 +258,7 @@ module _ (segment : Contents) (is : IsSegment segment) (column : TextColumn) (te
       text_compared (opposite comparison) ∙ ap (λ (holds : Bool). not (are_blank (field_of column segment)) && holds)
       (opposite_compares_text comparison (trimmed (field_of column segment)) text ∙ isnt_it _)
 
-  -- a comparison with a column, asked for either truth
+  -- a comparison with a column, asked for either truth value
   pub compares_text_rightly : (comparison : Comparison) (asked : Bool)
       → answer (compares_text column (if asked then comparison else opposite comparison) text) segment
       ≡ is_truth (option_map (λ found. text_compares comparison found text) (text_value column segment.bytes)) asked

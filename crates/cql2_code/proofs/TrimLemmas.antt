@@ -1,4 +1,4 @@
--- A text without the blanks at its end, by recursion from its first byte.
+-- A text without trailing blanks, by recursion from its first byte.
 use Rattle.std.proofs.Common.{◌≡◌, ℕ, ◌==◌, Bool, true, false, ◌&&◌, List, [], ◌∷◌, ◌++◌, reverse, if◌then◌else◌, refl, sym, ap, ◌∙◌}
 use Rattle.std.proofs.lemmas.List.{reverse-append}
 use Rattle.std.proofs.lemmas.List.Folds.{list_all-append}
@@ -16,9 +16,9 @@ pub trimmed_blank : (field : List ℕ) → is_blank field ≡ true → trimmed f
 trimmed_blank [] blank = refl
 trimmed_blank (byte ∷ field) blank = ap (λ (b : Bool). if b then [] else byte ∷ trimmed field) blank
 
--- The same as the definition says it, which drops the blanks before the reversed bytes.
+-- The same in terms of the definition, which drops the leading blanks of the reversed bytes.
 
--- the bytes without blanks before them, and one more byte at their end
+-- the bytes without leading blanks, with one more byte at the end
 abbrev without_before : List ℕ → ℕ → Bool → List ℕ
 without_before bytes byte blank = if blank then without_blanks_before (byte ∷ []) else without_blanks_before bytes ++ byte ∷ []
 

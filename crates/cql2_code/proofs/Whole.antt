@@ -33,7 +33,7 @@ answers on from n place has =
     steps_on on _ (running on held (place + 1)) _ ((moves_0 on from n).step place has.0 (ap is_some has.1.0))
     (steps_on on _ (Exited n on.score) _ (exits on held n (place + 1) has.1.0) (stays on (Exited n on.score)))
 
--- a number in register 0 is emitted as the score, and the segment is selected
+-- the number in register 0 is emitted as the score, and the segment is selected
 emits : (on : Setting) (from : Scratch) (number place : ℕ) → number < 2 ^ 64
     → HasAt on.code place (copy w1 r0 ∷ call 8 ∷ answer_code 1) → Reaches on (running on (with_0 from number) place) (Exited 1 number)
 emits on from number place fits has =
@@ -44,7 +44,7 @@ emits on from number place fits has =
     (calls_emit on both number (place + 1) fits has.1.0 (ap is_some has.1.1.0))
     (record { run = after.run; follows = after.follows; ends = after.ends }))
 
--- the number of a subject is
+-- so is a subject's number
 emits_subject : (on : Setting) (from : Scratch) (subject : Subject) (place : ℕ) → IsSoundSubject subject → IsSegment on.segment
     → number_in subject on.segment < 2 ^ 64 → HasAt on.code place (subject_code subject ++ (copy w1 r0 ∷ call 8 ∷ answer_code 1))
     → Reaches on (running on from place) (Exited 1 (number_in subject on.segment))
@@ -68,11 +68,11 @@ chooses on from (Some (column.Number field)) place none segment has =
 chooses on from (Some (column.Coordinate end)) place none segment has =
     emits_subject on from (subject.Coordinate end) place tt segment (coordinate_fits on.segment end segment) has
 
--- the end of a program: its answer, and the score if that is yes
+-- the end of a run: its answer, with the score if it is yes
 abbrev ended : Option NumericColumn → Contents → Bool → Configuration
 ended score segment found = Exited (truth found) (if found then score_of score segment else 0)
 
--- registers and frame once the record's pointer is kept
+-- the registers and the frame once the record's pointer is kept
 abbrev at_first : Scratch
 at_first = record {
   v0 = value.Empty;
@@ -85,7 +85,7 @@ at_first = record {
   whole = refl;
 }
 
--- on each segment the program of a question has its answer, and the score if that is yes
+-- on each segment, the program of a question returns its answer, with the score if it is yes
 pub program_answers : (score : Option NumericColumn) (question : Question) → IsSound question → (segment : Contents) → IsSegment segment
     → Answers (program score question) segment (truth (answer question segment))
     (if answer question segment then score_of score segment else 0)

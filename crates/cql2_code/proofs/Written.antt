@@ -1,4 +1,4 @@
--- Code that is written from its end on.
+-- Code that is written back to front.
 use Rattle.std.proofs.Common.{◌≡◌, ℕ, ◌-◌, Bool, true, false, not, if◌then◌else◌, Some, List, ◌++◌, sym, ap, ◌∙◌, arith}
 use Rattle.std.proofs.Common.{append_assoc, subst}
 use Rattle.bpf_insn.proofs.PlaceLemmas.{word_count-append}
@@ -9,7 +9,7 @@ use Rattle.cql2_code.specs.Lowering.{WritesBefore, if_asked}
 use Rattle.cql2_code.specs.Question.{Question, Joined, Opposite}
 use Rattle.cql2_code.specs.declared.question.Exits.{Exits}
 
--- the second of two questions was written, and then the first one with the ways out that it has before the second
+-- the second of two questions was written, and then the first one, with the exits it has before the second
 pub joined : {neutral : Bool} {first second : Question} {exits before : Exits} {old middle new : List Insn} {words : ℕ}
     → words ≡ word_count old → Writes second exits old middle → IsBefore neutral exits before (word_count middle - words)
     → Writes first before middle new → Writes (Joined neutral first second) exits old new
@@ -29,7 +29,7 @@ joined {neutral} {first} {second} {exits} {before} {old} {middle} {new} {words} 
     code : List Insn
     code = question_code second exits.falls exits.beyond
 
--- an opposite is written as its question with the other way out falling through
+-- an opposite is written as its question, with the other exit falling through
 pub opposite_written : {question : Question} {exits other : Exits} {old new : List Insn}
     → other.falls ≡ not exits.falls → other.beyond ≡ exits.beyond → Writes question other old new → Writes (Opposite question) exits old new
 opposite_written {question} {exits} {other} {old} {new} falls beyond written = record {
@@ -42,7 +42,7 @@ pub written_as : {question other : Question} {exits : Exits} {old new : List Ins
     → Writes question exits old new → Writes other exits old new
 written_as {question} {other} {exits} {old} {new} same written = subst (λ (q : Question). Writes q exits old new) same written
 
--- a question that is asked for as it is, or its opposite, is written as it is with the ways out that it then has
+-- a question or its opposite is written as the question, with the exits that follow from it
 pub asked_written : {question : Question} {exits other : Exits} {old new : List Insn} (asked : Bool)
     → other.falls ≡ (if asked then exits.falls else not exits.falls) → other.beyond ≡ exits.beyond
     → Writes question other old new → Writes (if_asked question asked) exits old new

@@ -1,4 +1,4 @@
--- What the program of a filter does: it selects the segments on which the filter is true.
+-- What a filter's program does: it selects the segments on which the filter is true.
 use Rattle.std.specs.Prelude.{ℕ, ◌+◌, List, [], ◌∷◌, ◌++◌, Option, Some, None, if◌then◌else◌}
 use Rattle.bpf_helpers.specs.Meaning as number
 use Rattle.bpf_helpers.specs.Meaning.{coordinate, field_number, or_zero}
@@ -12,18 +12,18 @@ use Rattle.cql2.specs.declared.filter.Filter.{Filter}
 use Rattle.cql2_code.specs.Question.{coordinate_id, field_id}
 use Rattle.tl_segments.specs.Segment.{Contents, IsSegment}
 
--- the score of a segment that is selected: the number of a column, or the two's complement of a coordinate, and 0 if it has none
+-- the score of a selected segment: the number of a column, or a coordinate in two's complement; 0 if there is none
 abbrev pub score_of : Option NumericColumn → Contents → ℕ
 score_of None segment = 0
 score_of (Some (Number column)) segment = or_zero (field_number segment.bytes (field_id column))
 score_of (Some (Coordinate column)) segment = coordinate segment.bytes (coordinate_id column)
 
--- on each segment it answers 1 with the score if the filter is true, and else 0 with the score 0
+-- on each segment, the program answers 1 with the score if the filter is true, and otherwise 0 with score 0
 abbrev pub Chooses : {A : Type 0} → List Insn → Filter A → Option NumericColumn → Type 0
 Chooses code filter score = (segment : Contents) → IsSegment segment
     → Answers code segment (number.truth (selects filter segment)) (if selects filter segment then score_of score segment else 0)
 
--- the rows of the segments for which a filter is true, in order, with their scores, and how many they are
+-- the rows of the segments for which a filter is true, in order, with their scores, and the number of those segments
 abbrev pub rows_of : {A : Type 0} → Filter A → Option NumericColumn → List Contents → List ℕ
 rows_of filter score [] = []
 rows_of filter score (segment ∷ segments) =

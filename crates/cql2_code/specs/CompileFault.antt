@@ -1,4 +1,4 @@
--- The refusal of a filter that isn't compiled: it is placed at the filter's first character.
+-- The refusal of a filter that can't be compiled, placed at the filter's first character.
 use Rattle.std.specs.Prelude.{codes}
 use Rattle.refusals.specs.Refusal.{RefusalParts, at_character, memory, refused}
 use Rattle.cql2_code.specs.declared.fault.CompileFault.{CompileFault}

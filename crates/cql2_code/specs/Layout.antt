@@ -1,5 +1,5 @@
--- How the code of a question is laid out. It has one entry, its first instruction, and two ways out: it falls through its end if the
--- answer is a given one, and else jumps some words past its end. All jumps go forward. Register 6 points to the record throughout.
+-- The layout of a question's code. It has one entry, its first instruction, and two exits: it falls through its end on one given answer, and
+-- jumps some words past its end on the other. All jumps go forward. Register 6 holds the record's pointer throughout.
 use Rattle.std.specs.Prelude.{◌≡◌, ℕ, ◌+◌, ◌-◌, ◌*◌, ◌/◌, ◌%◌, ◌^◌, ◌<◌, ◌&&◌, ℤ, pos, negsuc, Bool, true, false, not, int_le, int_lt, nat_le, List, [], ◌∷◌, ◌++◌, take, drop, Option, Some, None, IsTrue, MatchResult, Result, if◌then◌else◌}
 use Rattle.std.specs.Bool.{beq}
 use Rattle.std.specs.List.{list_any}
@@ -35,7 +35,7 @@ use Rattle.cql2_code.specs.declared.question.Subject.{Subject}
 use Rattle.cql2_code.specs.declared.question.Subject.TheVariants.{Number, HasNumber, Coordinate, Names, Ranges, InRange, NameIs, Load}
 use Rattle.cql2_code.specs.declared.question.Test.{Test}
 
--- registers that the code writes, and reads
+-- the registers that the code writes and reads
 abbrev pub w0 : WritableRegister
 w0 = record { number = 0; in_range = lit≤ tt }
 
@@ -69,15 +69,15 @@ move register number = Alu Move Bits64 register (Immediate number)
 abbrev pub copy : WritableRegister → RegisterParts → Insn
 copy register source = Alu Move Bits64 register (Register source)
 
--- a 64-bit number for a register, as two halves
+-- a load of a 64-bit number into a register, as two halves
 abbrev pub wide_load : WritableRegister → ℕ → Insn
 wide_load register number = WideLoad register (cast_signed w32 (number % 2 ^ 32)) (cast_signed w32 (number / 2 ^ 32))
 
--- whether an immediate holds a number
+-- whether an immediate can hold a number
 abbrev pub is_narrow : ℤ → Bool
 is_narrow number = int_le (negsuc 2147483647) number && int_le number (pos 2147483647)
 
--- a number for a register
+-- an instruction that puts a number into a register
 abbrev pub set_number : WritableRegister → ℕ → Insn
 set_number register number = if nat_le number 2147483647 then move register (pos number) else wide_load register number
 
@@ -85,7 +85,7 @@ set_number register number = if nat_le number 2147483647 then move register (pos
 abbrev pub call : ℕ → Insn
 call helper = Call (pos helper)
 
--- the name that is compared is written into the frame's last 32 bytes, four at once; register 2 points to it
+-- the name to compare is written into the frame's last 32 bytes, four at a time; register 2 points to it
 abbrev pub move_to_name : Insn
 move_to_name = Alu Add Bits64 w2 (Immediate (negsuc 31))
 
@@ -103,11 +103,11 @@ load_format Byte = format.Byte
 load_format Word = format.Word
 load_format DoubleWord = format.DoubleWord
 
--- a chunk of the record, into register 0
+-- a load of a chunk of the record into register 0
 abbrev pub load : Chunk → ℕ → Insn
 load chunk at = insn.Load (load_format chunk) w0 r6 (pos at)
 
--- the number that a test looks at, into register 0
+-- the code that puts the number a test looks at into register 0
 abbrev pub subject_code : Subject → List Insn
 subject_code (Number column) = move w1 (pos (field_id column)) ∷ call 1 ∷ []
 subject_code (HasNumber column) = move w1 (pos (field_id column)) ∷ call 2 ∷ []
@@ -135,24 +135,24 @@ jump_if comparison operand distance = JumpIf (condition_of comparison) Bits64 r0
 abbrev pub jump : ℤ → Insn
 jump distance = Jump (Short distance)
 
--- a comparison of register 0 with a number, which register 1 gets if no immediate holds it
+-- a comparison of register 0 with a number, which is put into register 1 if no immediate holds it
 abbrev pub comparison_code : Comparison → ℤ → ℕ → List Insn
 comparison_code comparison operand distance =
     if is_narrow operand
     then jump_if comparison (Immediate operand) (pos distance) ∷ []
     else wide_load w1 (immediate_operand operand) ∷ jump_if comparison (Register r1) (pos distance) ∷ []
 
--- it jumps if the answer isn't the one that falls through
+-- the code of a test, which jumps unless the answer is the one that falls through
 abbrev pub test_code : Test → Bool → ℕ → List Insn
 test_code test falls beyond =
     subject_code test.subject ++ comparison_code (if falls then opposite test.comparison else test.comparison) test.operand beyond
 
--- how far the first of two questions jumps past its end, by the number of words of the second one
+-- the distance that the first of two questions jumps past its end, by the number of words in the second one
 abbrev pub first_beyond : Bool → Bool → ℕ → ℕ → ℕ
 first_beyond falls neutral words beyond = if beq falls neutral then words + beyond else words
 
--- The first of two questions falls through if the second one is to be asked. If it decides, it jumps: past the second one if that is the
--- answer that falls through, and else where the second one jumps to.
+-- The first of two questions falls through if the second one must be asked. If it decides, it jumps: past the second one if the answer is the one
+-- that falls through, and otherwise to where the second one jumps.
 abbrev pub question_code : Question → Bool → ℕ → List Insn
 question_code (Decided found) falls beyond = if beq found falls then [] else jump (pos beyond) ∷ []
 question_code (Holds test) falls beyond = test_code test falls beyond
@@ -161,13 +161,13 @@ question_code (Joined neutral first second) falls beyond =
     question_code first neutral (first_beyond falls neutral (word_count (question_code second falls beyond)) beyond)
     ++ question_code second falls beyond
 
--- a jump over more words than the 16 bits of its distance can say
+-- a jump too far for the 16 bits of its distance
 abbrev pub is_far_jump : Insn → Bool
 is_far_jump (Jump (Short distance)) = int_lt (pos 32767) distance
 is_far_jump (JumpIf condition width left right distance) = int_lt (pos 32767) distance
 is_far_jump insn = false
 
--- a code is too long for a program: it has more words than a program may have, or such a jump
+-- a code is too long for a program: it has more words than a program can have, or such a jump
 pub data IsTooLong (code : List Insn) : Type 0 where
   has_many_words : WORD_LIMIT < word_count code → IsTooLong code
   has_far_jump : IsTrue (list_any is_far_jump code) → IsTooLong code
@@ -176,7 +176,7 @@ pub data IsTooLong (code : List Insn) : Type 0 where
 pub record MayBeRefused (code : List Insn) (fault : CompileFault) : Type 0 where
   pub too_long : fault ≡ TooLong → IsTooLong code
 
--- a code is written, or refused
+-- a code is written or refused
 abbrev pub IsPut : {T : Type 0} → Result T CompileFault → List Insn → List Insn → Type 0
 IsPut result code new = MatchResult result (λ _. new ≡ code) (MayBeRefused code)
 
@@ -184,7 +184,7 @@ IsPut result code new = MatchResult result (λ _. new ≡ code) (MayBeRefused co
 pub record Writes (question : Question) (exits : Exits) (old new : List Insn) : Type 0 where
   pub code : new ≡ question_code question exits.falls exits.beyond ++ old
 
--- or it may be refused
+-- the code of a question may be refused
 pub record Refuses (question : Question) (exits : Exits) (old : List Insn) (fault : CompileFault) : Type 0 where
   pub too_long : fault ≡ TooLong → IsTooLong (question_code question exits.falls exits.beyond ++ old)
 
@@ -192,12 +192,12 @@ pub record Refuses (question : Question) (exits : Exits) (old : List Insn) (faul
 abbrev pub Puts : {T : Type 0} → Result T CompileFault → Question → Exits → List Insn → List Insn → Type 0
 Puts result question exits old new = MatchResult result (λ _. Writes question exits old new) (Refuses question exits old)
 
--- the ways out of the first of two questions, by those of the second one and its number of words
+-- the exits of the first of two questions, given those of the second one and its number of words
 pub record IsBefore (neutral : Bool) (exits before : Exits) (words : ℕ) : Type 0 where
   pub falls : before.falls ≡ neutral
   pub beyond : before.beyond ≡ first_beyond exits.falls neutral words exits.beyond
 
--- the column that is the score, if there is one: its number or its coordinate, 0 if it has none
+-- the code that emits the score column, if there is one: its number or coordinate, or 0 if it has none
 abbrev pub score_code : Option NumericColumn → List Insn
 score_code None = []
 score_code (Some (column.Number field)) = move w1 (pos (field_id field)) ∷ call 1 ∷ copy w1 r0 ∷ call 8 ∷ []
@@ -206,11 +206,11 @@ score_code (Some (column.Coordinate place)) = move w1 (pos (coordinate_id place)
 abbrev pub answer_code : ℕ → List Insn
 answer_code number = move w0 (pos number) ∷ Exit ∷ []
 
--- what follows if the answer is yes
+-- the code for the answer yes
 abbrev pub chosen_code : Option NumericColumn → List Insn
 chosen_code score = score_code score ++ answer_code 1
 
--- the whole program: the record's pointer is kept in register 6
+-- the whole program, which keeps the record's pointer in register 6
 abbrev pub program : Option NumericColumn → Question → List Insn
 program score question =
     copy w6 r1 ∷ (question_code question true (word_count (chosen_code score)) ++ (chosen_code score ++ answer_code 0))

@@ -1,5 +1,4 @@
--- The question whether a filter is true, and the one whether it is false. Each has an answer, even if the filter is neither. NOT
--- exchanges them.
+-- The questions whether a filter is true and whether it is false. Each has an answer, even if the filter is neither. NOT exchanges them.
 use Rattle.std.specs.Prelude.{◌≡◌, ℕ, zero, suc, ◌+◌, ◌-◌, ◌==◌, ◌||◌, ℤ, pos, nat_le, Bool, true, false, not, List, [], ◌∷◌, ◌++◌, length, map, replicate, Option, Some, None, MatchResult, Result, if◌then◌else◌}
 use Rattle.std.specs.Bool.{beq}
 use Rattle.std.specs.Int.{w64, cast_signed}
@@ -38,7 +37,7 @@ if_asked question false = Opposite question
 
 -- Numeric columns
 
--- the number of a column, 0 if it has none
+-- the number of a column; 0 if it has none
 abbrev pub number_of : NumericColumn → Subject
 number_of (column.Number field) = Number field
 number_of (column.Coordinate place) = Coordinate place
@@ -48,11 +47,11 @@ abbrev pub has_value : NumericColumn → Question
 has_value (column.Number field) = test (HasNumber field) NotEqual (pos 0)
 has_value (column.Coordinate place) = test (Coordinate place) NotEqual (pos 0)
 
--- a comparison holds of 0 and a number
+-- a comparison holds for 0 and a number
 abbrev pub holds_of_zero : Comparison → ℤ → Bool
 holds_of_zero comparison literal = compares comparison (pos 0) literal
 
--- a comparison holds of a column's number and another; if it holds of 0 too, the column also has a number
+-- a comparison holds for a column's number and another; if it also holds for 0, the column must have a number
 abbrev pub compares_number : NumericColumn → Comparison → ℤ → Question
 compares_number column comparison literal =
     if holds_of_zero comparison literal
@@ -80,18 +79,18 @@ has_few at (a ∷ b ∷ c ∷ d ∷ []) = chunk_test Word at (a ∷ b ∷ c ∷ 
 has_few at (a ∷ b ∷ c ∷ d ∷ next ∷ bytes) = Joined true (chunk_test Word at (a ∷ b ∷ c ∷ d ∷ [])) (has_each (at + 4) (next ∷ bytes))
 has_few at bytes = has_each at bytes
 
--- and eight at once while at least eight are left.
+-- and eight at once as long as at least eight are left.
 abbrev pub has_bytes : ℕ → List ℕ → Question
 has_bytes at (a ∷ b ∷ c ∷ d ∷ e ∷ f ∷ g ∷ h ∷ []) = chunk_test DoubleWord at (a ∷ b ∷ c ∷ d ∷ e ∷ f ∷ g ∷ h ∷ [])
 has_bytes at (a ∷ b ∷ c ∷ d ∷ e ∷ f ∷ g ∷ h ∷ next ∷ bytes) =
     Joined true (chunk_test DoubleWord at (a ∷ b ∷ c ∷ d ∷ e ∷ f ∷ g ∷ h ∷ [])) (has_bytes (at + 8) (next ∷ bytes))
 has_bytes at bytes = has_few at bytes
 
--- a number of bytes at an offset are blank
+-- `count` bytes at an offset are blank
 abbrev pub is_blank : ℕ → ℕ → Question
 is_blank at count = has_bytes at (replicate count 32)
 
--- Text columns, by the offset and the width of their fields
+-- Text columns, by the offset and width of their fields
 
 abbrev pub offset_of : TextColumn → ℕ
 offset_of column = (text_places column).0 - 1
@@ -102,13 +101,13 @@ width_of column = (text_places column).1 - offset_of column
 abbrev pub is_null_text : TextColumn → Question
 is_null_text column = is_blank (offset_of column) (width_of column)
 
--- a byte is what a pattern wants
+-- a byte matches a pattern byte
 abbrev pub is_wanted : ℕ → PatternByte → Question
 is_wanted at (Exactly byte) = byte_test at Equal byte
 is_wanted at (EitherCase letter) = Joined false (byte_test at Equal letter) (byte_test at Equal (letter - 32))
 is_wanted at Any = Decided true
 
--- the bytes that a pattern wants, if it wants each of them exactly
+-- the bytes of a pattern that wants each of them exactly
 abbrev pub exact_bytes : List PatternByte → Option (List ℕ)
 exact_bytes [] = Some []
 exact_bytes (Exactly byte ∷ pattern) = before byte (exact_bytes pattern)
@@ -131,7 +130,7 @@ are_wanted at pattern = by_exact (exact_bytes pattern)
     by_exact (Some bytes) = has_bytes at bytes
     by_exact None = is_each_wanted at pattern
 
--- a pattern's last byte is no blank
+-- the last byte of a pattern is not a blank
 abbrev pub is_filled : PatternByte → Bool
 is_filled (Exactly byte) = not (byte == 32)
 is_filled (EitherCase letter) = true
@@ -142,8 +141,8 @@ ends_filled [] = false
 ends_filled (wanted ∷ []) = is_filled wanted
 ends_filled (wanted ∷ next ∷ pattern) = ends_filled (next ∷ pattern)
 
--- What is asked after the wanted bytes. After those of a closed pattern the field is blank. If the last of them may be a blank, the text
--- is long enough only if the field isn't blank from there.
+-- The question after the wanted bytes. A closed pattern requires the rest of the field to be blank. If the last wanted byte may be a blank, the
+-- text is long enough only if the field isn't blank from that byte on.
 abbrev pub ends_so : Bool → Bool → TextColumn → ℕ → Option Question
 ends_so true true column count = None
 ends_so true false column count = Some (Opposite (is_blank (offset_of column + (count - 1)) (width_of column - (count - 1))))
@@ -156,7 +155,7 @@ abbrev pub both : Question → Option Question → Question
 both first None = first
 both first (Some second) = Joined true first second
 
--- the ways out of the first question, once the code of the second one, if there is one, is written
+-- the exits of the first question, once the code of the second one, if there is one, is written
 abbrev pub WritesBefore : Option Question → Exits → Exits → List Insn → List Insn → Type 0
 WritesBefore second exits first old new = (wanted : Question) (all : List Insn)
     → Writes wanted first new all → Writes (both wanted second) exits old all
@@ -166,26 +165,26 @@ abbrev pub PutsBefore : Result Exits CompileFault → Option Question → Exits 
 PutsBefore result second exits old new = MatchResult result (λ first. WritesBefore second exits first old new)
     (λ fault. (wanted : Question) → Refuses (both wanted second) exits old fault)
 
--- a column isn't NULL and is like a pattern
+-- a column isn't NULL and matches a pattern
 abbrev pub is_like : TextColumn → List PatternByte → Bool → Question
 is_like column pattern is_open =
     if nat_le (length pattern) (width_of column)
     then both (are_wanted (offset_of column) pattern) (ends_so is_open (ends_filled pattern) column (length pattern))
     else Decided false
 
--- a column is like a pattern; a column that isn't, isn't NULL either
+-- a column matches a pattern, or isn't NULL and doesn't match it
 abbrev pub asks_like : TextColumn → List PatternByte → Bool → Bool → Question
 asks_like column pattern is_open true = is_like column pattern is_open
 asks_like column pattern is_open false = Joined true (Opposite (is_null_text column)) (Opposite (is_like column pattern is_open))
 
--- what is left of a field, given by its offset and its length, is less than a text
+-- the rest of a field, given by its offset and length, is less than a text
 abbrev pub is_less : ℕ → ℕ → List ℕ → Question
 is_less at left [] = Decided false
 is_less at zero (byte ∷ text) = Decided true
 is_less at (suc left) (byte ∷ text) =
     Joined false (byte_test at Less byte) (Joined true (byte_test at Equal byte) (is_less (at + 1) left text))
 
--- it is greater than a text
+-- the rest of a field is greater than a text
 abbrev pub is_greater : ℕ → ℕ → List ℕ → Question
 is_greater at zero text = Decided false
 is_greater at (suc left) [] = Opposite (is_blank at (suc left))
@@ -200,7 +199,7 @@ compares_bytes column GreaterOrEqual text = Opposite (is_less (offset_of column)
 compares_bytes column Greater text = is_greater (offset_of column) (width_of column) text
 compares_bytes column LessOrEqual text = Opposite (is_greater (offset_of column) (width_of column) text)
 
--- whether a comparison with a text holds of blanks, which are less than any
+-- whether a comparison holds for a blank field, which is less than any text
 abbrev pub holds_of_blanks : Comparison → Bool
 holds_of_blanks Equal = false
 holds_of_blanks NotEqual = true
@@ -209,7 +208,7 @@ holds_of_blanks LessOrEqual = true
 holds_of_blanks Greater = false
 holds_of_blanks GreaterOrEqual = false
 
--- a column isn't NULL, and a comparison holds of it and a text
+-- a column isn't NULL, and a comparison holds for it and a text
 abbrev pub compares_text : TextColumn → Comparison → List ℕ → Question
 compares_text column comparison text =
     if holds_of_blanks comparison
@@ -218,11 +217,11 @@ compares_text column comparison text =
 
 -- Names and ranges
 
--- the names and ranges before which the code asks whether there are that many: the powers of two
+-- the indices at which the code first asks whether there are that many names or ranges: the powers of two
 abbrev pub is_milestone : ℕ → Bool
 is_milestone at = at == 1 || at == 2 || at == 4 || at == 8 || at == 16 || at == 32 || at == 64 || at == 128 || at == 256 || at == 512
 
--- a house number lies on a side of one of several ranges, given by the number of the first one and by their count
+-- a house number lies on a side of one of several ranges, given by the index of the first one and by their count
 unfoldable pub lies_from : ℕ → ℕ → ℕ → Question
 lies_from house at zero = Decided false
 lies_from house at (suc more) =
@@ -231,7 +230,7 @@ lies_from house at (suc more) =
     (Joined false (test (InRange at house) NotEqual (pos 0)) (lies_from house (at + 1) more))
     else Joined false (test (InRange at house) NotEqual (pos 0)) (lies_from house (at + 1) more)
 
--- the code that asks about a range is written before the code that asks about those after it, or refused
+-- the code that asks about a range is written before the code that asks about later ones, or refused
 abbrev pub PutsRange : Result (Unit {0}) CompileFault → ℕ → ℕ → ℕ → Exits → List Insn → List Insn → Type 0
 PutsRange result house range end exits old new = (more : ℕ) (rest : List Insn) → word_count rest ≡ end
     → Writes (lies_from house (range + 1) more) exits rest old → Puts result (lies_from house range (suc more)) exits rest new
@@ -243,7 +242,7 @@ asks_has_number house asked = if_asked (lies_from house 0 (suc RANGE_LIMIT)) ask
 abbrev pub name_block : List ℕ → List ℕ
 name_block text = text ++ replicate (32 - length text) 32
 
--- one of several names, given by the number of the first one and by their count, is the wanted one
+-- one of several names, given by the index of the first one and by their count, is the wanted one
 unfoldable pub is_named_from : List ℕ → ℕ → ℕ → Question
 is_named_from wanted at zero = Decided false
 is_named_from wanted at (suc more) =
@@ -259,7 +258,7 @@ PutsName result wanted name end exits old new = (more : ℕ) (rest : List Insn) 
 abbrev pub is_named : List ℕ → ℕ → Question
 is_named text most = is_named_from (name_block text) 0 (suc most)
 
--- none of the names is the wanted one if these are all of them
+-- whether a name is the wanted one; or whether none is, and the segment has no more names
 abbrev pub asks_has_name : List ℕ → ℕ → Bool → Question
 asks_has_name text most true = is_named text most
 asks_has_name text most false = Joined true (test Names LessOrEqual (pos most)) (Opposite (is_named text most))

@@ -1,5 +1,5 @@
--- Questions about a segment, which have an answer in any case: yes or no. Tests compare a number that is read off the segment with one
--- that is known, and all other questions are made of them.
+-- Questions about a segment, which always have an answer: yes or no. A test compares a number read from the segment with a constant, and all
+-- other questions are made of tests.
 use Rattle.std.specs.Prelude.{ℕ, ◌+◌, ◌*◌, ◌≤◌, ◌<◌, ◌^◌, Bool, not, List, [], ◌∷◌, length, take, drop, is_some, slice_get, FitsSigned, if◌then◌else◌}
 use Rattle.std.specs.Bool.{beq}
 use Rattle.std.specs.Int.{w64}
@@ -24,7 +24,7 @@ use Rattle.cql2_code.specs.declared.question.Subject.{Subject}
 use Rattle.cql2_code.specs.declared.question.Subject.TheVariants.{Number, HasNumber, Coordinate, Names, Ranges, InRange, NameIs, Load}
 use Rattle.cql2_code.specs.declared.question.Test.{Test}
 
--- the id by which helper functions know a column of numbers
+-- the id of a numeric column in helper functions
 abbrev pub field_id : NumberColumn → ℕ
 field_id Tlid = 0
 field_id Fraddl = 1
@@ -44,25 +44,25 @@ field_id Tractr = 14
 field_id Blockl = 15
 field_id Blockr = 16
 
--- the number by which they know a coordinate
+-- the id of a coordinate in helper functions
 abbrev pub coordinate_id : CoordinateColumn → ℕ
 coordinate_id Frlong = 0
 coordinate_id Frlat = 1
 coordinate_id Tolong = 2
 coordinate_id Tolat = 3
 
--- how many bytes of a record are read at once
+-- the number of bytes that are read from a record at once
 abbrev pub chunk_length : Chunk → ℕ
 chunk_length Byte = 1
 chunk_length Word = 4
 chunk_length DoubleWord = 8
 
--- the little-endian number that bytes are
+-- the little-endian number of a list of bytes
 abbrev pub bytes_value : List ℕ → ℕ
 bytes_value [] = 0
 bytes_value (byte ∷ bytes) = byte + 256 * bytes_value bytes
 
--- the number that a test looks at, of a segment
+-- the number that a test looks at in a segment
 abbrev pub value : Subject → Contents → ℕ
 value (Number column) segment = or_zero (field_number segment.bytes (field_id column))
 value (HasNumber column) segment = truth (is_some (field_number segment.bytes (field_id column)))
@@ -73,14 +73,14 @@ value (InRange range house) segment = sides house (slice_get (ranges_of segment)
 value (NameIs name wanted) segment = truth (is_name (take NAME_LENGTH wanted) (slice_get (names_of segment) name))
 value (Load chunk at) segment = bytes_value (take (chunk_length chunk) (drop at segment.bytes))
 
--- What a test looks at can be looked at: a chunk lies within the record, and numbers and bytes have their types' ranges.
+-- A subject can be read: a chunk lies within the record, and numbers and bytes are within their types' ranges.
 abbrev pub IsSoundSubject : Subject → Type 0
 IsSoundSubject (InRange range house) = (range < 2 ^ 16) × (house < 2 ^ 64)
 IsSoundSubject (NameIs name wanted) = (name < 2 ^ 16) × AreBytes 32 wanted
 IsSoundSubject (Load chunk at) = at + chunk_length chunk ≤ RECORD_LENGTH
 IsSoundSubject subject = Unit {0}
 
--- the number that it is compared with has 64 bits, too
+-- a test's subject is sound, and its operand fits into 64 bits
 pub record IsSoundTest (test : Test) : Type 0 where
   pub subject : IsSoundSubject test.subject
   pub operand : FitsSigned w64 test.operand
@@ -94,12 +94,12 @@ condition_of LessOrEqual = condition.SignedLessOrEqual
 condition_of Greater = condition.SignedGreater
 condition_of GreaterOrEqual = condition.SignedGreaterOrEqual
 
--- the answer of a test: its comparison is made on 64 bits
+-- the answer of a test, compared in 64 bits
 abbrev pub is_so : Test → Contents → Bool
 is_so test segment = is_met (condition_of test.comparison) Bits64 (value test.subject segment) (immediate_operand test.operand)
 
--- Questions. One may be decided already. Two are joined by one of the two answers, which is neutral: if the first question has it, the
--- second one decides, and otherwise the first one does. With yes that is AND, with no it is OR.
+-- Questions. One kind is already decided. Two questions are joined with one of the two answers as the neutral one: if the first question has that
+-- answer, the second one decides, and otherwise the first one does. With neutral answer yes this is AND, with no it is OR.
 pub data Question : Type 0 where
   Decided : (found : Bool) → Question
   Holds : (test : Test) → Question
@@ -109,14 +109,14 @@ pub data Question : Type 0 where
 abbrev pub joined : Bool → Bool → Bool → Bool
 joined neutral first second = if beq first neutral then second else first
 
--- the answer
+-- the answer of a question
 abbrev pub answer : Question → Contents → Bool
 answer (Decided found) segment = found
 answer (Holds test) segment = is_so test segment
 answer (Opposite question) segment = not (answer question segment)
 answer (Joined neutral first second) segment = joined neutral (answer first segment) (answer second segment)
 
--- each of its tests is sound
+-- each test of the question is sound
 abbrev pub IsSound : Question → Type 0
 IsSound (Decided found) = Unit {0}
 IsSound (Holds test) = IsSoundTest test

@@ -1,4 +1,4 @@
-//! The little-endian numbers of bytes.
+//! Bytes as little-endian numbers.
 ghost use Rattle.std.specs.Prelude.{◌≡◌, length};
 ghost use Rattle.std.specs.Int.{w32, w64, cast_signed};
 ghost use Rattle.cql2_code.specs.Question.{bytes_value};

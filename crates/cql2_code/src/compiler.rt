@@ -1,4 +1,4 @@
-//! From a filter to a program.
+//! Compiling a filter to a program.
 ghost use Rattle.std.specs.Prelude.{◌≡◌, ◌≤◌, ◌++◌, IfErr, IfOk, IsErr, if◌then◌else◌};
 ghost use Rattle.bpf_flow.specs.Flow.{IsForward};
 ghost use Rattle.bpf_insn.specs.Code.{word_count};
@@ -20,8 +20,8 @@ use bpf_insn::{Code, Insn};
 use cql2::{Column, Comparison, Filter, NumericColumn};
 use std::alloc::Allocator;
 
-/// Returns the program of a filter. On each segment it answers 1 if the filter is true, and 0 otherwise. The score of a segment that is
-/// selected is the number of a column, or a coordinate in two's complement. A filter is refused as too long only if its program would be.
+/// Returns a filter's program. On each segment it answers 1 if the filter is true, and 0 otherwise. The score of a selected segment is the number
+/// of a column, or a coordinate in two's complement. A filter is refused as too long only if its program would be.
 pub fn compile<A: Allocator + Copy>(
     alloc: A,
     filter: &Filter<A>,
@@ -122,7 +122,7 @@ fn put<A: Allocator + Copy>(
     }
 }
 
-/// Returns a comparison, or its opposite if it is asked to be false.
+/// Returns a comparison, or its opposite if `asked` is false.
 fn asked_for(comparison: Comparison, asked: bool) -> Comparison
     ensures { result ≡ (if asked then comparison else layout.opposite comparison) }
 {

@@ -1,4 +1,4 @@
-//! Codes that are written from their end to their start, so that each jump's distance is known when it is written.
+//! Code written back to front, so that each jump's distance is known when it is written.
 ghost use Rattle.std.specs.Prelude.{◌≡◌, ◌≤◌, ◌<◌, ◌-◌, ◌∷◌, ◌++◌, [], pos, IfErr, IfOk, MatchResult};
 ghost use Rattle.bpf_insn.specs.Code.{word_count};
 ghost use Rattle.bpf_insn.specs.declared.code.TheConstants.{WORD_LIMIT};
@@ -52,7 +52,7 @@ impl<A: Allocator + Copy> CodeEnd<A> {
         }
     }
 
-    /// Returns how many words the instructions take.
+    /// Returns the number of words in the instructions.
     pub fn words(&self) -> usize
         ensures value { result ≡ word_count self.now }
         ensures few { result ≤ WORD_LIMIT }
@@ -74,7 +74,7 @@ impl<A: Allocator + Copy> CodeEnd<A> {
         Ok(())
     }
 
-    /// Returns the code.
+    /// Returns the completed code.
     pub fn into_code(self, alloc: A) -> Result<Code<A>, CompileFault>
         ensures ok { IfOk result (λ code. code ≡ self) }
         ensures err { IfErr result (λ fault. fault ≡ Memory) }
@@ -92,7 +92,7 @@ impl<A: Allocator + Copy> CodeEnd<A> {
         Ok(code)
     }
 
-    /// Returns the ways out of the first of two questions. The code had `words` words before the second one was written.
+    /// Returns the exits of the first of two questions. The code had `words` words before the second question was written.
     pub fn exits_before(&self, words: usize, neutral: bool, exits: Exits) -> Exits
         requires written { words ≤ word_count self.now }
         requires inside { exits.beyond ≤ words }
@@ -136,7 +136,7 @@ impl<A: Allocator + Copy> CodeEnd<A> {
         Ok(())
     }
 
-    /// Writes a jump that is made if a comparison of register 0 holds.
+    /// Writes a jump that is taken if a comparison of register 0 holds.
     fn put_comparison(
         &mut self,
         comparison: Comparison,
@@ -179,7 +179,7 @@ impl<A: Allocator + Copy> CodeEnd<A> {
         self.prepend(move_number(w1(), i32::from(argument)))
     }
 
-    /// Writes the call that says on which sides of a range a house number lies.
+    /// Writes the call that returns the sides of a range on which a house number lies.
     fn put_in_range(&mut self, range: u16, house: u64) -> Result<(), CompileFault>
         ensures { IsPut result (subject_code (InRange range house) ++ self.old) self.new }
     {
@@ -188,7 +188,7 @@ impl<A: Allocator + Copy> CodeEnd<A> {
         self.prepend(move_number(w1(), i32::from(range)))
     }
 
-    /// Writes the call that compares a name with bytes, and before it the stores of those bytes in the frame.
+    /// Writes the call that compares a name with bytes, preceded by the stores of those bytes in the frame.
     fn put_name_is(&mut self, name: u16, wanted: &[u8; 32]) -> Result<(), CompileFault>
         ensures { IsPut result (subject_code (NameIs name wanted.now) ++ self.old) self.new }
     {
@@ -215,7 +215,7 @@ impl<A: Allocator + Copy> CodeEnd<A> {
     }
 }
 
-/// Returns how far a question's code jumps past its end, in the type of a jump's field.
+/// Returns the distance that a question's code jumps past its end, in the type of a jump's field.
 fn distance_of(exits: Exits) -> Result<i16, CompileFault>
     ensures { MatchResult result (λ distance. distance ≡ pos exits.beyond) (λ fault. (fault ≡ TooLong) × (32767 < exits.beyond)) }
 {

@@ -1,4 +1,4 @@
-//! Why a filter isn't compiled.
+//! Why a filter can't be compiled.
 ghost use Rattle.std.specs.Prelude.{◌≡◌};
 ghost use Rattle.cql2_code.specs.declared.fault.CompileFault.TheVariants.{Memory};
 
@@ -6,7 +6,7 @@ use refusals::{Fault, Refusal};
 use std::alloc::AllocError;
 use thiserror::Error;
 
-/// Why a filter isn't compiled. The derived text is for people.
+/// Why a filter can't be compiled. The derived text is for people.
 #[derive(Clone, Copy, Debug, PartialEq, Eq, Error)]
 pub enum CompileFault {
     #[error("the program would have more than 65,536 words, or a jump over more than 32,767")]
@@ -28,7 +28,7 @@ impl Fault for CompileFault {
 
     ghost refusal_of = { refusal };
 
-    // The filter as a whole is at fault, so its first character is named.
+    // The fault concerns the filter as a whole, so the refusal names its first character.
     fn refusal(&self) -> Refusal {
         match self {
             CompileFault::TooLong => Refusal::refused(96, "TooLong").at_character(1, 1),

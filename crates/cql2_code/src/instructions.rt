@@ -123,7 +123,7 @@ pub(crate) fn wide_load(register: WritableRegister, number: u64) -> Insn
     }
 }
 
-/// Moves or loads a number into a register, by one instruction.
+/// Puts a number into a register with one instruction, a move or a wide load.
 pub(crate) fn set_number(register: WritableRegister, number: u64) -> Insn
     ensures { result ≡ set_number register number }
 {

@@ -32,7 +32,7 @@ pub(crate) fn put_has_number<A: Allocator + Copy>(
     Ok(())
 }
 
-/// Writes the code that asks whether a house number lies on a range, in front of the code that asks about the ranges after it.
+/// Writes the code that asks whether a house number lies on a range, before the code that asks about later ranges.
 fn put_range<A: Allocator + Copy>(
     code: &mut CodeEnd<A>,
     house: u64,
@@ -63,7 +63,7 @@ fn put_range<A: Allocator + Copy>(
     code.put_test(there, before)
 }
 
-/// Whether the code asks there whether there are more.
+/// Returns whether the code asks at this index whether there are more names or ranges.
 fn is_milestone(at: u16) -> bool
     ensures { result ≡ lowering.is_milestone at }
 {
@@ -124,7 +124,7 @@ fn put_named<A: Allocator + Copy>(
     Ok(())
 }
 
-/// Writes the code that asks whether a name is the wanted one, in front of the code that asks about the names after it.
+/// Writes the code that asks whether a name is the wanted one, before the code that asks about later names.
 fn put_name<A: Allocator + Copy>(
     code: &mut CodeEnd<A>,
     wanted: &[u8; 32],

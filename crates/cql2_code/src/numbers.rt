@@ -12,7 +12,7 @@ use crate::question::{Exits, Subject, Test};
 use cql2::{Comparison, NumericColumn};
 use std::alloc::Allocator;
 
-/// Returns the number of a column, 0 if it has none.
+/// Returns the subject for a column's number, which is 0 if the column has none.
 pub(crate) fn number_of(column: NumericColumn) -> Subject
     ensures { result ≡ lowering.number_of column }
 {
@@ -61,7 +61,7 @@ pub(crate) fn put_number<A: Allocator + Copy>(
     code.put_test(has_value(column), exits)
 }
 
-/// Whether a comparison holds of 0 and a number.
+/// Returns whether a comparison holds for 0 and a number.
 fn holds_of_zero(comparison: Comparison, literal: i64) -> bool
     ensures { result ≡ holds_of_zero comparison literal }
 {

@@ -1,4 +1,4 @@
-//! Tests, and what they look at.
+//! Tests and their subjects.
 ghost use Rattle.std.specs.Prelude.{◌≡◌, not, if◌then◌else◌};
 ghost use Rattle.cql2_code.specs.Layout.{opposite};
 ghost use Rattle.cql2_code.specs.Question.{condition_of, coordinate_id, field_id};
@@ -6,7 +6,7 @@ ghost use Rattle.cql2_code.specs.Question.{condition_of, coordinate_id, field_id
 use bpf_insn::Condition;
 use cql2::{Comparison, CoordinateColumn, NumberColumn};
 
-/// How many bytes of a record are read at once.
+/// The number of bytes that are read from a record at once.
 #[derive(Clone, Copy)]
 pub(crate) enum Chunk {
     Byte,
@@ -16,22 +16,22 @@ pub(crate) enum Chunk {
     DoubleWord,
 }
 
-/// What a test looks at: a number.
+/// The subject of a test: a number.
 #[derive(Clone, Copy)]
 pub(crate) enum Subject {
     /// The number of a column; 0 if it has none.
     Number(NumberColumn),
-    /// 1 if the column has a number, else 0.
+    /// 1 if the column has a number, otherwise 0.
     HasNumber(NumberColumn),
     /// A coordinate in two's complement; 0 if there is none.
     Coordinate(CoordinateColumn),
-    /// How many alternate names the segment has.
+    /// The number of the segment's alternate names.
     Names,
-    /// How many ranges it has.
+    /// The number of the segment's ranges.
     Ranges,
-    /// On which sides of the range of this number the house number lies: 0 on none.
+    /// The sides of the range with this index on which the house number lies; 0 for none.
     InRange(u16, u64),
-    /// 1 if the name of this number is these bytes, which are blank after it, else 0.
+    /// 1 if the name with this index is these bytes, which are padded with blanks, otherwise 0.
     NameIs(u16, [u8; 32]),
     /// The little-endian number of the chunk of the record at an offset.
     Load(Chunk, u8),
@@ -45,7 +45,7 @@ pub(crate) struct Test {
     pub operand: i64,
 }
 
-/// The two ways out of a question's code: it falls through its end if the answer is `falls`, and otherwise jumps `beyond` words past it.
+/// The two exits of a question's code: it falls through its end if the answer is `falls`, and otherwise jumps `beyond` words past it.
 #[derive(Clone, Copy)]
 pub(crate) struct Exits {
     pub falls: bool,
@@ -53,7 +53,7 @@ pub(crate) struct Exits {
 }
 
 impl Exits {
-    /// Returns the ways out of a question that has these if it is asked as it is, and whose opposite has them otherwise.
+    /// Returns these exits if the question is asked as it is, or those with `falls` negated if its opposite is asked.
     pub fn asked(self, asked: bool) -> Exits
         ensures falls { result.falls ≡ (if asked then self.falls else not self.falls) }
         ensures beyond { result.beyond ≡ self.beyond }
@@ -65,7 +65,7 @@ impl Exits {
     }
 }
 
-/// Returns the id by which helper functions know a column.
+/// Returns the id of a column in helper functions.
 pub(crate) fn field_id(column: NumberColumn) -> u8
     ensures { result ≡ field_id column }
 {
@@ -90,7 +90,7 @@ pub(crate) fn field_id(column: NumberColumn) -> u8
     }
 }
 
-/// Returns the number by which helper functions know a coordinate.
+/// Returns the id of a coordinate in helper functions.
 pub(crate) fn coordinate_id(column: CoordinateColumn) -> u8
     ensures { result ≡ coordinate_id column }
 {

@@ -43,7 +43,7 @@ pub(crate) fn put_text<A: Allocator + Copy>(
     put_is_null_text(code, column, exits.asked(false))
 }
 
-/// Whether a comparison with a text holds of blanks.
+/// Returns whether a comparison with a text holds for a blank field.
 fn holds_of_blanks(comparison: Comparison) -> bool
     ensures { result ≡ lowering.holds_of_blanks comparison }
 {
@@ -53,7 +53,7 @@ fn holds_of_blanks(comparison: Comparison) -> bool
     }
 }
 
-/// Writes the code of the comparison of a column's bytes.
+/// Writes the code that compares a column's bytes.
 fn put_compared<A: Allocator + Copy>(
     code: &mut CodeEnd<A>,
     column: TextColumn,
@@ -76,7 +76,7 @@ fn put_compared<A: Allocator + Copy>(
     }
 }
 
-/// Writes the code that asks whether a text column is like a pattern, or whether it isn't.
+/// Writes the code that asks whether a text column matches a pattern, or whether it doesn't.
 pub(crate) fn put_like<A: Allocator + Copy>(
     code: &mut CodeEnd<A>,
     column: TextColumn,
@@ -121,7 +121,7 @@ fn put_pattern<A: Allocator + Copy>(
     put_each_wanted(code, offset_of(column), wanted, exits)
 }
 
-/// Returns the bytes that a pattern wants, if it wants each of them exactly.
+/// Returns the bytes of a pattern that wants each of them exactly.
 fn exact_bytes(wanted: &[PatternByte]) -> Option<ArrayVec<u8, NAME_LENGTH>>
     requires { length wanted.now ≤ NAME_LENGTH }
     ensures some { IfSome result (λ bytes. exact_bytes wanted.now ≡ Some bytes.items) }
@@ -137,7 +137,7 @@ fn exact_bytes(wanted: &[PatternByte]) -> Option<ArrayVec<u8, NAME_LENGTH>>
     Some(bytes)
 }
 
-/// Whether a pattern's last byte is no blank.
+/// Returns whether a pattern's last byte is not a blank.
 fn ends_filled(wanted: &[PatternByte]) -> bool
     ensures { result ≡ ends_filled wanted.now }
 {
@@ -149,7 +149,7 @@ fn ends_filled(wanted: &[PatternByte]) -> bool
     }
 }
 
-/// Writes the code that asks whether a column is like a pattern of exact bytes.
+/// Writes the code that asks whether a column matches a pattern of exact bytes.
 fn put_like_bytes<A: Allocator + Copy>(
     code: &mut CodeEnd<A>,
     column: TextColumn,
@@ -172,7 +172,7 @@ fn put_like_bytes<A: Allocator + Copy>(
     put_bytes(code, offset_of(column), bytes, exits)
 }
 
-/// Whether the last byte is no blank.
+/// Returns whether the last byte is not a blank.
 fn is_filled(bytes: &[u8]) -> bool
     ensures { result ≡ lowering.ends_filled (map Exactly bytes.now) }
 {
@@ -182,17 +182,17 @@ fn is_filled(bytes: &[u8]) -> bool
     }
 }
 
-/// How a pattern ends.
+/// The end of a pattern.
 #[derive(Clone, Copy)]
 struct Ending {
-    /// How many bytes it wants.
+    /// The number of bytes that the pattern wants.
     count: u8,
     is_open: bool,
-    /// Whether the last of them is no blank.
+    /// Whether the last of them is not a blank.
     is_filled: bool,
 }
 
-/// Writes the code that checks what follows the wanted bytes, and returns the ways out of the code that checks those.
+/// Writes the code that checks the bytes after the wanted ones, and returns the exits for the code that checks the wanted ones.
 fn put_ending<A: Allocator + Copy>(
     code: &mut CodeEnd<A>,
     column: TextColumn,
@@ -241,7 +241,7 @@ pub(crate) fn put_is_null_text<A: Allocator + Copy>(
     put_blank(code, column, 0, exits)
 }
 
-/// Writes the code that asks whether a field is blank from a byte to its end. Bytes count from 0.
+/// Writes the code that asks whether a field is blank from a byte, counted from 0, to its end.
 fn put_blank<A: Allocator + Copy>(
     code: &mut CodeEnd<A>,
     column: TextColumn,
@@ -284,7 +284,7 @@ fn put_bytes<A: Allocator + Copy>(
     code.put_test(test, exits)
 }
 
-/// The same for fewer than eight bytes.
+/// Writes the code that asks whether the record has these bytes, fewer than eight, at an offset.
 fn put_few<A: Allocator + Copy>(
     code: &mut CodeEnd<A>,
     at: u8,
@@ -312,7 +312,7 @@ fn put_few<A: Allocator + Copy>(
     code.put_test(test, exits)
 }
 
-/// The same byte by byte.
+/// Writes the code that asks whether the record has these bytes at an offset, one by one.
 fn put_each<A: Allocator + Copy>(
     code: &mut CodeEnd<A>,
     at: u8,
@@ -336,7 +336,7 @@ fn put_each<A: Allocator + Copy>(
     code.put_test(test, exits)
 }
 
-/// Writes the code that asks whether the bytes at an offset are what a pattern wants.
+/// Writes the code that asks whether the bytes at an offset match a pattern.
 fn put_each_wanted<A: Allocator + Copy>(
     code: &mut CodeEnd<A>,
     at: u8,
@@ -381,7 +381,7 @@ fn put_wanted<A: Allocator + Copy>(
     }
 }
 
-/// Writes the code that asks whether what is left of a field is less than a text.
+/// Writes the code that asks whether the rest of a field is less than a text.
 fn put_less<A: Allocator + Copy>(
     code: &mut CodeEnd<A>,
     at: u8,
@@ -407,7 +407,7 @@ fn put_less<A: Allocator + Copy>(
     code.put_test(byte_test(at, Comparison::Less, *byte), less)
 }
 
-/// Writes the code that asks whether what is left of a field is greater than a text.
+/// Writes the code that asks whether the rest of a field is greater than a text.
 fn put_greater<A: Allocator + Copy>(
     code: &mut CodeEnd<A>,
     at: u8,
@@ -434,7 +434,7 @@ fn put_greater<A: Allocator + Copy>(
     code.put_test(byte_test(at, Comparison::Greater, *byte), greater)
 }
 
-/// Returns the comparison of a byte of the record.
+/// Returns the test that compares a byte of the record.
 fn byte_test(at: u8, comparison: Comparison, byte: u8) -> Test
     ensures { Holds result ≡ byte_test at comparison byte }
 {
@@ -445,7 +445,7 @@ fn byte_test(at: u8, comparison: Comparison, byte: u8) -> Test
     }
 }
 
-/// Returns how many bytes of the record come before a column's field.
+/// Returns the number of bytes in the record before a column's field.
 fn offset_of(column: TextColumn) -> u8
     ensures value { result ≡ offset_of column }
     ensures inside { result + width_of column ≤ RECORD_LENGTH }
@@ -454,7 +454,7 @@ fn offset_of(column: TextColumn) -> u8
     (first - 1) as u8
 }
 
-/// Returns how many bytes a column's field has.
+/// Returns the number of bytes in a column's field.
 fn width_of(column: TextColumn) -> u8
     ensures value { result ≡ width_of column }
     ensures short { result ≤ NAME_LENGTH }

@@ -6,7 +6,7 @@ use Rattle.cql2_code.specs.Layout.{Writes}
 use Rattle.cql2_code.specs.Lowering.{asks_whether}
 use Rattle.cql2_code.proofs.compiler.+put.Given as goal
 
--- once the current filter's question is written, so is the first filter's one
+-- once the current filter's question is written, so is that of the first filter
 abbrev pub invariant-loop-filter : goal.invariant-loop-filter
 invariant-loop-filter g l = record {
   smaller : size-Filter _ l.filter ≤ size-Filter _ l.fn.filter;

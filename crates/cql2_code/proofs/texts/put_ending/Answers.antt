@@ -8,11 +8,11 @@ use Rattle.cql2_code.proofs.Refused.{puts_before_refused, refuses_as, second_ref
 use Rattle.cql2_code.proofs.Written.{before_second, joined, opposite_written, written_as}
 use Rattle.cql2_code.proofs.texts.put_ending.Goals as goal
 
--- the last byte that is wanted is no blank
+-- the last wanted byte is not a blank
 abbrev is_last_filled : TextColumn → ℕ → Question
 is_last_filled column count = Opposite (is_blank (offset_of column + (count - 1)) (width_of column - (count - 1)))
 
--- what follows the wanted bytes is blank
+-- the bytes after the wanted ones are blank
 abbrev is_rest_blank : TextColumn → ℕ → Question
 is_rest_blank column count = is_blank (offset_of column + count) (width_of column - count)
 
