@@ -1,4 +1,4 @@
-//! Extracts of the street segments that a BPF program chooses, places of house numbers, and programs verified and as text: the program.
+//! The program: extracts the street segments that a BPF program selects, finds house numbers, and verifies and converts programs.
 #![tactic(auto)]
 
 ghost use Rattle.std.specs.Prelude.{◌≡◌, ◌≢◌, IfErr, IfOk};
@@ -16,7 +16,7 @@ use std::process::ExitCode;
 use std::{env, io};
 use tl_fields::{CountedWrite, Counting};
 
-// Rows reach the system in pieces of this size.
+// The size of the pieces in which rows are written to the system.
 const OUTPUT_BUFFER: usize = 65536;
 
 fn main(rt: HostRuntime) -> ExitCode {
@@ -32,7 +32,7 @@ fn start(rt: &HostRuntime) -> u8 {
     status_of(&answered)
 }
 
-/// Returns the exit status: that of the command, or that of what is wrong with the arguments.
+/// Returns the exit status: the command's, or that of a fault in the arguments.
 fn status_of(answered: &Result<u8, ArgumentsFault<'_>>) -> u8
     ensures ok { IfOk answered.now (λ status. result ≡ status) }
     ensures usage { IfErr answered.now (λ fault. fault ≢ Memory → result ≡ 2) }
@@ -44,7 +44,7 @@ fn status_of(answered: &Result<u8, ArgumentsFault<'_>>) -> u8
     }
 }
 
-/// Reads the arguments after the program's name, and does what they ask for.
+/// Reads the arguments after the program's name and carries out their request.
 fn answer<E: CountedWrite>(
     rt: &HostRuntime,
     errors: &mut E,
@@ -64,7 +64,7 @@ fn answer<E: CountedWrite>(
     }
 }
 
-/// Opens the output, and does what is asked for over the system's files.
+/// Opens the output and carries out the request over the system's files.
 fn answer_request<E: CountedWrite>(
     rt: &HostRuntime,
     request: Request<'_>,
@@ -83,7 +83,7 @@ fn answer_request<E: CountedWrite>(
     })
 }
 
-/// Does what is asked for over the system's files.
+/// Carries out the request over the system's files.
 fn answer_to<W: Write + Drop, E: CountedWrite>(
     rt: &HostRuntime,
     request: Request<'_>,

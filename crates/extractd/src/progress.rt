@@ -1,4 +1,4 @@
-//! How many lines were written, shown on a terminal while a command works.
+//! The number of lines written, shown on a terminal while a command runs.
 ghost use Rattle.std.specs.Io.{WritesAtMost};
 ghost use Rattle.std.specs.Io.KnownBytes.{Keeps, WriteAppends};
 
@@ -6,17 +6,17 @@ use std::io;
 use std::io::{IsTerminal, Write};
 use std::time::{Duration, Instant};
 
-// In milliseconds: the count isn't shown more often.
+// The shortest time between two updates of the count, in milliseconds.
 const PERIOD: u64 = 100;
 
-/// An output that counts its lines on standard error. A write to standard error that fails changes nothing.
+/// An output that shows its line count on standard error. A failed write to standard error changes nothing.
 #[derive(Drop)]
 pub struct Progress<'a, W> {
     out: W,
     count: LineCount<'a>,
 }
 
-/// How many lines were written, and when that was shown last.
+/// The number of lines written, and the time when it was last shown.
 #[derive(Drop)]
 struct LineCount<'a> {
     rt: &'a HostRuntime,
@@ -25,7 +25,7 @@ struct LineCount<'a> {
 }
 
 impl<'a, W> Progress<'a, W> {
-    /// Starts with no lines at this moment.
+    /// Starts at this moment with no lines.
     pub fn new(rt: &'a HostRuntime, start: Instant, out: W) -> Self {
         Progress {
             out,
@@ -47,7 +47,7 @@ pub fn terminal_start(rt: &HostRuntime) -> Option<Instant> {
 }
 
 impl LineCount<'_> {
-    /// Counts the line feeds of bytes, and shows the count if it is due.
+    /// Counts the line feeds in the bytes, and shows the count if an update is due.
     fn add(&mut self, bytes: &[u8]) {
         let lines = bytes.iter().filter(|byte| **byte == b'\n').count();
         self.lines = self.lines.wrapping_add(lines as u64);
@@ -60,13 +60,13 @@ impl LineCount<'_> {
         }
     }
 
-    /// Shows the count. What is written next to the terminal overwrites it.
+    /// Shows the count. Whatever is written to the terminal next overwrites it.
     fn show(&self) {
         let lines = self.lines;
         let _ = write!(self.rt.stderr(), "\x1b[K{lines} lines\r");
     }
 
-    /// Clears the line of the count.
+    /// Clears the count's line.
     fn clear(&self) {
         let _ = write!(self.rt.stderr(), "\r\x1b[K");
     }

@@ -1,4 +1,4 @@
-//! `serve`: counties served over HTTP.
+//! `serve`: serves counties over HTTP.
 ghost use Rattle.std.specs.Prelude.{◌≡◌, IfErr, IfOk, map};
 ghost use Rattle.commands.specs.Counties.{AreCountiesOf, HaveRefusedCounty, TellsLoad};
 ghost use Rattle.commands.specs.Files.{disk};
@@ -15,14 +15,14 @@ use std::net::{Ipv4Addr, TcpListener};
 use tl_fields::CountedWrite;
 use wire::State;
 
-/// Why a server isn't there, or no longer.
+/// Why a server doesn't start, or stops.
 #[derive(Drop)]
 enum ServeFault<'a> {
     Counties(Failure<'a>),
-    /// The port can't be listened at.
+    /// The server can't listen on the port.
     Port { port: u16, error: io::Error },
     Output(io::Error),
-    /// A connection can't be taken.
+    /// A connection can't be accepted.
     Accept(io::Error),
 }
 
@@ -34,7 +34,7 @@ impl ServeFault<'_> {
         }
     }
 
-    /// Says on one line what is wrong.
+    /// Reports the fault on one line.
     fn report<E: CountedWrite>(&self, errors: &mut E) {
         let _ = match self {
             ServeFault::Counties(failure) => {
@@ -57,7 +57,7 @@ impl ServeFault<'_> {
     }
 }
 
-/// Serves as is asked for, and answers the exit status. It ends only by a fault.
+/// Serves the requested counties until a fault occurs, and returns the exit status.
 pub fn serve<E: CountedWrite>(rt: &HostRuntime, asked: &Serve<'_>, errors: &mut E) -> u8 {
     let fault = serve_counties(rt, asked);
     fault.report(errors);
@@ -86,7 +86,7 @@ fn serve_counties<'a>(rt: &HostRuntime, asked: &Serve<'a>) -> ServeFault<'a> {
     ))
 }
 
-/// Loads the counties of all codes, in their order, into a state without jobs, or returns what is wrong with the first that can't be loaded.
+/// Loads the counties of all codes, in order, into a state without jobs. Returns the failure of the first one that can't be loaded.
 fn load_state<'a, F: Files>(
     alloc: Global,
     files: &mut F,
@@ -103,7 +103,7 @@ fn load_state<'a, F: Files>(
     }
 }
 
-/// Says that the server listens.
+/// Announces on standard output that the server is listening.
 fn announce(rt: &HostRuntime, port: u16) -> io::Result<()> {
     let mut out = io::writer(rt);
     write!(out, "listening 127.0.0.1:{port}\n")?;

@@ -1,4 +1,4 @@
--- There are as many counties as codes, and so no more than a state takes.
+-- There is one county per code, so there are no more than a state takes.
 use Rattle.std.proofs.Common.{◌≤◌, ◌∙◌, subst, sym}
 use Rattle.std.proofs.lemmas.List.{length-map}
 use Rattle.std.proofs.lemmas.Slice.Zip.{AllZip-long}
