@@ -1,4 +1,4 @@
-//! Filters on a segment.
+//! Filters evaluated on a segment.
 use bpf_flow::Flow;
 use bpf_insn::Code;
 use bpf_meaning::{Outcome, trace};
@@ -10,7 +10,7 @@ use std::alloc::{AllocError, Global};
 use std::test::Fail;
 use tl_segments::{RECORD_LENGTH, Segment};
 
-// A filter, the record of a segment, and whether the segment is selected, worked by hand.
+// A filter, a segment's record, and whether the filter selects the segment, worked out by hand.
 const FILTERS: &str = "\
 TRUE; {rt1}; 1
 FALSE; {rt1}; 0
@@ -66,18 +66,19 @@ HAS_NAME('main'); {rt1}; 1
 HAS_NAME('mai'); {rt1}; 0
 NOT HAS_NAME('mai', 0); {rt1}; 1";
 
-// Filters, and how many words their programs have at most.
+// Filters, and the maximum number of words in their programs.
 const SHORT: &str = "\
 ZIPL = 36067; 8
 CFCC LIKE 'A4%'; 12
 FENAME = 'Main'; 25";
 
-// How often a filter stands before the last terms, all joined by OR, and how many words the program has: 5, and those of the terms.
-// - HAS_NUMBER(1) has 4 words for each of 1,001 ranges, and 2 for each of 10 powers of two: 4,024. It has one more as the last term, or
-//   before AND FALSE, and then none of its jumps goes past its end. The first jump of another one goes over all that follows its 4th word.
-// - HAS_NAME has 14 words a name, and 2 a power of two: with 39, 40 * 14 + 6 * 2 = 572. Before AND FALSE it has one more: with 14,
-//   15 * 14 + 4 * 2 + 1 = 219, and with the usual 63, 64 * 14 + 6 * 2 + 1 = 909.
-// - Each number of a ZIPL has 3 words, and TRUE has 1.
+// The number of times a filter is repeated, that filter, and the last terms after it, all joined by OR; then the number of words in the program:
+// 5 plus those of the terms.
+// - HAS_NUMBER(1) takes 4 words for each of 1,001 ranges and 2 for each of 10 powers of two: 4,024. As the last term, or before AND FALSE, it
+//   takes one more, and none of its jumps goes past its end. Otherwise its first jump skips everything after its 4th word.
+// - HAS_NAME takes 14 words per name and 2 per power of two: with 39 alternate names, 40 * 14 + 6 * 2 = 572. Before AND FALSE it takes one more:
+//   with 14, 15 * 14 + 4 * 2 + 1 = 219, and with the default of 63, 64 * 14 + 6 * 2 + 1 = 909.
+// - Each number of a ZIPL takes 3 words, and TRUE takes 1.
 const LONG: &str = "\
 7; HAS_NUMBER(1); HAS_NUMBER(1); 32198
 8; HAS_NUMBER(1); HAS_NUMBER(1); too long
@@ -86,7 +87,7 @@ const LONG: &str = "\
 16; HAS_NUMBER(1) AND FALSE; HAS_NAME('a') AND FALSE OR HAS_NAME('a', 14) AND FALSE OR ZIPL = 1; 65536
 16; HAS_NUMBER(1) AND FALSE; HAS_NAME('a') AND FALSE OR HAS_NAME('a', 14) AND FALSE OR TRUE OR ZIPL = 1; too long";
 
-/// Whether a row is right: the program of its filter is accepted, and selects the segment or doesn't.
+/// Returns whether the program of a row's filter is accepted and selects the segment, or doesn't, as the row says.
 fn is_right(alloc: Global, row: &str) -> bool {
     let Some(code) = compiled(alloc, cell(row, 0)) else {
         return false;
@@ -98,7 +99,7 @@ fn is_right(alloc: Global, row: &str) -> bool {
         && is_accepted(alloc, code)
 }
 
-/// Whether the program of a row's filter has no more words than the row says.
+/// Returns whether the program of a row's filter has no more words than the row allows.
 fn is_short(alloc: Global, row: &str) -> bool {
     match compiled(alloc, cell(row, 0)) {
         Some(code) => code.words() as u64 <= number(cell(row, 1)),
@@ -106,7 +107,7 @@ fn is_short(alloc: Global, row: &str) -> bool {
     }
 }
 
-/// Whether the program of a row's long filter has as many words as the row says, or is too long.
+/// Returns whether the program of a row's long filter has the row's number of words, or is too long.
 fn is_length(alloc: Global, row: &str) -> bool {
     let Ok(text) = joined(alloc, row) else {
         return false;
@@ -120,7 +121,7 @@ fn is_length(alloc: Global, row: &str) -> bool {
     }
 }
 
-/// Returns a filter as often as the row says, and then the last terms, joined by OR.
+/// Returns a row's filter, repeated as often as the row says, and then the last terms, all joined by OR.
 fn joined(alloc: Global, row: &str) -> Result<Vec<u8>, AllocError> {
     let mut text = Vec::new(alloc);
     for _ in 0..number(cell(row, 0)) {

@@ -1,5 +1,5 @@
-//! Tests of `cql2_text` and `cql2_code`: filters read, compiled, verified and run. They stand in a crate of their own since a crate with tests is
-//! proved once without them and once with them.
+//! Tests of `cql2_text` and `cql2_code`: filters are read, compiled, verified and run. The tests have a crate of their own because a crate with
+//! tests is proved twice, once without them and once with them.
 #![tactic(auto)]
 
 #[cfg(test)]

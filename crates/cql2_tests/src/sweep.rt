@@ -1,17 +1,17 @@
-//! Each growth of a filter that is read and compiled is refused.
+//! Refuses each growth while a filter is read and compiled.
 use cql2_code::{CompileFault, compile};
 use cql2_text::{FilterFault, read};
 use fixtures::Refusing;
 use std::alloc::Global;
 use std::test::Fail;
 
-// Filters with a node of each kind.
+// Filters that together contain every kind of node.
 const FILTERS: &str = "\
 NOT (ZIPL = 36067 AND PLACEL IS NULL) OR CFCC LIKE 'A4%'
 FENAME < 'Main' OR CASEI(FENAME) = CASEI('Elm') OR HAS_NAME('Oak', 2)
 STARTS_IN(BBOX(-87, 32, -86, 33)) AND FRADDL IN (1, 2, 3)";
 
-/// How many words the program of a filter has; or whether a lack of memory is why there is none.
+/// Returns the number of words in a filter's program, or whether the filter has none because memory ran out.
 fn words(heap: &Refusing<Global>, text: &str) -> Result<usize, bool> {
     let filter = match read(heap, text.as_bytes()) {
         Ok(filter) => filter,
@@ -23,8 +23,8 @@ fn words(heap: &Refusing<Global>, text: &str) -> Result<usize, bool> {
     }
 }
 
-/// Returns how many growths were refused, up to the first that isn't reached; none if one was refused and a lack of memory isn't the outcome, or
-/// if no program is given in the end.
+/// Returns the number of refused growths, up to the first that isn't reached. Returns `None` if a refused growth doesn't end in a lack of memory,
+/// or if there is no program in the end.
 fn refused(alloc: Global, text: &str) -> Option<u64> {
     let heap = Refusing::new(alloc);
     for nth in 1..=u64::MAX {
