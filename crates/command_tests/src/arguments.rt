@@ -1,12 +1,12 @@
-//! Arguments that ask for nothing: usage faults, and calls for help.
+//! Arguments that don't form a request: usage errors and calls for help.
 use super::cases::Case;
 use command_line::{ArgumentsFault, Invocation, read_arguments};
 use fixtures::{Device, bytes, cell, table, taken, writer};
 use std::alloc::{AllocError, Global};
 use std::test::Fail;
 
-// The command line, how the text for the user begins, and what it has somewhere in it: the program's name in a usage
-// line, its version, an example of each command.
+// The command line, the start of the text for the user, and a part of that text: the program's name in a usage line, its version, or an example
+// of each command.
 const TEXTS: &str = r#"
 extractd; error: 'extractd' requires a subcommand
 extractd run; error:
@@ -129,7 +129,7 @@ extractd asm --help;; extractd asm --source street.s > street.bpf
 extractd dis --help;; extractd dis --program street.bpf
 "#;
 
-/// Tells whether the text for the user is as a row says, and nothing is opened: the arguments come first.
+/// Returns whether the text for the user is as the row says, and nothing is opened, since the arguments are read first.
 fn is_usage(alloc: Global, row: &str) -> Result<bool, AllocError> {
     let case = Case::new(alloc, row)?;
     let ending = case.ended(alloc, None, case.faults())?;
@@ -146,7 +146,7 @@ fn usage(rt: HostRuntime) -> Result<(), Fail> {
     Ok(())
 }
 
-// The arguments of `serve`, and the port and how many counties are asked for, or the status and the text of the fault.
+// The arguments of `serve`; then the requested port and number of counties, or the status and text of the fault.
 const SERVES: &str = r#"
 serve --data d --port 8080 01001; 8080; 1
 serve --data d --port 1 01001 01003 01001; 1; 3
@@ -158,7 +158,7 @@ serve --data d --port http 01001; 2; error: --port is 1 to 65535, and "http" isn
 serve --data d --port 8080 0100; 2; error: CODE is five digits, and "0100" isn't\n
 "#;
 
-/// Tells whether the arguments of a row ask for what it says.
+/// Returns whether the arguments of a row request what the row says.
 fn is_serve(alloc: Global, row: &str) -> Result<bool, AllocError> {
     let words: Vec<&str> = cell(row, 0).split_whitespace().collect(alloc)?;
     let text = bytes(alloc, cell(row, 2))?;
@@ -174,10 +174,10 @@ fn is_serve(alloc: Global, row: &str) -> Result<bool, AllocError> {
     })
 }
 
-// How standard error fails.
+// The ways in which standard error fails.
 const WAYS: &str = "pipe, interrupted, full, nothing, by 1 pipe, by 1 interrupted, by 1 nothing";
 
-/// Tells whether a fault's text is said up to where standard error fails.
+/// Returns whether a fault's text is written up to the point at which standard error fails.
 fn is_said(alloc: Global, fault: &ArgumentsFault<'_>, text: &[u8]) -> bool {
     for way in WAYS.split(", ") {
         for count in 0..=text.len() {

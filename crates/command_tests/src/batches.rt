@@ -1,7 +1,7 @@
-//! Rows of the command `geocode-batch`. Places are those of `geocodes`, in decimal degrees: house 151 is 50 of 98 parts of the way on the line
-//! of each street.
+//! Rows for the command `geocode-batch`. Places are those of `geocodes`, in decimal degrees: house 151 is 50/98 of the way along each street's
+//! line.
 
-/// Words that stand in rows for the first line of output, and for the cells that are empty in the line of an address without a match.
+/// Abbreviations in rows: the first line of output, and the empty cells in the line of an address without a match.
 pub const WORDS: [(&str, &str); 2] = [
     (
         "HEADER",

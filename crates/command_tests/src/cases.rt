@@ -1,4 +1,4 @@
-//! Commands on files in memory, as rows of tables.
+//! Commands over files in memory, as rows of tables.
 use super::files::{Access, MemoryFile, MemoryFiles};
 use super::requests::answer;
 use arrayvec::ArrayString;
@@ -6,10 +6,10 @@ use command_line::command;
 use fixtures::{Device, Refusing, Writer, bytes, cell, taken, writer};
 use std::alloc::{AllocError, Global};
 
-/// A row: a command line; what it writes; the status; what is said; and then the files, with names. No other is there.
+/// A row: a command line, the output, the status, the text on standard error, and then the files with their names. No other file exists.
 ///
-/// After `>` are the names that the command opens, in this order, if they are given. After `!` is how the output or a
-/// file fails, as `Device` has it, or `closed` and the fault of a file that can't be opened.
+/// After `>` come the names that the command opens, in order, if they are given. After `!` comes the way in which the output or a file fails: a
+/// `Device`'s text, or `closed` and the fault of a file that can't be opened.
 #[derive(Drop)]
 pub struct Case<'a> {
     pub row: &'a str,
@@ -18,11 +18,10 @@ pub struct Case<'a> {
     pub files: Vec<MemoryFile<'a>>,
 }
 
-// Makes words of a command line, with a separator of units between them: in a word `_` is a blank and `~` an underscore,
-// and `''` is an empty one.
+// Splits a command line into words with the unit separator. In a word, `_` is a blank and `~` an underscore, and `''` is an empty word.
 const SEPARATORS: [(&str, &str); 4] = [("''", ""), (" ", "\x1f"), ("_", " "), ("~", "_")];
 
-/// How the access to the file of a name, the output and standard error fail, if they do.
+/// The ways in which the named file, the output and standard error fail, if they do.
 #[derive(Clone, Copy)]
 pub struct Faults<'a> {
     pub name: &'a str,
@@ -37,7 +36,7 @@ pub struct Ending {
     pub status: u8,
     pub out: Writer,
     pub errors: Writer,
-    /// The names that were to be opened, with a blank after each.
+    /// The names that were requested to be opened, each followed by a blank.
     pub opened: ArrayString<128>,
 }
 
@@ -55,7 +54,7 @@ impl<'a> Case<'a> {
         })
     }
 
-    /// The faults that the row itself has.
+    /// Returns the faults given in the row itself.
     pub fn faults(&self) -> Faults<'a> {
         let sound = Device::new("");
         Faults {
@@ -69,7 +68,7 @@ impl<'a> Case<'a> {
         }
     }
 
-    /// Ends the command: by a request in this memory, or by its command line if there is none.
+    /// Runs the command to its end: as a request in this memory, or as its command line if there is none.
     pub fn ended(
         &self,
         alloc: Global,
@@ -101,7 +100,7 @@ impl<'a> Case<'a> {
         })
     }
 
-    /// Tells whether an ending is as the row says.
+    /// Returns whether an ending is as the row says.
     pub fn is_ended(&self, ending: &Ending) -> bool {
         let (_, names) = parts(cell(self.row, 0), '>');
         ending.is_with(cell(self.row, 2), &self.written)
@@ -111,21 +110,21 @@ impl<'a> Case<'a> {
 }
 
 impl Ending {
-    /// Tells whether the status is that of a cell, and these bytes are written, and flushed unless the status is 2.
+    /// Returns whether the status is that of a cell, these bytes are written, and they are flushed unless the status is 2.
     pub fn is_with(&self, status: &str, written: &[u8]) -> bool {
         Ok(self.status) == status.parse()
             && taken(&self.out) == written
             && (self.out.flushes() > 0) == (self.status != 2)
     }
 
-    /// The line on standard error, without its end.
+    /// Returns the line on standard error, without its end of line.
     pub fn said(&self) -> &str {
         let said = str::from_utf8(taken(&self.errors)).unwrap_or("");
         said.strip_suffix("\n").unwrap_or("")
     }
 }
 
-/// Puts texts in the places of words, one word after the other.
+/// Replaces each word in a template with its text, one word after the other.
 pub fn filled(alloc: Global, template: &str, texts: &[(&str, &str)]) -> Result<String, AllocError> {
     let mut filled = String::from_str(alloc, template)?;
     for (word, text) in texts {
@@ -134,13 +133,13 @@ pub fn filled(alloc: Global, template: &str, texts: &[(&str, &str)]) -> Result<S
     Ok(filled)
 }
 
-/// What stands in a cell before a sign and after it.
+/// Returns the parts of a cell before and after a sign.
 pub fn parts(cell: &str, sign: char) -> (&str, &str) {
     let (before, after) = cell.split_once(sign).unwrap_or((cell, ""));
     (before.trim(), after.trim())
 }
 
-/// The files that the cells of a row describe from the fifth on.
+/// Returns the files that a row describes, from its fifth cell on.
 fn files_of(alloc: Global, row: &str) -> Result<Vec<MemoryFile<'_>>, AllocError> {
     let mut files = Vec::new(alloc);
     for cell in row.split(';').skip(4) {

@@ -24,8 +24,7 @@ extractd asm --source p.s;; 3; error: p.s: not UTF-8; p.s: \x3b \xc3\nfrob\n
 extractd asm --source p.s; {asm exit}; 0;; p.s: \x3b \xc3\xa4\nexit\n
 ";
 
-// The examples of docs/program-text.md; the one with a label is above. The bytes are LLVM's, where its assembler has
-// the instruction.
+// The examples in docs/program-text.md; the one with a label is above. The bytes are those of LLVM's assembler if it has the instruction.
 pub const DOCUMENTED: &str = r"
 extractd asm --source p.s; {asm hex 7110370000000000 07000000b8ffffff 9500000000000000}; 0;;
   p.s: \x3b every segment that isn't hydrography\nldxb r0, [r1+55] \x3b the first letter of its class\nadd r0, -72

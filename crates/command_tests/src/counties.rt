@@ -1,4 +1,4 @@
-//! Rows of the commands `run` and `trace` over a county's four files.
+//! Rows for the commands `run` and `trace` over a county's four files.
 
 pub const COUNTIES: &str = r"
 extractd run --program p.bpf --data d 01001; 3\t{rt1}\n; 0;; p.bpf: {asm call 4 | mov r1, r0 | call 8 | mov r0, 1
@@ -66,7 +66,7 @@ extractd trace --line 1 --limit 1 --program p.bpf --data d 01001;; 3; refused 5 
   d/TGR01001.RT1: {rt1}\n ! call 1 pipe
 ";
 
-// The names of the files in the order in which they are opened.
+// The names of the files, in the order in which they are opened.
 pub const OPENINGS: &str = r"
 extractd run --program p.bpf --data d 01001 > p.bpf d/TGR01001.RT1 d/TGR01001.RT4 d/TGR01001.RT5 d/TGR01001.RT6;
   0\t{rt1}\n; 0;; p.bpf: {every}; d/TGR01001.RT1: {rt1}\n

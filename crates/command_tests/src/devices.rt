@@ -1,5 +1,5 @@
-//! Rows of files that fail, and of programs of about as many words as there may be. A read of a program or a source
-//! takes 4,096 bytes, one of a type 1 file a byte.
+//! Rows with files that fail, and with programs close to the word limit. A read of a program or a source takes 4,096 bytes, and a read of a type
+//! 1 file takes one.
 
 pub const CASES: &str = r"
 extractd run --program p.bpf --data d 01001;; 3; error: p.bpf: not found; d/TGR01001.RT1: {rt1}\n
@@ -17,7 +17,7 @@ extractd run --program p.bpf --data d 01001;; 1; refused 1 rt1 line 1 WrongLengt
   d/TGR01001.RT1: 1000\n ! call 6 pipe
 ";
 
-/// Programs of about as many words as there may be.
+/// Programs close to the word limit.
 pub const LONG: &str = r"
 extractd asm --source p.s; {asm exit *65536}; 0;; p.s: {exit\n*65536}
 extractd asm --source p.s;; 1; refused 26 line 65537 CodeFault(12); p.s: {exit\n*65537}

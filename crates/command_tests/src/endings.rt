@@ -1,4 +1,4 @@
-//! How commands end on files: the tables of these rows.
+//! How commands end, given files: the tests of the tables of rows.
 use super::batches::{BATCHES, WORDS};
 use super::cases::{Case, filled};
 use super::conversions::{DOCUMENTED, PROGRAMS, SOURCES};
@@ -12,7 +12,7 @@ use fixtures::table;
 use std::alloc::{AllocError, Global};
 use std::test::Fail;
 
-/// Tells whether the command of a row ends as it says.
+/// Returns whether the command of a row ends as the row says.
 pub fn is_right(alloc: Global, row: &str) -> Result<bool, AllocError> {
     let case = Case::new(alloc, row)?;
     let ending = case.ended(alloc, None, case.faults())?;

@@ -14,14 +14,14 @@ pub struct MemoryFile<'a> {
     pub access: Access,
 }
 
-/// How a file's reader fails, or its open where it is closed.
+/// How a file's reader fails, or its open if it is closed.
 #[derive(Clone, Copy)]
 pub struct Access {
     pub device: Device,
     pub is_closed: bool,
 }
 
-/// Files in memory, of different names, one of which may be accessed in another way. No other is there.
+/// Files in memory with distinct names, one of which may be given another access. No other file exists.
 #[derive(Drop)]
 pub struct MemoryFiles<'a> {
     pub files: &'a [MemoryFile<'a>],
@@ -29,7 +29,7 @@ pub struct MemoryFiles<'a> {
     pub access: Access,
     pub failed_opens: u64,
     pub failed_reads: u64,
-    /// The names that were to be opened, with a blank after each.
+    /// The names that were requested to be opened, each followed by a blank.
     pub opened: ArrayString<128>,
 }
 

@@ -1,4 +1,4 @@
-//! Rows of the commands `compile` and `select`. The programs of filters are laid out by hand.
+//! Rows for the commands `compile` and `select`. The filters' programs are written by hand.
 
 pub const FILTERS: &str = r"
 extractd compile --filter f.cql > f.cql; {asm mov r6, r1 | ldxb r0, [r6+55] | jne r0, 65, +4 | ldxb r0, [r6+56] |

@@ -1,5 +1,4 @@
-//! Rows of the command `geocode`. Places are worked by hand: on the line of Main Street house 151 is 50 of 98 parts of
-//! the way.
+//! Rows for the command `geocode`. Places are worked out by hand: house 151 is 50/98 of the way along Main Street's line.
 
 pub const GEOCODES: &str = r"
 extractd geocode --data d --number 151 --name main --zip 36067 01001; 123456789\tL\t-86494898\t32405102\n; 0;;

@@ -1,4 +1,4 @@
-//! Tests of the command line, over files in memory. Expected rows, lines and statuses were worked by hand.
+//! Tests of the command line, over files in memory. Expected rows, lines and statuses were worked out by hand.
 #![tactic(auto)]
 
 #[cfg(test)]

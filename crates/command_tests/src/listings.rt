@@ -1,4 +1,4 @@
-//! Rows of the command `explain`. The listings are worked out by hand.
+//! Rows for the command `explain`. The listings are worked out by hand.
 
 pub const LISTINGS: &str = r"
 extractd explain --program p.bpf; 0: mov r0, 0                            \x3b r1 = record + 0, r10 = frame + 512\n1:

@@ -1,12 +1,12 @@
-//! Each read and each growth of a program and of another file fails in turn: no read is tried again.
+//! Injects a failure into each read and refuses each growth while a program or another file is read: no read is retried.
 use bpf_insn::CodeFault;
 use commands::{FileFault, ProgramInputFault, read_program, read_to_end};
 use fixtures::{Device, Refusing, bytes, cell, reader};
 use std::alloc::Global;
 use std::test::Fail;
 
-// How a file is read, how many bytes it has, what comes of it, how many reads there are, one of which finds the end, and
-// how many growths, or `+` for some. A program that is longer than 65,536 words is read to its end and refused.
+// How a file is read, its size in bytes, the outcome, the number of reads, including the one that finds the end, and the number of growths, or
+// `+` for at least one. A program longer than 65,536 words is read to its end and refused.
 const FILES: &str = "\
 program; 0; kept; 1; 1
 program; 7; kept; 2; 1
@@ -24,15 +24,15 @@ file; 4096; kept; 2; +
 file; 4097; kept; 3; +
 file; 100001; kept; 26; +";
 
-// More bytes than any file has, in lines that no read ends with.
+// More bytes than any of the files has, in lines that don't end at the end of a read.
 const BYTES: &str = r"{0123456789\n*60000}";
 
 const WAYS: &str = "pipe, interrupted, blocked, late";
 
-// Where there are more reads, only so many of the last ones fail.
+// If there are more reads, only this number of the last ones fail.
 const MOST_READS: u64 = 10;
 
-/// What comes of reading a file by such a device: `kept`, if all of its bytes are, or why they aren't.
+/// Returns the outcome of reading a file from this device: `kept` if all of its bytes were kept, and otherwise the reason.
 fn outcome(heap: &Refusing<Global>, row: &str, bytes: &[u8], device: Device) -> &'static str {
     let mut input = reader(bytes, device);
     let read = match cell(row, 0) {
@@ -53,7 +53,7 @@ fn outcome(heap: &Refusing<Global>, row: &str, bytes: &[u8], device: Device) -> 
     }
 }
 
-/// Tells whether each read fails in turn in each way, and one more changes nothing.
+/// Returns whether the reading ends as it should when any one read fails in any way, and as the row says when no read fails.
 fn are_reads(alloc: Global, row: &str, bytes: &[u8]) -> bool {
     let heap = Refusing::new(alloc);
     let reads: u64 = cell(row, 3).parse().unwrap_or(0);
@@ -73,7 +73,7 @@ fn are_reads(alloc: Global, row: &str, bytes: &[u8]) -> bool {
     reads > 0
 }
 
-/// Tells whether a row's number of growths are refused in turn.
+/// Returns whether the row's number of growths is refused, one at a time.
 fn are_growths(alloc: Global, row: &str, bytes: &[u8]) -> bool {
     let (heap, sound) = (Refusing::new(alloc), Device::new(""));
     let is_right = outcome(&heap, row, bytes, sound) == cell(row, 2);

@@ -1,4 +1,4 @@
-//! Requests of commands on files, made without a command line.
+//! Requests over files, made without a command line.
 use super::files::MemoryFiles;
 use commands::{
     Assemble, Compile, Compiling, Disassemble, Explain, Geocode, GeocodeBatch, Request, Run,
@@ -8,7 +8,7 @@ use fixtures::{Refusing, Writer};
 use geocode::Query;
 use std::alloc::Global;
 
-/// The request that the words of a command ask for, in this order.
+/// Returns the request that the words of a command line make, in this order.
 fn request_of<'a>(alloc: Global, words: &[&'a str]) -> Option<Request<'a>> {
     match words {
         ["run", "--program", program, "--data", data, code] => {
@@ -86,7 +86,7 @@ fn request_of<'a>(alloc: Global, words: &[&'a str]) -> Option<Request<'a>> {
     }
 }
 
-/// The same of the commands that take a filter.
+/// Returns the request of a command that takes a filter.
 fn filter_request_of<'a>(alloc: Global, words: &[&'a str]) -> Option<Request<'a>> {
     match words {
         ["compile", "--filter", filter] => Some(Request::Compile(Compile {
@@ -105,7 +105,7 @@ fn filter_request_of<'a>(alloc: Global, words: &[&'a str]) -> Option<Request<'a>
     }
 }
 
-/// Without a score.
+/// Returns the options for compiling without a score.
 fn compiling(alloc: Global) -> Compiling {
     Compiling {
         score: None,
@@ -113,10 +113,10 @@ fn compiling(alloc: Global) -> Compiling {
     }
 }
 
-// The status where words ask for nothing, which no request has.
+// The status for words that form no request. No request returns it.
 const NO_REQUEST: u8 = u8::MAX;
 
-/// Answers the request of words in this memory.
+/// Carries out the request of these words in this memory, and returns the status.
 pub fn answer(
     alloc: Global,
     heap: &Refusing<Global>,

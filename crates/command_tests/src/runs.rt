@@ -1,4 +1,4 @@
-//! Rows of the command `run` over type 1 files, and one of `trace`.
+//! Rows for the command `run` over type 1 files, and one for `trace`.
 
 pub const FILES: &str = r"
 extractd run --program p.bpf --data d 01001; 0\t{rt1}\n0\t{rt1}\n; 0;; p.bpf: {every}; d/TGR01001.RT1: {rt1}\n{rt1}\n

@@ -1,4 +1,4 @@
-//! Each growth of requests, and each open, read, write and flush of requests and of command lines, fails in turn.
+//! Refuses each growth of requests, and injects a failure into each open, read, write and flush of requests and of command lines.
 use super::batches::WORDS;
 use super::cases::{Case, Ending, Faults, filled, parts};
 use super::files::Access;
@@ -6,8 +6,8 @@ use fixtures::{Device, Refusing, cell, table, taken};
 use std::alloc::{AllocError, Global};
 use std::test::Fail;
 
-// Rows as `Case` has them. After `reads` stands how many reads there are of a file that isn't read to its end. Each
-// line of type 1 that `run` takes gives a row.
+// Rows in the form of `Case`. After `reads` comes the number of reads of a file that isn't read to its end. Each type 1 line that `run` reads
+// yields a row.
 const REQUESTS: &str = r"
 extractd run --program p.bpf --data d 01001; 0\t{rt1}\n0\t{rt1}\n; 0;; p.bpf: {every}; d/TGR01001.RT1: {rt1\n*2}
 extractd run --program p.bpf --data d 01001;; 0;; p.bpf: {every}; d/TGR01001.RT1:
@@ -82,7 +82,7 @@ extractd verify --program p.bpf; accepted\n ! call 2 full; 3; error: the output 
   p.bpf: {every}
 ";
 
-// Command lines that ask for nothing.
+// Command lines that don't form a request.
 const ARGUMENTS: &str = r#"
 extractd run --program p.bpf --data d 0100;; 2; error: CODE is five digits, and "0100" isn't
 extractd trace --program p.bpf --data d --line 1a --limit 1 01001;; 2; error: --line is 1 to 19 digits, and "1a" isn't
@@ -93,8 +93,8 @@ extractd run --program p.bpf 01001;; 2; error: the following required arguments 
 extractd --version;; 2; extractd 0.1.0
 "#;
 
-// How an open or a read of a file fails, the status, what is said, and, where not each call fails so, how many calls
-// there are from one that fails to the next.
+// How an open or a read of a file fails, the status, and the text on standard error. If not every call fails like this, the last cell is the
+// distance from one failing call to the next.
 const INPUTS: &str = "\
 open; closed denied; 3; error: FILE: permission denied
 open; closed other; 3; error: FILE: too many links
@@ -107,10 +107,10 @@ read; late; 3; error: FILE: timed out; 10";
 // How a refused growth ends.
 const GROWTH: &str = "growth;; 4; refused memory";
 
-// What is said of a read of a county's file that fails.
+// The text on standard error for a failed read of a county's file.
 const UNREAD: &str = "refused 5 rtTYPE line LINE Read";
 
-// The same of a write, which fails after so many bytes, of a flush, which fails after all, and of standard error.
+// The same for a write that fails after some bytes, for a flush that fails after all of them, and for standard error.
 const OUTPUTS: &str = "\
 write; interrupted; 3; refused 60 Write
 write; pipe; 3; refused 60 Write; 10
@@ -134,7 +134,7 @@ word; by 1 interrupted;;; 10
 word; by 1 full;;; 10
 word; by 1 nothing;;; 10";
 
-// The same of command lines, which make the same requests.
+// The same for command lines, which make the same requests.
 const LINE_INPUTS: &str = "\
 open; closed denied; 3; error: FILE: permission denied
 read; interrupted; 3; error: FILE: operation interrupted";
@@ -144,23 +144,23 @@ write; by 1 interrupted; 3; refused 60 Write
 flush; by 1 interrupted; 3; error: the output can't be written: operation interrupted
 word; by 1 interrupted";
 
-// No write fails of a request that writes more bytes: they are handed over in one write, as fewer are.
+// Writes of requests that write more bytes don't fail: those bytes are passed on in one write, as fewer bytes are.
 const MOST_WRITTEN: usize = 1000;
 
-/// Calls of a row's request that fail in turn, in one way.
+/// Calls of a row's request that fail one at a time, in one way.
 #[derive(Clone, Copy)]
 struct Trial<'a, 'b, 'c> {
     case: &'a Case<'c>,
-    /// The memory of the request, which is made by its command line if there is none.
+    /// The memory of the request, or `None` for the command line.
     heap: Option<&'b Refusing<Global>>,
     /// A row of a table above.
     way: &'static str,
-    /// The place of the file that fails.
+    /// The index of the file that fails.
     file: usize,
 }
 
 impl<'c> Trial<'_, '_, 'c> {
-    /// The faults with which the call at this place fails, counted from 0.
+    /// Returns the faults with which the call at this index fails, counted from 0.
     fn faults(&self, place: usize) -> Faults<'c> {
         let device = Device::new(cell(self.way, 1));
         let faults = self.case.faults();
@@ -191,7 +191,7 @@ impl<'c> Trial<'_, '_, 'c> {
         }
     }
 
-    /// The name of the file that fails.
+    /// Returns the name of the file that fails.
     fn name(&self) -> &'c str {
         match self.case.files.get(self.file) {
             Some(file) => file.name,
@@ -199,7 +199,7 @@ impl<'c> Trial<'_, '_, 'c> {
         }
     }
 
-    /// How many such calls there are, if they are to fail.
+    /// Returns the number of such calls, or `None` if they aren't made to fail.
     fn calls(&self) -> Option<usize> {
         let row = self.case.row;
         let length = self.case.written.len();
@@ -214,8 +214,8 @@ impl<'c> Trial<'_, '_, 'c> {
         }
     }
 
-    /// How many reads there are of the file, unless it fails anyway: a program and a source are read in pieces of 4,096
-    /// bytes, a county's file byte by byte, and one read more finds the end.
+    /// Returns the number of reads of the file, or `None` if the file fails anyway. A program or a source is read in pieces of 4,096 bytes, a
+    /// county's file byte by byte, and one more read finds the end.
     fn reads(&self) -> Option<usize> {
         let file = self.case.files.get(self.file)?;
         let length = file.bytes.len();
@@ -228,7 +228,7 @@ impl<'c> Trial<'_, '_, 'c> {
         }
     }
 
-    /// Tells whether an ending is that of the failed call at this place.
+    /// Returns whether an ending is that of the failed call at this index.
     fn is_failure(&self, alloc: Global, ending: &Ending, place: usize) -> bool {
         let (row, written) = (self.case.row, self.case.written.as_slice());
         let is_refused = self.is_said(ending, cell(self.way, 3));
@@ -245,8 +245,8 @@ impl<'c> Trial<'_, '_, 'c> {
         }
     }
 
-    /// Tells whether an ending is that of a file that can't be used: nothing is written, but of an extract the rows of
-    /// the lines before.
+    /// Returns whether an ending is that of a file that can't be used: nothing is written, except that an extract has the rows of the lines
+    /// before.
     fn is_unusable(
         &self,
         alloc: Global,
@@ -267,7 +267,7 @@ impl<'c> Trial<'_, '_, 'c> {
         )
     }
 
-    /// Tells whether the status is that of the way, and nothing is written, but of an extract whole rows, and of a batch whole lines if an
+    /// Returns whether the status is that of the way, and nothing is written, except whole rows of an extract, or whole lines of a batch if an
     /// allocation failed.
     fn is_with_rows(&self, ending: &Ending) -> bool {
         let written = taken(&ending.out);
@@ -276,7 +276,7 @@ impl<'c> Trial<'_, '_, 'c> {
             && (written.is_empty() || (self.is_extract() || self.is_batch()) && are_rows)
     }
 
-    /// Tells whether a text is said, with the county's code on a second line where one of several counties is refused.
+    /// Returns whether this text is on standard error, with the county's code on a second line if one of several counties is refused.
     fn is_said(&self, ending: &Ending, text: &str) -> bool {
         let said = ending.said();
         let is_county = self.is_select() && said.strip_suffix("\ncounty 01001") == Some(text);
@@ -287,7 +287,7 @@ impl<'c> Trial<'_, '_, 'c> {
         self.case.row.starts_with("extractd select ")
     }
 
-    /// Tells whether rows are written while the type 1 file is read.
+    /// Returns whether rows are written while the type 1 file is read.
     fn is_extract(&self) -> bool {
         self.is_select() || self.case.row.starts_with("extractd run ")
     }
@@ -296,7 +296,7 @@ impl<'c> Trial<'_, '_, 'c> {
         self.case.row.starts_with("extractd geocode-batch ")
     }
 
-    /// How many lines of a county's file there are before the read at this place.
+    /// Returns the number of lines in a county's file before the read at this index.
     fn lines_before(&self, place: usize) -> usize {
         match self.case.files.get(self.file) {
             Some(file) => line_count(file.bytes.get(..place).unwrap_or(b"")),
@@ -304,7 +304,7 @@ impl<'c> Trial<'_, '_, 'c> {
         }
     }
 
-    /// What is said of the file, after so many of whose lines a read fails.
+    /// Returns the text on standard error when a read of the file fails after this number of lines.
     fn refusal(&self, alloc: Global, lines: usize) -> Result<String, AllocError> {
         let name = self.name();
         if cell(self.way, 0) == "open" || !name.starts_with("d/") {
@@ -315,7 +315,7 @@ impl<'c> Trial<'_, '_, 'c> {
         filled(alloc, UNREAD, &[("TYPE", kind), ("LINE", line)])
     }
 
-    /// Tells whether the request ends as it has to where the call at this place fails, or at the end none does.
+    /// Returns whether the request ends as it should when the call at this index fails, or at `end`, when none does.
     fn is_right(&self, alloc: Global, place: usize, end: usize) -> bool {
         match self.case.ended(alloc, self.heap, self.faults(place)) {
             Ok(ending) if place < end => self.is_failure(alloc, &ending, place),
@@ -324,8 +324,7 @@ impl<'c> Trial<'_, '_, 'c> {
         }
     }
 
-    /// Counts the growths of the request, each of which was refused once. `None` where it ends otherwise than it has
-    /// to.
+    /// Returns the number of the request's growths, each of which was refused once. Returns `None` if the request doesn't end as it should.
     fn refused_growths(&self, alloc: Global, heap: &Refusing<Global>) -> Option<u64> {
         if !self.is_right(alloc, 0, 0) {
             return None;
@@ -340,7 +339,7 @@ impl<'c> Trial<'_, '_, 'c> {
         Some(growths)
     }
 
-    /// Tells whether this is so of the calls that the way says, and of their end.
+    /// Returns whether the request ends as it should for each of the way's failing calls, and without a failure.
     fn is_swept(&self, alloc: Global) -> bool {
         let Some(end) = self.calls() else {
             return true;
@@ -356,7 +355,7 @@ impl<'c> Trial<'_, '_, 'c> {
     }
 }
 
-/// The device whose call at this place fails, counted from 0.
+/// Returns the device whose call at this index fails, counted from 0.
 fn at_call(device: Device, place: usize) -> Device {
     device.at_call((place as u64).wrapping_add(1))
 }
@@ -369,7 +368,7 @@ fn line_count(bytes: &[u8]) -> usize {
     count
 }
 
-/// Tells whether calls of a row's request, or of its command line, fail as they have to in each of these ways.
+/// Returns whether a row's request, or its command line, ends as it should in each of these ways.
 fn is_swept(
     alloc: Global,
     row: &str,
@@ -382,7 +381,7 @@ fn is_swept(
     Ok(is_case_swept(alloc, &case, heap, ways))
 }
 
-/// Tells whether this is so of a case, and of each of its files.
+/// Returns whether a case ends as it should in each of these ways, for each of its files.
 fn is_case_swept(
     alloc: Global,
     case: &Case<'_>,
@@ -431,13 +430,12 @@ fn each_write_of_arguments(rt: HostRuntime) -> Result<(), Fail> {
     Ok(())
 }
 
-/// The rows of requests.
+/// Returns the rows of requests.
 fn requests(alloc: Global) -> Result<String, AllocError> {
     filled(alloc, &table(alloc, REQUESTS.trim())?, &WORDS)
 }
 
-/// Counts the growths of a row's request, each of which was refused once. `None` where it ends otherwise than it has
-/// to.
+/// Returns the number of growths of a row's request, each of which was refused once. Returns `None` if the request doesn't end as it should.
 fn refused_growths(alloc: Global, row: &str) -> Result<Option<u64>, AllocError> {
     let case = Case::new(alloc, row)?;
     let heap = Refusing::new(alloc);

@@ -1,12 +1,12 @@
-//! The commands `verify` and `run` on programs that are accepted, and on programs that are refused.
+//! The commands `verify` and `run` with programs that are accepted and programs that are refused.
 use super::cases::filled;
 use super::endings::is_right;
 use fixtures::{cell, table};
 use std::alloc::{AllocError, Global};
 use std::test::Fail;
 
-// The program, what is said of it, a type 1 file, and its rows. One or two programs for each sort of refusal, and what
-// each chooses that is accepted. A rule's other rows are in examples/verdicts.
+// The program, the text on standard error, a type 1 file, and its rows. There are one or two programs for each kind of refusal, and the rows
+// selected by each one that is accepted. A rule's other rows are in examples/verdicts.
 const PROGRAMS: &str = r"
 ; refused 10 Empty
 hex 95000000000000; refused 11 NotWhole
@@ -107,8 +107,8 @@ ldxb r2, [r1+55] | stxdw [r10-8], r1 | jeq r2, 65, +1 | stxdw [r10-8], r10 | ldx
 ldxb r2, [r1+55] | jne r2, 65, +0 *4000 | mov r0, 1 | exit;; {rt1}\n; 0\t{rt1}\n
 ";
 
-// The rows of the two commands. Of a refused program every read of the type 1 file and every write to the output fails,
-// so that none is made.
+// The rows for the two commands. With a refused program, every read of the type 1 file and every write to the output fails, so the test shows
+// that none is made.
 const ACCEPTED: &str = r"
 extractd verify --program p.bpf; accepted\n; 0;; p.bpf: {asm PROGRAM}
 extractd run --program p.bpf --data d 01001; ROWS; 0;; p.bpf: {asm PROGRAM}; d/TGR01001.RT1: LINES
@@ -119,7 +119,7 @@ extractd verify --program p.bpf; ! call 1 full; 1; SAID; p.bpf: {asm PROGRAM}
 extractd run --program p.bpf --data d 01001; ! call 1 full; 1; SAID; p.bpf: {asm PROGRAM}; d/TGR01001.RT1: ! call 1 pipe
 ";
 
-/// Tells whether both commands end as a row says.
+/// Returns whether both commands end as a row says.
 fn is_verdict(alloc: Global, row: &str) -> Result<bool, AllocError> {
     let said = cell(row, 1);
     let texts = [
