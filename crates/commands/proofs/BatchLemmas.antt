@@ -35,7 +35,7 @@ use Rattle.commands.proofs.FileLemmas.{unfailed_both}
 use Rattle.commands.proofs.PieceLemmas.{stopped_early, stopped_further, written_further}
 use Rattle.commands.proofs.ReadLemmas.{sound}
 
--- these addresses of a file were read, and the listing remains
+-- these addresses of a file were read, and this listing remains
 abbrev pub IsReadTo : List ℕ → List AddressParts → Listing → Type 0
 IsReadTo file rows left = addresses_in file ≡ Ok (with_addresses rows left)
 
@@ -80,7 +80,7 @@ header_told file Memory is = tt
 is_listing : {held : Result Listing AddressFault} {left : Listing} → held ≡ Ok left → (fault : AddressFault) → held ≢ Err fault
 is_listing are fault is = grind (arith, are, is)
 
--- these addresses of a file were read, the listing remains, and the output for the addresses read was written
+-- these addresses of a file were read, this listing remains, and the output for the addresses read was written
 pub record IsWrittenTo (output : List AddressParts → List ℕ) (file : List ℕ) (left : Listing) (out out' : Writer) : Type 0 where
   pub rows : List AddressParts
   pub read : IsReadTo file rows left

@@ -45,7 +45,7 @@ module _ {request : Request} {disk disk' : Disk} {out out' : Writer} where
     unflushed = unflushed;
   }
 
-  -- the request's text was written, completely or up to a fault
+  -- the request's text was written, completely or until the output failed
   pub written_carried : (text : List ℕ) (result : Result (Unit {0}) Failure) → WritesAs text result out out' → IsUnfailed disk disk'
       → ((outcome : Result (Unit {0}) WriteFault) → WritesText text outcome out out' → Writes request disk.known outcome out out')
       → CarriesOut request result disk disk' out out'

@@ -12,8 +12,8 @@ use Rattle.tl_fields.specs.Writing.{WritesText}
 use Rattle.tl_fields.specs.declared.writing.WriteFault.{WriteFault}
 use Rattle.commands.specs.declared.assemble.Assemble.{Assemble}
 
--- The source, whose bytes agree with what is known of them, is UTF-8 and assembles to a code. The code's words were written, completely or up to
--- the output's fault.
+-- The source, whose bytes agree with what is known of them, is UTF-8 and assembles to a code. The code's words were written, completely or until
+-- the output failed.
 pub record Writes (assemble : Assemble) (known : List ℕ → Option (List ℕ)) (result : Result (Unit {0}) WriteFault)
     (out out' : Writer) : Type 0 where
   pub source : List ℕ

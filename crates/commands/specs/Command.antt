@@ -27,7 +27,7 @@ use Rattle.commands.specs.declared.request.Request.TheVariants.{Run, Trace, Geoc
 use Rattle.commands.specs.declared.failure.Failure.{Failure}
 use Rattle.commands.specs.declared.failure.Failure.TheVariants.{Refusal, Memory, Write, File, CountyFile, NotUtf8, NoLine, Filter, County, Output}
 
--- the request's output was written, completely or up to the output's fault
+-- the request's output was written, completely or until the output failed
 abbrev pub Writes : Request → (List ℕ → Option (List ℕ)) → Result (Unit {0}) WriteFault → Writer → Writer → Type 0
 Writes (Run asked) known result out out' = run.Writes asked known result out out'
 Writes (Trace asked) known result out out' = trace.Writes asked known result out out'
@@ -110,7 +110,7 @@ IsFileOf (Disassemble asked) name = name ≡ asked.program.now
 IsFileOf (Compile asked) name = name ≡ asked.filter.now
 IsFileOf (Select asked) name = IsFileOfCounties asked.«data».now (select.codes_of asked) name
 
--- The outcome of a request. Its output was written, completely or up to the output's fault. Or a library refuses it; if the status is 3, a read
+-- The outcome of a request. Its output was written, completely or until the output failed. Or a library refuses it; if the status is 3, a read
 -- failed. Or a file can't be used. Or memory ran out or the requested line doesn't exist, and nothing was written. The output isn't flushed.
 abbrev pub IsCarriedOut : Request → Result (Unit {0}) Failure → Disk → Disk → Writer → Writer → Type 0
 IsCarriedOut request (Ok done) disk disk' out out' = Writes request disk.known (Ok done) out out'

@@ -8,8 +8,8 @@ use Rattle.tl_fields.specs.declared.writing.WriteFault.{WriteFault}
 use Rattle.commands.specs.Filter.{IsFilterRefusal, IsProgramOf}
 use Rattle.commands.specs.declared.compile.Compile.{Compile}
 
--- The filter's text, whose bytes agree with what is known of them, compiles to a program. The program's words were written, completely or up to
--- the output's fault.
+-- The filter's text, whose bytes agree with what is known of them, compiles to a program. The program's words were written, completely or until
+-- the output failed.
 pub record Writes (compile : Compile) (known : List ℕ → Option (List ℕ)) (result : Result (Unit {0}) WriteFault)
     (out out' : Writer) : Type 0 where
   pub text : List ℕ

@@ -12,7 +12,7 @@ use Rattle.tl_fields.specs.Writing.{WritesText}
 use Rattle.tl_fields.specs.declared.writing.WriteFault.{WriteFault}
 use Rattle.commands.specs.declared.disassemble.Disassemble.{Disassemble}
 
--- The program, whose bytes agree with what is known of them, has a code. The code's text was written, completely or up to the output's fault.
+-- The program, whose bytes agree with what is known of them, has a code. The code's text was written, completely or until the output failed.
 pub record Writes (disassemble : Disassemble) (known : List ℕ → Option (List ℕ)) (result : Result (Unit {0}) WriteFault)
     (out out' : Writer) : Type 0 where
   pub program : List ℕ

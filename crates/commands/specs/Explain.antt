@@ -67,7 +67,7 @@ pub record Inputs (explain : Explain) (known : List ℕ → Option (List ℕ)) :
   pub lines : List SourceLine
   pub are_lines : lines_in file ≡ Ok lines
 
--- The explanation of the verdict was written, completely or up to the output's fault. If it was written completely, the program is accepted.
+-- The explanation of the verdict was written, completely or until the output failed. If it was written completely, the program is accepted.
 pub record Writes (explain : Explain) (known : List ℕ → Option (List ℕ)) (result : Result (Unit {0}) WriteFault)
     (out out' : Writer) : Type 0 where
   pub inputs : Inputs explain known

@@ -104,15 +104,15 @@ SaysText text errors errors' = (written : Result (Unit {0}) WriteFault) × Write
 abbrev pub SaysLine : List ℕ → Writer → Writer → Type 0
 SaysLine text errors errors' = SaysText (text ++ 10 ∷ []) errors errors'
 
--- the errors report that memory ran out
+-- the report that memory ran out was written
 abbrev pub SaysMemory : Writer → Writer → Type 0
 SaysMemory errors errors' = SaysLine (line memory) errors errors'
 
--- the errors report why the file of this name can't be used
+-- the reason why the file of this name can't be used was reported
 abbrev pub SaysFile : List ℕ → Writer → Writer → Type 0
 SaysFile name errors errors' = (reason : List ℕ) × SaysText (codes "error: " ++ name ++ codes ": " ++ reason ++ 10 ∷ []) errors errors'
 
--- the errors report why the output can't be written
+-- the reason why the output can't be written was reported
 abbrev pub SaysOutput : Writer → Writer → Type 0
 SaysOutput errors errors' = (reason : List ℕ) × SaysText (codes "error: the output can't be written: " ++ reason ++ 10 ∷ []) errors errors'
 
@@ -146,7 +146,7 @@ abbrev pub KeepsOnUsage : {T W : Type 0} → Result T Failure → W → W → Ty
 KeepsOnUsage (Ok value) out out' = ⊤
 KeepsOnUsage (Err failure) out out' = status failure ≡ 2 → out' ≡ out
 
--- the text was written, completely or up to the output's fault
+-- the text was written, completely or until the output failed
 abbrev pub WritesAs : List ℕ → Result (Unit {0}) Failure → Writer → Writer → Type 0
 WritesAs text (Ok done) out out' = WritesText text (Ok done) out out'
 WritesAs text (Err failure) out out' = (fault : WriteFault) × (failure ≡ Write fault) × WritesText text (Err fault) out out'

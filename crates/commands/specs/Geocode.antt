@@ -14,7 +14,7 @@ use Rattle.commands.specs.declared.geocoder.Geocode.{Geocode}
 abbrev pub codes_of : Geocode → List (List ℕ)
 codes_of geocode = map (λ code. code.now) geocode.codes.items
 
--- The lines of the hits in the requested counties were written, completely or up to the output's fault.
+-- The lines of the hits in the requested counties were written, completely or until the output failed.
 pub record Writes (geocode : Geocode) (known : List ℕ → Option (List ℕ)) (result : Result (Unit {0}) WriteFault)
     (out out' : Writer) : Type 0 where
   pub counties : List CountyParts

@@ -54,7 +54,7 @@ pub record Inputs (batch : GeocodeBatch) (known : List ℕ → Option (List ℕ)
 abbrev pub output : {batch : GeocodeBatch} {known : List ℕ → Option (List ℕ)} → Inputs batch known → List AddressParts → List ℕ
 output {batch} inputs addresses = lines_of_all (codes_of batch) inputs.counties addresses
 
--- The header and the lines of all addresses were written, completely or up to the output's fault.
+-- The header and the lines of all addresses were written, completely or until the output failed.
 pub record Writes (batch : GeocodeBatch) (known : List ℕ → Option (List ℕ)) (result : Result (Unit {0}) WriteFault)
     (out out' : Writer) : Type 0 where
   pub inputs : Inputs batch known
@@ -78,7 +78,7 @@ pub data IsRefused (batch : GeocodeBatch) (known : List ℕ → Option (List ℕ
       → out' ≡ out → IsRefused batch known refusal out out'
   of_memory : refusal ≡ memory → (out' ≡ out) ⊎ WritesFirst batch known out out' → IsRefused batch known refusal out out'
 
--- The text was written, completely or up to the output's fault. Or an allocation failed, after what `WritesBefore` describes was written.
+-- The text was written, completely or until the output failed. Or an allocation failed, after what `WritesBefore` describes was written.
 abbrev pub WritesUnlessMemory : List ℕ → (Writer → Writer → Type 0) → Result (Unit {0}) Failure → Writer → Writer → Type 0
 WritesUnlessMemory text WritesBefore (Ok done) out out' = WritesText text (Ok done) out out'
 WritesUnlessMemory text WritesBefore (Err (Write fault)) out out' = WritesText text (Err fault) out out'

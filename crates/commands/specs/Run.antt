@@ -19,7 +19,7 @@ pub record IsOutcomeOf (run : Run) (known : List ℕ → Option (List ℕ)) (res
   pub new : CountyReaders
   pub outcome : IsOutcome program result old new out out'
 
--- the extract was written, completely or up to the output's fault
+-- the extract was written, completely or until the output failed
 abbrev pub Writes : Run → (List ℕ → Option (List ℕ)) → Result (Unit {0}) WriteFault → Writer → Writer → Type 0
 Writes run known (Ok done) out out' = (rows : ℕ) × IsOutcomeOf run known (Ok rows) out out'
 Writes run known (Err fault) out out' = IsOutcomeOf run known (Err (extract.Write fault)) out out'

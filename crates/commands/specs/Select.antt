@@ -62,8 +62,8 @@ IsCountyRefusal over code refusal out out' =
     ((fault : ExtractFault) × (refusal ≡ extract_fault.refusal fault) × IsCountyOutcome over code (Err fault) out out')
     ⊎ ((refusal ≡ memory) × (out' ≡ out))
 
--- how one county's extract ends: it is written, completely or up to the output's fault; or it is refused; or a file of the county can't be
--- opened, and nothing is written
+-- how one county's extract ends: it is written, completely or until the output fails; or it is refused; or a file of the county can't be opened,
+-- and nothing is written
 abbrev pub SelectsCounty : Selecting → List ℕ → Result (Unit {0}) Failure → Writer → Writer → Type 0
 SelectsCounty over code (Ok done) out out' = WritesCounty over code out out'
 SelectsCounty over code (Err (Write fault)) out out' = IsCountyOutcome over code (Err (extract.Write fault)) out out'
@@ -82,7 +82,7 @@ SelectsCounties over codes (Err (CountyFile of_folder of_code file error)) out o
     StopsAt over codes out (λ code between. out' ≡ between)
 SelectsCounties over codes (Err failure) out out' = ⊥
 
--- a county is refused for a failed read only if a read failed, and its files can't be opened only if an open failed
+-- a refusal for a failed read means that a read failed, and a file that can't be opened means that an open failed
 abbrev pub FailsAs : Failure → Disk → Disk → Type 0
 FailsAs (County code refusal) disk disk' = refusal_status refusal ≡ 3 → disk'.failed_reads ≢ disk.failed_reads
 FailsAs (CountyFile folder code file error) disk disk' = disk'.failed_opens ≢ disk.failed_opens
@@ -93,7 +93,7 @@ abbrev pub SelectsSo : Select → (List ℕ → Option (List ℕ)) → (Selectin
 SelectsSo select known Selects = (program : List ℕ) × IsProgramOf select.filter.now select.compiling.score program
     × Selects (selecting known select.«data».now program)
 
--- the extracts of the counties were written in order, completely or up to the output's fault
+-- the extracts of the counties were written in order, completely or until the output failed
 abbrev pub Writes : Select → (List ℕ → Option (List ℕ)) → Result (Unit {0}) WriteFault → Writer → Writer → Type 0
 Writes select known (Ok done) out out' = SelectsSo select known (λ over. WritesCounties over out (codes_of select) out')
 Writes select known (Err fault) out out' = SelectsSo select known

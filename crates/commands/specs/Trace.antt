@@ -80,7 +80,7 @@ EndsAs trace program old new (Err failure) = ⊥
 abbrev pub HoldAsked : Trace → (List ℕ → Option (List ℕ)) → List ℕ → CountyReaders → Type 0
 HoldAsked trace known program readers = HoldInputs known trace.program.now trace.«data».now trace.code.now program readers
 
--- The outcome was written, completely or up to the output's fault.
+-- The outcome was written, completely or until the output failed.
 pub record Writes (trace : Trace) (known : List ℕ → Option (List ℕ)) (result : Result (Unit {0}) WriteFault)
     (out out' : Writer) : Type 0 where
   pub program : List ℕ

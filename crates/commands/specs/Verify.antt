@@ -15,7 +15,7 @@ use Rattle.commands.specs.declared.verify.Verify.{Verify}
 abbrev pub acceptance : List ℕ
 acceptance = codes "accepted" ++ 10 ∷ []
 
--- The program, whose bytes agree with what is known of them, is accepted. The acceptance was written, completely or up to the output's fault.
+-- The program, whose bytes agree with what is known of them, is accepted. The acceptance was written, completely or until the output failed.
 pub record Writes (verify : Verify) (known : List ℕ → Option (List ℕ)) (result : Result (Unit {0}) WriteFault)
     (out out' : Writer) : Type 0 where
   pub program : List ℕ

@@ -279,7 +279,7 @@ fn class_status(class: Class) -> u8
     }
 }
 
-/// Writes the text completely or up to the output's fault.
+/// Writes the text, completely or until the output fails.
 pub fn write<'a, W: CountedWrite>(out: &mut W, text: &[u8]) -> Result<(), Failure<'a>>
     ensures { WritesAs text.now result (writer W.contents W.counts out.old) (writer W.contents W.counts out.new) }
 {

@@ -25,7 +25,7 @@ pub struct GeocodeBatch<'a> {
     pub addresses: &'a str,
     /// The folder of the county files.
     pub data: &'a str,
-    /// The counties' codes: five digits each, the state's and then the county's in it.
+    /// The counties' codes, five digits each: the state, then the county within it.
     pub codes: Vec<&'a str>,
     /// The allocator for CSV records, which is part of their type.
     pub tables: Global,

@@ -20,7 +20,7 @@ pub struct Geocode<'a> {
     /// The folder of the county files.
     pub data: &'a str,
     pub query: Query<'a>,
-    /// The counties' codes: five digits each, the state's and then the county's in it.
+    /// The counties' codes, five digits each: the state, then the county within it.
     pub codes: Vec<&'a str>,
 }
 

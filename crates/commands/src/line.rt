@@ -5,8 +5,8 @@ ghost use Rattle.std.specs.Io.KnownBytes.{Appends};
 use std::fmt;
 use tl_fields::{CountedWrite, write_whole};
 
-/// A line for people, written piece by piece. A write that fails or takes no byte isn't retried, not even after `Interrupted`, as `write!` on a
-/// writer would, and nothing is written after it.
+/// A line for people, written piece by piece. A write that fails or takes no byte isn't retried, not even after `Interrupted`, unlike `write!` on
+/// a writer, and nothing is written after it.
 #[derive(Drop)]
 pub struct Line<'a, W> {
     out: &'a mut W,

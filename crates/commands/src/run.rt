@@ -20,7 +20,7 @@ pub struct Run<'a> {
     pub program: &'a str,
     /// The folder of the county files.
     pub data: &'a str,
-    /// The county's code: five digits, the state's and then the county's in it.
+    /// The county's code, five digits: the state, then the county within it.
     pub code: &'a str,
 }
 

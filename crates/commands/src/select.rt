@@ -24,7 +24,7 @@ pub struct Select<'a> {
     pub compiling: Compiling,
     /// The folder of the county files.
     pub data: &'a str,
-    /// The counties' codes: five digits each, the state's and then the county's in it.
+    /// The counties' codes, five digits each: the state, then the county within it.
     pub codes: Vec<&'a str>,
 }
 

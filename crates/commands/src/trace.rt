@@ -32,7 +32,7 @@ pub struct Trace<'a> {
     pub line: u64,
     /// The maximum number of steps.
     pub limit: u64,
-    /// The county's code: five digits, the state's and then the county's in it.
+    /// The county's code, five digits: the state, then the county within it.
     pub code: &'a str,
 }
 
