@@ -34,7 +34,7 @@ use commands::Request;
 pub use serve::Serve;
 use std::alloc::{AllocError, Global};
 
-/// What the arguments request.
+/// The invocation that the arguments request.
 #[derive(Drop)]
 pub enum Invocation<'a> {
     /// A command over files.

@@ -13,9 +13,9 @@ pub struct Serve<'a> {
     pub data: &'a str,
     /// The port, at least 1.
     pub port: u16,
-    /// The counties' codes: five digits each, the state's and then the county's in it.
+    /// The counties' codes, five digits each: the state, then the county within it.
     pub codes: Vec<&'a str>,
-    // A server takes at most this many.
+    // The maximum number of counties that a server takes.
     ghost few: { vec_len codes ≤ 100_000 },
 }
 
