@@ -34,7 +34,7 @@ abbrev pub IsPattern : Bool → List ℕ → List PatternByte → Bool → Type 
 IsPattern ignores_case spelling wanted true = ReadsPattern ignores_case spelling (37 ∷ []) wanted
 IsPattern ignores_case spelling wanted false = ReadsPattern ignores_case spelling [] wanted
 
--- two patterns match the same texts
+-- two patterns have the same bytes, and both are open or neither is
 pub record IsSamePattern {A : Type 0} (pattern other : Pattern A) : Type 0 where
   pub wanted : pattern.wanted.items ≡ other.wanted.items
   pub open_alike : pattern.is_open ≡ other.is_open

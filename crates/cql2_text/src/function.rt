@@ -22,7 +22,7 @@ use tl_segments::NAME_LENGTH;
 /// The default number of alternate names to check.
 const NAMES: u16 = 63;
 
-/// Takes a numericLiteral and returns the tokens after it.
+/// Reads a numericLiteral and returns it with the tokens after it.
 fn numeral<'a>(words: &'a [Token<'a>]) -> Result<(Numeral<'a>, &'a [Token<'a>]), SyntaxFault>
     ensures { MatchResult result (λ read. words.now ≡ token.Number read.0 ∷ read.1.now)
         (λ fault. (numeral : Numeral) (rest : List Token) → words.now ≢ token.Number numeral ∷ rest) }

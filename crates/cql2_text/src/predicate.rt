@@ -294,7 +294,7 @@ pub(crate) fn number<'a>(
 ) -> Result<(Literal, &'a [Token<'a>]), SyntaxFault>
     ensures ok { IfOk result (λ read. IsNumber column words.now read.1.now read.0) }
 
-    // A number that is out of the column's range is refused for its flaw.
+    // A number that the column can't hold is refused for its flaw.
     ensures refused { (numeral : Numeral) (rest : List Token) (flaw : FilterFlaw) → words.now ≡ token.Number numeral ∷ rest
         → number_of column numeral ≡ Err flaw → result ≡ Err (syntax_fault.At (length words.now) 0 flaw) }
     ensures reads { (rest : List Token) (literal : ALiteral) → IsNumber column words.now rest literal
