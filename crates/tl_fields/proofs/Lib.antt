@@ -1,4 +1,5 @@
 pub mod BufferLemmas
 pub mod ContentLemmas
+pub mod CopyLemmas
 pub mod KnownBytesLemmas
 pub mod NumberLemmas

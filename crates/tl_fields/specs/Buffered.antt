@@ -1,10 +1,16 @@
 -- The effect of one look at a reader's buffer on the content of a line.
-use Rattle.std.specs.Prelude.{◌≡◌, ◌≢◌, ℕ, ◌+◌, ◌<◌, ◌≤◌, List, [], ◌∷◌, ◌++◌, length, Option, Some, None, OnSome}
+use Rattle.std.specs.Prelude.{◌≡◌, ◌≢◌, ℕ, ◌+◌, ◌<◌, ◌≤◌, List, [], ◌∷◌, ◌++◌, length, take, Option, Some, None, OnSome}
 use Rattle.std.specs.Io.KnownBytes.{Consumes, IsAtEnd}
 use Rattle.tl_fields.specs.Content.{HasNoLineFeed}
 use Rattle.tl_fields.specs.Device.{Reader}
 use Rattle.tl_fields.specs.declared.content.Stop.{Stop}
 use Rattle.tl_fields.specs.declared.content.Stop.TheVariants.{LineFeed, EndOfInput, TooLong, ReadFailed}
+
+-- the buffer shows all of a line with this content, and the line feed that ends it
+pub record IsLineInFront (front content : List ℕ) : Type 0 where
+  pub shown : length content < length front
+  pub no_line_feed : HasNoLineFeed content
+  pub ends : take (length content + 1) front ≡ content ++ 10 ∷ []
 
 -- the content grows by a part that has no line feed
 abbrev pub GrowsBy : List ℕ → List ℕ → List ℕ → Type 0

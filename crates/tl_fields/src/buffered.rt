@@ -1,13 +1,14 @@
 //! A counting reader over a buffered one.
-ghost use Rattle.std.specs.Prelude.{◌≡◌, ◌≤◌, ◌+◌, ◌++◌, ◌∷◌, [], None, IfSome, OnSome, length, take};
+ghost use Rattle.std.specs.Prelude.{◌≡◌, ◌≤◌, ◌+◌, ◌++◌, ◌∷◌, [], None, IfSome, IsTrue, OnSome, length, take};
 ghost use Rattle.std.specs.Io.{ReadsAtMost};
 ghost use Rattle.std.specs.Io.KnownBytes.{ReadConsumes};
-ghost use Rattle.tl_fields.specs.Buffered.{IsFrontRead};
+ghost use Rattle.tl_fields.specs.Buffered.{IsFrontRead, IsLineInFront};
 ghost use Rattle.tl_fields.specs.Content.{AddsStop, IsContentRead};
 ghost use Rattle.tl_fields.specs.Counted.{AddsFailure, CountsFailure};
 
 use crate::content::{LINE_FEED, LONGEST_CONTENT, Stop};
 use crate::counted::{CountedRead, count_one};
+use crate::line_copy::{LANES, copy_if_no_line_feed};
 use arrayvec::ArrayVec;
 use memchr::memchr;
 use std::io;
@@ -77,6 +78,10 @@ impl<B: BufRead> Buffered<B> {
                 return Some(Stop::ReadFailed);
             }
         };
+        if copy_like_last(front, content, kept) {
+            self.reader.consume(content.len() + 1);
+            return Some(Stop::LineFeed);
+        }
         let room = LONGEST_CONTENT - kept;
         let shown = &front[..front.len().min(room + 1)];
         let Some(length) = memchr(LINE_FEED, shown) else {
@@ -182,6 +187,21 @@ impl<B: BufRead> CountedRead for Buffered<B> {
             kept = content.len();
         }
     }
+}
+
+/// Replaces the content with the line at the front of a buffer, if that has the same length and the buffer shows all of it, as it does for most
+/// records. Otherwise returns false, with any bytes after the kept ones.
+#[inline(always)]
+fn copy_like_last(front: &[u8], content: &mut ArrayVec<u8, LONGEST_CONTENT>, kept: usize) -> bool
+    ensures line { IsTrue result → IsLineInFront front.now content.new.items × (kept ≡ 0) }
+    ensures kept { take kept content.new.items ≡ take kept content.old.items }
+    ensures length { length content.new.items ≡ length content.old.items }
+{
+    let length = content.len();
+    if kept != 0 || length < LANES || length >= front.len() || front[length] != LINE_FEED {
+        return false;
+    }
+    copy_if_no_line_feed(&front[..length], content.as_mut_slice())
 }
 
 /// Replaces everything after the kept bytes. If the new line has the length of the old one, as records do, nothing is cleared.

@@ -6,6 +6,7 @@ mod content;
 mod counted;
 mod fields;
 mod fuse;
+mod line_copy;
 mod numbers;
 mod writing;
 
