@@ -1,15 +1,21 @@
 -- What follows from the digits of a field.
-use Rattle.std.proofs.Common.{◌≡◌, ℕ, Bool, ◌&&◌, ◌==◌, nat_le, ◌+◌, ◌-◌, ◌*◌, ◌^◌, ◌<◌, ◌≤◌, true, false, List, [], ◌∷◌, length, get_or}
+use Rattle.std.proofs.Common.{◌≡◌, ℕ, Bool, ◌&&◌, ◌==◌, nat_le, ◌+◌, ◌-◌, ◌*◌, ◌^◌, ◌<◌, ◌≤◌, true, false, List, [], ◌∷◌, ◌++◌, length, get_or, is_some, sym, ap, ◌∙◌, length-take-le}
 use Rattle.std.proofs.Common.{take, drop, reverse, if◌then◌else◌, Some, None, IfSome, refl, arith, rules}
 use Rattle.std.specs.List.{list_all}
 use Rattle.std.specs.Char.{is_ascii_digit, digit_value}
 use Rattle.std.specs.Str.Parse.{digits_value}
-use Rattle.std.proofs.lemmas.Bool.{le-leb, leb-true, and_parts}
+use Rattle.std.proofs.lemmas.Bool.{eq-eqb, le-leb, leb-true, and_parts}
 use Rattle.std.proofs.lemmas.Bool.Decides.{nat_tests}
 use Rattle.std.proofs.lemmas.Int.Digits.{digits_value_more}
-use Rattle.std.proofs.lemmas.List.Folds.{list_all_more}
+use Rattle.std.proofs.lemmas.List.Elements.{All-from_get_or}
+use Rattle.std.proofs.lemmas.List.Folds.{list_all-append, list_all_more}
+use Rattle.std.proofs.lemmas.List.Sums.{list_all-from_AllPass}
+use Rattle.std.proofs.lemmas.Simd.{get_or-chunk}
+use Rattle.std.proofs.Math.Seq.{take-add}
+use Rattle.std.specs.Simd.Lanes.{chunk}
+use mathlib.Core.List.{reverse-cons}
 use Rattle.std.proofs.lemmas.Str.Parse.{IsNumeralModel, numerals_by_value, digits_value_short}
-use Rattle.std.proofs.lemmas.List.{length-reverse, length-take}
+use Rattle.std.proofs.lemmas.List.{drop-drop, get_or-drop, get_or-take, length-drop, length-reverse, length-take, reverse-reverse}
 use Rattle.tl_fields.specs.Field.{field_of}
 use Rattle.tl_fields.specs.Number.{decimal_in, is_decimal, number_of, trim, without_blanks_before}
 
@@ -78,3 +84,64 @@ pub number_of_lt : (line : List ℕ) (first last n : ℕ) → number_of (field_o
 number_of_lt line first last n e =
     number_of-short (field_of line first last) (last + 1 - first) n
     (omega (arith, length-take (last + 1 - first) (drop (first - 1) line))) e
+
+-- blanks in front of bytes are taken off
+blanks_off : (bs ds : List ℕ) → list_all (λ b. b == 32) bs ≡ true → without_blanks_before (bs ++ ds) ≡ without_blanks_before ds
+blanks_off [] ds all = refl
+blanks_off (b ∷ bs) ds all =
+    let parts = and_parts (b == 32) (list_all (λ b. b == 32) bs) all in
+    rw (parts.0) (blanks_off bs ds parts.1)
+
+-- what all bytes pass, they pass in reverse order
+list_all-reverse : (p : ℕ → Bool) (ds : List ℕ) → list_all p ds ≡ true → list_all p (reverse ds) ≡ true
+list_all-reverse p [] all = refl
+list_all-reverse p (d ∷ ds) all =
+    let parts = and_parts (p d) (list_all p ds) all in
+    rw (reverse-cons d ds, list_all-append p (reverse ds) (d ∷ []), list_all-reverse p ds parts.1, parts.0) refl
+
+-- nothing is taken off digits
+digits_stay : (ds : List ℕ) → list_all is_ascii_digit ds ≡ true → without_blanks_before ds ≡ ds
+digits_stay [] all = refl
+digits_stay (d ∷ ds) all =
+    let digit : is_ascii_digit d ≡ true = (and_parts (is_ascii_digit d) (list_all is_ascii_digit ds) all).0 in
+    let other : (d == 32) ≡ false = grind (arith, nat_tests) in
+    rw other refl
+
+-- a field of blanks and then digits, of which there are 1 to 11, has a number
+pub aligned_number : (bs ds : List ℕ) → list_all (λ b. b == 32) bs ≡ true → list_all is_ascii_digit ds ≡ true → 1 ≤ length ds → length ds ≤ 11
+    → is_some (number_of (bs ++ ds)) ≡ true
+unfolding number_of
+aligned_number bs ds blanks digits some few =
+    let front : without_blanks_before (bs ++ ds) ≡ ds = blanks_off bs ds blanks ∙ digits_stay ds digits in
+    let back = digits_stay (reverse ds) (list_all-reverse is_ascii_digit ds digits) in
+    let trimmed : trim (bs ++ ds) ≡ ds = rw (front, back) (reverse-reverse ds) in
+    rw (trimmed, le-leb 1 (length ds) some, le-leb (length ds) 11 few, digits) refl
+
+-- bytes of a line from a place on, if they pass a test in the vector that begins there
+passes_in_front : (p : ℕ → Bool) (line : List ℕ) (start count r : ℕ) → start + 16 ≤ length line → count ≤ r → r ≤ 16
+    → ((k : ℕ) → k < r → p (get_or (chunk start 16 line) k 0) ≡ true) → list_all p (take count (drop start line)) ≡ true
+passes_in_front p line start count r within few lanes front =
+    list_all-from_AllPass p (take count (drop start line)) (All-from_get_or (λ b. p b ≡ true) (take count (drop start line)) 0 (λ k inside.
+    let low : k < count = omega (arith, length-take count (drop start line)) in
+    let same = get_or-take count (drop start line) k 0 low ∙ get_or-drop start line k 0
+    ∙ sym (get_or-chunk start 16 line k 0 (omega arith)) in
+    ap p same ∙ front k (omega arith)))
+
+-- a field of blanks and then digits, by the vectors that begin with each
+pub aligned_field : (line : List ℕ) (start count blanks digits : ℕ) → start + 32 ≤ length line → blanks < count → count - blanks ≤ digits
+    → count - blanks ≤ 11 → blanks ≤ 16 → digits ≤ 16 → ((k : ℕ) → k < blanks → get_or (chunk start 16 line) k 0 ≡ 32)
+    → ((k : ℕ) → k < digits → is_ascii_digit (get_or (chunk (start + blanks) 16 line) k 0) ≡ true)
+    → is_some (number_of (take count (drop start line))) ≡ true
+aligned_field line start count blanks digits within some ends few blanks_few digits_few are_blanks are_digits =
+    let bs = take blanks (drop start line) in
+    let ds = take (count - blanks) (drop (start + blanks) line) in
+    let whole : blanks + (count - blanks) ≡ count = omega arith in
+    let parts : take count (drop start line) ≡ bs ++ ds =
+      ap (λ n. take n (drop start line)) (sym whole) ∙ take-add blanks (count - blanks) (drop start line)
+      ∙ ap (λ rest. bs ++ take (count - blanks) rest) (drop-drop blanks start line) in
+    let long : length ds ≡ count - blanks =
+      length-take-le (count - blanks) (drop (start + blanks) line) (omega (arith, length-drop (start + blanks) line)) in
+    let left = passes_in_front (λ b. b == 32) line start blanks blanks (omega arith) (omega arith) blanks_few
+    (λ k before. eq-eqb _ _ (are_blanks k before)) in
+    let right = passes_in_front is_ascii_digit line (start + blanks) (count - blanks) digits (omega arith) ends digits_few are_digits in
+    rw parts (aligned_number bs ds left right (omega arith) (omega arith))

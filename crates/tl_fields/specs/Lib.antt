@@ -1,3 +1,4 @@
+pub mod Aligned
 pub mod Buffered
 pub mod Content
 pub mod Coordinate

@@ -1,0 +1,7 @@
+-- Masks of vectors, in which bit k tells of lane k.
+use Rattle.std.specs.Prelude.{ℕ, ◌==◌, if◌then◌else◌}
+use Rattle.std.specs.Int.{w64, trailing_zeros}
+
+-- the index of the lowest bit that is set, or the number of lanes if none is
+abbrev pub first_set : ℕ → ℕ → ℕ
+first_set mask lanes = if mask == 0 then lanes else trailing_zeros w64 mask

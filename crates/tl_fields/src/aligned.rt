@@ -1,0 +1,64 @@
+//! Numbers at the right end of a field.
+ghost use Rattle.std.specs.Prelude.{◌≡◌, ◌==◌, ◌+◌, ◌-◌, ◌<◌, ◌≤◌, ℕ, IsTrue, true, length, is_some, slice_index};
+ghost use Rattle.std.specs.Char.{is_ascii_digit};
+ghost use Rattle.tl_fields.specs.Aligned.{first_set};
+ghost use Rattle.tl_fields.specs.Field.{field_of};
+ghost use Rattle.tl_fields.specs.Number.{number_of};
+
+use crate::numbers::{BLANK, MOST_DIGITS};
+use std::simd::prelude::*;
+
+// The bytes of one vector.
+const LANES: usize = 16;
+
+/// Returns true if the field has blanks, and then digits up to its end, as numbers in records do. It may return false for such a field near the end of
+/// the line.
+#[inline(always)]
+pub(crate) fn has_aligned_number(line: &[u8], first: usize, last: usize) -> bool
+    requires counted_from_one { 1 ≤ first }
+    requires ordered { first ≤ last }
+    requires within { last ≤ length line.now }
+    ensures { IsTrue result → is_some (number_of (field_of line.now first last)) ≡ true }
+{
+    let start = first - 1;
+    if line.len() - start < 2 * LANES {
+        return false;
+    }
+    let blanks = blanks_in_front(u8x16::from_slice(&line[start..]));
+    if last - start <= blanks {
+        return false;
+    }
+    let digits = digits_in_front(u8x16::from_slice(&line[start + blanks..]));
+    last - start - blanks <= digits.min(MOST_DIGITS)
+}
+
+/// Returns the number of blanks before the first other byte.
+#[inline(always)]
+fn blanks_in_front(lanes: u8x16) -> usize
+    ensures blanks { (k : ℕ) → k < result → slice_index lanes k ≡ 32 }
+    ensures within { result ≤ 16 }
+{
+    first_set(lanes.simd_ne(u8x16::splat(BLANK)).to_bitmask())
+}
+
+/// Returns the number of digits before the first other byte.
+#[inline(always)]
+fn digits_in_front(lanes: u8x16) -> usize
+    ensures digits { (k : ℕ) → k < result → is_ascii_digit (slice_index lanes k) ≡ true }
+    ensures within { result ≤ 16 }
+{
+    let others = lanes.simd_lt(u8x16::splat(b'0')) | lanes.simd_gt(u8x16::splat(b'9'));
+    first_set(others.to_bitmask())
+}
+
+/// Returns the index of the lowest bit that is set, or 16 if none is.
+#[inline(always)]
+fn first_set(mask: u64) -> usize
+    ensures { result ≡ first_set mask LANES }
+{
+    if mask == 0 {
+        LANES
+    } else {
+        mask.trailing_zeros() as usize
+    }
+}
