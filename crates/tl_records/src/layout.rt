@@ -1,10 +1,11 @@
 //! The table of record types (TIGER/Line 2006, record layouts): the layout of their lines, and the columns of their fields.
 ghost use Rattle.std.proofs.Common.{lit≤};
-ghost use Rattle.std.specs.Prelude.{◌≡◌, ◌+◌, ◌-◌, length};
+ghost use Rattle.std.specs.Prelude.{◌≡◌, ◌+◌, ◌-◌, length, is_some};
+ghost use Rattle.tl_fields.specs.Number.{number_of};
 ghost use Rattle.tl_records.specs.Layout.{IsWithin, field_at, type1, type4, type5, type6};
 
 use crate::fault::LineFlaw;
-use tl_fields::field;
+use tl_fields::{field, has_number};
 
 /// The first and last column of a field in its line, like Beg and End in the record layouts: counted from 1, both inclusive.
 #[derive(Clone, Copy, PartialEq, Eq)]
@@ -19,6 +20,15 @@ impl Places {
         ensures len { length result.now ≡ self.1 + 1 - self.0 }
     {
         field(line, self.0, self.1)
+    }
+
+    /// Returns whether the field in these columns of a line has a number.
+    #[inline]
+    pub fn has_number(self, line: &[u8]) -> bool
+        requires { IsWithin self (length line.now) }
+        ensures { result ≡ is_some (number_of (field_at self line.now)) }
+    {
+        has_number(line, self.0, self.1)
     }
 }
 

@@ -1,5 +1,5 @@
 //! Records: lines that are good for their record type, the checks that establish it, and their fields.
-ghost use Rattle.std.specs.Prelude.{◌≡◌, ◌+◌, ◌-◌, ◌^◌, ◌<◌, Some, length, IfErr, IfOk};
+ghost use Rattle.std.specs.Prelude.{◌≡◌, ◌+◌, ◌-◌, ◌^◌, ◌<◌, Some, length, IfErr, IfOk, OnOk};
 ghost use Rattle.tl_fields.specs.Number.{number_of};
 ghost use Rattle.tl_records.specs.Layout.{IsWithin, field_at, type1, type4, type5, type6};
 ghost use Rattle.tl_records.specs.Records.{IsGoodLine, IsLineFault, line_flaw};
@@ -60,6 +60,21 @@ impl<'a, T: RecordType> Record<'a, T> {
         }
     }
 
+    /// Checks a line as [`of`](Self::of) does, without reading its number.
+    #[inline]
+    pub fn check(number: u32, line: &[u8]) -> Result<(), LineFault>
+        ensures ok { OnOk result (IsGoodLine T.LAYOUT line.now) }
+        ensures err { IfErr result (λ fault. IsLineFault T.LAYOUT (record { number = number; bytes = line.now }) fault) }
+    {
+        match line_flaw(T::LAYOUT, line) {
+            None => Ok(()),
+            Some(flaw) => Err(LineFault {
+                line: u64::from(number),
+                flaw,
+            }),
+        }
+    }
+
     /// Returns the whole line, without its terminator.
     #[inline]
     pub fn bytes(&self) -> &'a [u8]
@@ -89,6 +104,24 @@ impl<'a, T: RecordType> Record<'a, T> {
     {
         self.number
     }
+}
+
+/// Returns the first flaw of a line of a record type, or `None` if it is good.
+#[inline]
+fn line_flaw(layout: Layout, line: &[u8]) -> Option<LineFlaw>
+    requires { IsWithin layout.number layout.length }
+    ensures { result ≡ line_flaw layout line.now }
+{
+    if line.len() != layout.length {
+        return Some(LineFlaw::WrongLength);
+    }
+    if line[0] != layout.tag {
+        return Some(LineFlaw::WrongType);
+    }
+    if !layout.number.has_number(line) {
+        return Some(layout.without_number);
+    }
+    None
 }
 
 /// Returns the number that each line of a record type must have, or the line's first flaw.

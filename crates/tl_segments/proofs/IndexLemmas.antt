@@ -1,5 +1,5 @@
 -- What an index has for a TLID is what its lines have.
-use Rattle.std.proofs.Common.{◌≡◌, ◌≤◌, ℕ, inl, inr, length, List, [], ◌∷◌, ◌++◌, map, Option, Some, None, Ok, Err, refl}
+use Rattle.std.proofs.Common.{◌≡◌, ◌==◌, ◌≤◌, ℕ, Bool, true, false, if◌then◌else◌, inl, inr, length, slice_index, List, [], ◌∷◌, ◌++◌, map, Option, Some, None, Ok, Err, refl}
 use Rattle.std.proofs.Common.{option_map, is_some, IsSome, sym, ap, subst, ◌∙◌, arith}
 use Rattle.std.specs.List.{filter_map, find, flat_map, cons_option}
 use Rattle.std.specs.Option.{option_and_then, option_map_or}
@@ -9,9 +9,13 @@ use Rattle.tl_fields.specs.Device.{Reader}
 use Rattle.tl_fields.specs.Number.{number_of}
 use Rattle.tl_records.specs.Layout.{field_at}
 use Rattle.tl_records.specs.Lines.{LineParts}
+use Rattle.tl_records.specs.Records.{IsGoodLine}
+use Rattle.tl_records.specs.declared.fault.LineFlaw.TheVariants.{WrongLength, WrongType}
+use Rattle.tl_records.specs.declared.layout.Layout.{Layout}
 use Rattle.tl_records.specs.declared.layout.Places.{Places}
 use Rattle.tl_records.specs.declared.layout.TheConstants.Type4.{FEAT1, FEAT2, FEAT3, FEAT4, FEAT5}
 use Rattle.tl_records.specs.declared.layout.TheConstants.Type5.{FENAME}
+use Rattle.tl_segments.specs.CountyFile.{layout}
 use Rattle.tl_segments.specs.County.{AreTlids, HasTlids, tlid_of}
 use Rattle.tl_segments.specs.Indexing.{IsIndexOf, IsRecordRead, IsSegmentRead, ReadsGoodLine, names_in}
 use Rattle.tl_segments.specs.FullName.{FullNameFields, affixes_of, contents}
@@ -118,11 +122,25 @@ pub record HasLine (line : LineParts) (number tlid : ℕ) (old new : Reader) (se
 
 -- this also holds for any segment with the bytes that the line was read into
 pub has_line : {segment : Contents} (line : LineParts) (number tlid : ℕ) (read : Contents) (old new : Reader)
-    → IsRecordRead line number read old new (Ok (Some tlid)) → segment.bytes ≡ read.bytes → HasLine line number tlid old new segment
-has_line line number tlid read old new is same = record {
-  good = subst (λ bytes. ReadsGoodLine line (record { number = number; bytes = bytes }) old new) (sym same) is.0.0;
-  numbered = ap (number_in Rt1) same ∙ is.0.1;
+    → IsRecordRead line number read old new (Ok (Some tt)) → number_in Rt1 read.bytes ≡ Some tlid → segment.bytes ≡ read.bytes
+    → HasLine line number tlid old new segment
+has_line line number tlid read old new is numbered same = record {
+  good = subst (λ bytes. ReadsGoodLine line (record { number = number; bytes = bytes }) old new) (sym same) is.0;
+  numbered = ap (number_in Rt1) same ∙ numbered;
 }
+
+numbered_by : (row : Layout) (long typed : Bool) (found : Option ℕ)
+    → (if long then (if typed then (if is_some found then None else Some row.without_number) else Some WrongType) else Some WrongLength) ≡ None
+    → (n : ℕ) × (found ≡ Some n)
+numbered_by row true true (Some n) good = (n, refl)
+numbered_by row true true None good = absurd (cc)
+numbered_by row true false found good = absurd (cc)
+numbered_by row false typed found good = absurd (cc)
+
+-- the TLID of a good line has a number
+pub numbered : (line : List ℕ) → IsGoodLine (layout Rt1) line → (tlid : ℕ) × (number_in Rt1 line ≡ Some tlid)
+numbered line good =
+    numbered_by (layout Rt1) (length line == (layout Rt1).length) (slice_index line 0 == (layout Rt1).tag) (number_in Rt1 line) good.no_flaw
 
 module _ {A : Type 0} (index : Index A) {line : LineParts} {number tlid : ℕ} {old new : Reader} {segment : Contents}
     (has : HasLine line number tlid old new segment) where

@@ -2,7 +2,9 @@
 use Rattle.std.proofs.Common.{◌≡◌, ℕ, zero, suc, ◌+◌, ◌-◌, ◌<◌, ◌≤◌, nat_eq, nat_le, cond, if◌then◌else◌, List, [], ◌∷◌, ◌++◌, length}
 use Rattle.std.proofs.Common.{get_or, take, Option, Some, None, slice_get, Vec, ap, sym, subst, refl, ◌∙◌, arith, Bool, true}
 use Rattle.std.proofs.Common.{false, unwrap_or}
-use Rattle.std.specs.HashMap.{get}
+use Rattle.std.specs.HashMap.{get, hash_map_len}
+use Rattle.std.specs.Map.{lookup}
+use Rattle.std.proofs.lemmas.List.{nil_from_length}
 use Rattle.std.specs.List.{filter_map, cons_option}
 use Rattle.std.specs.Option.{option_map_or, option_or}
 use Rattle.std.proofs.lemmas.Grind.{common_steps, take_at_read}
@@ -17,6 +19,12 @@ use Rattle.tl_segments.proofs.FullNameLemmas.{with_names-more}
 -- if no number has a value, all lists are short
 pub no_lists_short : {V A : Type 0} (table : Grouped V A) → ((number : ℕ) → list_at table number ≡ []) → HasShortLists table
 no_lists_short table none number = rw (none number) (omega arith)
+
+-- a map without entries has no list
+pub no_list_in : {V A : Type 0} (table : Grouped V A) → hash_map_len table.lists ≡ 0 → (number : ℕ) → list_at table number ≡ []
+no_list_in {V = V} table none number =
+    ap (λ entries. option_map_or (λ (list : Vec V _). list.items) (lookup (nat_eq number) entries) [])
+    (nil_from_length table.lists.entries none)
 
 -- what a map returns for a number after a list was written: the previous list with one more value
 pub added_at : {V A : Type 0} (old : Grouped V A) (found : Option (Vec V A)) (number : ℕ) (value : V) (list : Vec V A) (q : ℕ)

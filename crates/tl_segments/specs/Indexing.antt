@@ -7,7 +7,7 @@ use Rattle.tl_records.specs.Records.{IsGoodLine, IsLineFault}
 use Rattle.tl_records.specs.declared.fault.LineFault.{LineFault}
 use Rattle.tl_segments.specs.CountyFile.{layout}
 use Rattle.tl_segments.specs.FullName.{FullNameFields}
-use Rattle.tl_segments.specs.Joining.{JoinedLines, number_in, segment_of}
+use Rattle.tl_segments.specs.Joining.{JoinedLines, segment_of}
 use Rattle.tl_segments.specs.Loading.{Readers, ReadsJoined}
 use Rattle.tl_segments.specs.Tables.{KeepsFeatures, KeepsNames, KeepsRanges, list_at, names_among}
 use Rattle.tl_segments.specs.Segment.{Contents, HasJoined, blank_segment, line_of}
@@ -41,17 +41,17 @@ abbrev pub IsNextFault : LineFault → LineParts → LineParts → Reader → Re
 IsNextFault fault line line' old new =
     IsLineRead line line' old new (Err fault) ⊎ (IsLineRead line line' old new (Ok (Some tt)) × IsLineFault (layout Rt1) line' fault)
 
--- the effect of reading the next type 1 line on the line and the reader: the line was read and is good, and its TLID has this number
-abbrev pub IsRt1Read : LineParts → LineParts → Reader → Reader → Result (Option ℕ) LineFault → Type 0
-IsRt1Read line line' old new (Ok (Some tlid)) = ReadsGoodLine line line' old new × (number_in Rt1 line'.bytes ≡ Some tlid)
+-- the effect of reading and checking the next type 1 line on the line and the reader
+abbrev pub IsRt1Read : LineParts → LineParts → Reader → Reader → Result (Option (Unit {0})) LineFault → Type 0
+IsRt1Read line line' old new (Ok (Some done)) = ReadsGoodLine line line' old new
 IsRt1Read line line' old new (Ok None) = IsLineRead line line' old new (Ok None)
 IsRt1Read line line' old new (Err fault) = IsNextFault fault line line' old new
 
 -- The same for a segment that the line is read into, and for the line's number. At the end of the input and after a fault the segment is blank,
 -- whatever bytes the line had.
-abbrev pub IsRecordRead : LineParts → ℕ → Contents → Reader → Reader → Result (Option ℕ) LineFault → Type 0
-IsRecordRead line number segment old new (Ok (Some tlid)) =
-    IsRt1Read line (line_of number segment) old new (Ok (Some tlid)) × (segment ≡ record
+abbrev pub IsRecordRead : LineParts → ℕ → Contents → Reader → Reader → Result (Option (Unit {0})) LineFault → Type 0
+IsRecordRead line number segment old new (Ok (Some done)) =
+    IsRt1Read line (line_of number segment) old new (Ok (Some done)) × (segment ≡ record
     { bytes = segment.bytes; names = []; affixes = []; ranges = [] })
 IsRecordRead line number segment old new result =
     ((bytes : List ℕ) × IsRt1Read line (record { number = number; bytes = bytes }) old new result) × (segment ≡ blank_segment)

@@ -1,5 +1,5 @@
 //! Lists of values by number.
-ghost use Rattle.std.specs.Prelude.{◌≡◌, ◌≤◌, ℕ, [], length, IfOk, MatchBool};
+ghost use Rattle.std.specs.Prelude.{◌≡◌, ◌≤◌, ℕ, [], length, IfOk, IsTrue, MatchBool};
 ghost use Rattle.tl_segments.specs.Tables.{AddsAt, list_at};
 
 use crate::near_hash::NearHasher;
@@ -42,6 +42,15 @@ impl<V: Drop, A: Allocator + Copy> Grouped<V, A> {
 }
 
 impl<V, A: Allocator> Grouped<V, A> {
+    /// Returns whether no number has a value.
+    #[inline]
+    #[tactic(auto, using(crate::proofs::TableLemmas::no_list_in))]
+    pub(crate) fn is_empty(&self) -> bool
+        ensures { IsTrue result → (number : ℕ) → list_at self.now number ≡ [] }
+    {
+        self.lists.is_empty()
+    }
+
     /// Returns the values with this number, in the order in which they were added.
     pub(crate) fn list(&self, number: u64) -> &[V]
         ensures value { result.now ≡ list_at self.now number }

@@ -1,5 +1,5 @@
 //! What is joined to the type 1 lines of a county, by TLID.
-ghost use Rattle.std.specs.Prelude.{◌≡◌, ◌≤◌, ◌+◌, [], ◌++◌, length, IfErr, IfOk, OnErr, OnOk};
+ghost use Rattle.std.specs.Prelude.{◌≡◌, ◌≤◌, ◌+◌, ℕ, [], ◌++◌, length, IfErr, IfOk, IsTrue, OnErr, OnOk};
 ghost use Rattle.tl_fields.specs.Device.{reader};
 ghost use Rattle.tl_segments.specs.FullName.{with_names};
 ghost use Rattle.tl_segments.specs.Joining.{JoinedLines, no_lines, segment_of};
@@ -128,14 +128,26 @@ impl<A: Allocator + Copy> Index<A> {
         ensures { IsSegmentRead self.now (line_of number.old segment.old) number.new segment.new
             (reader R.remaining R.failed_reads input.old) (reader R.remaining R.failed_reads input.new) result }
     {
-        let tlid = match segment.read_record(input, number) {
-            Ok(Some(tlid)) => tlid,
+        match segment.read_record(input, number) {
+            Ok(Some(())) => {}
             Ok(None) => return Ok(None),
             Err(fault) => return Err(rt1_fault(fault)),
-        };
+        }
+        if self.joins_nothing() {
+            return Ok(Some(()));
+        }
+        let tlid = segment.tlid();
         self.push_names(tlid, segment)?;
         self.push_ranges(tlid, segment)?;
         Ok(Some(()))
+    }
+
+    /// Returns whether no TLID has an alternate name or a further range.
+    #[inline]
+    fn joins_nothing(&self) -> bool
+        ensures { IsTrue result → (tlid : ℕ) → (list_at self.now.features tlid ≡ []) × (list_at self.now.ranges tlid ≡ []) }
+    {
+        self.features.is_empty() && self.ranges.is_empty()
     }
 
     fn push_names(&self, tlid: u64, segment: &mut Segment<A>) -> Result<(), AllocError>

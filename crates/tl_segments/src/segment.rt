@@ -1,12 +1,16 @@
 //! Street segments.
-ghost use Rattle.std.specs.Prelude.{◌≡◌, ◌≤◌, ◌<◌, ◌+◌, [], ◌∷◌, ◌++◌, length, replicate, option_copied, option_map, slice_get, IfOk, IfSome, OnOk, OnErr};
+ghost use Rattle.std.specs.Prelude.{◌≡◌, ◌≤◌, ◌<◌, ◌+◌, [], ◌∷◌, ◌++◌, length, replicate, option_copied, option_map, slice_get, Some, IfOk, IfSome, OnOk, OnErr};
 ghost use Rattle.tl_fields.specs.Device.{reader};
+ghost use Rattle.tl_records.specs.Records.{IsGoodLine};
 ghost use Rattle.tl_segments.specs.Affixes.{no_affixes};
+ghost use Rattle.tl_segments.specs.CountyFile.{layout};
 ghost use Rattle.tl_segments.specs.FullName.{HasNameLengths, IsFullName, all_with_affixes, contents, full_name_of, full_names_of, with_names};
 ghost use Rattle.tl_segments.specs.Indexing.{IsRecordRead, IsRt1Read};
+ghost use Rattle.tl_segments.specs.Joining.{number_in};
 ghost use Rattle.tl_segments.specs.Range.{AreBytes, HasFieldLengths, IsRange, fields_of};
 ghost use Rattle.tl_segments.specs.Segment.{IsSegment, blank_segment, line_of, names_of, ranges_of};
 ghost use Rattle.tl_segments.specs.Joined.{MayJoin, shared_names, shared_ranges};
+ghost use Rattle.tl_segments.specs.declared.fault.CountyFile.TheVariants.{Rt1};
 ghost use Rattle.tl_segments.specs.declared.range.RangeFields.{RangeFields};
 
 use crate::full_name::{DIRECTION_LENGTH, FullName, FullNameFields, TYPE_LENGTH, own_full_name};
@@ -17,7 +21,7 @@ use arrayvec::ArrayVec;
 use std::alloc::{AllocError, Allocator};
 use std::marker::Model;
 use std::rc::Rc;
-use tl_fields::{CountedRead, LONGEST_CONTENT};
+use tl_fields::{CountedRead, LONGEST_CONTENT, number};
 use tl_records::{LineFault, Rt1, Type1, read_line_into};
 
 /// The length of a type 1 record in bytes, without its line terminator (TIGER/Line 2006, record type 1).
@@ -122,15 +126,14 @@ impl<A: Allocator + Copy> Segment<A> {
 }
 
 impl<A: Allocator> Segment<A> {
-    /// Reads the next line of a type 1 file, replacing the segment's contents, and returns the number of its TLID, or `None` at the end of the input.
-    /// `number` is the previous line's number and becomes this line's. At the end and after a fault the segment is blank. The room for names and
+    /// Reads the next line of a type 1 file, replacing the segment's contents, or returns `None` at the end of the input. `number` is the previous line's number and becomes this line's. At the end and after a fault the segment is blank. The room for names and
     /// ranges is kept.
     #[inline(always)]
     pub(crate) fn read_record<R: CountedRead>(
         &mut self,
         input: &mut R,
         number: &mut u32,
-    ) -> Result<Option<u64>, LineFault>
+    ) -> Result<Option<()>, LineFault>
         ensures { IsRecordRead (line_of number.old self.old) number.new self.new
             (reader R.remaining R.failed_reads input.old) (reader R.remaining R.failed_reads input.new) result }
     {
@@ -138,7 +141,7 @@ impl<A: Allocator> Segment<A> {
         self.names.clear();
         self.ranges.clear();
         match read_rt1(input, number, &mut self.record) {
-            Ok(Some(tlid)) => Ok(Some(tlid)),
+            Ok(Some(())) => Ok(Some(())),
             Ok(None) => {
                 self.record = blank_record();
                 Ok(None)
@@ -147,6 +150,17 @@ impl<A: Allocator> Segment<A> {
                 self.record = blank_record();
                 Err(fault)
             }
+        }
+    }
+
+    /// Returns the number of the record's TLID.
+    pub(crate) fn tlid(&self) -> u64
+        requires { IsGoodLine (layout Rt1) self.now.bytes }
+        ensures { number_in Rt1 self.now.bytes ≡ Some result }
+    {
+        match number(Type1::TLID.of(self.record.as_slice())) {
+            Some(tlid) => tlid,
+            None => unreachable!(),
         }
     }
 
@@ -345,13 +359,13 @@ fn blank_record() -> ArrayVec<u8, LONGEST_CONTENT>
     record_of(&[b' '; RECORD_LENGTH])
 }
 
-/// Reads the next line of a type 1 file and returns the number of its TLID, or `None` at the end of the input.
+/// Reads the next line of a type 1 file and checks it, or returns `None` at the end of the input.
 #[inline(always)]
 fn read_rt1<R: CountedRead>(
     input: &mut R,
     number: &mut u32,
     content: &mut ArrayVec<u8, LONGEST_CONTENT>,
-) -> Result<Option<u64>, LineFault>
+) -> Result<Option<()>, LineFault>
     ensures { IsRt1Read (record { number = number.old; bytes = content.old.items }) (record { number = number.new; bytes = content.new.items })
         (reader R.remaining R.failed_reads input.old) (reader R.remaining R.failed_reads input.new) result }
 {
@@ -360,8 +374,8 @@ fn read_rt1<R: CountedRead>(
         Ok(None) => return Ok(None),
         Err(fault) => return Err(fault),
     }
-    match Rt1::of(*number, content.as_slice()) {
-        Ok(rt1) => Ok(Some(rt1.number())),
+    match Rt1::check(*number, content.as_slice()) {
+        Ok(()) => Ok(Some(())),
         Err(fault) => Err(fault),
     }
 }
