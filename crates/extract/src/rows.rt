@@ -1,5 +1,5 @@
 //! Rows, and how they are written.
-ghost use Rattle.std.specs.Prelude.{◌≡◌, OnErr, OnOk};
+ghost use Rattle.std.specs.Prelude.{◌≡◌, ◌≤◌, [], ◌∷◌, ◌++◌, length, OnErr, OnOk};
 ghost use Rattle.tl_fields.specs.Device.{writer};
 ghost use Rattle.tl_fields.specs.Writing.{WritesText};
 ghost use Rattle.bpf_meaning.specs.Extract.{row_of};
@@ -20,14 +20,7 @@ pub const LONGEST_ROW: usize = 250;
 pub fn row_text<A: Allocator>(score: u64, segment: &Segment<A>) -> ArrayVec<u8, LONGEST_ROW>
     ensures { result.items ≡ row_of score segment.now }
 {
-    let mut digits = Buffer::new();
-    let mut text = ArrayVec::new();
-    text.try_extend_from_slice(digits.format(score).as_bytes())
-        .unwrap();
-    text.push(b'\t');
-    text.try_extend_from_slice(segment.bytes()).unwrap();
-    text.push(b'\n');
-    text
+    row_with(Buffer::new().format(score).as_bytes(), segment)
 }
 
 /// Writes the row of a segment with a score. Nothing is retried, and nothing is flushed.
@@ -77,18 +70,33 @@ pub fn push_row_if_chosen<A: Allocator, B: Allocator, C: Allocator>(
     }
 }
 
-/// Replaces a row with the row of a segment with a score. If both have the same length, as most rows do, nothing is cleared.
+/// Replaces a row with the row of a segment with a score.
 #[inline]
+#[tactic(auto, using(std::proofs::lemmas::Fmt::decimal_digit))]
 fn put_row<A: Allocator>(text: &mut ArrayVec<u8, LONGEST_ROW>, score: u64, segment: &Segment<A>)
     ensures { text.new.items ≡ row_of score segment.now }
 {
-    let mut buffer = Buffer::new();
-    let digits = buffer.format(score).as_bytes();
+    if score < 10 {
+        return put_digits(text, &[b'0' + score as u8], segment);
+    }
+    put_digits(text, Buffer::new().format(score).as_bytes(), segment);
+}
+
+/// Replaces a row with these digits, a tab, the segment's record and a line feed. If both rows have the same length, as most do, nothing is cleared.
+#[inline(always)]
+fn put_digits<A: Allocator>(
+    text: &mut ArrayVec<u8, LONGEST_ROW>,
+    digits: &[u8],
+    segment: &Segment<A>,
+)
+    requires { length digits.now ≤ 20 }
+    ensures { text.new.items ≡ digits.now ++ 9 ∷ segment.now.bytes ++ 10 ∷ [] }
+{
     let record = segment.bytes();
     let start = digits.len() + 1;
     let end = start + record.len();
     if text.len() != end + 1 {
-        return replace_row(text, score, segment);
+        return replace_row(text, digits, segment);
     }
     let row = text.as_mut_slice();
     row[..digits.len()].copy_from_slice(digits);
@@ -100,10 +108,27 @@ fn put_row<A: Allocator>(text: &mut ArrayVec<u8, LONGEST_ROW>, score: u64, segme
 /// Replaces a row with one of another length. This is a separate function because a new text is cleared, which most rows don't need.
 #[cold]
 #[inline(never)]
-fn replace_row<A: Allocator>(text: &mut ArrayVec<u8, LONGEST_ROW>, score: u64, segment: &Segment<A>)
-    ensures { text.new.items ≡ row_of score segment.now }
+fn replace_row<A: Allocator>(
+    text: &mut ArrayVec<u8, LONGEST_ROW>,
+    digits: &[u8],
+    segment: &Segment<A>,
+)
+    requires { length digits.now ≤ 20 }
+    ensures { text.new.items ≡ digits.now ++ 9 ∷ segment.now.bytes ++ 10 ∷ [] }
 {
-    *text = row_text(score, segment);
+    *text = row_with(digits, segment);
+}
+
+fn row_with<A: Allocator>(digits: &[u8], segment: &Segment<A>) -> ArrayVec<u8, LONGEST_ROW>
+    requires { length digits.now ≤ 20 }
+    ensures { result.items ≡ digits.now ++ 9 ∷ segment.now.bytes ++ 10 ∷ [] }
+{
+    let mut text = ArrayVec::new();
+    text.try_extend_from_slice(digits).unwrap();
+    text.push(b'\t');
+    text.try_extend_from_slice(segment.bytes()).unwrap();
+    text.push(b'\n');
+    text
 }
 
 /// Writes the row of a segment if the code selects it, and returns the number of rows written. Reuses `bare` and `text`; their previous contents

@@ -2,6 +2,7 @@
 ghost use Rattle.std.specs.Prelude.{◌≡◌, ◌≤◌, ◌+◌, ◌++◌, ◌∷◌, [], None, IfSome, IsTrue, OnSome, length, take};
 ghost use Rattle.std.specs.Io.{ReadsAtMost};
 ghost use Rattle.std.specs.Io.KnownBytes.{ReadConsumes};
+ghost use Rattle.memchr.specs.Find.{IsFirstByte, is_byte};
 ghost use Rattle.tl_fields.specs.Buffered.{IsFrontRead, IsLineInFront};
 ghost use Rattle.tl_fields.specs.Content.{AddsStop, IsContentRead};
 ghost use Rattle.tl_fields.specs.Counted.{AddsFailure, CountsFailure};
@@ -57,7 +58,7 @@ impl<B: BufRead> Buffered<B> {
 
     // Takes the part of a line that the buffer shows, and returns why the line stops there, or `None` if it goes on. The first `kept` bytes of the
     // content belong to this line; the rest is left from an earlier one.
-    #[inline]
+    #[inline(always)]
     fn read_front(
         &mut self,
         content: &mut ArrayVec<u8, LONGEST_CONTENT>,
@@ -84,7 +85,7 @@ impl<B: BufRead> Buffered<B> {
         }
         let room = LONGEST_CONTENT - kept;
         let shown = &front[..front.len().min(room + 1)];
-        let Some(length) = memchr(LINE_FEED, shown) else {
+        let Some(length) = first_line_feed(shown) else {
             if shown.is_empty() {
                 content.truncate(kept);
                 return Some(Stop::EndOfInput);
@@ -168,7 +169,7 @@ impl<B: BufRead> CountedRead for Buffered<B> {
         self.read(buf)
     }
 
-    #[inline]
+    #[inline(always)]
     fn read_content(&mut self, content: &mut ArrayVec<u8, LONGEST_CONTENT>) -> Stop
         ensures content { IsContentRead content.new.items
             (record { left = None; failed = self.old.failed_reads })
@@ -189,6 +190,15 @@ impl<B: BufRead> CountedRead for Buffered<B> {
     }
 }
 
+/// Returns the index of the first line feed. This is a separate function because most lines are read without it.
+#[cold]
+#[inline(never)]
+fn first_line_feed(bytes: &[u8]) -> Option<usize>
+    ensures { IsFirstByte (is_byte LINE_FEED) bytes.now result }
+{
+    memchr(LINE_FEED, bytes)
+}
+
 /// Replaces the content with the line at the front of a buffer, if that has the same length and the buffer shows all of it, as it does for most
 /// records. Otherwise returns false, with any bytes after the kept ones.
 #[inline(always)]
@@ -205,7 +215,7 @@ fn copy_like_last(front: &[u8], content: &mut ArrayVec<u8, LONGEST_CONTENT>, kep
 }
 
 /// Replaces everything after the kept bytes. If the new line has the length of the old one, as records do, nothing is cleared.
-#[inline]
+#[inline(never)]
 fn put_after(content: &mut ArrayVec<u8, LONGEST_CONTENT>, kept: usize, bytes: &[u8])
     requires within { kept ≤ length content.old.items }
     requires room { kept + length bytes.now ≤ LONGEST_CONTENT }
