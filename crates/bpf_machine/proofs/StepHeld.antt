@@ -30,9 +30,9 @@ use Rattle.bpf_meaning.proofs.CallLemmas.{IfPasses}
 use Rattle.bpf_meaning.proofs.WholeLemmas.{run_bytes, run_whole}
 use Rattle.bpf_verify.specs.Verified.{HasBaseAreas}
 use Rattle.bpf_verify.specs.Verified as verified
-use Rattle.bpf_machine.specs.Machine.{Does, HoldsState, IsReached}
+use Rattle.bpf_machine.specs.Machine.{Does, HoldsState, IsReached, StepsTo}
 use Rattle.bpf_machine.specs.Words.{Goes, Ends, Holds, HoldsEffect, HoldsNext, MeetsCall, Next, PointsOnlyInto, Words, argument_words}
-use Rattle.bpf_machine.specs.Words.{next_words, words_of}
+use Rattle.bpf_machine.specs.Words.{next_of, next_words, words_of}
 use Rattle.bpf_machine.specs.declared.bare.Answer.{Answer}
 use Rattle.bpf_machine.specs.declared.bare.Bare.{Bare}
 use Rattle.bpf_machine.proofs.MachineLemmas.{is_never_stuck}
@@ -219,3 +219,12 @@ ends code configuration answer (Goes words at) held same kept = absurd (let no :
 
 pub same_next : (first second : Result Next Cause) (one other : Next) → first ≡ Ok one → second ≡ Ok other → first ≡ second → one ≡ other
 same_next first second one other is there same = let both : Ok one ≡ second = sym is ∙ same in cc
+
+-- an instruction leads to an entry, or to the end, as the next configuration says
+pub steps_to : (code : List Insn) (configuration : Configuration) (to : Option ℕ) (old new : Bare) (next : Next) {first : Result Next Cause}
+    → HoldsNext code configuration next → first ≡ Ok next → first ≡ Ok (next_of to (words_of new)) → (to ≡ None → new ≡ old)
+    → StepsTo code configuration to old new
+steps_to code configuration (Some at) old new next {first} held is value kept =
+    goes_on code configuration (record new { at = at }) next held (same_next first first _ _ is value refl) old
+steps_to code configuration None old new next {first} held is value kept = λ answer says.
+    ends code configuration answer next held (same_next first first _ _ is value refl ∙ sym says) (kept refl)

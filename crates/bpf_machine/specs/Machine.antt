@@ -1,12 +1,12 @@
 -- Steps of the bare machine, compared with the meaning of a code: the machine holds the words of a state that some run reaches.
-use Rattle.std.specs.Prelude.{◌≡◌, List, Option, Some, None}
+use Rattle.std.specs.Prelude.{◌≡◌, ℕ, List, Option, Some, None}
 use Rattle.bpf_insn.specs.Code.{place_of}
 use Rattle.bpf_insn.specs.declared.instruction.Insn.{Insn}
 use Rattle.tl_segments.specs.Segment.{Contents}
 use Rattle.bpf_meaning.specs.Run.{IsRun, end_of}
 use Rattle.bpf_meaning.specs.Step.{Configuration, Running, Exited}
 use Rattle.bpf_meaning.specs.declared.state.State.{State}
-use Rattle.bpf_machine.specs.Words.{Holds, words_of}
+use Rattle.bpf_machine.specs.Words.{Ends, Holds, words_of, end_of as end_of_words}
 use Rattle.bpf_machine.specs.declared.bare.Answer.{Answer}
 use Rattle.bpf_machine.specs.declared.bare.Bare.{Bare}
 
@@ -32,3 +32,9 @@ abbrev pub Does : List Insn → Configuration → Option Answer → Bare → Bar
 Does code (Running state) None old new = HoldsState code state new
 Does code (Exited r0 score) (Some answer) old new = (answer.r0 ≡ r0) × (answer.score ≡ score) × (new ≡ old)
 Does code configuration answer old new = ⊥
+
+-- The same for an instruction that leads to an entry, at which the machine then holds the next state, or to the end, with the answer in its words.
+abbrev pub StepsTo : List Insn → Configuration → Option ℕ → Bare → Bare → Type 0
+StepsTo code configuration (Some next) old new = Does code configuration None old (record new { at = next })
+StepsTo code configuration None old new =
+    (answer : Answer) → Ends answer.r0 answer.score ≡ end_of_words (words_of new) → Does code configuration (Some answer) old new

@@ -1,12 +1,15 @@
 //! Steps and runs of verified programs on bare words.
-ghost use Rattle.std.specs.Prelude.{◌≡◌, None};
-ghost use Rattle.bpf_meaning.specs.Run.{Answers};
+ghost use Rattle.std.specs.Prelude.{◌≡◌, ◌*◌, ◌^◌, ◌<◌, None, length};
+ghost use Rattle.bpf_flat.specs.Flat.{AreFlatForms};
+ghost use Rattle.bpf_meaning.specs.Run.{Answers, IsSafe};
 ghost use Rattle.bpf_meaning.specs.Step.{after};
 ghost use Rattle.bpf_meaning.specs.declared.state.State.{State};
-ghost use Rattle.bpf_machine.specs.Machine.{Does, HoldsState, IsOnItsWay, IsReached};
+ghost use Rattle.bpf_verify.specs.Verified.{HasBaseAreas};
+ghost use Rattle.bpf_machine.specs.Machine.{Does, HoldsState, IsOnItsWay, IsReached, StepsTo};
 
 use crate::bare::{Answer, Bare};
 use crate::table::execute;
+use bpf_flat::FlatInsn;
 use bpf_verify::Verified;
 use std::alloc::Allocator;
 use tl_segments::Segment;
@@ -23,17 +26,37 @@ pub fn step<A: Allocator, B: Allocator>(
         → Does verified.now.code (after verified.now.code segment.now state) result bare.old bare.new }
     ensures goes_on { result ≡ None → IsOnItsWay verified.now.code segment.now bare.new }
 {
-    let flat_forms = verified.flat_forms();
-    // Never read: the call only shows that the segment is whole, which a safe code requires.
-    let _bytes = segment.bytes();
-    let at = bare.at;
-    match execute(bare, segment, &flat_forms[at], at + 1) {
+    match step_from(verified, verified.flat_forms(), bare, segment, bare.at) {
         Some(next) => {
             bare.at = next;
             None
         }
         None => Some(bare.answer()),
     }
+}
+
+/// Executes the instruction at an entry, and returns the entry that it leads to, or `None` if the program ends there. The machine's own entry is
+/// neither read nor written, so that a run can keep it in a register.
+#[inline(always)]
+fn step_from<A: Allocator, B: Allocator>(
+    verified: &Verified<A>,
+    flat_forms: &[FlatInsn],
+    bare: &mut Bare,
+    segment: &Segment<B>,
+    at: usize,
+) -> Option<usize>
+    requires forms { AreFlatForms verified.now.code verified.now.areas (length verified.now.code) flat_forms.now }
+    // A flat form has 16 bytes.
+    requires fit { length flat_forms.now * 16 < 2 ^ 64 }
+    requires safe { IsSafe verified.now.code }
+    requires areas { HasBaseAreas verified.now.code verified.now.areas }
+    requires way { IsOnItsWay verified.now.code segment.now (record bare.old { at = at }) }
+    ensures { (state : State) → IsReached verified.now.code segment.now state → HoldsState verified.now.code state (record bare.old { at = at })
+        → StepsTo verified.now.code (after verified.now.code segment.now state) result bare.old bare.new }
+{
+    // Never read: the call only shows that the segment is whole, which a safe code requires.
+    let _bytes = segment.bytes();
+    execute(bare, segment, &flat_forms[at], at + 1)
 }
 
 /// Returns the answer of a verified program on a segment. Allocates nothing, and takes no more steps than the program has instructions.
@@ -51,11 +74,14 @@ pub fn run_in<A: Allocator, B: Allocator>(
 ) -> Answer
     ensures { Answers verified.now.code segment.now result.r0 result.score }
 {
+    let flat_forms = verified.flat_forms();
     let _bytes = segment.bytes();
     bare.restart();
-    for _steps in 0..verified.flat_forms().len() {
-        if let Some(answer) = step(verified, bare, segment) {
-            return answer;
+    let mut at = 0;
+    for _steps in 0..flat_forms.len() {
+        match step_from(verified, flat_forms, bare, segment, at) {
+            Some(next) => at = next,
+            None => return bare.answer(),
         }
     }
     unreachable!()

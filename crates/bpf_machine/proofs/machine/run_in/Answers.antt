@@ -1,12 +1,12 @@
 use Rattle.std.proofs.Common.{sym, subst, arith}
 use Rattle.bpf_meaning.specs.Step.{after}
 use Rattle.bpf_meaning.proofs.RunLemmas.{goes_on}
-use Rattle.bpf_machine.specs.Machine.{Does}
+use Rattle.bpf_machine.specs.Machine.{StepsTo}
 use Rattle.bpf_machine.proofs.MachineLemmas.{comes_to_answer, has_ended, has_exited, reached_by, went_on}
 use Rattle.bpf_machine.proofs.machine.run_in.Goals as goal
 
-pub step-requires : goal.step-requires
-step-requires g c =
+pub step_from-requires-clause-way : goal.step_from-requires-clause-way
+step_from-requires-clause-way g c =
     let found = c.loop-steps.invariant in
     record {
       state = found.0;
@@ -15,28 +15,30 @@ step-requires g c =
           found.2;
     }
 
-pub returns-in-Some : goal.returns-in-Some
-returns-in-Some g c =
+pub returns-in-None : goal.returns-in-None
+returns-in-None g c =
     let found = c.loop-steps.invariant in
-    let does = c.in-Some.ensures.does found.0 (reached_by c.args.verified.now.code c.args.segment.now c.loop-steps._steps found.0 found.1)
-    found.2 in
-    comes_to_answer c.args.verified.now.code c.args.segment.now c.loop-steps._steps found.0 c.in-Some.answer.r0 c.in-Some.answer.score
-    found.1
-    (sym (has_ended c.args.verified.now.code _ c.in-Some.answer c.loop-steps.bare c.step.new.bare does))
+    let code = c.args.verified.now.code in
+    let reached = reached_by code c.args.segment.now c.loop-steps._steps found.0 found.1 in
+    let leads = subst (λ to. StepsTo code (after code c.args.segment.now found.0) to c.loop-steps.bare c.step_from.new.bare) c.in-None.is
+    (c.step_from.ensures found.0 reached found.2) in
+    comes_to_answer code c.args.segment.now c.loop-steps._steps found.0 c.answer.result.r0 c.answer.result.score found.1
+    (sym (has_ended code _ c.answer.result c.loop-steps.bare c.step_from.new.bare (leads c.answer.result c.answer.ensures)))
 
 pub loop-steps-preserved : goal.loop-steps-preserved
 loop-steps-preserved g c =
     let found = c.loop-steps.invariant in
-    let on = went_on c.args.verified.now.code _ c.loop-steps.bare c.step.new.bare
-    (subst (λ answer. Does c.args.verified.now.code (after c.args.verified.now.code c.args.segment.now found.0) answer c.loop-steps.bare
-    c.step.new.bare) c.in_default.is (c.step.ensures.does found.0
-    (reached_by c.args.verified.now.code c.args.segment.now c.loop-steps._steps found.0 found.1) found.2)) in
-    (on.0, goes_on c.args.verified.now.code c.args.segment.now c.loop-steps._steps found.0 on.0 found.1 (sym on.1), on.2)
+    let code = c.args.verified.now.code in
+    let reached = reached_by code c.args.segment.now c.loop-steps._steps found.0 found.1 in
+    let leads = subst (λ to. StepsTo code (after code c.args.segment.now found.0) to c.loop-steps.bare c.step_from.new.bare) c.in-Some.is
+    (c.step_from.ensures found.0 reached found.2) in
+    let on = went_on code _ c.loop-steps.bare (record c.step_from.new.bare { at = c.in-Some.next }) leads in
+    (on.0, goes_on code c.args.segment.now c.loop-steps._steps found.0 on.0 found.1 (sym on.1), on.2)
 
 pub unreachable-requires : goal.unreachable-requires
 unreachable-requires g c =
     let found = c.loop-steps.invariant in
-    let all = c.flat_forms-steps-end.ensures.value.count_is in
+    let all = c.flat_forms-flat_forms.ensures.value.count_is in
     has_exited c.args.verified.now.code c.args.segment.now c.loop-steps._steps found.0
-    (c.flat_forms-steps-end.ensures.safe.exits c.args.segment.now c.bytes-bytes.ensures.whole) found.1
+    (c.flat_forms-flat_forms.ensures.safe.exits c.args.segment.now c.bytes-bytes.ensures.whole) found.1
     (omega (arith, c.loop-steps-test.false))
