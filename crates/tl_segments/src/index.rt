@@ -150,6 +150,14 @@ impl<A: Allocator + Copy> Index<A> {
         self.features.is_empty() && self.ranges.is_empty()
     }
 
+    /// Returns whether nothing is joined to a TLID. It may return false if its FEATs have no names.
+    #[inline]
+    pub(crate) fn joins_nothing_to(&self, tlid: u64) -> bool
+        ensures { IsTrue result → (list_at self.now.features tlid ≡ []) × (list_at self.now.ranges tlid ≡ []) }
+    {
+        self.features.list(tlid).is_empty() && self.ranges.list(tlid).is_empty()
+    }
+
     fn push_names(&self, tlid: u64, segment: &mut Segment<A>) -> Result<(), AllocError>
         requires { segment.old.names ≡ [] }
         ensures names { OnOk result (segment.new ≡ with_names segment.old (names_in self.now tlid)) }

@@ -52,6 +52,9 @@ impl<A: Allocator + Copy> SharedLists<A> {
         ensures keeps { OnOk result (KeepsShared index.now self.new) }
     {
         let tlid = rt1.number();
+        if index.joins_nothing_to(tlid) {
+            return Ok(Segment::of(self.alloc, rt1.bytes()));
+        }
         if let Some(joined) = self.lists.get(&tlid) {
             let joined = joined.clone()?;
             return Ok(Segment::sharing(self.alloc, rt1.bytes(), joined));

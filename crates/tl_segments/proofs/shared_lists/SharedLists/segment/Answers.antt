@@ -15,7 +15,7 @@ returns-in-Some-clause-ok g c = λ lines of_lines.
     let by : IsJoinedTo index tlid joined = subst (λ joined. IsJoinedTo index tlid joined)
     (sym c.in_ok-joined.ensures.cases) kept in
     c.sharing.ensures
-    ∙ ap (λ bytes. contents bytes joined.names.items joined.ranges.items) c.bytes.ensures.value
+    ∙ ap (λ bytes. contents bytes joined.names.items joined.ranges.items) c.bytes-in-Some.ensures.value
     ∙ by.made lines of_lines c.args.rt1.now.bytes c.number-tlid.ensures.value
 
 pub returns-clause-ok : goal.returns-clause-ok
