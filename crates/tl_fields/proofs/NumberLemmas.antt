@@ -137,10 +137,10 @@ aligned_field line start count blanks digits within some ends few blanks_few dig
     let ds = take (count - blanks) (drop (start + blanks) line) in
     let whole : blanks + (count - blanks) ≡ count = omega arith in
     let parts : take count (drop start line) ≡ bs ++ ds =
-      ap (λ n. take n (drop start line)) (sym whole) ∙ take-add blanks (count - blanks) (drop start line)
-      ∙ ap (λ rest. bs ++ take (count - blanks) rest) (drop-drop blanks start line) in
+    ap (λ n. take n (drop start line)) (sym whole) ∙ take-add blanks (count - blanks) (drop start line)
+    ∙ ap (λ rest. bs ++ take (count - blanks) rest) (drop-drop blanks start line) in
     let long : length ds ≡ count - blanks =
-      length-take-le (count - blanks) (drop (start + blanks) line) (omega (arith, length-drop (start + blanks) line)) in
+    length-take-le (count - blanks) (drop (start + blanks) line) (omega (arith, length-drop (start + blanks) line)) in
     let left = passes_in_front (λ b. b == 32) line start blanks blanks (omega arith) (omega arith) blanks_few
     (λ k before. eq-eqb _ _ (are_blanks k before)) in
     let right = passes_in_front is_ascii_digit line (start + blanks) (count - blanks) digits (omega arith) ends digits_few are_digits in

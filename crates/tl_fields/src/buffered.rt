@@ -7,7 +7,7 @@ ghost use Rattle.tl_fields.specs.Buffered.{IsFrontRead, IsLineInFront};
 ghost use Rattle.tl_fields.specs.Content.{AddsStop, IsContentRead};
 ghost use Rattle.tl_fields.specs.Counted.{AddsFailure, CountsFailure};
 
-use crate::content::{LINE_FEED, LONGEST_CONTENT, Stop};
+use crate::content::{CARRIAGE_RETURN, LINE_FEED, LONGEST_CONTENT, Stop};
 use crate::counted::{CountedRead, count_one};
 use crate::line_copy::{LANES, copy_if_no_line_feed};
 use arrayvec::ArrayVec;
@@ -199,19 +199,31 @@ fn first_line_feed(bytes: &[u8]) -> Option<usize>
     memchr(LINE_FEED, bytes)
 }
 
-/// Replaces the content with the line at the front of a buffer, if that has the same length and the buffer shows all of it, as it does for most
-/// records. Otherwise returns false, with any bytes after the kept ones.
+/// Replaces the content with the line at the front of a buffer, if its record has the content's length and the buffer shows all of it, as it does for
+/// most records. Otherwise returns false, with any bytes after the kept ones. A CR before the line feed isn't counted.
 #[inline(always)]
 fn copy_like_last(front: &[u8], content: &mut ArrayVec<u8, LONGEST_CONTENT>, kept: usize) -> bool
+    requires { kept ≤ length content.old.items }
     ensures line { IsTrue result → IsLineInFront front.now content.new.items × (kept ≡ 0) }
     ensures kept { take kept content.new.items ≡ take kept content.old.items }
-    ensures length { length content.new.items ≡ length content.old.items }
+    ensures within { kept ≤ length content.new.items }
 {
     let length = content.len();
-    if kept != 0 || length < LANES || length >= front.len() || front[length] != LINE_FEED {
+    if kept != 0 || length < LANES || length >= front.len() {
         return false;
     }
-    copy_if_no_line_feed(&front[..length], content.as_mut_slice())
+    if front[length] == LINE_FEED {
+        return copy_if_no_line_feed(&front[..length], content.as_mut_slice());
+    }
+    if length == LONGEST_CONTENT || length + 1 == front.len() {
+        return false;
+    }
+    if front[length] != CARRIAGE_RETURN || front[length + 1] != LINE_FEED {
+        return false;
+    }
+    let copied = copy_if_no_line_feed(&front[..length], content.as_mut_slice());
+    content.push(CARRIAGE_RETURN);
+    copied
 }
 
 /// Replaces everything after the kept bytes. If the new line has the length of the old one, as records do, nothing is cleared.

@@ -5,6 +5,8 @@ pub const LONGEST_CONTENT: usize = 230;
 
 pub(crate) const LINE_FEED: u8 = b'\n';
 
+pub(crate) const CARRIAGE_RETURN: u8 = b'\r';
+
 /// Why reading a line's bytes stopped.
 #[derive(Clone, Copy, PartialEq, Eq)]
 pub enum Stop {
