@@ -653,6 +653,11 @@ END
     # Files that can't be used.
     try_case 3 0 'error: missing.bpf: not found' 'extractd run --program missing.bpf --data "$county" 01001'
     try_case 3 0 "error: $county/TGR99999.RT1: not found" 'extractd run --program "$all" --data "$county" 99999'
+    # A control character in an echo is escaped.
+    try_case 3 0 'error: a\\nb\\u{1b}.bpf: not found' "extractd verify --program $'a\nb\e.bpf'"
+    try_case 3 0 'error: latin\\t.s: not UTF-8' "cp latin.s $'latin\t.s'; extractd asm --source $'latin\t.s'"
+    try_case 2 0 'error: CODE is five digits, and "010\\n1" isn'\''t' "extractd run --program x --data x $'010\n1'"
+    try_case 2 0 "error: unexpected argument 'a\\\\nb' found*Usage: extractd verify *" "extractd verify --program x $'a\nb'"
     try_case 3 0 'error: missing.bpf: not found' 'extractd verify --program missing.bpf'
     try_case 3 0 'error: missing.bpf: not found' 'extractd dis --program missing.bpf'
     try_case 3 0 'error: missing.s: not found' 'extractd asm --source missing.s'

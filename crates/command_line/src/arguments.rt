@@ -29,10 +29,12 @@ mod trace;
 mod verify;
 
 use crate::fault::ArgumentsFault;
-use clap::{ArgMatches, Command};
-use commands::Request;
+use clap::error::ErrorKind;
+use clap::{ArgMatches, Command, Error};
+use commands::{Line, Request};
 pub use serve::Serve;
 use std::alloc::{AllocError, Global};
+use tl_fields::Counting;
 
 /// The invocation that the arguments request.
 #[derive(Drop)]
@@ -47,12 +49,45 @@ pub fn read_arguments<'a>(
     alloc: Global,
     arguments: &'a [&'a str],
 ) -> Result<Invocation<'a>, ArgumentsFault<'a>> {
-    let matches = program_command(alloc)?.try_get_matches_from(arguments)?;
+    let matches = match program_command(alloc)?.try_get_matches_from(arguments) {
+        Ok(matches) => matches,
+        Err(error) => return Err(ArgumentsFault::from(echoed(alloc, arguments, error)?)),
+    };
     match matches.subcommand() {
         Some(("serve", matches)) => Ok(Invocation::Serve(serve::request(alloc, matches)?)),
         Some((name, matches)) => Ok(Invocation::Request(request(alloc, name, matches)?)),
         None => Err(ArgumentsFault::Missing("COMMAND")),
     }
+}
+
+/// Returns the error of arguments that are refused by `error`, with the control characters in its text escaped.
+///
+/// clap puts arguments into its text as they are, so the escaped arguments are parsed once more.
+fn echoed<'a>(
+    alloc: Global,
+    arguments: &[&str],
+    error: Error,
+) -> Result<Error, ArgumentsFault<'a>> {
+    if let ErrorKind::OutOfMemory = error.kind() {
+        return Ok(error);
+    }
+    let mut words = Vec::new(alloc);
+    for argument in arguments {
+        words.push(escaped(alloc, argument)?)?;
+    }
+    match program_command(alloc)?.try_get_matches_from(words.as_slice()) {
+        Ok(_matches) => Ok(error),
+        Err(error) => Ok(error),
+    }
+}
+
+/// Returns an argument with its control characters escaped.
+fn escaped<'a>(alloc: Global, argument: &str) -> Result<String, ArgumentsFault<'a>> {
+    let mut bytes = Counting::new(Vec::new(alloc));
+    if Line::new(&mut bytes).echo(argument).is_err() {
+        return Err(ArgumentsFault::Memory);
+    }
+    Ok(String::from_utf8_lossy(alloc, bytes.get_ref().as_slice())?)
 }
 
 /// Returns the request of the command over files with this name.

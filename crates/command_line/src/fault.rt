@@ -80,7 +80,8 @@ impl ArgumentsFault<'_> {
             ArgumentsFault::Usage(error) => write!(line, "{error}"),
             ArgumentsFault::Missing(name) => write!(line, "error: {name} is missing\n"),
             ArgumentsFault::Code(code) => {
-                write!(line, "error: CODE is five digits, and \"{code}\" isn't\n")
+                write!(line, "error: CODE is five digits")?;
+                say_given(line, code)
             }
             ArgumentsFault::TooManyCodes(count) => {
                 write!(
@@ -93,30 +94,32 @@ impl ArgumentsFault<'_> {
                 most_digits,
                 text,
             } => {
-                write!(
-                    line,
-                    "error: --{name} is 1 to {most_digits} digits, and \"{text}\" isn't\n"
-                )
+                write!(line, "error: --{name} is 1 to {most_digits} digits")?;
+                say_given(line, text)
             }
             ArgumentsFault::Name(name) => {
-                write!(
-                    line,
-                    "error: --name is 1 to {NAME_LENGTH} bytes, and \"{name}\" isn't\n"
-                )
+                write!(line, "error: --name is 1 to {NAME_LENGTH} bytes")?;
+                say_given(line, name)
             }
             ArgumentsFault::Score(name) => {
-                write!(
-                    line,
-                    "error: --score is a column with numbers, and \"{name}\" isn't\n"
-                )
+                write!(line, "error: --score is a column with numbers")?;
+                say_given(line, name)
             }
             ArgumentsFault::Port(text) => {
-                write!(line, "error: --port is 1 to 65535, and \"{text}\" isn't\n")
+                write!(line, "error: --port is 1 to 65535")?;
+                say_given(line, text)
             }
             ArgumentsFault::Serve => write!(line, "error: serve wants a socket\n"),
             ArgumentsFault::Memory => Ok(()),
         }
     }
+}
+
+/// Ends a line with the value that was given.
+fn say_given<E: CountedWrite>(line: &mut Line<'_, E>, text: &str) -> fmt::Result {
+    write!(line, ", and \"")?;
+    line.echo(text)?;
+    write!(line, "\" isn't\n")
 }
 
 // The system fails to read the arguments if one isn't UTF-8 or if memory runs out.

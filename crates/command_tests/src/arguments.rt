@@ -18,6 +18,15 @@ extractd run --program p.bpf --data d 010010; error: CODE is five digits, and "0
 extractd run --program p.bpf --data d 0100a; error: CODE is five digits, and "0100a" isn't
 extractd run --program p.bpf --data d 0100١; error: CODE is five digits, and "0100١" isn't
 extractd run --program p.bpf --data d ''; error: CODE is five digits, and "" isn't
+extractd run --program p.bpf --data d 010\n1; error: CODE is five digits, and "010\n1" isn't
+extractd select --where TRUE --score C\tD --data d 01001; error: --score is a column with numbers, and "C\tD" isn't
+extractd geocode --data d --number 1\r --name main 01001; error: --number is 1 to 11 digits, and "1\r" isn't
+extractd geocode --data d --number 1 --name \x1b__________________________\x7f___ 01001;
+  error: --name is 1 to 30 bytes, and "\u{1b}                          \u{7f}   " isn't
+extractd serve --data d --port 80\n 01001; error: --port is 1 to 65535, and "80\n" isn't
+extractd verify --program p.bpf a\nb; error: unexpected argument 'a\nb' found
+extractd verify --program p.bpf --a\x1b; error: unexpected argument '--a\u{1b}' found
+extractd fr\nob; error: unrecognized subcommand 'fr\nob'
 extractd select --where TRUE --data d; error:
 extractd select --data d 01001; error:
 extractd select --where TRUE --score CFCC --data d 01001; error: --score is a column with numbers, and "CFCC" isn't

@@ -18,8 +18,20 @@ pub struct Case<'a> {
     pub files: Vec<MemoryFile<'a>>,
 }
 
-// Splits a command line into words with the unit separator. In a word, `_` is a blank and `~` an underscore, and `''` is an empty word.
-const SEPARATORS: [(&str, &str); 4] = [("''", ""), (" ", "\x1f"), ("_", " "), ("~", "_")];
+// Splits a command line into words with the unit separator. In a word, `_` is a blank and `~` an underscore; `\n`, `\r`, `\t` and three `\x..` are
+// escapes as in Rust, and `''` is an empty word.
+const SEPARATORS: [(&str, &str); 10] = [
+    ("''", ""),
+    (" ", "\x1f"),
+    ("_", " "),
+    ("~", "_"),
+    (r"\n", "\n"),
+    (r"\r", "\r"),
+    (r"\t", "\t"),
+    (r"\x01", "\x01"),
+    (r"\x1b", "\x1b"),
+    (r"\x7f", "\x7f"),
+];
 
 /// The ways in which the named file, the output and standard error fail, if they do.
 #[derive(Clone, Copy)]

@@ -4,6 +4,7 @@ use super::cases::{Case, filled};
 use super::conversions::{DOCUMENTED, PROGRAMS, SOURCES};
 use super::counties::{COUNTIES, OPENINGS};
 use super::devices::{CASES, LONG};
+use super::echoes::ECHOES;
 use super::filters::FILTERS;
 use super::geocodes::GEOCODES;
 use super::listings::LISTINGS;
@@ -23,7 +24,7 @@ pub fn is_right(alloc: Global, row: &str) -> Result<bool, AllocError> {
 fn endings(rt: HostRuntime) -> Result<(), Fail> {
     for rows in [
         SOURCES, DOCUMENTED, PROGRAMS, COUNTIES, OPENINGS, FILES, GEOCODES, FILTERS, CASES,
-        LISTINGS,
+        LISTINGS, ECHOES,
     ] {
         for row in table(rt.alloc(), rows.trim())?.lines() {
             assert!(rt; is_right(rt.alloc(), row)?, "{row}");

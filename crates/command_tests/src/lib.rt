@@ -14,6 +14,8 @@ mod counties;
 #[cfg(test)]
 mod devices;
 #[cfg(test)]
+mod echoes;
+#[cfg(test)]
 mod endings;
 #[cfg(test)]
 mod files;

@@ -20,6 +20,8 @@ extractd run --program p.bpf --data d 01001; 0\t{rt1}\n; 1; refused 2 rt1 line 2
 extractd run --program p.bpf --data d 01001;; 1; refused 4 rt5 line 1 BadFeature; p.bpf: {every};
   d/TGR01001.RT1: {rt1}\n ! reads 0; d/TGR01001.RT4: {rt4}\n; d/TGR01001.RT5: {rt5 FEAT=x}\n ! reads 57
 extractd run --program p.bpf --data d 01001;; 3; error: d/TGR01001.RT1: not found; p.bpf: {every} ! reads 0
+extractd run --program p.bpf --data d\n\x1b 01001;; 3; error: d\x5cn\x5cu\x7b1b\x7d/TGR01001.RT1: not found;
+  p.bpf: {every} ! reads 0
 extractd run --program p.bpf --data d 01001;; 3; error: d/TGR01001.RT6: permission denied; p.bpf: {every} ! reads 0;
   d/TGR01001.RT1: {rt1}\n ! reads 0; d/TGR01001.RT6: ! closed denied
 extractd trace --program p.bpf --data d --line 1 --limit 2 01001; exit 1 score 0\n; 0;; p.bpf: {every};
@@ -86,6 +88,8 @@ extractd verify --program p.bpf; accepted\n ! call 2 full; 3; error: the output 
 const ARGUMENTS: &str = r#"
 extractd run --program p.bpf --data d 0100;; 2; error: CODE is five digits, and "0100" isn't
 extractd trace --program p.bpf --data d --line 1a --limit 1 01001;; 2; error: --line is 1 to 19 digits, and "1a" isn't
+extractd trace --program p.bpf --data d --line \n1\t --limit 1 01001;; 2; error: --line is 1 to 19 digits, and
+  "\x5cn1\x5ct" isn't
 extractd geocode --data d --number 151 --name '' 01001;; 2; error: --name is 1 to 30 bytes, and "" isn't
 extractd serve --data d --port 8080 01001;; 2; error: serve wants a socket
 extractd run --program p.bpf 01001;; 2; error: the following required arguments were not provided:\n  --data

@@ -5,6 +5,7 @@ mod ReadLemmas
 mod CarriedLemmas
 mod ProgramLemmas
 mod PieceLemmas
+mod EscapeLemmas
 mod CountiesLemmas
 mod RunLemmas
 mod TraceLemmas

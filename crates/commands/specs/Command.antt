@@ -12,7 +12,7 @@ use Rattle.commands.specs.Compile as compile
 use Rattle.commands.specs.Counties.{IsFileOfCounties}
 use Rattle.commands.specs.Disassemble as disassemble
 use Rattle.commands.specs.Explain as explain
-use Rattle.commands.specs.Failure.{NamesFile, Says, SaysFile, SaysLine, SaysMemory, SaysOutput, SaysText, TellsCounts, refusal_status, status as status_of}
+use Rattle.commands.specs.Failure.{NamesFile, Says, SaysFile, SaysLine, SaysMemory, SaysNotUtf8, SaysOutput, SaysText, TellsCounts, refusal_status, status as status_of}
 use Rattle.commands.specs.Files.{Disk, IsFailed}
 use Rattle.commands.specs.Filter.{IsFilterRefusal}
 use Rattle.commands.specs.Geocode as geocode
@@ -191,8 +191,7 @@ pub data IsUnusable (request : Request) (disk disk' : Disk) (out out' errors err
       → IsUnusable request disk disk' out out' errors errors'
   of_county : disk'.failed_reads ≢ disk.failed_reads → IsRefusalOf 3 request disk.known out out' errors errors'
       → IsUnusable request disk disk' out out' errors errors'
-  of_source : (name : List ℕ) → IsNotUtf8 request disk.known name → Keeps out.held out'.held
-      → SaysText (codes "error: " ++ name ++ codes ": not UTF-8" ++ 10 ∷ []) errors errors'
+  of_source : (name : List ℕ) → IsNotUtf8 request disk.known name → Keeps out.held out'.held → SaysNotUtf8 name errors errors'
       → IsUnusable request disk disk' out out' errors errors'
   of_write : (fault : WriteFault) (unflushed : Writer) → Writes request disk.known (Err fault) out unflushed
       → CountsFault fault out.counts unflushed.counts → SaysLine (line (write_fault.refusal fault)) errors errors'

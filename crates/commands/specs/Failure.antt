@@ -24,6 +24,7 @@ use Rattle.tl_fields.specs.Writing.{WritesText}
 use Rattle.tl_fields.specs.declared.writing.WriteFault.{WriteFault}
 use Rattle.tl_segments.specs.declared.fault.CountyFile as county_file
 use Rattle.commands.specs.County.{file_name}
+use Rattle.commands.specs.Escape.{escaped}
 use Rattle.commands.specs.Files.{Disk, IsUnfailed}
 use Rattle.commands.specs.declared.files.FileFault.{FileFault}
 use Rattle.commands.specs.declared.files.FileFault.TheVariants as fault
@@ -31,6 +32,8 @@ use Rattle.commands.specs.declared.files.ProgramInputFault.{ProgramInputFault}
 use Rattle.commands.specs.declared.files.ProgramInputFault.TheVariants as program_input
 use Rattle.commands.specs.declared.failure.Failure.{Failure}
 use Rattle.commands.specs.declared.failure.Failure.TheVariants.{Refusal, Memory, Write, File, CountyFile, NotUtf8, NoLine, Filter, County, Output}
+use Rattle.commands.specs.declared.failure.Piece.{Piece}
+use Rattle.commands.specs.declared.failure.Piece.TheVariants.{Text, Echo}
 
 -- the exit status for a class of refusals
 abbrev pub class_status : Class → ℕ
@@ -104,13 +107,23 @@ SaysText text errors errors' = (written : Result (Unit {0}) WriteFault) × Write
 abbrev pub SaysLine : List ℕ → Writer → Writer → Type 0
 SaysLine text errors errors' = SaysText (text ++ 10 ∷ []) errors errors'
 
+-- the bytes that report a piece
+abbrev pub said : Piece → List ℕ
+said (Text text) = text.now
+said (Echo text) = escaped text.now
+
 -- the report that memory ran out was written
 abbrev pub SaysMemory : Writer → Writer → Type 0
 SaysMemory errors errors' = SaysLine (line memory) errors errors'
 
--- the reason why the file of this name can't be used was reported
+-- the reason why the file of this name can't be used was reported, with the control characters of the name escaped
 abbrev pub SaysFile : List ℕ → Writer → Writer → Type 0
-SaysFile name errors errors' = (reason : List ℕ) × SaysText (codes "error: " ++ name ++ codes ": " ++ reason ++ 10 ∷ []) errors errors'
+SaysFile name errors errors' =
+    (reason : List ℕ) × SaysText (codes "error: " ++ escaped name ++ codes ": " ++ reason ++ 10 ∷ []) errors errors'
+
+-- it was reported that the source of this name isn't UTF-8
+abbrev pub SaysNotUtf8 : List ℕ → Writer → Writer → Type 0
+SaysNotUtf8 name errors errors' = SaysText (codes "error: " ++ escaped name ++ codes ": not UTF-8" ++ 10 ∷ []) errors errors'
 
 -- the reason why the output can't be written was reported
 abbrev pub SaysOutput : Writer → Writer → Type 0
@@ -121,12 +134,12 @@ SaysOutput errors errors' = (reason : List ℕ) × SaysText (codes "error: the o
 abbrev pub Says : Failure → Writer → Writer → Type 0
 Says (Refusal refusal) errors errors' = SaysLine (line refusal) errors errors'
 Says (Filter refusal note) errors errors' = SaysText (line refusal ++ 10 ∷ note.bytes ++ 10 ∷ []) errors errors'
-Says (County code refusal) errors errors' = SaysText (line refusal ++ 10 ∷ codes "county " ++ code.now ++ 10 ∷ []) errors errors'
+Says (County code refusal) errors errors' = SaysText (line refusal ++ 10 ∷ codes "county " ++ escaped code.now ++ 10 ∷ []) errors errors'
 Says Memory errors errors' = SaysMemory errors errors'
 Says (Write fault) errors errors' = SaysLine (line (write_fault.refusal fault)) errors errors'
 Says (File name error) errors errors' = SaysFile name.now errors errors'
 Says (CountyFile folder code file error) errors errors' = SaysFile (file_name folder.now code.now file) errors errors'
-Says (NotUtf8 name) errors errors' = SaysText (codes "error: " ++ name.now ++ codes ": not UTF-8" ++ 10 ∷ []) errors errors'
+Says (NotUtf8 name) errors errors' = SaysNotUtf8 name.now errors errors'
 Says (NoLine number) errors errors' = SaysText (codes "error: the type 1 file has no line " ++ decimal number ++ 10 ∷ []) errors errors'
 Says (Output error) errors errors' = SaysOutput errors errors'
 

@@ -1,11 +1,15 @@
 //! Why a command fails: what it reports, and its exit status.
-ghost use Rattle.std.specs.Prelude.{◌≡◌, ◌++◌, codes};
+ghost use Rattle.std.specs.Prelude.{◌≡◌, [], ◌∷◌, ◌++◌, codes};
 ghost use Rattle.std.specs.List.{flat_map};
 ghost use Rattle.tl_fields.specs.Device.{writer};
-ghost use Rattle.commands.specs.Failure.{IsOfCompile, IsOfFilter, Says, SaysFile, SaysText, WritesAs, class_status, of_county_extract, of_county_file, of_extract, of_file, of_opening, of_program, of_source, status};
+ghost use Rattle.tl_fields.specs.Writing.{WritesText};
+ghost use Rattle.commands.specs.Escape.{escaped};
+ghost use Rattle.commands.specs.Failure.{IsOfCompile, IsOfFilter, Says, SaysFile, SaysText, WritesAs, class_status, of_county_extract, of_county_file, of_extract, of_file, of_opening, of_program, of_source, said, status};
 ghost use Rattle.commands.specs.declared.failure.Failure.TheVariants.{Memory};
 
 use crate::county::{CountyFileFault, name_end};
+use crate::escape::write_escaped;
+use crate::failure::Piece::{Echo, Text};
 use crate::files::{FileFault, ProgramInputFault};
 use arrayvec::ArrayString;
 use bpf_text::{SourceFault, TextFault};
@@ -203,18 +207,20 @@ impl<'a> Failure<'a> {
         ensures { Says self.now (writer E.contents E.counts errors.old) (writer E.contents E.counts errors.new) }
     {
         match self {
-            Failure::Refusal(refusal) => say(errors, &[refusal.line().as_str(), "\n"]),
+            Failure::Refusal(refusal) => say(errors, &[Text(refusal.line().as_str()), Text("\n")]),
             Failure::Filter { refusal, note } => {
-                say(
-                    errors,
-                    &[refusal.line().as_str(), "\n", note.as_str(), "\n"],
-                );
+                say_of_filter(errors, refusal.line().as_str(), note.as_str());
             }
             Failure::County { code, refusal } => {
-                say(errors, &[refusal.line().as_str(), "\ncounty ", code, "\n"]);
+                say_of_county(errors, refusal.line().as_str(), code);
             }
-            Failure::Memory => say(errors, &[Refusal::memory().line().as_str(), "\n"]),
-            Failure::Write(fault) => say(errors, &[fault.line().as_str(), "\n"]),
+            Failure::Memory => {
+                say(
+                    errors,
+                    &[Text(Refusal::memory().line().as_str()), Text("\n")],
+                )
+            }
+            Failure::Write(fault) => say(errors, &[Text(fault.line().as_str()), Text("\n")]),
             Failure::File { name, error } => {
                 let reason = reason(*error);
                 say_of_file(errors, name, reason.as_str());
@@ -228,13 +234,22 @@ impl<'a> Failure<'a> {
                 let (end, reason) = (name_end(*file), reason(*error));
                 say_of_county_file(errors, data, code, end, reason.as_str());
             }
-            Failure::NotUtf8 { name } => say(errors, &["error: ", name, ": not UTF-8\n"]),
+            Failure::NotUtf8 { name } => {
+                say(
+                    errors,
+                    &[Text("error: "), Echo(name), Text(": not UTF-8\n")],
+                )
+            }
             Failure::NoLine { line } => {
                 let mut number = Buffer::new();
                 let number = number.format(*line);
                 say(
                     errors,
-                    &["error: the type 1 file has no line ", number, "\n"],
+                    &[
+                        Text("error: the type 1 file has no line "),
+                        Text(number),
+                        Text("\n"),
+                    ],
                 );
             }
             Failure::Output(error) => {
@@ -242,9 +257,9 @@ impl<'a> Failure<'a> {
                 say(
                     errors,
                     &[
-                        "error: the output can't be written: ",
-                        reason.as_str(),
-                        "\n",
+                        Text("error: the output can't be written: "),
+                        Text(reason.as_str()),
+                        Text("\n"),
                     ],
                 );
             }
@@ -289,24 +304,71 @@ pub fn write<'a, W: CountedWrite>(out: &mut W, text: &[u8]) -> Result<(), Failur
     }
 }
 
+/// A piece of a report.
+#[derive(Clone, Copy)]
+enum Piece<'p> {
+    /// Text that is written as it is.
+    Text(&'p str),
+    /// Text from the user, which is written with its control characters escaped.
+    Echo(&'p str),
+}
+
 /// Writes the pieces in order, up to the first that can't be written completely.
-fn say<E: CountedWrite>(errors: &mut E, pieces: &[&str])
-    ensures { SaysText (flat_map (λ piece. piece.now) pieces.now)
+fn say<E: CountedWrite>(errors: &mut E, pieces: &[Piece<'_>])
+    ensures { SaysText (flat_map said pieces.now)
         (writer E.contents E.counts errors.old) (writer E.contents E.counts errors.new) }
 {
     for piece in pieces {
-        match write_whole(errors, piece.as_bytes()) {
+        match say_piece(errors, piece) {
             Ok(()) => {}
             Err(_) => return,
         }
     }
 }
 
+fn say_piece<E: CountedWrite>(errors: &mut E, piece: &Piece<'_>) -> Result<(), WriteFault>
+    ensures { WritesText (said piece.now) result
+        (writer E.contents E.counts errors.old) (writer E.contents E.counts errors.new) }
+{
+    match piece {
+        Text(text) => write_whole(errors, text.as_bytes()),
+        Echo(text) => write_escaped(errors, text),
+    }
+}
+
+/// Reports why a filter is refused.
+fn say_of_filter<'p, E: CountedWrite>(errors: &mut E, refusal: &'p str, note: &'p str)
+    ensures { SaysText (refusal.now ++ 10 ∷ note.now ++ 10 ∷ [])
+        (writer E.contents E.counts errors.old) (writer E.contents E.counts errors.new) }
+{
+    say(errors, &[Text(refusal), Text("\n"), Text(note), Text("\n")]);
+}
+
+/// Reports why a county is refused.
+fn say_of_county<'p, E: CountedWrite>(errors: &mut E, refusal: &'p str, code: &'p str)
+    ensures { SaysText (refusal.now ++ 10 ∷ codes "county " ++ escaped code.now ++ 10 ∷ [])
+        (writer E.contents E.counts errors.old) (writer E.contents E.counts errors.new) }
+{
+    say(
+        errors,
+        &[Text(refusal), Text("\ncounty "), Echo(code), Text("\n")],
+    );
+}
+
 /// Reports why the file of this name can't be used.
 fn say_of_file<'p, E: CountedWrite>(errors: &mut E, name: &'p str, reason: &'p str)
     ensures { SaysFile name.now (writer E.contents E.counts errors.old) (writer E.contents E.counts errors.new) }
 {
-    say(errors, &["error: ", name, ": ", reason, "\n"]);
+    say(
+        errors,
+        &[
+            Text("error: "),
+            Echo(name),
+            Text(": "),
+            Text(reason),
+            Text("\n"),
+        ],
+    );
 }
 
 /// Reports why a county's file, whose name has this extension, can't be used.
@@ -322,7 +384,16 @@ fn say_of_county_file<'p, E: CountedWrite>(
 {
     say(
         errors,
-        &["error: ", data, "/TGR", code, end, ": ", reason, "\n"],
+        &[
+            Text("error: "),
+            Echo(data),
+            Text("/TGR"),
+            Echo(code),
+            Echo(end),
+            Text(": "),
+            Text(reason),
+            Text("\n"),
+        ],
     );
 }
 

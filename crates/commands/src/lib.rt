@@ -6,6 +6,7 @@ mod compile;
 mod counties;
 mod county;
 mod disassemble;
+mod escape;
 mod explain;
 mod failure;
 mod files;

@@ -1,7 +1,9 @@
 //! Lines for people.
-ghost use Rattle.std.specs.Prelude.{◌≡◌};
+ghost use Rattle.std.specs.Prelude.{◌≡◌, IfOk};
 ghost use Rattle.std.specs.Io.KnownBytes.{Appends};
+ghost use Rattle.commands.specs.Escape.{escaped};
 
+use crate::escape::write_escaped;
 use std::fmt;
 use tl_fields::{CountedWrite, write_whole};
 
@@ -16,6 +18,15 @@ impl<'a, W> Line<'a, W> {
     /// Creates a line that is written to `out`.
     pub fn new(out: &'a mut W) -> Self {
         Line { out }
+    }
+}
+
+impl<W: CountedWrite> Line<'_, W> {
+    /// Echoes what a user gave, with control characters escaped.
+    pub fn echo(&mut self, text: &str) -> fmt::Result
+        ensures { IfOk result (λ _. Appends (W.contents self.old.out.now) (W.contents self.new.out.now) (escaped text.now)) }
+    {
+        write_escaped(self.out, text).map_err(|_| fmt::Error)
     }
 }
 

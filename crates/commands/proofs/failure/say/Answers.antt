@@ -1,22 +1,20 @@
-use Rattle.std.proofs.Common.{List, ℕ, Bor, Ok, Err}
+use Rattle.std.proofs.Common.{Ok, Err, refl}
+use Rattle.commands.specs.Failure.{said}
 use Rattle.commands.proofs.PieceLemmas.{piece_stopped, piece_written, pieces_done}
 use Rattle.commands.proofs.failure.say.Goals as goal
 
 pub loop-piece-preserved : goal.loop-piece-preserved
 loop-piece-preserved g c =
-    piece_written (λ (piece : Bor (List ℕ)). piece.now) c.args.pieces.now c.loop-piece.piece-index _ c.loop-piece-test.true _ _ _ _
-    c.as_bytes.ensures.value c.loop-piece.invariant c.in-Ok.ensures
+    piece_written said c.args.pieces.now c.loop-piece.piece-index _ c.loop-piece-test.true _ _ _ _ refl c.loop-piece.invariant c.in-Ok.ensures
 
 pub returns-in-Err : goal.returns-in-Err
 returns-in-Err g c = (
   Err c.in-Err.field-0,
-  piece_stopped (λ (piece : Bor (List ℕ)). piece.now) c.args.pieces.now c.loop-piece.piece-index _ c.loop-piece-test.true _ _ _ _ _
-      c.as_bytes.ensures.value c.loop-piece.invariant c.in-Err.ensures,
+  piece_stopped said c.args.pieces.now c.loop-piece.piece-index _ c.loop-piece-test.true _ _ _ _ _ refl c.loop-piece.invariant c.in-Err.ensures,
 )
 
 pub returns : goal.returns
 returns g c = (
   Ok tt,
-  pieces_done (λ (piece : Bor (List ℕ)). piece.now) c.args.pieces.now c.loop-piece.piece-index (Ok tt) _ _ c.loop-piece-test.false
-      c.loop-piece.invariant,
+  pieces_done said c.args.pieces.now c.loop-piece.piece-index (Ok tt) _ _ c.loop-piece-test.false c.loop-piece.invariant,
 )
