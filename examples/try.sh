@@ -451,6 +451,7 @@ select --where ZIPP=1 --data missing 01001|1|0|refused 91 line 1 column 1 Unknow
 select --where TRUE --score FENAME --data $county 01001|2|0|error: --score is a column with numbers, and "FENAME" isn't
 compile --filter missing.cql|3|0|error: missing.cql: not found
 compile --filter folder|3|0|error: folder: is a directory
+compile --filter /dev/zero|1|0|refused 96 line 1 column 1048577 TooLong?the text has more than 1,048,576 bytes
 compile --filter latin.s|1|0|refused 90 line 1 column 8 Syntax?expected UTF-8
 compile --filter -|1|0|refused 90 line 1 column 1 Syntax?expected a predicate, TRUE, FALSE or a parenthesis
 END

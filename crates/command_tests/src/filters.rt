@@ -13,6 +13,13 @@ extractd compile --filter f.cql;; 1; refused 96 line 1 column 1 TooLong\nthe pro
   or a jump over more than 32,767; f.cql: {HAS_NUMBER(99999999999) OR *13}HAS_NUMBER(99999999999)
 extractd compile --filter f.cql;; 1; refused 96 line 1 column 1048577 TooLong\nthe text has more than 1,048,576 bytes;
   f.cql: {        *131072}TRUE
+extractd compile --filter f.cql; {asm mov r6, r1 | mov r0, 1 | exit | mov r0, 0 | exit}; 0;;
+  f.cql: {        *131071}    TRUE
+extractd compile --filter f.cql;; 1; refused 96 line 2 column 1 TooLong\nthe text has more than 1,048,576 bytes;
+  f.cql: {        *131071}       \nTRUE
+extractd compile --filter f.cql;; 1; refused 96 line 1 column 1048577 TooLong\nthe text has more than 1,048,576 bytes;
+  f.cql: {        *140000}TRUE ! call 258 pipe
+extractd compile --filter f.cql;; 3; error: f.cql: broken pipe; f.cql: {        *140000}TRUE ! call 257 pipe
 extractd compile --filter f.cql;; 3; error: f.cql: not found
 extractd compile --filter - > /dev/stdin;; 3; error: /dev/stdin: not found
 extractd select --where ZIPL_=_36067 --data d 01001; 0\t{rt1}\n0\t{rt1 TLID=7}\n; 0;;

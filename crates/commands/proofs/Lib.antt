@@ -1,4 +1,5 @@
 mod ClassLemmas
+mod CompileLemmas
 mod ExplainLemmas
 mod FileLemmas
 mod ReadLemmas

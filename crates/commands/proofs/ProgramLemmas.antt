@@ -8,7 +8,7 @@ use Rattle.std.proofs.lemmas.Bool.{cases_lt}
 use Rattle.bpf_insn.specs.declared.code.TheConstants.{WORD_LIMIT}
 use Rattle.bpf_insn.specs.declared.fault.CodeFault.{CodeFault}
 use Rattle.bpf_insn.specs.declared.fault.CodeFault.TheVariants as code
-use Rattle.commands.specs.Files.{IsTooLong}
+use Rattle.commands.specs.Files.{IsFront, IsTooLong}
 use Rattle.commands.proofs.FileLemmas.{keeps_both}
 
 -- the kept prefix of what was read, extended by the bytes that are kept from the next read
@@ -36,6 +36,18 @@ module _ (most count : ℕ) (before read kept kept' : List ℕ) where
       added ∙ ap (λ (n : ℕ). kept ++ take n read) is_count ∙ ap (λ (bytes : List ℕ). kept ++ bytes) (take_min (most - length kept) read)
       ∙ kept_more most before read kept is
   kept_read (Err error) is_count added is = tt
+
+-- the kept bytes are the front of what the reader has, whether it was read to its end or the limit of kept bytes was reached
+module _ (most : ℕ) (taken kept : List ℕ) (is : kept ≡ take most taken) where
+  pub front_whole : (old : Option (List ℕ)) → Keeps old (Some taken) → IsFront most old kept
+  front_whole old whole = record { whole = taken; is_whole = whole; is_front = is }
+
+  pub front_full : (old now : Option (List ℕ)) → Consumes old now taken → length kept ≡ most → IsFront most old kept
+  front_full None now read full = record { whole = taken; is_whole = tt; is_front = is }
+  front_full (Some xs) None read full = absurd read
+  front_full (Some xs) (Some ys) read full =
+      let many : most ≤ length taken = omega (arith, full, ap length is, length-take most taken) in
+      record { whole = xs; is_whole = refl; is_front = is ∙ sym (ap (take most) read ∙ take-append-le most taken ys many) }
 
 -- if no more than the limit is kept, the kept bytes are the whole program; if more is kept, the program is longer than the limit
 module _ (program kept : List ℕ) (is : kept ≡ take (8 * (WORD_LIMIT + 1)) program) where

@@ -1,5 +1,5 @@
 -- The files that a command reads: what opening, reading and closing them counts, and what an input has left.
-use Rattle.std.specs.Prelude.{◌≡◌, ◌≢◌, ◌⊎◌, ◌<◌, ◌*◌, ℕ, List, [], length, Option, Some, None, ⊤, Result, Ok, Err, MatchResult}
+use Rattle.std.specs.Prelude.{◌≡◌, ◌≢◌, ◌⊎◌, ◌<◌, ◌*◌, ℕ, List, [], length, take, Option, Some, None, ⊤, Result, Ok, Err, MatchResult}
 use Rattle.std.specs.Io.KnownBytes.{Keeps}
 use Rattle.std.specs.Option.{option_map_or}
 use Rattle.std.specs.IoError.{error_kind}
@@ -109,6 +109,12 @@ CountsUse Memory disk disk' = IsUnfailed disk disk'
 abbrev pub TellsUse : {T : Type 0} → Result T FileFault → Disk → Disk → Type 0
 TellsUse (Ok value) disk disk' = IsUnfailed disk disk'
 TellsUse (Err fault) disk disk' = CountsUse fault disk disk'
+
+-- These are the first `most` bytes of a file, or all if it has fewer, consistent with what is known of its bytes.
+pub record IsFront (most : ℕ) (known : Option (List ℕ)) (front : List ℕ) : Type 0 where
+  pub whole : List ℕ
+  pub is_whole : Keeps known (Some whole)
+  pub is_front : front ≡ take most whole
 
 -- The program is longer than the limit of words, and is refused for its length alone.
 pub record IsTooLong (known : Option (List ℕ)) (fault : CodeFault) : Type 0 where

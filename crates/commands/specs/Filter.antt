@@ -1,5 +1,5 @@
 -- The programs that filters compile to, and why a text without one is refused.
-use Rattle.std.specs.Prelude.{◌≡◌, ◌≤◌, ℕ, List, length, Option, IsUtf8, ⊤}
+use Rattle.std.specs.Prelude.{◌≡◌, ◌≤◌, ℕ, List, length, take, Option, IsUtf8, ⊤}
 use Rattle.std.specs.declared.alloc.Global.{Global}
 use Rattle.bpf_flow.specs.Flow.{IsForward}
 use Rattle.bpf_insn.specs.Code.{IsCodeOf}
@@ -13,8 +13,10 @@ use Rattle.cql2_code.specs.Layout.{IsTooLong}
 use Rattle.cql2_code.specs.Lowering.{program_of}
 use Rattle.cql2_code.specs.declared.fault.CompileFault.TheVariants.{TooLong}
 use Rattle.cql2_text.specs.FilterFault as filter_fault
+use Rattle.cql2_text.specs.Position.{fault_after}
 use Rattle.cql2_text.specs.Spelled.{IsFilterText}
 use Rattle.cql2_text.specs.declared.fault.FilterFault.{FilterFault}
+use Rattle.cql2_text.specs.declared.fault.FilterFlaw.TheVariants as flaw
 use Rattle.cql2_text.specs.declared.reader.TheConstants.{TEXT_LIMIT}
 use Rattle.refusals.specs.Refusal.{RefusalParts}
 use Rattle.commands.specs.declared.failure.Failure.{Failure}
@@ -34,6 +36,10 @@ pub record IsProgramOf (text : List ℕ) (score : Option NumericColumn) (program
 -- the text doesn't spell a filter, provided that it is UTF-8 and within the limit of bytes
 abbrev pub IsNoFilter : List ℕ → Type 0
 IsNoFilter text = length text ≤ TEXT_LIMIT → IsUtf8 text → (filter : Filter Global) → ¬ IsFilterText text filter
+
+-- the fault of a text that is longer than the limit of bytes
+abbrev pub length_fault : List ℕ → FilterFault
+length_fault text = fault_after (take TEXT_LIMIT text) flaw.TooLong
 
 -- why a text is refused: it doesn't spell a filter, or the filter's program is too long
 pub data IsFilterRefusal (text : List ℕ) (score : Option NumericColumn) (refusal : RefusalParts) : Type 0 where

@@ -7,10 +7,14 @@ ghost use Rattle.commands.specs.Files.{disk};
 ghost use Rattle.commands.specs.declared.request.Request.{Request};
 
 use crate::failure::{Failure, write};
-use crate::files::{Files, read_file};
+use crate::files::{Files, read_file_front};
 use crate::filter::Compiling;
+use cql2_text::TEXT_LIMIT;
 use std::alloc::Allocator;
 use tl_fields::CountedWrite;
+
+// One byte more than the limit shows that a filter's text is too long.
+const MOST_READ: usize = TEXT_LIMIT + 1;
 
 /// The arguments of `compile`.
 #[derive(Clone, Copy)]
@@ -21,7 +25,7 @@ pub struct Compile<'a> {
 }
 
 impl<'a> Compile<'a> {
-    /// Reads the filter to its end and writes the words of its program.
+    /// Reads the filter, up to the limit of its length, and writes the words of its program.
     pub fn carry_out<A: Allocator + Copy, F: Files, W: CountedWrite>(
         self,
         alloc: A,
@@ -33,7 +37,7 @@ impl<'a> Compile<'a> {
             (writer W.contents W.counts out.old) (writer W.contents W.counts out.new) }
         ensures usage { IfErr result (λ failure. status failure ≢ 2) }
     {
-        let text = match read_file(alloc, files, self.filter) {
+        let text = match read_file_front(alloc, files, self.filter, MOST_READ) {
             Ok(text) => text,
             Err(fault) => return Err(Failure::of_file(self.filter, fault)),
         };

@@ -4,7 +4,7 @@ ghost use Rattle.std.specs.Io.{ReadsAtMost};
 ghost use Rattle.std.specs.Io.KnownBytes.{Keeps, ReadConsumes};
 ghost use Rattle.tl_fields.specs.Counted.{CountsFailure};
 ghost use Rattle.tl_fields.specs.Device.{reader};
-ghost use Rattle.commands.specs.Files.{Closes, CountsClose, CountsOpen, CountsProgramFault, IsIfThere, IsTooLong, IsUnread, Opens, TellsFailure, TellsProgram, TellsProgramUse, TellsUse, disk, input_failed_reads, input_reader, input_remaining};
+ghost use Rattle.commands.specs.Files.{Closes, CountsClose, CountsOpen, CountsProgramFault, IsFront, IsIfThere, IsTooLong, IsUnread, Opens, TellsFailure, TellsProgram, TellsProgramUse, TellsUse, disk, input_failed_reads, input_reader, input_remaining};
 ghost use Rattle.commands.specs.declared.files.FileFault.TheVariants.{Memory};
 ghost use Rattle.commands.specs.declared.files.ProgramInputFault.TheVariants.{File};
 ghost use Rattle.commands.specs.declared.files.TheConstants.{MOST_KEPT};
@@ -264,17 +264,67 @@ pub fn read_file<A: Allocator, F: Files>(
     }
 }
 
-// The largest number of bytes of a program that are kept: one word past the limit shows that the program is too long.
-pub const MOST_KEPT: usize = 8 * (WORD_LIMIT + 1);
-
-/// Appends what was read, as long as no more than `MOST_KEPT` bytes are kept.
-fn keep<A: Allocator>(kept: &mut Vec<u8, A>, read: &[u8]) -> Result<(), AllocError>
-    ensures { (before : List ℕ) → kept.old.items ≡ take MOST_KEPT before
-        → IfOk result (λ _. kept.new.items ≡ take MOST_KEPT (before ++ read.now)) }
+/// Appends what was read, as long as no more than `most` bytes are kept in all.
+fn keep<A: Allocator>(kept: &mut Vec<u8, A>, read: &[u8], most: usize) -> Result<(), AllocError>
+    ensures { (before : List ℕ) → kept.old.items ≡ take most before
+        → IfOk result (λ _. kept.new.items ≡ take most (before ++ read.now)) }
 {
-    let room = MOST_KEPT.saturating_sub(kept.len());
+    let room = most.saturating_sub(kept.len());
     kept.extend_from_slice(&read[..room.min(read.len())])
 }
+
+/// Reads the reader's next `most` bytes, or all that it has if these are fewer. Doesn't retry a failed read, keeps no further byte, and stops reading
+/// once it has these bytes.
+pub fn read_front<A: Allocator, R: CountedRead>(
+    alloc: A,
+    reader: &mut R,
+    most: usize,
+) -> Result<Vec<u8, A>, FileFault>
+    ensures front { IfOk result (λ front. IsFront most (R.remaining reader.old) front.items) }
+    ensures reads { TellsFailure result (R.failed_reads reader.old) (R.failed_reads reader.new) }
+{
+    let mut front = Vec::new(alloc);
+    for _ in 0..u64::MAX {
+        let mut piece = [0; PIECE];
+        match reader.read_counted(&mut piece) {
+            Ok(0) => return Ok(front),
+            Ok(count) => {
+                keep(&mut front, &piece[..count], most)?;
+                if front.len() == most {
+                    return Ok(front);
+                }
+            }
+            Err(error) => return Err(FileFault::Unusable(error)),
+        }
+    }
+    // More bytes than there is memory.
+    Err(FileFault::Memory)
+}
+
+/// Opens a file and reads its first `most` bytes, or all if it has fewer.
+pub fn read_file_front<A: Allocator, F: Files>(
+    alloc: A,
+    files: &mut F,
+    name: &str,
+    most: usize,
+) -> Result<Vec<u8, A>, FileFault>
+    ensures front { IfOk result (λ front. IsFront most (F.bytes files.old name.now) front.items) }
+    ensures stay { (other : List ℕ) → F.bytes files.new other ≡ F.bytes files.old other }
+    ensures uses { TellsUse result (disk F.bytes F.failed_opens F.failed_reads files.old)
+        (disk F.bytes F.failed_opens F.failed_reads files.new) }
+{
+    match open(files, name) {
+        Ok(mut reader) => {
+            let read = read_front(alloc, &mut reader, most);
+            files.close(reader);
+            read
+        }
+        Err(fault) => Err(fault),
+    }
+}
+
+// The largest number of bytes of a program that are kept: one word past the limit shows that the program is too long.
+pub const MOST_KEPT: usize = 8 * (WORD_LIMIT + 1);
 
 /// Returns the kept bytes of a program, or its first fault if it is too long. `remainder` is the program's length modulo 8.
 fn complete<A: Allocator>(kept: Vec<u8, A>, remainder: usize) -> Result<Vec<u8, A>, CodeFault>
@@ -318,7 +368,7 @@ pub fn read_program<A: Allocator, R: CountedRead>(
                 };
             }
             Ok(count) => {
-                keep(&mut kept, &piece[..count])?;
+                keep(&mut kept, &piece[..count], MOST_KEPT)?;
                 remainder = (remainder + count) % 8;
             }
             Err(error) => return Err(ProgramInputFault::File(FileFault::Unusable(error))),

@@ -1,6 +1,8 @@
 //! Filters' texts, and the programs they compile to.
-ghost use Rattle.std.specs.Prelude.{IfErr, IfOk};
-ghost use Rattle.commands.specs.Filter.{IsFilterFailure, IsProgramOf};
+ghost use Rattle.std.specs.Prelude.{◌<◌, length, IfErr, IfOk, IsErrAnd};
+ghost use Rattle.cql2_text.specs.declared.reader.TheConstants.{TEXT_LIMIT};
+ghost use Rattle.commands.specs.Failure.{IsOfFilter};
+ghost use Rattle.commands.specs.Filter.{IsFilterFailure, IsProgramOf, length_fault};
 
 use crate::failure::Failure;
 use bpf_insn::encode;
@@ -27,6 +29,7 @@ impl Compiling {
     ) -> Result<Vec<u8, A>, Failure<'a>>
         ensures ok { IfOk result (λ program. IsProgramOf text.now self.score program.items) }
         ensures err { IfErr result (IsFilterFailure text.now self.score) }
+        ensures too_long { TEXT_LIMIT < length text.now → IsErrAnd result (IsOfFilter (length_fault text.now)) }
     {
         let filter = match read(self.filters, text) {
             Ok(filter) => filter,

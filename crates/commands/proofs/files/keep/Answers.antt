@@ -1,8 +1,7 @@
 use Rattle.std.proofs.Common.{arith}
-use Rattle.commands.specs.declared.files.TheConstants.{MOST_KEPT}
 use Rattle.commands.proofs.ProgramLemmas.{kept_read}
 use Rattle.commands.proofs.files.keep.Goals as goal
 
 pub returns : goal.returns
-returns g c = λ before is. kept_read MOST_KEPT c.min.result before c.args.read.now c.args.kept.now.items _ c.extend_from_slice.result
+returns g c = λ before is. kept_read c.args.most c.min.result before c.args.read.now c.args.kept.now.items _ c.extend_from_slice.result
     (omega (arith, c.min.ensures, c.saturating_sub-room.ensures, c.len.ensures)) c.extend_from_slice.ensures.items is

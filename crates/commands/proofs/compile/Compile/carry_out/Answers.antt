@@ -1,13 +1,41 @@
-use Rattle.std.proofs.Common.{ℕ, List, subst}
-use Rattle.commands.specs.Filter.{IsFilterRefusal}
+use Rattle.std.proofs.Common.{ℕ, ◌<◌, List, length, subst}
+use Rattle.cql2_text.specs.declared.reader.TheConstants.{TEXT_LIMIT}
+use Rattle.commands.specs.Failure.{IsOfFilter}
+use Rattle.commands.specs.Filter.{IsFilterFailure, IsProgramOf, length_fault}
+use Rattle.commands.proofs.CarriedLemmas.{written_carried}
+use Rattle.commands.proofs.CompileLemmas.{failure_usage, whole_failure, whole_program}
 use Rattle.commands.proofs.SelectLemmas.{filter_carried}
 use Rattle.commands.proofs.compile.Compile.carry_out.Goals as goal
 
+pub returns-in-Ok-program-clause-carried : goal.returns-in-Ok-program-clause-carried
+returns-in-Ok-program-clause-carried g c =
+    let score = c.args.self.compiling.score in
+    let read = c.in-Ok.ensures.front in
+    let text = c.as_slice.ensures.value in
+    let made : IsProgramOf c.in-Ok.text.items score c.in-Ok-program.program.items =
+    subst (λ (text : List ℕ). IsProgramOf text score c.in-Ok-program.program.items) text c.in-Ok-program.ensures.ok in
+    let whole : IsProgramOf read.whole score c.in-Ok-program.program.items =
+    whole_program read score c.in-Ok-program.program.items (λ long. c.in-Ok-program.ensures.too_long (rw text long)) made in
+    written_carried c.as_slice-in-Ok-program.result.now c.write.result c.write.ensures c.in-Ok.ensures.uses (λ outcome wrote. record {
+      text = read.whole;
+      is_text = read.is_whole;
+      program = c.as_slice-in-Ok-program.result.now;
+      is_program = rw c.as_slice-in-Ok-program.ensures.value whole;
+      written = wrote;
+    })
+
 pub returns-clause-carried : goal.returns-clause-carried
 returns-clause-carried g c =
-    filter_carried c.as_slice.result.now c.args.self.compiling.score c.in-Err-program.failure c.in-Err-program.ensures.err
-    (λ refusal is. record {
-      text = c.in-Ok.text.items;
-      is_text = c.in-Ok.ensures.known;
-      refused = subst (λ (text : List ℕ). IsFilterRefusal text c.args.self.compiling.score refusal) c.as_slice.ensures.value is;
-    }) c.in-Ok.ensures.uses
+    let score = c.args.self.compiling.score in
+    let read = c.in-Ok.ensures.front in
+    let text = c.as_slice.ensures.value in
+    let failure = c.in-Err-program.failure in
+    filter_carried read.whole score failure
+    (whole_failure read score failure
+    (subst (λ (text : List ℕ). TEXT_LIMIT < length text → IsOfFilter (length_fault text) failure) text c.in-Err-program.ensures.too_long)
+    (subst (λ (text : List ℕ). IsFilterFailure text score failure) text c.in-Err-program.ensures.err))
+    (λ refusal is. record { text = read.whole; is_text = read.is_whole; refused = is }) c.in-Ok.ensures.uses
+
+pub returns-clause-usage : goal.returns-clause-usage
+returns-clause-usage g c =
+    failure_usage c.as_slice.result.now c.args.self.compiling.score c.in-Err-program.failure c.in-Err-program.ensures.err
