@@ -101,7 +101,7 @@ class TestFinding:
         with pytest.raises(FileNotFoundError, match="there is no program extractd"):
             outcome(None)
 
-    @pytest.mark.parametrize("version", ["extractd 0.2.0", "", "extractd 0.1.0\nmore", "cat (GNU coreutils) 9.1"])
+    @pytest.mark.parametrize("version", ["extractd 1.0.1", "", "extractd 1.0.0\nmore", "cat (GNU coreutils) 9.1"])
     def test_other_versions(self, tmp_path: Path, version: str) -> None:
         with pytest.raises(OSError, match=r"isn't extractd 0\.1\.0"):
             outcome(program_of(tmp_path / "program", "exit 0", version))

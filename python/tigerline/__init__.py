@@ -17,7 +17,7 @@ if TYPE_CHECKING:
     from .geocoding import Address, Match, geocode
 
 __all__ = ["Address", "Match", "Refused", "Row", "geocode", "read_county", "rows", "select"]
-__version__ = "0.1.0"
+__version__ = "1.0.0"
 
 # Each is imported on its first use, so that `rows` does without pandas, and commands start soon.
 _MODULES = {

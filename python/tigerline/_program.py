@@ -10,7 +10,7 @@ from pathlib import Path
 
 from ._interrupts import Interrupts, kill_group
 
-VERSION = "0.1.0"
+VERSION = "1.0.0"
 _REFUSAL = re.compile(r"refused ([0-9]+)(?: ([a-z0-9 ]+))? ([A-Z][A-Za-z0-9]*(?:\([0-9]+\))?)")
 
 PathLike = str | os.PathLike[str]

@@ -6,12 +6,12 @@ macro_rules! help_end {
         concat!(
             $examples,
             "\n\nExit status:\n",
-            "  0  done, also where no row was chosen\n",
+            "  0  success, even if no row was selected\n",
             "  1  refused\n",
             "  2  usage\n",
             "  3  a file or output that can't be used\n",
             "  4  out of memory\n\n",
-            "extractd 0.1.0",
+            "extractd 1.0.0",
         )
     };
 }
@@ -116,9 +116,9 @@ fn program_command<'a>(alloc: Global) -> Result<Command<'a>, AllocError> {
     Command::new(alloc, "extractd")
         .bin_name("extractd")?
         .about(
-            "Extracts the TIGER/Line street segments that a filter or a BPF program chooses, finds house numbers, verifies and converts programs, and does so over HTTP",
+            "Selects TIGER/Line street segments by a filter or a BPF program, finds house numbers, verifies and converts programs, and does so over HTTP",
         )
-        .version("0.1.0")
+        .version("1.0.0")
         .after_help(help_end!(
             "Examples:
   extractd select --where \"CFCC LIKE 'A4%' AND ZIPL = 36067\" --data tiger 01001 > rows.tsv

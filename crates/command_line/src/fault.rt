@@ -109,7 +109,7 @@ impl ArgumentsFault<'_> {
                 write!(line, "error: --port is 1 to 65535")?;
                 say_given(line, text)
             }
-            ArgumentsFault::Serve => write!(line, "error: serve wants a socket\n"),
+            ArgumentsFault::Serve => write!(line, "error: serve needs a socket\n"),
             ArgumentsFault::Memory => Ok(()),
         }
     }

@@ -101,7 +101,7 @@ pub fn score_option<'a>(alloc: Global) -> Arg<'a> {
         alloc,
         "score",
         "COLUMN",
-        "The column whose number is the score of a row, 0 without one",
+        "The column whose number is a row's score, or 0 if it has none",
     )
     .required(false)
 }

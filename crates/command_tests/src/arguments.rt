@@ -87,15 +87,15 @@ extractd help; error:
 extractd --help; Extracts the TIGER/Line street segments
 extractd run --help; Writes the rows
 extractd trace --help; Says what
-extractd geocode --help; Writes where
-extractd geocode-batch --help; Writes where each address of a file is; fedirp, fename, fetype, fedirs
+extractd geocode --help; Finds a house number
+extractd geocode-batch --help; Finds each address of a file; fedirp, fename, fetype, fedirs
 extractd geocode-batch --help;; extractd geocode-batch --addresses addresses.csv --data tiger 01001 > places.csv
 extractd select --help; Writes the rows of the street segments for which a filter is true
 extractd compile --help; Writes the BPF program of a filter
-extractd verify --help; Says whether
+extractd verify --help; Reports whether
 extractd explain --help; Lists a program
-extractd asm --help; Writes the BPF
-extractd dis --help; Writes a program
+extractd asm --help; Assembles
+extractd dis --help; Disassembles
 extractd geocode --data d --number '' --name main 01001; error: --number is 1 to 11 digits, and "" isn't
 extractd geocode --data d --number 100000000151 --name main 01001;
   error: --number is 1 to 11 digits, and "100000000151" isn't
@@ -129,7 +129,7 @@ extractd --help;; extractd verify --program street.bpf
 extractd --help;; extractd explain --program street.bpf
 extractd --help;; extractd asm --source street.s > street.bpf
 extractd --help;; extractd dis --program street.bpf
-extractd --help;; extractd 0.1.0
+extractd --help;; extractd 1.0.0
 extractd --help;; 4  out of memory
 extractd run --help;; extractd run --program street.bpf --data tiger 01001 > rows.tsv
 extractd trace --help;; stuck place P cause N

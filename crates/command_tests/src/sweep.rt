@@ -91,10 +91,10 @@ extractd trace --program p.bpf --data d --line 1a --limit 1 01001;; 2; error: --
 extractd trace --program p.bpf --data d --line \n1\t --limit 1 01001;; 2; error: --line is 1 to 19 digits, and
   "\x5cn1\x5ct" isn't
 extractd geocode --data d --number 151 --name '' 01001;; 2; error: --name is 1 to 30 bytes, and "" isn't
-extractd serve --data d --port 8080 01001;; 2; error: serve wants a socket
+extractd serve --data d --port 8080 01001;; 2; error: serve needs a socket
 extractd run --program p.bpf 01001;; 2; error: the following required arguments were not provided:\n  --data
   <DIR>\n\nUsage: extractd run --program <FILE> --data <DIR> <CODE>\n\nFor more information, try '--help'.
-extractd --version;; 2; extractd 0.1.0
+extractd --version;; 2; extractd 1.0.0
 "#;
 
 // How an open or a read of a file fails, the status, and the text on standard error. If not every call fails like this, the last cell is the

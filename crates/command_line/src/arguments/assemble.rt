@@ -7,7 +7,7 @@ use std::alloc::{AllocError, Global};
 
 pub fn command<'a>(alloc: Global) -> Result<Command<'a>, AllocError> {
     Command::new(alloc, "asm")
-        .about("Writes the BPF instruction words that a program text means")
+        .about("Assembles a program's text into BPF instruction words")
         .after_help(help_end!("Example:\n  extractd asm --source street.s > street.bpf"))
         .arg(option(alloc, "source", "FILE", "The program, as text"))
 }

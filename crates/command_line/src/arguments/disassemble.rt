@@ -7,7 +7,7 @@ use std::alloc::{AllocError, Global};
 
 pub fn command<'a>(alloc: Global) -> Result<Command<'a>, AllocError> {
     Command::new(alloc, "dis")
-        .about("Writes a program as text")
+        .about("Disassembles a program into text")
         .after_help(help_end!("Example:\n  extractd dis --program street.bpf"))
         .arg(option(
             alloc,

@@ -7,14 +7,14 @@ use std::alloc::{AllocError, Global};
 
 pub fn command<'a>(alloc: Global) -> Result<Command<'a>, AllocError> {
     Command::new(alloc, "geocode-batch")
-        .about("Writes where each address of a file is")
+        .about("Finds each address of a file")
         .after_help(help_end!(
             "Input, CSV with a header: the columns number and name, and optionally id, zip, predir, type and sufdir.
 
-Output, CSV with a header and a line for each match of an address, or one that gives the reason for none:
+Output, CSV with a header and one line for each match of an address, or one line with the reason why there is none:
   id                              the address's id, or its line if there is no such column
   status                          match, tie (matches in several places) or no_match
-  reason                          of no match: no_such_street, no_such_number, other_zip, not_a_number,
+  reason                          without a match: no_such_street, no_such_number, other_zip, not_a_number,
                                   name_too_long or missing
   longitude, latitude             in decimal degrees
   tlid, side                      the segment, and L or R

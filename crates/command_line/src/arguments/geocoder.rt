@@ -8,9 +8,9 @@ use std::alloc::{AllocError, Global};
 
 pub fn command<'a>(alloc: Global) -> Result<Command<'a>, AllocError> {
     Command::new(alloc, "geocode")
-        .about("Writes where a house number is on the streets of a name")
+        .about("Finds a house number on the streets with a name")
         .after_help(help_end!(
-            "Output, a line for each side of a street on which the number lies:
+            "Output, one line for each side of a street that has the number:
   TLID, L or R, longitude, latitude  in millionths of a degree, with tabs between; - for an unknown place
 
 Example:
@@ -33,7 +33,7 @@ Example:
             alloc,
             "zip",
             "Z",
-            "The ZIP code, where only that one will do",
+            "The ZIP Code that the address must have",
         )
         .required(false))?
         .arg(counties_option(alloc))

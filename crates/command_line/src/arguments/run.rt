@@ -7,7 +7,7 @@ use std::alloc::{AllocError, Global};
 
 pub fn command<'a>(alloc: Global) -> Result<Command<'a>, AllocError> {
     Command::new(alloc, "run")
-        .about("Writes the rows of the segments that a program chooses")
+        .about("Writes the rows of the segments that a program selects")
         .after_help(help_end!(
             "Example:\n  extractd run --program street.bpf --data tiger 01001 > rows.tsv"
         ))

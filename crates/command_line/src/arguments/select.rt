@@ -9,7 +9,7 @@ pub fn command<'a>(alloc: Global) -> Result<Command<'a>, AllocError> {
     Command::new(alloc, "select")
         .about("Writes the rows of the street segments for which a filter is true")
         .after_help(help_end!(
-            "Output, a row for each segment: as run writes it. The counties follow each other, up to the first fault.
+            "Output, one row for each segment, as run writes it: county by county, up to the first fault.
 
 Example:
   extractd select --where \"CFCC LIKE 'A4%' AND ZIPL = 36067\" --data tiger 01001 > rows.tsv"

@@ -21,12 +21,12 @@ pub struct Serve<'a> {
 
 pub fn command<'a>(alloc: Global) -> Result<Command<'a>, AllocError> {
     Command::new(alloc, "serve")
-        .about("Answers requests over HTTP on 127.0.0.1, one connection after the other")
+        .about("Answers requests over HTTP on 127.0.0.1, one connection at a time")
         .after_help(help_end!(
             "Output, once it listens:
   listening 127.0.0.1:PORT
 
-It ends, with 3, only where it can't take a connection.
+It exits, with status 3, only if it can't accept a connection.
 
 Example:
   extractd serve --data tiger --port 8080 01001"

@@ -7,12 +7,12 @@ use std::alloc::{AllocError, Global};
 
 pub fn command<'a>(alloc: Global) -> Result<Command<'a>, AllocError> {
     Command::new(alloc, "trace")
-        .about("Says what a program comes to on one segment, also one that run would refuse")
+        .about("Runs a program on one segment, step by step, even one that run would refuse")
         .after_help(help_end!(
             "Output:
   exit R0 score S        the program ended
-  stuck place P cause N  it can't go on at this place, by the number of the refusal
-  running                the steps don't suffice
+  stuck place P cause N  it gets stuck at this place; N is the refusal's number
+  running                the limit was reached
 
 Example:
   extractd trace --program street.bpf --data tiger --line 12 --limit 4096 01001"
@@ -35,7 +35,7 @@ Example:
             "N",
             "The segment's line in the type 1 file, counted from 1",
         ))?
-        .arg(option(alloc, "limit", "L", "How many steps at most"))?
+        .arg(option(alloc, "limit", "L", "The maximum number of steps"))?
         .arg(county_option(alloc))
 }
 

@@ -7,7 +7,7 @@ use std::alloc::{AllocError, Global};
 
 pub fn command<'a>(alloc: Global) -> Result<Command<'a>, AllocError> {
     Command::new(alloc, "verify")
-        .about("Says whether run would accept a program")
+        .about("Reports whether run would accept a program")
         .after_help(help_end!("Example:\n  extractd verify --program street.bpf"))
         .arg(option(
             alloc,
