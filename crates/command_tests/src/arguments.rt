@@ -84,9 +84,9 @@ extractd serve --help; Answers requests
 extractd --help;; extractd serve --data tiger --port 8080 01001
 extractd serve;; Usage: extractd serve --data <DIR> --port <P> <CODE>...
 extractd help; error:
-extractd --help; Extracts the TIGER/Line street segments
+extractd --help; Selects TIGER/Line street segments
 extractd run --help; Writes the rows
-extractd trace --help; Says what
+extractd trace --help; Runs a program on one segment
 extractd geocode --help; Finds a house number
 extractd geocode-batch --help; Finds each address of a file; fedirp, fename, fetype, fedirs
 extractd geocode-batch --help;; extractd geocode-batch --addresses addresses.csv --data tiger 01001 > places.csv
