@@ -12,7 +12,7 @@ The first form takes the programs of examples/verdicts, those of the documents, 
 `explain` has to write the listing that this script makes, without source lines and with some. Its standard error and
 exit status have to be those of `verify`, and the verdict has to be this script's and that of the program's row. If
 annotations.py can search the program's annotations, the least one has to hold the states of the listing. Each text of
-a failed check has to occur in some listing, and each line `refused: ..` that docs/verifier.md quotes.
+a failed check has to occur in some listing, and each line `refused: ..` that docs/refused-programs.md quotes.
 
 It prints each program that differs, then how many agree and how many differ, and ends with 1 if any differs. COUNT is
 300 and SEED is 1 if they aren't given; the same seed draws the same programs again.
@@ -763,9 +763,9 @@ def in_folder(compare_one: Callable[[object, Path], Compared]) -> Callable[[obje
 
 
 def missing_forms(texts: str) -> Iterator[str]:
-    """Returns the forms that no listing has, and the lines that docs/verifier.md quotes and no listing has."""
+    """Returns the forms that no listing has, and the lines that docs/refused-programs.md quotes and no listing has."""
     yield from (name for name, pattern in FORMS.items() if not re.search(pattern, texts, re.MULTILINE))
-    quoted = re.findall("`(refused: [^`]+)`", (DOCUMENTS / "verifier.md").read_text("utf-8"))
+    quoted = re.findall("`(refused: [^`]+)`", (DOCUMENTS / "refused-programs.md").read_text("utf-8"))
     yield from set(quoted).difference(texts.splitlines())
 
 
