@@ -5,7 +5,7 @@
     python3 gate_times.py NAME..                runs `rt ci NAME..`, for these crates and those below them
     python3 gate_times.py --table FILE NAME..   also keeps the table in FILE: rows that this run measured replace older ones
 
-The columns are the proof of a crate, the proof of its tests, running its tests and its program, and its must-fail edits. `rt` reuses what earlier runs
+The columns are the proof of a crate, the proof of its tests, running its tests and its program, and its mutants. `rt` reuses what earlier runs
 on the same machine passed, and what is reused isn't measured: it has no row, or an empty cell. So the table of the whole repository can be
 put together from several runs with --table. --anew proves everything again.
 
@@ -23,8 +23,8 @@ from pathlib import Path
 from typing import Dict, Iterator, List, NamedTuple, Optional, Tuple
 
 TOP = Path(__file__).resolve().parent.parent
-KINDS = ["proof", "tests", "runs", "edits"]
-HEADINGS = ["Crate", "Proof", "Proof of tests", "Runs", "Edits", "Sum"]
+KINDS = ["proof", "tests", "runs", "mutants"]
+HEADINGS = ["Crate", "Proof", "Proof of tests", "Runs", "Mutants", "Sum"]
 PERIOD_SECONDS = 0.1
 TICKS_PER_SECOND = os.sysconf("SC_CLK_TCK")
 
@@ -81,9 +81,9 @@ def purpose_of(words: List[str], folder: str) -> Optional[Tuple[str, str]]:
     program = os.path.basename(words[0]) if words else ""
     if program == "rattle" and "--crate-name" in words:
         crate = words[words.index("--crate-name") + 1]
-        # An edit is tried on a copy of its crate.
-        is_edit = Path(folder).parent.name != "crates"
-        return crate, "edits" if is_edit else "tests" if "--test" in words else "proof"
+        # A mutant is tried on a copy of its crate.
+        is_mutant = Path(folder).parent.name != "crates"
+        return crate, "mutants" if is_mutant else "tests" if "--test" in words else "proof"
     if "/bin/" in (words[0] if words else "") and program.endswith("_tests_tests"):
         return program[: -len("_tests")], "runs"
     return None
