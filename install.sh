@@ -90,8 +90,9 @@ documents() {
         cd "$here"
         printf '%s\n' README.md CHANGELOG.md CONTRIBUTING.md SECURITY.md LICENSE examples/README.md examples/job.py
         find docs examples/one examples/town -type f
-        for file in examples/*.RT? examples/*.s examples/*.bpf examples/*.csv examples/c/*.c examples/c/*.h examples/c/*.sh \
-            examples/c/forward.py examples/c/*flags* examples/server/*.conf examples/server/*.service; do
+        for file in examples/*.RT? examples/*.s examples/*.bpf examples/*.csv examples/*.awk examples/*.sql examples/refused_filters.txt \
+            examples/c/*.c examples/c/subset/*.c examples/c/*.h examples/c/*.sh examples/c/forward.py examples/c/*flags* \
+            examples/server/*.conf examples/server/*.service; do
             echo "$file"
         done
     )

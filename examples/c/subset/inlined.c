@@ -1,0 +1,11 @@
+#include "extractd.h"
+
+static inline __attribute__((always_inline)) uint64_t is_road(const struct record *record)
+{
+    return record->cfcc[0] == 'A';
+}
+
+uint64_t choose(const struct record *record)
+{
+    return is_road(record) + (record->cfcc[1] == '4');
+}
