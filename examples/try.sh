@@ -6,6 +6,7 @@
 #   the examples, and what it writes has to be what stands below it. Words behind `console` name commands that the block needs
 #   beside coreutils: where one isn't there, the block is left out, and said to be. `rt` is played: `rt try -- ..` and `rt run -- ..`
 #   run the program that is tried, and `.ci/run` does nothing.
+# - A block ```bash is commands that succeed and print nothing. Words after `bash` name commands as above.
 # - A block ```asm that a block ```hex follows is a program and its words: `asm` makes these of it, and of what `dis` writes of them.
 # - In a block ```verdicts each row is a program, with `|` between its lines, and behind `;` what `verify` says of it. A row that ends with `|`
 #   goes on in the next line.
@@ -136,6 +137,16 @@ try_console() {
     wrote=$(timeout 60 bash -c "$script" 2>&1 < /dev/null)
     [ -n "${4-}" ] && wrote=${wrote//$4/}
     if [ "$wrote" = "$3" ]; then pass; else fail "$1 shows" "$3" "and it is" "$wrote"; fi
+}
+
+# try_quiet NAME NEEDED COMMANDS: they succeed and print nothing.
+try_quiet() {
+    local needed wrote
+    for needed in $2; do
+        command -v "$needed" > /dev/null || { skip "$1 (there is no $needed here)"; return; }
+    done
+    wrote=$(timeout 60 bash -ec "$3" 2>&1 < /dev/null)
+    if [ "$? $wrote" = "0 " ]; then pass; else fail "$1 should print nothing" "$3" "and prints" "$wrote"; fi
 }
 
 words() { od -An -v -tx1 -w8 "$1"; }
@@ -308,6 +319,7 @@ try_document() {
         elif [ "$line" = '```' ]; then
             text=${text%$'\n'}
             case $kind in
+            bash) try_quiet "$1, line $begin" "$needed" "$text" ;;
             console) try_console "$1, line $begin" "$needed" "$text" ;;
             http) show_replies "$text"; try_http "$1, line $begin" "$needed" "$text" ;;
             asm) asm=$text ;;
