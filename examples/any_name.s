@@ -52,7 +52,7 @@ call 7
 jne r0, 0, out
 call 3                        ; names: how many alternate names there are
 jgt r0, 8, more
-mov r0, 0                     ; all were asked for, and none is it
+mov r0, 0                     ; all were compared, and none is it
 exit
 more:
 mov r1, 1
