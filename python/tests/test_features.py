@@ -329,7 +329,7 @@ class TestBoxes:
 
 
 FILTERS = [
-    # The table of docs/filters.md: filter, number, line, column.
+    # The refusals of docs/filters.md: filter, number, line, column.
     ("ZIPL = 36067 AND", 90, 1, 17),
     ("ZIP = 36067", 91, 1, 1),
     ("ZIPL = '36067'", 92, 1, 8),
