@@ -105,29 +105,21 @@ pub found_proper : {A : Type 0} (entries : List (ℕ × Box Known A)) (place : �
 found_proper entries place found proper is = is_found_proper found
     (subst IsProper (waits entries place ∙ sym (ap state_of is)) (proper place))
 
--- an entry of a map was removed, and another one put in its place
-pub record IsPutAgain {A : Type 0} (old new : BTreeMap ℕ (Box Known A)) (place : ℕ) (put : Box Known A) : Type 0 where
-  pub middle : BTreeMap ℕ (Box Known A)
-  pub takes : Updates nat_cmp old middle place None
-  pub puts : Updates nat_cmp middle new place (Some put)
-
--- what is found there is taken and put back, joined with another state
-pub waits_joined : {A : Type 0} {old new : BTreeMap ℕ (Box Known A)} {place : ℕ} {there : Option (Box Known A)} {met : Box Known A}
-    (state : AbstractState) → IsPutAgain old new place met → there ≡ lookup (is_at (nat_cmp place)) old.entries
+-- what is found at a place is joined with another state
+pub waits_joined : {A : Type 0} (old new : BTreeMap ℕ (Box Known A)) (place : ℕ) {there : Option (Box Known A)} {met : Box Known A}
+    (state : AbstractState) → Updates nat_cmp old new place (Some met) → there ≡ lookup (is_at (nat_cmp place)) old.entries
     → Reached met.value ≡ join (state_of there) state → (other : ℕ)
     → waiting_at (states_in new.entries) other ≡ joined (waiting_at (states_in old.entries)) place state other
-waits_joined {old} {new} {place} {met} state again found value other =
-    waits_after again.middle new place (Some met) again.puts other ∙ by (other == place) refl
+waits_joined old new place {met} state updates found value other =
+    waits_after old new place (Some met) updates other ∙ by (other == place) refl
   where
     by : (test : Bool) → (other == place) ≡ test
-        → (if test then Reached met.value else waiting_at (states_in again.middle.entries) other)
+        → (if test then Reached met.value else waiting_at (states_in old.entries) other)
         ≡ (if test then join (waiting_at (states_in old.entries) other) state else waiting_at (states_in old.entries) other)
     by true is =
         subst (λ (p : ℕ). Reached met.value ≡ join (waiting_at (states_in old.entries) p) state) (same_place other place is)
         (value ∙ ap (λ (s : AbstractState). join s state) (ap state_of found ∙ sym (waits old.entries place)))
-    by false is =
-        waits_after old again.middle place None again.takes other
-        ∙ ap (λ (test : Bool). if test then Unreached else waiting_at (states_in old.entries) other) is
+    by false is = refl
 
 -- states with one taken
 
@@ -165,17 +157,6 @@ joined_ahead {ahead} {straight} waiting {to} state are proper-straight proper-st
       subst (λ (s : AbstractState). s ≢ Unreached → IsTargetAhead ahead.code ahead.place other) (sym (is other))
       (joined_each (λ p s. s ≢ Unreached → IsTargetAhead ahead.code ahead.place p) (waiting_at ahead.waiting) to state
       (λ waits. target) are.wait other);
-}
-
--- one of the waiting states was taken
-pub taken_ahead : (ahead : Ahead) (straight : AbstractState) (waiting : List (ℕ × AbstractState)) (place : ℕ) → AreAhead ahead
-    → IsProper straight → IsTaken ahead.waiting waiting place → AreAhead (with_states ahead straight waiting)
-taken_ahead ahead straight waiting place are proper-straight taken = record {
-  forward = are.forward;
-  straight = proper-straight;
-  proper = left_each (λ other. IsProper) ahead.waiting waiting place taken (λ other. tt) (λ other apart. are.proper other);
-  wait = left_each (λ other s. s ≢ Unreached → IsTargetAhead ahead.code ahead.place other) ahead.waiting waiting place taken
-      (λ other waits. absurd (waits refl)) (λ other apart. are.wait other);
 }
 
 -- the state at the place was taken, and the pass moves on past the instruction there

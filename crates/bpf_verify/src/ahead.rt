@@ -81,8 +81,11 @@ impl<'a, A: Allocator + Copy> StatesAhead<'a, A> {
         let Some(known) = edges.target else {
             return Ok(());
         };
-        let there = self.waiting.remove(&target);
-        self.waiting.insert(target, meet(there, known))?;
+        if let Some(waiting) = self.waiting.get_mut(&target) {
+            waiting.join_with(&known);
+            return Ok(());
+        }
+        self.waiting.insert(target, known)?;
         Ok(())
     }
 }
