@@ -1,32 +1,33 @@
 #!/usr/bin/env python3
-"""Writes generated programs with their verdicts, found by a search for annotations.
+"""Generates programs and finds their verdicts by a search for annotations.
 
-    python3 annotations.py             the file examples/verdicts/generated.txt
-    python3 annotations.py PROGRAM     the verdict on one program, `|` between its lines
+    python3 annotations.py             writes the file examples/verdicts/generated.txt to standard output
+    python3 annotations.py PROGRAM     prints the verdict on one program, with `|` between its lines
 
-A verdict is `accepted`, or the refusal's line. The rules are those of docs/verifier.md, written down a second time here: kinds, their order,
-the checks and edges of one instruction. What makes a verdict of them is written quite otherwise than in the verifier, which goes over a
-program once and joins the states that meet. Here nothing is joined. An annotation is a state for each instruction; it is good up to a place
-when the state at the start is below the first one and, for each instruction before the place, no check fails and the state on each edge is
-below the one where the edge leads. All annotations of a small domain are tried: if one is good to its end, the program is accepted; if not,
-it is refused at the first place where none that is good up to there passes, for what fails there in the least of them, which has to exist.
+A verdict is `accepted` or the line of a refusal. The rules are those of docs/verifier.md, implemented here a second time: kinds and their
+order, and the checks and edges of each instruction. The verdict is found in a different way. The verifier walks over a program once and
+joins the states that meet; this script joins nothing. An annotation assigns a state to each instruction. It is good up to a place if the
+entry state is below the first state and if, for every instruction before the place, no check fails and the state on each edge is below the
+state at the edge's target. The script tries all annotations of a small domain. If one of them is good to the end, the program is accepted.
+Otherwise it is refused at the first place that no annotation passes, with the failure of the least annotation that is good up to there. A
+least one must exist.
 
-The domain, for each place: Unreached, and every combination of
-- for each register that may be read from there on before it is written: Nothing, and of each sort of kind (number, record, frame) that
-  comes to the place in it, every interval whose ends come to it so, or are 0 or 2^64 - 1 for numbers, 32767 for offsets in the record.
-  Other registers: Nothing;
+The domain of each place contains Unreached and every combination of:
+- for each register that may be read from there on before it is written: Nothing, and intervals of each sort (number, record, frame) that
+  arrives there. Their ends are ends of arriving intervals, or 0 and 2^64 - 1 for numbers and 32767 for offsets in the record. All other
+  registers are Nothing;
 - the same for each slot of the frame;
-- no mark, and every set of marks that comes, or is what such sets have in common,
-where the marks fit the kinds of slots: a number's bytes have theirs, and a pointer's have none.
-What comes to a place does so on an edge out of a state of the domain: of one whose intervals reach from a lower end that came to an upper
-end that came, and whose marks are what sets that came have in common.
+- the empty set of marks, every set of marks that arrives, and every intersection of such sets.
+Marks and slots must agree: the bytes of a number are marked, and those of a pointer aren't.
+A state arrives at a place on an edge from a state of the source's domain whose intervals run from an arriving lower end to an arriving
+upper end, and whose marks are an intersection of arriving sets.
 
-A program has a few places, so no annotation of the domain is left out: those whose beginnings allow the same states at all later places
-have the same continuations, and are followed as one. A program whose domain is too large for that isn't used. As it is a part of all
-annotations, it alone can't show that none is good; so others are drawn, with any ends: none may pass where none of the domain does, or
-not be above the least one of the domain.
+Programs have few places, so no annotation of the domain is left out: annotations that allow the same states at all later places continue
+in the same ways, and are followed together. A program whose domain is too large isn't used. The domain is only a part of all annotations,
+so it can't show by itself that none is good. Therefore others are drawn, with arbitrary ends. None of them may pass a place that no
+annotation of the domain passes, and each must be above the domain's least annotation.
 """
-# Needs Python 3.8 or later, and nothing else.
+# Needs only Python 3.8 or later.
 
 import itertools
 import re
@@ -38,7 +39,7 @@ WORD = 1 << 64
 RECORD_BYTES, FRAME_BYTES, SLOT_BYTES = 228, 512, 8
 LEAST_OFFSET, GREATEST_OFFSET = -32768, 32767
 
-# ---- Kinds and states, and their order
+# ---- Kinds, states and their order
 
 
 class Kind(NamedTuple):
@@ -65,14 +66,14 @@ def number(low, high=None):
 
 
 class State(NamedTuple):
-    """Beside registers and marks, pairs of a slot and its kind, for slots of which something is known."""
+    """The registers, the marks, and pairs of a slot and its kind for the slots that hold a known value."""
 
     registers: tuple
     marks: frozenset
     slots: frozenset = frozenset()
 
     def read(self, name):
-        """The kind of a register, which has to be known of."""
+        """Returns the kind of a register. Fails if nothing is known of it."""
         kind = self.registers[index(name)]
         check(kind is not NOTHING, "40", "ReadsNothing(%d)" % index(name))
         return kind
@@ -85,21 +86,21 @@ class State(NamedTuple):
         return self._replace(marks=self.marks.union(range(first, first + count)))
 
     def slot(self, slot):
-        """The kind of what a slot holds."""
+        """Returns the kind of a slot."""
         return dict(self.slots).get(slot, NOTHING)
 
     def forget(self, reached):
-        """Of the slots that have one of these bytes nothing is known then."""
+        """Forgets the slots that contain one of these bytes."""
         return self._replace(slots=frozenset(pair for pair in self.slots if not set(own_bytes(pair[0])).intersection(reached)))
 
     def keep(self, slot, kind):
-        """A number marks its bytes; a pointer takes their marks away."""
+        """Puts a kind into a slot. A number marks the slot's bytes, and a pointer unmarks them."""
         own = own_bytes(slot)
         marks = self.marks.difference(own) if kind.pointer() else self.marks.union(own)
         return State(self.registers, marks, self.forget(own).slots | {(slot, kind)})
 
     def is_proper(self):
-        """Whether the marks fit what is known of slots."""
+        """Returns whether marks and slots agree."""
         return all(self.marks.isdisjoint(own_bytes(slot)) if kind.pointer() else self.marks.issuperset(own_bytes(slot)) for slot, kind in self.slots)
 
     def below(self, other):
@@ -123,7 +124,7 @@ def below(state, other):
 
 
 class Fault(Exception):
-    """The first check that fails."""
+    """The first failing check."""
 
 
 def check(passes, cause, name):
@@ -147,7 +148,7 @@ def quotient_towards_zero(x, y):
 
 
 def exact(name, width, x, y):
-    """What an operation gives of two numbers below 2^width."""
+    """Returns the result of an operation on two numbers below 2^width."""
     amount = y % width
     sx, sy = signed(x, width), signed(y, width)
     value = {
@@ -184,7 +185,7 @@ def cut(x, bits):
 
 
 def result(name, width, x, y):
-    """What is known of the result of an operation with two operands, or of NEG."""
+    """Returns the interval of the result of NEG or of an operation with two operands."""
     size = 1 << width
     if width == 32:
         x, y = cut(x, 32), cut(y, 32)
@@ -265,7 +266,7 @@ RESULTS = {
 
 
 def extended(bits, width, x):
-    """MOVSX."""
+    """Returns the result of MOVSX."""
     if width == 32:
         x = cut(x, 32)
     if x.single():
@@ -275,7 +276,7 @@ def extended(bits, width, x):
 
 
 def swapped(order, bits, x):
-    """END, which takes the whole register."""
+    """Returns the result of END, which reads the whole register."""
     if order == "le":
         return cut(x, bits)
     return number(reversed_bytes(x.low, bits)) if x.single() else number(0, (1 << bits) - 1)
@@ -285,7 +286,7 @@ def swapped(order, bits, x):
 
 
 def holds(name, width, x, y):
-    """Whether a comparison holds of two numbers."""
+    """Returns whether a comparison of two numbers is true."""
     x, y = x % (1 << width), y % (1 << width)
     if name[1] == "s" and name != "jset":
         name, x, y = "j" + name[2:], signed(x, width), signed(y, width)
@@ -301,7 +302,7 @@ def holds(name, width, x, y):
 
 
 def interval(low, high):
-    """None where it is empty."""
+    """Returns the interval, or None if it is empty."""
     return number(low, high) if low <= high else None
 
 
@@ -332,7 +333,7 @@ def exchanged(narrowing):
     return lambda x, y: narrowing(y, x)[::-1]
 
 
-# What is known of both operands where the jump is taken, and where it isn't.
+# The intervals of both operands, once if the jump is taken and once if it isn't.
 NARROWINGS = {
     "eq": (narrowed_equal, narrowed_unequal),
     "ne": (narrowed_unequal, narrowed_equal),
@@ -344,7 +345,7 @@ NARROWINGS = {
 
 
 def compared(name, width, x, y):
-    """For the jump taken and not: the operands' kinds, or None where the edge isn't reached."""
+    """Returns the operands' kinds if the jump is taken, and if it isn't. None stands for an edge that isn't reached."""
     is_signed = name[1] == "s" and name != "jset"
     limit = 1 << (width - 1 if is_signed else width)
     if name != "jset" and x.high < limit and y.high < limit:
@@ -378,7 +379,7 @@ FORMS = [(form, re.compile(pattern)) for form, pattern in FORMS]
 
 
 def operand(text):
-    """A register is its name, an address its base and offset, anything else a number."""
+    """Returns a register's name, an address as its base and offset, or a number."""
     if text.startswith("r"):
         return text
     if text.startswith("["):
@@ -388,7 +389,7 @@ def operand(text):
 
 
 def immediate(word):
-    """Hexadecimal digits write the 32 bits."""
+    """Returns a number as the immediate with the same 32 bits, and any other operand unchanged."""
     return signed(word % (1 << 32), 32) if isinstance(word, int) else word
 
 
@@ -400,7 +401,7 @@ class Instruction(NamedTuple):
     mnemonic: str
 
     def targets(self):
-        """The places that edges lead to, as `step` orders its edges."""
+        """Returns the places that the edges lead to, in the order of `step`."""
         if self.form == "exit":
             return []
         if self.form == "always":
@@ -408,17 +409,17 @@ class Instruction(NamedTuple):
         return [self.after + self.operands[2], self.after] if self.form == "jump" else [self.after]
 
     def overwrites(self):
-        """Whether the first operand is written and not read."""
+        """Returns whether the first operand is written and not read."""
         return self.form in ("wide", "load", "extend") or self.parts[:1] == ("mov",)
 
     def written(self):
-        """The registers of which nothing that was known before is left."""
+        """Returns the registers whose previous value is lost."""
         if self.form == "call":
             return {"r%d" % at for at in range(6)}
         return {self.operands[0]} if self.overwrites() else set()
 
     def read(self):
-        """The registers that are read."""
+        """Returns the registers that are read."""
         operands = self.operands[self.overwrites() :]
         read = {part for word in operands for part in (word if isinstance(word, tuple) else (word,)) if isinstance(part, str)}
         if self.form == "call":
@@ -439,7 +440,7 @@ def read_line(line, place):
 
 
 def without_labels(lines):
-    """The lines of instructions, with distances in place of labels."""
+    """Returns the lines of instructions, with distances instead of labels."""
     afters, labels, place = [], {}, 0
     for line in lines:
         if line.endswith(":"):
@@ -453,7 +454,7 @@ def without_labels(lines):
 
 
 def read_instructions(text):
-    """The instructions by their places."""
+    """Returns the instructions by place."""
     program, place = {}, 0
     for line in without_labels([line.strip() for line in text.split("|")]):
         program[place] = read_line(line, place)
@@ -462,7 +463,7 @@ def read_instructions(text):
 
 
 def read_program(text):
-    """The instructions by their places, of a code that `verify` looks at for more than its jumps."""
+    """Returns the instructions by place. Raises ValueError unless all jumps lead forwards to an instruction and the last one is an exit."""
     program = read_instructions(text)
     edges = [(place, target) for place, instruction in program.items() for target in instruction.targets()]
     if any(target <= place or target not in program for place, target in edges) or list(program.values())[-1].form != "exit":
@@ -472,7 +473,7 @@ def read_program(text):
 
 # ---- The step of one instruction on a state
 
-# The bounds of each argument, None for bytes of the frame, and the answer.
+# The bounds of each argument (None for a pointer into the frame), and the result.
 ANY, LENGTH = (0, WORD - 1), (1, 30)
 HELPERS = {
     1: ([(0, 16)], number(0, 99999999999)),
@@ -495,7 +496,7 @@ def value_of(state, operand, width):
 
 
 def moved(name, pointer, distance):
-    """A pointer that a number is added to or subtracted from."""
+    """Returns a pointer after a number was added to it or subtracted from it."""
     fits = distance.high <= GREATEST_OFFSET or distance.low >= WORD + LEAST_OFFSET
     check(not distance.pointer() and fits, "41", "PointerArithmetic")
     low, high = signed(distance.low, 64), signed(distance.high, 64)
@@ -578,7 +579,7 @@ def base_of(state, address):
 
 
 def reached_bytes(pointer, offset, count):
-    """The bytes that an access may touch."""
+    """Returns the bytes that an access may touch."""
     first, last = pointer.low + offset, pointer.high + offset + count - 1
     size = RECORD_BYTES if pointer.sort == "record" else FRAME_BYTES
     check(0 <= first and last < size, "44", "OutOfBounds")
@@ -591,7 +592,7 @@ def read_bytes(state, pointer, offset, count):
 
 
 def slot_reached(pointer, offset, count):
-    """The slot that an access at one known offset reaches whole, or None."""
+    """Returns the slot that an access at a known offset covers completely, or None."""
     first = pointer.low + offset
     is_slot = pointer.sort == "frame" and pointer.single() and count == SLOT_BYTES and first % SLOT_BYTES == 0
     return first // SLOT_BYTES if is_slot else None
@@ -621,7 +622,7 @@ def store(state, instruction):
 
 
 def written(state, pointer, reached, count):
-    """A state behind a write of any bytes, so many of them for sure."""
+    """Returns the state after a write of arbitrary bytes, at least `count` of them."""
     state = state.forget(reached)
     return state.mark(reached[0], count) if pointer.single() else state
 
@@ -670,7 +671,7 @@ STEPS = {
 
 
 def step(instruction, state):
-    """The state on each edge out, with where it leads; or a Fault."""
+    """Returns the state on each edge with the edge's target, or raises a Fault."""
     targets = instruction.targets()
     edges = [UNREACHED] * len(targets) if state is UNREACHED else STEPS[instruction.form](state, instruction)
     return list(zip(targets, edges))
@@ -680,14 +681,14 @@ def step(instruction, state):
 
 
 class TooLarge(Exception):
-    """More states than are tried."""
+    """The domain has more states than the script tries."""
 
 
 SORTS = {"number": (0, WORD - 1), "record": (GREATEST_OFFSET,), "frame": ()}
 
 
 def kinds_tried(coming):
-    """The kinds that are tried for a register to which these come, and those of them that are followed to what comes to later places."""
+    """Returns the kinds to try for a register from the arriving ones, and those of them that are followed to later places."""
     tried, followed = {NOTHING}, coming & {NOTHING}
     for sort, outermost in SORTS.items():
         lows = {kind.low for kind in coming if kind.sort == sort}
@@ -702,7 +703,7 @@ def kinds_tried(coming):
 
 
 def marks_tried(coming):
-    """The same of sets of marks."""
+    """Does the same for sets of marks."""
     followed, more = set(), coming
     while more:
         followed |= more
@@ -711,7 +712,7 @@ def marks_tried(coming):
 
 
 class Column:
-    """What is tried for one register, or for the marks, at one place: each value is a bit, from a first one on."""
+    """The values that are tried for one register or slot, or for the marks, at one place. Each value is a bit, starting at `first`."""
 
     def __init__(self, tried, followed, is_below, first):
         self.values = sorted(tried, key=repr)
@@ -724,15 +725,15 @@ class Column:
         return self.bits[value]
 
     def above(self, value):
-        """The bits of the values that this one is below."""
+        """Returns the bits of the values that are above this one."""
         if value not in self.known:
             self.known[value] = sum(bit for other, bit in self.bits.items() if self.is_below(value, other))
         return self.known[value]
 
 
 class Domain:
-    """The states that are tried at one place. What is above given states is a product over the columns, so a set of states is a number with
-    the bits of each column, and one bit for Unreached."""
+    """The states that are tried at one place. The states above given ones are a product over the columns, so a set of states is a number
+    with the bits of each column and one bit for Unreached."""
 
     def __init__(self, used, coming, first):
         self.used, self.unreached, self.columns = used, 1 << first, []
@@ -758,7 +759,7 @@ class Domain:
         return sum(column.bit(part) for column, part in self.parts(state))
 
     def above(self, state):
-        """The states that this one is below."""
+        """Returns the states that are above this one."""
         if state is UNREACHED:
             return self.everything
         return sum(column.above(part) for column, part in self.parts(state))
@@ -777,7 +778,7 @@ class Domain:
         return self.product([column.followed for column in self.columns])
 
     def states(self):
-        """All states, each as a set of one."""
+        """Yields all states, each with the set that contains only this state."""
         yield self.unreached, UNREACHED
         for state in self.product([column.values for column in self.columns]):
             yield self.alone(state), state
@@ -795,7 +796,7 @@ STATES_AT_MOST, STEPS_AT_MOST = 800, 100000
 
 
 def outcome(instruction, state):
-    """The edges, or the fault."""
+    """Returns the edges, or the fault."""
     try:
         return step(instruction, state), None
     except Fault as fault:
@@ -803,11 +804,11 @@ def outcome(instruction, state):
 
 
 class Search:
-    """All annotations of a program's domain, from place to place. One that is good up to a place is kept as its front, a number: the states
-    that it allows at all places from there on, in the bits of their domains."""
+    """All annotations of a program's domain, extended place by place. An annotation that is good up to a place is stored as its front: a
+    number with the states that it allows at all places from there on, in the bits of their domains."""
 
     def __init__(self, program, wanted=frozenset()):
-        """Registers that are wanted count as read at the end."""
+        """Counts the `wanted` registers as read at the end."""
         self.program = program
         self.places = list(program)
         self.find_used(wanted)
@@ -816,7 +817,7 @@ class Search:
         self.follow()
 
     def find_used(self, wanted):
-        """The registers that may be read from each place on before they are written; the places downwards, since edges lead upwards alone."""
+        """Finds the registers that may be read from each place on before they are written. Goes backwards, since all edges lead forwards."""
         self.used = {}
         for place in reversed(self.places):
             instruction = self.program[place]
@@ -824,12 +825,12 @@ class Search:
             self.used[place] = behind - instruction.written() | instruction.read()
 
     def only(self, place, state):
-        """A state with the registers that are used from a place on."""
+        """Returns a state reduced to the registers that are used from a place on."""
         kinds = (kind if "r%d" % at in self.used[place] else NOTHING for at, kind in enumerate(state.registers))
         return state._replace(registers=tuple(kinds))
 
     def make_domains(self):
-        """The places upwards, since edges lead upwards alone."""
+        """Makes the domains. Goes forwards, as all edges do."""
         self.domains, coming, first = {}, {place: set() for place in self.places}, 0
         coming[0].add(self.entry)
         for place in self.places:
@@ -843,7 +844,7 @@ class Search:
                     coming[target].add(edge)
 
     def behind(self, place, edges):
-        """What edges allow at the places behind theirs."""
+        """Returns what edges allow at the places after this one."""
         allowed = -1 << self.domains[place].end
         for target, edge in edges:
             domain = self.domains[target]
@@ -851,7 +852,7 @@ class Search:
         return allowed
 
     def passing(self, place):
-        """The states of a domain that pass, each as a set of one, with what it allows behind."""
+        """Returns the states of a domain that pass, each with the set of it alone and with what it allows at later places."""
         found = []
         for alone, state in self.domains[place].states():
             edges, _ = outcome(self.program[place], state)
@@ -878,7 +879,7 @@ class Search:
         return any(self.layers[-1].values())
 
     def states_met(self):
-        """For each place up to the verdict's, the states that it has in the annotations good up to there, or to the end."""
+        """Returns, for each place up to the verdict's, its states in all annotations that are good up to the verdict's place or to the end."""
         layers, met = [layer for layer in self.layers if layer], []
         fronts = {0}
         if not self.accepted():
@@ -892,7 +893,7 @@ class Search:
         return dict(zip(self.places, reversed(met)))
 
     def least(self):
-        """The annotation that is below all others, up to the verdict's place. It has to exist."""
+        """Returns the annotation that is below all others, up to the verdict's place. It must exist."""
         annotation = {place: least_of(states) for place, states in self.states_met().items()}
         assert is_good(self.program, annotation, self.entry)
         return annotation
@@ -914,7 +915,7 @@ def least_of(states):
 
 
 def is_good(program, annotation, entry):
-    """Whether an annotation is good up to its last place."""
+    """Returns whether an annotation is good up to its last place."""
     last = max(annotation)
     if not below(entry, annotation[0]):
         return False
@@ -926,11 +927,11 @@ def is_good(program, annotation, entry):
     return True
 
 
-# ---- Annotations beyond the domain
+# ---- Annotations outside the domain
 
 
 class Draw:
-    """A generator of this script's own, so that no version of Python changes what is drawn."""
+    """A generator of random numbers that doesn't depend on the version of Python."""
 
     def __init__(self, seed):
         self.state = seed
@@ -976,7 +977,7 @@ def state_above(draw, states, entry):
 
 
 def sample(draw, search, least):
-    """Draws an annotation. It has to be above the least one, and to fail at the verdict's place at the latest where that is a refusal."""
+    """Draws an annotation. It must be above the least one, and if the program is refused, fail at the verdict's place or earlier."""
     annotation, coming = {}, {place: [] for place in search.places}
     coming[0].append(search.entry)
     for place in least:
@@ -993,7 +994,7 @@ def sample(draw, search, least):
 
 
 def judged(text, samples):
-    """The verdict on a program."""
+    """Returns the verdict on a program."""
     search = Search(read_program(text))
     draw, least = Draw(SEED), search.least()
     for _ in range(samples):
@@ -1003,15 +1004,15 @@ def judged(text, samples):
 
 # ---- Generated programs
 #
-# A body calculates, compares or stores; a probe behind it passes for what is known of a register by then and for nothing wider, or asks for
-# one more than that. In lines `+END` is the distance to the last `exit`.
+# A body calculates, compares or stores. The probe after it passes for the interval that is known of a register by then and for no wider one,
+# or needs one more than that. `+END` in a line is the distance to the last `exit`.
 
 SMALL = (0, 1, 2, 3, 5, 7, 8, 15, 31, 32, 63, 64, 100, 127, 128, 255, 256, 1000)
 IMMEDIATES = SMALL + (-1, -2, -3, -8, -128, -255, -256, 32767, -32768, 65535, 65536, 2147483647, -2147483648)
 
 
 def linked(lines):
-    """The lines as text, with distances."""
+    """Returns the lines as text, with distances."""
     sizes = [2 if line.startswith("lddw") else 1 for line in lines]
     return " | ".join(line.replace("END", str(sum(sizes[at + 1 : -1]))) for at, line in enumerate(lines))
 
@@ -1020,7 +1021,7 @@ def loaded(draw, to, sizes="b b h w dw sb sh sw"):
     return "ldx%s %s, [r1+%d]" % (draw.one_of(sizes.split()), to, draw.between(0, 99))
 
 
-# What can't pass where it is reached, each cause by some lines.
+# Lines that fail a check if they are reached, grouped by cause.
 FAULTS = (
     (("mov r0, r9",), ("neg r9",), ("add r9, 1",), ("movsx8 r0, r9",), ("stxb [r10-1], r9",)),
     (("add32 r0, r10",), ("and r0, r10",), ("sub r0, r10",), ("mov32 r0, r10",), ("movsx8 r0, r10",)),
@@ -1043,13 +1044,13 @@ def fault_drawn(draw):
 
 
 def immediate_of(value):
-    """The immediate that a 64-bit comparison makes this number of, or None."""
+    """Returns the immediate that a 64-bit comparison extends to this number, or None."""
     value = signed(value, 64)
     return value if -(1 << 31) <= value < 1 << 31 else None
 
 
 def comparison(name, condition, value, high):
-    """A comparison with any number: with an immediate in either width, or with r9."""
+    """Returns a comparison with any number: with an immediate in either width, or with r9."""
     if immediate_of(value) is not None:
         return ["%s %s, %d" % (condition, name, immediate_of(value))]
     if max(value, high) < 1 << 32:
@@ -1058,7 +1059,7 @@ def comparison(name, condition, value, high):
 
 
 def bounds_probed(kind, before, ask):
-    """The conditions, each with a number, that ask for an end, or for one more than it. An end is told that isn't where it was before."""
+    """Returns conditions that need an end of the interval, or one more, each with a number. They test an end that differs from `before`."""
     beyond = ask.startswith("beyond")
     if kind.single():
         return [("jeq", (kind.low + beyond) % WORD)]
@@ -1070,7 +1071,7 @@ def bounds_probed(kind, before, ask):
 
 
 def number_probe(draw, name, kind, before, ask):
-    """A jump that is always taken where the number lies as it does, and a fault behind it."""
+    """Returns a jump that is always taken for a number in these bounds, followed by lines that fail."""
     conditions = [(condition, value) for condition, value in bounds_probed(kind, before, ask) if 0 <= value < WORD]
     condition, value = draw.one_of(conditions)
     fault = fault_drawn(draw)
@@ -1079,7 +1080,7 @@ def number_probe(draw, name, kind, before, ask):
 
 
 def access(draw, name, kind, exactly):
-    """A load or a store whose first or last byte is the area's."""
+    """Returns a load or a store whose first or last byte is the first or last one of the area."""
     size = draw.one_of(tuple(SIZES))
     if draw.chance(2):
         end = RECORD_BYTES if kind.sort == "record" else FRAME_BYTES
@@ -1093,7 +1094,7 @@ def access(draw, name, kind, exactly):
     return ["st%s [%s%+d], 1" % (size, name, offset)]
 
 
-# A register may be known nothing of as long as it isn't read.
+# Uses of a register. If nothing is known of it, only those that don't read it pass.
 UNKNOWN_USED = (
     "mov r0, %s", "add r0, %s", "neg %s", "ldxb r0, [%s+0]", "stb [%s+0], 1", "jeq %s, 1, +0", "jne r0, %s, +0", "movsx8 r0, %s",
     "mov %s, r0", "lddw %s, 7", "mov32 %s, 3",
@@ -1102,7 +1103,7 @@ EVERYTHING = number(0, WORD - 1)
 
 
 def probe(draw, name, state, before, ask):
-    """Lines that pass, or don't, for what is known of a register."""
+    """Returns lines that pass, or fail, with what is known of a register."""
     if state is UNREACHED:
         return fault_drawn(draw)
     kind, record = state.registers[index(name)], state.registers[1]
@@ -1118,14 +1119,14 @@ def probe(draw, name, state, before, ask):
 
 
 def kind_before(search, least, name):
-    """What was known of a register before the last jump, if that is a number."""
+    """Returns the kind of a register before the last jump if it is a number, else any number."""
     jumps = [place for place in least if search.program[place].form == "jump" and least[place] is not UNREACHED]
     kinds = [least[place].registers[index(name)] for place in jumps]
     return kinds[-1] if kinds and kinds[-1].sort == "number" else EVERYTHING
 
 
 def finished(draw, body, name, ask):
-    """The program of a body, with a probe where nothing in the body fails."""
+    """Returns the program of a body, followed by a probe unless the body fails."""
     wanted = {name, "r0"} | {register for register in ("r1",) if register in " ".join(body)}
     search = Search(read_program(linked(body + ["ja +0", "exit"])), wanted)
     least = search.least()
@@ -1140,11 +1141,11 @@ def finished(draw, body, name, ask):
     return linked(lines + ["exit"])
 
 
-# Each family of bodies: lines, the register that is probed, and perhaps what is asked for.
+# Each family of bodies returns lines, the register to probe, and maybe what the probe needs.
 
 
-# The rows of results by their operands, with what is asked for. A is a number from 1 to 1001, B one byte, D any number of the width, N a
-# negative one; a pair is the bounds of an immediate.
+# The rows for results, by operands and by what the probe needs. A is a number from 1 to 1001, B a byte, D any number of the width, N a
+# negative number. A pair gives the bounds of an immediate.
 CASES = (
     ("add", "A", (1, 5000), "low high"), ("add", "A", (-1, -1), "high beyond"), ("add", "B", (-255, -1), "beyond"),
     ("add", "A", "B", "high"),
@@ -1164,7 +1165,7 @@ CASES = (
 
 
 def operated(draw, subject):
-    """An operation on intervals."""
+    """Draws an operation on intervals."""
     name, left, right, ask, width = subject
     any_number = loaded(draw, "r0", "w" if width else "dw")
     negative = "sub r0, %d" % draw.between(1001, 9999)
@@ -1176,14 +1177,14 @@ def operated(draw, subject):
 
 
 def with_numbers(draw, operation):
-    """An operation on two single numbers. Where an interval's ends would come to the same, one more is asked for."""
+    """Draws an operation on two single numbers. If a computation with interval ends gives the same result, the probe needs one more."""
     start = draw.one_of(("mov r0, %d", "mov32 r0, %d")) % draw.one_of(IMMEDIATES[2:])
     line = "%s r0, %d" % (operation, draw.one_of((3, 5, 7, 15, 100, 255, -3, -8, -255)))
     return [start, line], "r0", "ends" if operation.startswith(("and", "or", "xor", "mod", "sdiv", "smod")) else "beyond"
 
 
 def of_one(draw, subject):
-    """An operation of one operand, on a single number, on one from 1 to 1001 or 127, on some round 65536, or on any."""
+    """Draws an operation on a single number, on one from 1 to 1001 or to 127, on an interval that contains 65536, or on any number."""
     operation, start, ask = subject
     line = operation + (" r0, r0" if operation.startswith("mov") else " r0")
     if start == "single":
@@ -1206,14 +1207,14 @@ def answered(draw, helper):
 
 
 def jumped(lines, condition, one, other, taken):
-    """The lines, and a jump that is taken or isn't; its other edge leaves."""
+    """Returns the lines and a jump that is taken or not. The other edge leads to an exit."""
     if taken:
         return lines + ["%s %s, %s, +1" % (condition, one, other), "exit"]
     return lines + ["%s %s, %s, +END" % (condition, one, other)]
 
 
 def narrowed_left(draw, subject):
-    """What is known of the left side, behind a comparison with an immediate that lies inside, or at an end for equality."""
+    """Draws a comparison that narrows the left side, with an immediate inside the interval, or at one of its ends for equality."""
     condition, taken = subject
     size = draw.one_of(("b", "b", "h"))
     greatest = (1 << 8 * SIZES[size]) - 1
@@ -1223,7 +1224,7 @@ def narrowed_left(draw, subject):
 
 
 def narrowed_right(draw, subject):
-    """What is known of a right side from 0 to 65535, where the left one is from 1 to 1001 or a single number."""
+    """Draws a comparison that narrows a right side from 0 to 65535. The left side is from 1 to 1001, or a single number."""
     condition, taken = subject
     equal = (condition[1:3] == "eq") == (not taken) and condition[1:3] in ("eq", "ne")
     left = "mov r0, %d" % draw.one_of((0, 65535)) if equal else "call 4"
@@ -1231,7 +1232,7 @@ def narrowed_right(draw, subject):
 
 
 def not_narrowed(draw, subject):
-    """Comparisons that tell nothing, as a side may be too large for them."""
+    """Draws a comparison that narrows nothing because a side may be too large."""
     condition, taken = subject
     sizes = "dw sb sh" if "32" not in condition else "w dw" if condition[1] == "s" else "dw"
     relation = condition.replace("32", "")[-2:]
@@ -1242,7 +1243,7 @@ def not_narrowed(draw, subject):
 
 
 def decided(draw, subject):
-    """Comparisons of two single numbers: a fault on the edge that isn't reached, or on the other."""
+    """Draws a comparison of two single numbers, with lines that fail on the unreached edge or on the other one."""
     condition, on_other = subject
     one = draw.one_of((3, 64, 200, 65535, -1, -3, -200, 2147483647))
     other = min(2147483647, draw.one_of((one, one, one + 1, one - 1, -one, 7)))
@@ -1252,7 +1253,7 @@ def decided(draw, subject):
 
 
 def moved_pointer(draw, _):
-    """Pointers that numbers are added to and subtracted from."""
+    """Draws a pointer that numbers are added to or subtracted from."""
     to, lines = "r1", []
     if draw.chance(3):
         to, lines = "r2", ["mov r2, %s" % draw.one_of(("r1", "r10"))]
@@ -1270,7 +1271,7 @@ def moved_pointer(draw, _):
 
 
 def joined_pointer(draw, _):
-    """Pointers at one offset or another."""
+    """Draws a pointer with one of two offsets."""
     base = draw.one_of(("r1", "r10"))
     lines = ["mov r2, %s" % base, loaded(draw, "r0", "b"), "jeq r0, %d, +1" % draw.one_of(SMALL)]
     return lines + ["%s r2, %d" % (draw.one_of(("add", "sub")), draw.one_of((1, 7, 227, -1, -8, -512)))], "r2"
@@ -1282,7 +1283,7 @@ def stored(draw):
 
 
 def marked(draw, _):
-    """Stores on one way or both, and a load."""
+    """Draws stores on one path or on both, and a load."""
     load = draw.one_of(("ldxb r0, [r10-%d]" % draw.between(1, 4), "ldxh r0, [r10-%d]" % draw.between(2, 4), "ldxsh r0, [r10-2]"))
     start = loaded(draw, "r0", "b")
     jump = "%s r0, %d, +" % (draw.one_of(("jeq", "jgt", "jset", "jslt32")), draw.one_of(SMALL))
@@ -1298,7 +1299,7 @@ def marked(draw, _):
 
 
 def copied(draw, helper):
-    """Helpers that take bytes of the frame, at their limits."""
+    """Draws a call of a helper that takes bytes of the frame, at its limits."""
     length, at = draw.one_of((1, 2, 4, 30)), draw.one_of((1, 2, 4, 30, 512))
     given = draw.one_of((length, length, length, 0, 31))
     lines = ["mov r1, 0", "mov r2, r10", "add r2, -%d" % at, "mov r3, %d" % given, "call %d" % helper]
@@ -1307,7 +1308,7 @@ def copied(draw, helper):
     return lines + [draw.one_of(("ldxb r0, [r10-1]", "ldxh r0, [r10-2]", "ldxb r0, [r10-%d]" % at))], None
 
 
-# Stores between what is put into the last slot and what is taken back: beside the slot, in it, and across its borders.
+# Stores between a store to the last slot and a load from it: next to the slot, in it, and across its borders.
 BETWEEN = (
     "stb [r10-9], 1", "stw [r10-12], 1", "stdw [r10-16], 1", "stb [r10-8], 1", "stb [r10-1], 1", "sth [r10-5], 1", "stw [r10-10], 1",
     "stdw [r10-15], 1", "sth [r10-9], 1",
@@ -1315,20 +1316,20 @@ BETWEEN = (
 
 
 def kept_number(draw, between):
-    """A number that is put into a slot and taken back."""
+    """Draws a number that is stored in a slot and loaded again."""
     start = draw.one_of((["call 4"], ["call 3"], ["mov r0, %d" % draw.one_of(SMALL)], [loaded(draw, "r0", "b h w")]))
     return start + ["stxdw [r10-8], r0", between, "ldxdw r0, [r10-8]"], "r0"
 
 
 def kept_pointer(draw, between):
-    """A pointer that is put into a slot and taken back."""
+    """Draws a pointer that is stored in a slot and loaded again."""
     to = draw.one_of(("r1", "r6"))
     lines = ["mov r6, r10"] * (to == "r6") + ["add %s, %d" % (to, draw.one_of((1, 7, 200, -1, -8, -512)))]
     return lines + ["stxdw [r10-8], %s" % to, between, "ldxdw r6, [r10-8]"], "r6"
 
 
 def kept_once(draw, kept):
-    """What is known of a register isn't told of the slot that it was put into, nor of another slot."""
+    """Draws a comparison of a register. It narrows neither the slot that the register was stored in nor any other slot."""
     jump = "%s r0, %d, +END" % (draw.one_of(("jgt", "jge", "jlt")), draw.one_of((9, 15, 200)))
     at = draw.one_of((8, 8, 16, 512)) if kept else 12
     return [loaded(draw, "r0", "b"), "stxdw [r10-%d], r0" % at, jump, "ldxdw r0, [r10-%d]" % at], "r0"
@@ -1338,7 +1339,7 @@ KEPT = ("stxdw [r10-8], r6", "stxdw [r10-8], r10", "stdw [r10-8], %d", "stdw [r1
 
 
 def kept_joined(draw, stores):
-    """Slots that meet. The first pointer is into the record, or at another offset than the second."""
+    """Draws slots that are joined. The first pointer leads into the record, or to another offset than the second."""
     first, second = (store % draw.one_of(SMALL) if "%" in store else store for store in stores)
     lines = ["mov r6, r1"] * ("r6" in first + second) + [first] + ["add r6, %d" % draw.one_of((0, 7, 100))] * ("r6" in second)
     return lines + ["call 3", "jeq r0, %d, +1" % draw.between(0, 9), second, "ldxdw r0, [r10-8]"], "r0"
@@ -1351,7 +1352,7 @@ def unreached(draw, _):
 
 
 def against_itself(draw, condition):
-    """Both edges are reached, and nothing is narrowed."""
+    """Draws a comparison of a register with itself. Both edges are reached, and nothing is narrowed."""
     if draw.chance(2):
         return [loaded(draw, "r0"), "%s r0, r0, +END" % condition], "r0"
     return ["mov r0, %d" % draw.one_of(SMALL), "%s r0, r0, +END" % condition], "r0"
@@ -1366,7 +1367,7 @@ KIND_SOURCES = {
 
 
 def joined_kinds(draw, sorts):
-    """Two kinds that meet. A register that held something holds nothing behind a call."""
+    """Draws two kinds that are joined. A call makes a register Nothing."""
     first, second = sorts
     to = "r2" if second == "nothing" else "r6"
     lines = [] if first == "nothing" else [draw.one_of(KIND_SOURCES[first]) % to]
@@ -1377,7 +1378,7 @@ def joined_kinds(draw, sorts):
     return lines + [last if second == "nothing" else last % to], to
 
 
-# Checks that pass up to a bound of r0, as lines.
+# Checks that pass up to a bound of r0.
 BOUNDED = (
     (32767, ("add r1, r0",)),
     (32760, ("add r1, 7", "add r1, r0")),
@@ -1391,7 +1392,7 @@ BOUNDED = (
 
 
 def bounded(draw, shape):
-    """A check at its bound and one beyond, where only a join, a narrowing, or both tell."""
+    """Draws a check at its bound or one past it. Only a join, a narrowing, or both decide it."""
     bound, lines = draw.one_of(BOUNDED)
     bound += draw.chance(2)
     if shape == "join":
@@ -1406,7 +1407,7 @@ def bounded(draw, shape):
 WIDTHS = ("", "32")
 BINARY = [name + width for name in OPERATIONS.split("|") if name != "mov" for width in WIDTHS]
 EXTENSIONS = ["movsx8", "movsx16", "movsx32", "movsx8_32", "movsx16_32"]
-# Operations of one operand: on what, and what is asked for.
+# Operations with one operand: the operands, and what the probe needs.
 UNARY = (
     (("neg", "neg32"), (("single", "ends"), ("low", "beyond"))),
     (("mov32",), (("single", "ends"), ("low", "low"), ("any", "high"), ("any", "beyond"))),
@@ -1427,11 +1428,11 @@ def pairs(ones, others):
 
 
 def alternating(jumps, first):
-    """Each jump taken or not, so that a condition has both in its two widths."""
+    """Pairs each jump with whether it is taken. Each condition has both cases in its two widths."""
     return [(jump, (at + at // 2) % 2 == first) for at, jump in enumerate(jumps)]
 
 
-# What a group of rows is called, its family, and what each of its rows is made of.
+# Groups of rows: the title, the family, and the subject of each row.
 GROUPS = (
     ("Results of operations.", operated, [(*case[:3], ask, WIDTHS[at % 2]) for at, case in enumerate(CASES) for ask in case[3].split()]),
     ("Operations on single numbers.", with_numbers, BINARY[::3] + BINARY[1::3]),
@@ -1463,7 +1464,7 @@ COLUMNS, SAMPLES = 120, 10
 
 
 def row(draw, family, subject, known):
-    """A row that fits, and isn't there yet."""
+    """Draws a row that is short enough and isn't known yet."""
     columns = 2 * COLUMNS if family in LONG else COLUMNS
     while True:
         body, name, *asked = family(draw, subject)
@@ -1480,7 +1481,7 @@ def row(draw, family, subject, known):
 
 
 def wrapped(line):
-    """A row in lines: one that ends with `|` goes on in the next one."""
+    """Splits a row into lines. A row continues after a line that ends with `|`."""
     if len(line) <= COLUMNS:
         return [line]
     first = line[: COLUMNS + 1].rpartition(" | ")[0] + " |"
@@ -1494,7 +1495,7 @@ HEAD = [
 
 
 def table():
-    """The lines of the file: groups of rows, each below its title."""
+    """Returns the lines of the file: groups of rows, each under its title."""
     draw, known = Draw(SEED), set()
     lines = list(HEAD)
     for title, family, subjects in GROUPS:
