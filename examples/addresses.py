@@ -1,16 +1,17 @@
 #!/usr/bin/env python3
-"""Compares batches of addresses with a second reading of the same files: draws counties and addresses, and asks `extractd geocode-batch` where they are.
+"""Compares batches of addresses with an independent reading of the same files: draws counties and addresses, and runs `extractd geocode-batch` on them.
 
     python3 addresses.py COUNT [SEED]
 
-`extractd` is the one on the search path. Small counties are drawn, with alternate names, further ranges, hyphenated numbers and unknown coordinates, and
-addresses on and beside their streets, as a CSV file with its columns in any order, quoted cells, line breaks within them, empty lines and either line
-end. This script reads the four files by docs/records.md and answers the addresses by docs/geocoding.md; `geocode-batch` has to write the same bytes.
+`extractd` is taken from the search path. The script draws small counties with alternate names, further ranges, hyphenated numbers and unknown
+coordinates. It draws addresses on and near their streets, as a CSV file with its columns in any order, quoted cells, line breaks within cells, empty
+lines and either line ending. It reads the four files by docs/records.md and answers the addresses by docs/geocoding.md. `geocode-batch` must write the
+same bytes.
 
-It prints each address that is answered otherwise, then how many agree and how many differ, and ends with 1 if any differs. SEED is 1 if it isn't given;
-the same seed draws the same addresses again.
+Prints each address with a different answer, then how many agree and how many differ. Exits with 1 if any differs. SEED defaults to 1; the same seed draws
+the same addresses.
 """
-# Needs Python 3.11 or later, and nothing else.
+# Needs only Python 3.11 or later.
 
 import csv
 import io
@@ -63,7 +64,7 @@ class Hit(NamedTuple):
 
 
 def number_of(field: str) -> int | None:
-    """The number of a field, or of a cell: 1 to 11 digits."""
+    """Returns the number of a field or of a cell: 1 to 11 digits."""
     digits = field.strip(" ")
     return int(digits) if digits.isascii() and digits.isdigit() and len(digits) <= 11 else None
 
@@ -160,7 +161,7 @@ def hits_on(segment: Segment, name: FullName, code: str, number: int, wanted_zip
 
 
 def answer(counties: list[tuple[str, list[Segment]]], cells: dict[str, str]) -> list[list[str]]:
-    """The cells behind the id, a list for each line of output."""
+    """Returns the cells after the id, one list per line of output."""
     if not cells["number"] or not cells["name"]:
         return none("missing")
     number, wanted_zip = number_of(cells["number"]), number_of(cells["zip"])
@@ -211,7 +212,7 @@ def draw_coordinates(random: Random) -> str:
     def one(width: int) -> str:
         if random.random() < 0.03:
             return " " * width
-        # Near zero too, where a coordinate has no whole degree.
+        # Near zero too, where a coordinate has no whole degrees.
         value = random.choice((random.randint(-99_999_999, 99_999_999), random.randint(-999_999, 999_999)))
         return f"{value:+0{width}d}"
 
@@ -264,7 +265,7 @@ def draw_cells(random: Random, segments: list[Segment], at: int) -> dict[str, st
 
 
 def write_file(random: Random, rows: list[dict[str, str]]) -> tuple[str, list[str]]:
-    """A CSV file of addresses, and the id that each has in the output."""
+    """Returns a CSV file of addresses, and the id of each in the output."""
     columns = COLUMNS + ["note"]
     if random.random() < 0.5:
         columns.remove("id")
@@ -289,7 +290,7 @@ def write_file(random: Random, rows: list[dict[str, str]]) -> tuple[str, list[st
 
 
 def compare(random: Random, folder: Path, count: int) -> int:
-    """Answers how many of the addresses are answered otherwise."""
+    """Returns how many of the addresses get a different answer."""
     for code in CODES:
         write_county(random, folder, code)
     counties = [(code, read_county(folder, code)) for code in CODES]

@@ -1,23 +1,23 @@
 #!/usr/bin/env python3
-"""Compares the table of public calls, examples/calls.txt, with the sources, and tells what is wrong.
+"""Compares the table of public calls, examples/calls.txt, with the sources, and reports what is wrong.
 
-    python3 calls.py             each row that is wrong, and each call that has none; ends with 1 if there are any
-    python3 calls.py --list      the calls that the sources have, with what each may be refused for
+    python3 calls.py             prints each row that is wrong and each call without a row; exits with 1 if there are any
+    python3 calls.py --list      prints the calls in the sources, each with the kinds of its cells
 
-A call belongs in the table where its types let it take memory, read or write: it has an allocator, a reader or a writer, by a parameter or
-by the type that it is a method of, or its result may be want of memory. Then it has a row: its path, and a cell for each of `memory`, `read`
-and `write` that its types let it do. Such a cell ends with one of these:
+A call belongs in the table if its types let it allocate memory, read or write: if it has an allocator, a reader or a writer, as a parameter or
+through the type that it is a method of, or if its result may say that memory ran out. Its row has its path and one cell for each of `memory`,
+`read` and `write` that its types let it do. Such a cell ends with one of these:
 
-- the path of a sweep, as `tl_tests::segments::sweep::loads`: a test or a function which, itself or by the functions that it calls in its
-  crate and in `fixtures`, makes the call while each growth, each read or each write goes wrong in turn;
-- `by` and the path of another call, which makes this one, and whose sweep is that of both;
-- `none`, where the call does none of it whatever its types let it do, and behind it the path of the test that shows this, if there is one;
-- `Global`, where all memory comes of the global allocator, which no test makes refuse;
-- `system`, where it is the system that opens, reads or writes: examples/try.sh tries that on real files.
+- the path of a sweep, such as `tl_tests::segments::sweep::loads`: a test or a function that injects a failure into each allocation, each read or
+  each write and makes the call, either itself or through functions that it calls in its crate and in `fixtures`;
+- `by` and the path of another call, which makes this one and whose sweep covers both;
+- `none` if the call never does it, whatever its types allow, followed by the path of the test that shows this, if there is one;
+- `Global` if all memory comes from the global allocator, which no test can make fail;
+- `system` if the operating system opens, reads or writes: examples/try.sh tests that on real files.
 
-A line that begins with two blanks goes on with the row above it, and one that begins with `#` is a comment.
+A line that begins with two blanks continues the row above it, and a line that begins with `#` is a comment.
 """
-# Needs Python 3.8 or later, and nothing else.
+# Needs only Python 3.8 or later.
 
 import re
 import sys
@@ -28,7 +28,7 @@ from typing import NamedTuple
 TOP = Path(__file__).resolve().parent.parent
 TABLE = Path(__file__).with_name("calls.txt")
 
-# What a bound, a type or a fault of a signature lets a call do.
+# The types in a signature that let a call allocate memory, read or write.
 BOUNDS = {
     "memory": r"\b(Allocator|AllocGlobal|Global|AllocError)\b",
     "read": r"(?<!::)\b(Read|CountedRead|BufRead|Files|Service)\b",
@@ -46,13 +46,13 @@ class Call(NamedTuple):
         return self.path.rpartition("::")[2]
 
     def owner(self):
-        """The type or the trait that the call is a method of, if it has one."""
+        """Returns the type or the trait that the call is a method of, if it is one."""
         owner = self.path.split("::")[-2]
         return owner if owner[0].isupper() else None
 
 
 class Item(NamedTuple):
-    """A function of a source file: the header of its `impl` or `trait`, if it stands in one, and its own signature."""
+    """A function of a source file: the header of its `impl` or `trait`, if it is in one, and its signature."""
 
     module: str
     header: str
@@ -62,7 +62,7 @@ class Item(NamedTuple):
         return re.search(r"\bfn (\w+)", self.signature)[1]
 
     def owner(self):
-        """The type or the trait that it is a method of."""
+        """Returns the type or the trait that it is a method of."""
         named = re.match(r"pub trait (\w+)", self.header) or re.search(r"(?:\bfor\s+|^impl(?:<.*?>)?\s+)(?:\w+::)*(\w+)", self.header)
         for_type = re.search(r"\bfor (?:\w+::)*(\w+)", self.header)
         return (for_type or named)[1] if self.header else None
@@ -75,14 +75,14 @@ class Item(NamedTuple):
 
 
 def libraries():
-    """The libraries of the repository that aren't for tests."""
+    """Returns the libraries of the repository that aren't for tests."""
     names = re.findall(r"^(\w+)(?: staticlib)?:", (TOP / "crates.txt").read_text(), re.M)
     return [name for name in names if not name.endswith("_tests") and name not in ("fixtures", "extractd")]
 
 
 @lru_cache(maxsize=None)
 def sources(crate):
-    """The files of a crate by the paths of their modules, without comments."""
+    """Returns the files of a crate by module path, without comments."""
     root = TOP / "crates" / crate / "src"
     files = {}
     for path in sorted(root.rglob("*.rt")):
@@ -92,7 +92,7 @@ def sources(crate):
 
 
 def items(module, text):
-    """The functions of a file, whose layout is that of the formatter."""
+    """Yields the functions of a file, which must be laid out by the formatter."""
     header, lines = "", iter(text.splitlines())
     for line in lines:
         if re.match(r"(unsafe )?impl\b|pub trait\b|trait\b", line):
@@ -104,7 +104,7 @@ def items(module, text):
 
 
 def head_of(line, lines):
-    """A header or a signature up to its clauses or its body."""
+    """Returns a header or a signature up to its clauses or its body."""
     head = [line]
     while not re.search(r"[{;]$", head[-1]):
         following = next(lines).strip()
@@ -115,7 +115,7 @@ def head_of(line, lines):
 
 
 def exports(crate):
-    """What a crate shows: the modules, and the names with the modules that they are of."""
+    """Returns a crate's exports: its modules, and the names with their modules."""
     text = sources(crate)["lib"]
     modules = set(re.findall(r"^pub mod (\w+);", text, re.M))
     names = set()
@@ -125,7 +125,7 @@ def exports(crate):
 
 
 def faults():
-    """The faults of all libraries that may be want of memory."""
+    """Returns the error types of all libraries that may say that memory ran out."""
     found = {"AllocError"}
     for crate in libraries():
         for text in sources(crate).values():
@@ -137,7 +137,7 @@ def faults():
 
 
 def calls():
-    """The public calls that may take memory, read or write, by their paths."""
+    """Returns the public calls that may allocate memory, read or write, by path."""
     wanting = r"Result<.*\b(" + "|".join(faults()) + r")\b"
     found = {}
     for crate in libraries():
@@ -152,7 +152,7 @@ def calls():
 
 
 def path_of(crate, item, modules, names):
-    """The path of a function that is reached from the root, else nothing."""
+    """Returns the path of a function that is reachable from the root, or None."""
     owner = item.owner()
     if not item.is_public() or re.search(r"\b(Display|Debug|Model|From<.*>) for\b", item.header):
         return None
@@ -166,7 +166,7 @@ def path_of(crate, item, modules, names):
 
 
 def kinds_of(item, wanting):
-    """What the types of a function let it do."""
+    """Returns what the types of a function let it do."""
     types = f"{item.header} {item.signature}"
     result = item.signature.partition("->")[2]
     return tuple(kind for kind in KINDS if re.search(BOUNDS[kind], types) or kind == "memory" and re.search(wanting, result))
@@ -180,7 +180,7 @@ def is_of_global(item):
 
 
 def rows():
-    """The rows of the table, with a path and cells."""
+    """Yields the rows of the table: a path and cells."""
     text = TABLE.read_text().replace("\n  ", " ")
     for line in text.splitlines():
         if line and not line.startswith("#"):
@@ -189,7 +189,7 @@ def rows():
 
 
 def wrong_in(path, cells, found):
-    """What is wrong with a row."""
+    """Yields what is wrong with a row."""
     if path not in found:
         yield "is no public call that may take memory, read or write"
         return
@@ -204,7 +204,7 @@ def wrong_in(path, cells, found):
 
 
 def wrong_with(call, sweep="?", *more):
-    """What is wrong with what a cell says behind its kind."""
+    """Returns what is wrong with a cell after its first word, or None."""
     if sweep == "none":
         return reached(call, more[0]) if more else None
     if sweep == "Global":
@@ -221,7 +221,7 @@ def wrong_with(call, sweep="?", *more):
 
 @lru_cache(maxsize=None)
 def functions(crate):
-    """The functions of a crate: lists of their files and their texts, by their names."""
+    """Returns the functions of a crate by name, as lists of modules and texts."""
     found = {}
     for module, text in sources(crate).items():
         for indent, name, body in re.findall(r"^( *)(?:pub(?:\(\w+\))? )?fn (\w+)(.*?\n\1\}$)", text, re.M | re.S):
@@ -230,8 +230,8 @@ def functions(crate):
 
 
 def bodies(crate, module, word, others):
-    """The texts of the functions that a word in a file may mean: any method, or a function of that file, or else of another one of the crate
-    or of other crates."""
+    """Returns the texts of the functions that a word in a file may name: any method, or a function of that file, or else one of another file or
+    of other crates."""
     name = word.lstrip(".")
     own = functions(crate).get(name, [])
     here = [found for found in own if found[0] == module and name == word]
@@ -241,7 +241,7 @@ def bodies(crate, module, word, others):
 
 
 def closure(crate, module, name, others):
-    """The texts of a function and of all that it calls in its crate and in others, each with its file."""
+    """Returns the texts, with their files, of a function and of all functions that it calls in its crate and in others."""
     waiting, seen = bodies(crate, module, name, ()), []
     while waiting:
         found = waiting.pop()
@@ -253,7 +253,7 @@ def closure(crate, module, name, others):
 
 
 def makes(path, call):
-    """Whether a call of another path makes this one, in its crate or in those that this one is of."""
+    """Returns whether the call with this path makes another call, in its own crate or in the other call's."""
     crate, below = path.split("::")[0], (call.path.split("::")[0],)
     name = path.rpartition("::")[2]
     roots = [module for module, _ in functions(crate).get(name, [])]
@@ -261,7 +261,7 @@ def makes(path, call):
 
 
 def reached(call, sweep):
-    """What is wrong with the path of a sweep of a call."""
+    """Returns what is wrong with the path of a call's sweep, or None."""
     crate, *modules, name = sweep.split("::")
     module = "::".join(modules)
     if not sweep.strip("?") or name == "?":
@@ -276,7 +276,7 @@ def reached(call, sweep):
 
 
 def is_made(call, crate, module, body):
-    """Whether the text of a function makes a call, in a file that names what it is of. `write!` makes calls of `write_str`."""
+    """Returns whether the text of a function makes a call, in a file that names the call's type. `write!` calls `write_str`."""
     file, name, owner = sources(crate)[module], call.name(), call.owner()
     source = call.path.split("::")[0]
     if owner:

@@ -1,16 +1,16 @@
 #!/usr/bin/env python3
-"""Compares filters with SQL: draws filters, and asks both `extractd select` and SQLite which segments each of them selects.
+"""Compares filters with SQL: draws filters, and runs each by `extractd select` and by SQLite.
 
     python3 filters.py COUNT [SEED]
 
-`extractd` is the one on the search path. Counties of a few hundred segments are drawn too, with blank fields, fields without a number, alternate
-names and further ranges. Each segment is also a row of a table in SQLite, and each filter is also an expression in SQL, whose three-valued logic is that
-of CQL2. `select` has to write the rows of the segments that SQLite selects, byte for byte.
+`extractd` is taken from the search path. The script also draws counties of a few hundred segments, with blank fields, fields without a number, alternate
+names and further ranges. Each segment is also a row of a table in SQLite, and each filter is also an SQL expression. SQL has the same three-valued logic
+as CQL2. `select` must write the rows of the segments that SQLite selects, byte for byte.
 
-It prints each filter for which other rows are written, then how many agree and how many differ, and ends with 1 if any differs. SEED is 1 if it isn't
-given; the same seed draws the same filters again.
+Prints each filter with different rows, then how many agree and how many differ. Exits with 1 if any differs. SEED defaults to 1; the same seed draws the
+same filters.
 """
-# Needs Python 3.11 or later, and nothing else.
+# Needs only Python 3.11 or later.
 
 import os
 import re
@@ -26,10 +26,10 @@ from random import Random
 from typing import NamedTuple
 
 CODES = ("00001", "00002")
-# How many filters are asked of one pair of counties.
+# The number of filters that are tried on each pair of counties.
 FILTERS_OF_COUNTIES = 50
 MOST_PARENTHESES = 64
-# A filter whose program might have more words isn't drawn: the compiler refuses one that has a jump over more than 32,767.
+# The most words of a filter's program. The compiler refuses a filter that has a jump over more than 32,767 words.
 MOST_WORDS = 30_000
 USUAL_NAMES = 63
 WORD = 1 << 64
@@ -44,7 +44,7 @@ class Kind(Enum):
 
 
 class Column(NamedTuple):
-    """A column with its places in record type 1, counted from 1."""
+    """A column with its first and last place in record type 1, counted from 1."""
 
     name: str
     kind: Kind
@@ -59,7 +59,7 @@ class Column(NamedTuple):
         return line[self.first - 1 : self.last]
 
     def value(self, line: bytes) -> int | str | None:
-        """Returns the value that the column has in a record, or None for NULL."""
+        """Returns the column's value in a record, or None for NULL."""
         if self.kind is Kind.TEXT:
             return text_of(self.field(line))
         return number_of(self.field(line)) if self.kind is Kind.NUMBER else coordinate_of(self.field(line))
@@ -84,7 +84,7 @@ COLUMNS = read_layout()
 BY_NAME = {column.name: column for column in COLUMNS}
 TEXTS = [column for column in COLUMNS if column.kind is Kind.TEXT]
 NUMERIC = [column for column in COLUMNS if column.kind is not Kind.TEXT]
-# The address fields of record types 1 and 6, in their order.
+# The address fields of record types 1 and 6, in order.
 RANGE_FIELDS = ("FRADDL", "TOADDL", "FRADDR", "TOADDR")
 
 
@@ -105,7 +105,7 @@ def text_of(field: bytes) -> str | None:
 
 # ---- Counties
 
-# A literal may have any of the first characters, and a field all of them.
+# Characters that literals and fields may have, and further ones that only fields have.
 SPELLABLE = "aAbBmMzZ059 '%_\\-.\"~¡éÉÿ\xa0"
 UNSPELLABLE = "\t\r\x01\x1f\x7f\x80\x9f"
 FAULTY_NUMBERS = ("1 2", "1-4", "x", "+5", "-1", "5.")
@@ -121,12 +121,12 @@ def chance(dice: Random, percent: int) -> bool:
 
 
 def swapped(text: str) -> str:
-    """Exchanges capital and small letters, also those that CASEI tells apart. The capital of ÿ isn't in Latin-1."""
+    """Swaps capital and small letters, including those that CASEI doesn't fold. Latin-1 has no capital ÿ."""
     return "".join(character if character == "ÿ" else character.swapcase() for character in text)
 
 
 def justified(dice: Random, text: str, width: int) -> str:
-    """Puts blanks on the left, as in the Bureau's files, or now and then on the right or on both sides."""
+    """Pads with blanks on the left, as the Bureau's files do, or now and then on the right or on both sides."""
     if chance(dice, 80):
         return text.rjust(width)
     return text.ljust(width) if chance(dice, 50) else text.center(width)
@@ -156,7 +156,7 @@ def draw_coordinate(dice: Random, column: Column) -> str:
 
 
 def draw_texts(dice: Random, width: int, count: int) -> list[str]:
-    """Draws texts of a column, many of which begin alike."""
+    """Draws texts of a column. Many of them begin alike."""
     texts: list[str] = []
     while len(texts) < count:
         stem = dice.choice(texts) if texts and chance(dice, 60) else ""
@@ -178,7 +178,7 @@ class Segment(NamedTuple):
 
 
 class Pools:
-    """What the fields of a county's segments are drawn from, so that many segments have the same values."""
+    """The values of a county's segments. Many segments have the same ones."""
 
     def __init__(self, dice: Random) -> None:
         self.dice = dice
@@ -217,7 +217,7 @@ class Pools:
 
 
 class County:
-    """Segments as the four files of a county, and as tables."""
+    """The segments of a county, as its four files and as tables."""
 
     def __init__(self, dice: Random, code: str) -> None:
         self.code = code
@@ -260,7 +260,7 @@ def row_of(line: bytes, score: Column | None) -> bytes:
 
 
 def database_of(segments: list[Segment]) -> sqlite3.Connection:
-    """Returns the segments as a table, and their names and the sides of their ranges as two more."""
+    """Returns the segments as a table, with two more tables for their names and the sides of their ranges."""
     database = sqlite3.connect(":memory:")
     database.execute("PRAGMA case_sensitive_like = ON")
     database.execute(f"CREATE TABLE segments (id INTEGER PRIMARY KEY, {', '.join(column.name for column in COLUMNS)})")
@@ -287,7 +287,7 @@ KEYWORDS = set("AND OR NOT TRUE FALSE IS NULL LIKE BETWEEN IN CASEI HAS_NUMBER H
 
 
 class Level(IntEnum):
-    """What binds tighter has a higher level."""
+    """The precedence of an operator; a higher level binds tighter."""
 
     OR = 0
     AND = 1
@@ -296,7 +296,7 @@ class Level(IntEnum):
 
 
 class Filter(NamedTuple):
-    """A filter as the tokens of CQL2 and as SQL; how many words its program has at most, and how many parentheses are in one another."""
+    """A filter as CQL2 tokens and as SQL, with upper bounds for its program's words and for its nested parentheses."""
 
     tokens: list[str]
     sql: str
@@ -327,19 +327,19 @@ def quoted(text: str) -> str:
 
 
 class Term(NamedTuple):
-    """A column or a literal, as the tokens of CQL2 and as SQL."""
+    """A column or a literal, as CQL2 tokens and as SQL."""
 
     tokens: list[str]
     sql: str
 
 
 def without_case(term: Term) -> Term:
-    """SQLite's lower() is of the letters A to Z alone, as CASEI is."""
+    """Returns a term without case. SQLite's lower() folds only the letters A to Z, and so does CASEI."""
     return Term(["CASEI", "(", *term.tokens, ")"], f"lower({term.sql})")
 
 
 class FilterDice:
-    """Draws filters whose literals are mostly values of a county's segments."""
+    """Draws filters. Most of their literals are values of a county's segments."""
 
     def __init__(self, dice: Random, county: County) -> None:
         self.dice = dice
@@ -365,7 +365,7 @@ class FilterDice:
         return column.value(self.dice.choice(self.county.segments).line)
 
     def spelled(self, number: int) -> str:
-        """Writes a whole number, now and then with a plus or with zeros before it, in up to 18 digits."""
+        """Writes a whole number of up to 18 digits, now and then with a plus or leading zeros."""
         digits = str(abs(number))
         sign = "-" if number < 0 else "+" if self.chance(5) else ""
         return sign + (digits.zfill(self.dice.randint(1, 18)) if self.chance(5) else digits)
@@ -378,7 +378,7 @@ class FilterDice:
         return Term([self.spelled(number)], str(number))
 
     def coordinate(self, column: Column) -> Term:
-        """Draws a number of degrees; in SQL, of millionths of a degree."""
+        """Draws a number of degrees. In SQL it is in millionths of a degree."""
         millionths = self.present(column)
         if not isinstance(millionths, int) or self.chance(10):
             millionths = self.dice.randrange(-(10**9) + 2, 10**9 - 1000)
@@ -389,7 +389,7 @@ class FilterDice:
         return Term([("-" if millionths < 0 else "") + degrees + decimals], str(millionths))
 
     def text(self, text: int | str | None, width: int) -> str:
-        """Draws a text that a column of a width may be compared with, mostly the given one."""
+        """Draws a text to compare with a column of this width, mostly the given one."""
         if not isinstance(text, str) or self.chance(10):
             text = "".join(self.dice.choices(SPELLABLE, k=width))
         if self.chance(20):
@@ -403,7 +403,7 @@ class FilterDice:
         return text.rstrip(" ") or "m"
 
     def text_term(self, text: str) -> Term:
-        """Blanks at a literal's end don't count."""
+        """Returns a text as a term. Blanks at a literal's end don't count."""
         blanks = " " * self.dice.randint(1, 9) if self.chance(10) else ""
         return Term([quoted(text + blanks)], quoted(text))
 
@@ -426,7 +426,7 @@ class FilterDice:
     # Predicates
 
     def column(self, columns: list[Column]) -> tuple[Column, Term]:
-        """Draws a column, and writes its name in either case and now and then in double quotes."""
+        """Draws a column. Writes its name in either case, and now and then in double quotes."""
         column = self.dice.choice(columns)
         name = column.name.lower() if self.chance(20) else column.name
         return column, Term([f'"{name}"' if self.chance(10) else name], column.name)
@@ -451,7 +451,7 @@ class FilterDice:
         return Filter([*subject.tokens, *negation, "IN", "(", *tokens[1:], ")"], sql, 1000)
 
     def bounds(self, column: Column) -> tuple[Term, Term]:
-        """Draws two numbers, mostly the lesser one first."""
+        """Draws two numbers, mostly the smaller one first."""
         low, high = self.literal(column), self.literal(column)
         return (high, low) if int(low.sql) > int(high.sql) and self.chance(80) else (low, high)
 
@@ -475,7 +475,7 @@ class FilterDice:
         return Filter([*subject.tokens, "IS", *negation, "NULL"], f"({subject.sql} IS {' '.join(negation)} NULL)", 50)
 
     def has_number(self) -> Filter:
-        """A side has the numbers between its ends, or half of them if both ends are odd or both even."""
+        """Draws a test for a house number. A side has all numbers between its ends, or every second one if both ends are odd or both even."""
         number = self.dice.randrange(60) if self.chance(90) else self.dice.randrange(10**11)
         parity = f"(start % 2 <> finish % 2 OR start % 2 = {number % 2})"
         on_side = f"segment = id AND {number} BETWEEN min(start, finish) AND max(start, finish) AND {parity}"
@@ -514,7 +514,7 @@ class FilterDice:
         return tree
 
     def filter(self) -> Filter:
-        """Draws a filter whose program isn't too long, now and then with as many parentheses in one another as there may be."""
+        """Draws a filter whose program isn't too long, now and then with as many nested parentheses as allowed."""
         while True:
             tree = self.tree(self.dice.randrange(6))
             while tree.depth < MOST_PARENTHESES and self.chance(2 if tree.depth < 8 else 95):
@@ -532,7 +532,7 @@ def is_name_byte(character: str) -> bool:
 
 
 def spelled(dice: Random, tokens: list[str]) -> str:
-    """Writes tokens with single blanks between them, or with white space only where two would be read as one and here and there beside."""
+    """Writes tokens with single blanks between them, or with white space only where it is needed and in a few other places."""
     if chance(dice, 60):
         return " ".join(tokens)
     text = ""
@@ -544,7 +544,7 @@ def spelled(dice: Random, tokens: list[str]) -> str:
 
 
 class Trial(NamedTuple):
-    """A filter and a score, the counties that are asked, and the rows that have to be written."""
+    """A filter and a score, the counties to try them on, and the expected rows."""
 
     text: str
     score: Column | None
@@ -557,7 +557,7 @@ class Trial(NamedTuple):
         return [word.encode() for word in words]
 
     def difference(self, folder: Path) -> str | None:
-        """Returns how the program's rows differ from these, if they do."""
+        """Returns how the program's rows differ from the expected ones, or None."""
         ran = subprocess.run(self.command(folder), stdin=subprocess.DEVNULL, capture_output=True)
         if ran.returncode == 0 and ran.stdout == self.rows and not ran.stderr:
             return None
@@ -586,7 +586,7 @@ def draw_trial(dice: Random, counties: list[County]) -> Trial:
 
 
 def compare(dice: Random, count: int, pool: ThreadPoolExecutor) -> list[str | None]:
-    """Compares filters over a pair of counties."""
+    """Compares filters on a pair of counties."""
     counties = [County(dice, code) for code in CODES]
     trials = [draw_trial(dice, counties) for _ in range(count)]
     with tempfile.TemporaryDirectory() as name:
