@@ -1,24 +1,24 @@
 #!/usr/bin/env bash
-# Tries how a built program ends where the system has no more to give: examples/exhaustion.sh PATH_TO_extractd
+# Tests how a built program ends when a resource runs out: examples/exhaustion.sh PATH_TO_extractd
 #
-# Each command, and then the server, with too little of
-# - memory: in address spaces (`ulimit -v`) from far too small to ample it can't be started, or ends with 4 and `refused memory`, or does its work; files
-#   of a gibibyte, and sources without end;
-# - room: a full device, a file that may grow no further (`ulimit -f`), a pipe whose reader has ended, before or within the rows;
-# - the files themselves: FIFOs whose writer stops anywhere in a line, and files that shrink or grow while they are read;
+# Runs each command, and then the server, with too little of
+# - memory: in address spaces (`ulimit -v`) from far too small to ample, where it isn't started, or exits with 4 and `refused memory`, or succeeds; also with
+#   files of a gibibyte and endless sources;
+# - space for output: a full device, a file size limit (`ulimit -f`), a pipe whose reader exits before or within the rows;
+# - input: FIFOs whose writer stops anywhere in a line, and files that shrink or grow while they are read;
 # - file descriptors (`ulimit -n`).
-# Looked at is the exit status, all of standard error, and all of standard output: it is whole only with status 0, else it is empty or, for `run`, a
-# beginning of the rows. Of the server, that what it refuses or can't send whole changes nothing, and that the next request gets the right reply whole.
+# Checks the exit status, all of standard error and all of standard output. The output is complete only with status 0; otherwise it is empty or, for `run`,
+# the first rows. For the server, checks that a refused or incomplete request changes nothing and that the next request gets the correct reply.
 #
-# Prints what failed, and ends with 0 where nothing did, else with 1. It needs bash, coreutils, util-linux and python3, and curl for the server, and takes
-# less than a minute, and 60 MB on the disk: files of a gibibyte are sparse.
+# Prints what failed. Exit status 0 means that nothing failed, else it is 1. It needs bash, coreutils, util-linux and python3, and curl for the server. It
+# takes less than a minute and 60 MB on the disk: files of a gibibyte are sparse.
 #
-# It leaves out:
-# - a program that can't be opened for want of descriptors: the loader needs one more before `main`, and hands it back;
-# - a read that fails half-way, and a device that is full half-way through a write of its own accord: crates/command_tests has each of them;
-# - a source of a gibibyte in ample memory: `asm` takes two gibibytes and five seconds for it. One of 16 MiB is tried;
-# - clients that say nothing or take nothing: the server waits 10 and 30 seconds for them. crates/server_tests has shorter limits;
-# - the system's own want of memory, where it kills what it likes.
+# Not tested:
+# - a program that can't be opened because no descriptor is free: the loader needs one more before `main` and closes it again;
+# - a read or a write that fails half-way without a limit: crates/command_tests has both;
+# - a source of a gibibyte with enough memory: `asm` takes two gibibytes and five seconds for it. One of 16 MiB is tested;
+# - clients that send or read nothing: the server waits 10 and 30 seconds for them. crates/server_tests has shorter limits;
+# - a system that runs out of memory and kills processes.
 
 set -u
 export LC_ALL=C
@@ -35,7 +35,7 @@ pass() { tried=$((tried + 1)); }
 fail() { failed=$((failed + 1)); printf 'FAILED: '; printf '%s\n' "$@"; }
 skip() { printf 'left out: %s\n' "$1"; }
 
-# The descriptors that the program inherits count among its own.
+# Descriptors that the program inherits count towards its limit.
 for descriptor in {3..9}; do eval "exec $descriptor>&-"; done
 scratch=$(mktemp -d) || exit 1
 trap 'stop_server; rm -rf "$scratch"' EXIT
@@ -43,11 +43,11 @@ mkdir "$scratch/bin" "$scratch/home"
 cp "$program" "$scratch/bin/extractd"
 export PATH="$scratch/bin:$PATH" HOME="$scratch/home"
 cd "$scratch" || exit 1
-# A write beyond `ulimit -f` is an error then, and no signal.
+# Makes a write past `ulimit -f` an error instead of a signal.
 trap '' XFSZ
 
-# limited LETTER NUMBER COMMAND..: becomes the command, under this limit: `v` is KiB of addresses, `f` KiB of a file, `n` descriptors. The shell itself isn't
-# limited: with a large environment it would need more memory than the command.
+# limited LETTER NUMBER COMMAND..: becomes the command, under this limit: `v` is KiB of address space, `f` KiB of a file, `n` descriptors. The shell itself
+# isn't limited: with a large environment it would need more memory than the command.
 cat > bin/limited << 'END'
 #!/bin/sh
 case $1 in
@@ -60,16 +60,16 @@ exec prlimit "$limit" -- "$@"
 END
 chmod 755 bin/limited
 
-# observe COMMAND: runs it. Its exit status is `status` then, its standard output the file `out`, and its standard error `text`, with a dot behind it so
-# that line ends count.
+# observe COMMAND: runs it. Sets `status` to its exit status, writes its standard output to the file `out`, and sets `text` to its standard error and a dot,
+# so that trailing newlines count.
 observe() {
     : > out
     text=$(eval "{ $1; } 2>&1 > out < /dev/null"; code=$?; printf .; exit $code)
     status=$?
 }
 
-# is_front SIZE FILE: whether `out` is the first SIZE bytes of the file, where `all` is the whole of it, `rows` any number of rows and `lines` any number of
-# lines.
+# is_front SIZE FILE: whether `out` is the first SIZE bytes of the file. SIZE is a number, or `all` for the whole file, `rows` for any number of rows, or
+# `lines` for any number of lines.
 is_front() {
     local size
     size=$(stat -c %s out)
@@ -81,7 +81,7 @@ is_front() {
     esac
 }
 
-# judge STATUS TEXT SIZE FILE COMMAND: whether what was observed of the command is as it should be. TEXT is a line, or empty for none.
+# judge STATUS TEXT SIZE FILE COMMAND: checks what was observed of the command. TEXT is a line, or empty for none.
 judge() {
     if [ "$status" = "$1" ] && [ "$text" = "${2:+$2$'\n'}." ] && is_front "$3" "$4"; then pass; else
         fail "$5" "should give status $1, $3 bytes of $4 and: $2" "and gives status $status, $(stat -c %s out) bytes and: ${text%.}"
@@ -101,7 +101,7 @@ try_shown() {
     esac
 }
 
-# A county of 20,000 segments: 50 times what makes the example county, each time by other numbers but the first.
+# Makes a county of 20,000 segments by drawing the example county 50 times, each time after the first with other numbers.
 make_large_county() {
     python3 -B - "$top/examples" large <<'END'
 import sys
@@ -121,12 +121,12 @@ write(Path(sys.argv[2]), (segments, *joined(Dice(JOINED_SEED), chains)))
 END
 }
 
-# rows_of FOLDER: the rows of all.bpf, which chooses each line, with a score of 0.
+# rows_of FOLDER: the rows of all.bpf, which selects every line with a score of 0.
 rows_of() {
     tr -d '\r' < "$1/TGR01001.RT1" | sed 's/^/0\t/'
 }
 
-# What is read, and what is right to be written of it.
+# Makes the files to read and the expected outputs.
 make_files() {
     local doubling
     cp "$top"/examples/*.bpf "$top"/examples/*.s .
@@ -134,7 +134,7 @@ make_files() {
     cp "$top"/examples/TGR01001.RT? small
     cp "$top"/examples/one/TGR01001.RT? one
     make_large_county || { fail 'make_county.py makes no large county'; exit 1; }
-    # The last segment has 4,995 alternate names, and each takes memory when its row is made.
+    # The last segment has 4,995 alternate names, and its row takes memory for each.
     mkdir late
     cp small/TGR01001.RT1 small/TGR01001.RT5 late
     printf "40006$(tail -n 1 small/TGR01001.RT1 | cut -b 6-15)%3d       5       5       5       5       5\r\n" {1..999} > late/TGR01001.RT4
@@ -153,16 +153,16 @@ make_files() {
 1: exit                                 ; r0 = 1
 accepted
 END
-    # It chooses each segment, too, and asks how many names it has, so types 4, 5 and 6 are kept.
+    # This program also selects every segment. It calls `names`, so types 4, 5 and 6 are loaded.
     printf 'call 3\nmov r0, 1\nexit\n' > asking.s
     extractd asm --source asking.s > asking.bpf
     # A filter of 2,000 comparisons, and its program.
     { yes 'ZIPL = 36067 AND FALSE OR' | head -n 1999; echo TRUE; } > long_filter.cql
     extractd compile --filter long_filter.cql > long_filter.bpf
-    # A program of 32,768 bytes, of which several jobs have room in a mebibyte.
+    # A program of 32,768 bytes. Several jobs with it fit into a mebibyte.
     { yes 'mov r0, 1' | head -n 4095; echo exit; } > long.s
     extractd asm --source long.s > long.bpf
-    # Programs of 524,288 bytes, 524,289 and 524,296, of 16 MiB, and of a gibibyte and a byte more.
+    # Programs of 524,288 bytes, 524,289 and 524,296, of 16 MiB, and of a gibibyte and one byte more.
     { yes 'mov r0, 1' | head -n 65535; echo exit; } > longest.s
     extractd asm --source longest.s > longest.bpf
     { cat longest.bpf; printf '\0'; } > byte_more.bpf
@@ -173,20 +173,20 @@ END
     truncate -s $((2 ** 30 + 1)) uneven.bpf
 }
 
-# outcome LIMIT SIZE FILE COMMAND: what comes of the command in so many KiB. SIZE is what may stand on its output where it's refused.
+# outcome LIMIT SIZE FILE COMMAND: sets `result` to how the command ends in LIMIT KiB. SIZE is what its output may have if it is refused.
 outcome() {
     observe "limited v $1 $4"
     case $status in
     0) [ "$text" = . ] && cmp -s out "$3" && result=right && return ;;
     4) [ "${text/$'\n'county 01001/}" = $'refused memory\n.' ] && is_front "$2" "$3" && result=refused && return ;;
-    # The program can't be executed; the loader finds no room for a library; the system ends it before it is loaded.
+    # The program can't be executed, the loader finds no room for a library, or the system kills it before it is loaded.
     126 | 127 | 137 | 139) [ ! -s out ] && result=unstarted && return ;;
     esac
     result="status $status, $(stat -c %s out) bytes and: ${text%.}"
 }
 
-# Finds in `start` the least space, in pages of 4 KiB, in which the program comes to its `main`: `--version` ends with a status of its own, and in a
-# little less it is the loader that gives up. So what a signal or the loader ends in a larger space is a fault of the program's.
+# Finds in `start` the smallest space, in pages of 4 KiB, in which the program reaches its `main`. There `--version` exits with a status of its own, and with
+# a little less the loader gives up. So in a larger space, an end by a signal or by the loader is the program's fault.
 find_start() {
     local low=64 high=65536 middle
     while [ $((high - low)) -gt 4 ]; do
@@ -205,8 +205,8 @@ find_start() {
     esac
 }
 
-# try_space NAME SIZE FILE COMMAND: the command in spaces from far too small to ample. Its least one is in `least[NAME]` then, and in `before` how much
-# stood on its output at the most where it was refused.
+# try_space NAME SIZE FILE COMMAND: runs the command in spaces from far too small to ample. Sets `least[NAME]` to the smallest sufficient space, and `before`
+# to the most bytes of output before a refusal.
 declare -A least=()
 try_space() {
     local limit refused=0 right=0 extra
@@ -230,7 +230,7 @@ try_space() {
             fail "$4" "is right in $right KiB, and gives $result in $limit KiB"
         fi
     done
-    # Between the largest of these spaces in which it's refused and the least in which it's right.
+    # Between the largest of these spaces in which it is refused and the smallest in which it succeeds.
     while [ $refused != 0 ] && [ $((right - refused)) -gt 4 ]; do
         limit=$((refused + (right - refused) / 8 * 4))
         outcome $limit "$2" "$3" "$4"
@@ -260,11 +260,11 @@ try_spaces() {
     try_space large_run rows large.rows 'extractd run --program asking.bpf --data large 01001'
     try_space large_trace 0 traced 'extractd trace --program all.bpf --data large --line 20000 --limit 2 01001'
     try_space large_geocode 0 large.hits 'extractd geocode --data large --number 1785 --name persimmon 01001'
-    # Memory that is wanting for the last segment alone: 399 rows stand before it.
+    # Memory that runs out only at the last segment, after 399 rows.
     try_space late_run rows late.rows 'extractd run --program asking.bpf --data late 01001'
     if [ $before = $((399 * 231)) ]; then pass; else fail "run over late in too little memory" "should write 399 rows, and writes $before bytes at the most"; fi
     if cmp -s -n "$(stat -c %s small.hits)" small.hits large.hits; then pass; else fail 'the large county has another hit first' "$(cat large.hits)"; fi
-    # 80,000 lines of type 1, 18 MB, in little more than the space in which there was room for 400.
+    # 80,000 lines of type 1, 18 MB, in little more space than 400 lines need.
     mkdir long
     cp small/TGR01001.RT[456] long
     for line in {1..200}; do cat small/TGR01001.RT1; done > long/TGR01001.RT1
@@ -273,13 +273,13 @@ try_spaces() {
     rm -r long long.rows
 }
 
-# Outputs with no room, or whose reader has ended.
+# Outputs without space, or whose reader has exited.
 full="error: the output can't be written: no space left"
 broken="error: the output can't be written: broken pipe"
 too_large="error: the output can't be written: File too large (os error 27)"
 try_outputs() {
     local command kib
-    # Less than the output's buffer of 64 KiB is handed on at the end; what `run` and a long `dis` write is more.
+    # Output that is smaller than the buffer of 64 KiB is written at the end. `run` and a long `dis` write more.
     local run='extractd run --program all.bpf --data small 01001' dis='extractd dis --program longest.bpf'
     local few=('extractd run --program all.bpf --data one 01001' 'extractd verify --program all.bpf' 'extractd dis --program all.bpf'
         'extractd explain --program all.bpf'
@@ -299,28 +299,28 @@ try_outputs() {
         skip 'a full device (there is no /dev/full)'
     fi
     try_shown "$full"
-    # The file holds what goes into it, to the byte.
+    # The file takes output up to the exact byte.
     for kib in 1 63 64 65 1000 4400; do
         try_case 3 'refused 60 Write' $((kib * 1024)) large.rows "limited f $kib extractd run --program all.bpf --data large 01001"
     done
-    # Here it is the last rows that have no room, and they are still in the buffer.
+    # Here the last rows don't fit, and they are still in the buffer.
     try_case 3 "$too_large" $((4511 * 1024)) large.rows "limited f 4511 extractd run --program all.bpf --data large 01001"
     try_case 0 '' all large.rows 'limited f 4512 extractd run --program all.bpf --data large 01001'
     for command in "${few[@]}"; do try_case 3 "$too_large" 0 nothing "limited f 0 $command"; done
     extractd dis --program longest.bpf > longest.text
     try_case 3 'refused 60 Write' 1024 longest.text "limited f 1 $dis"
     try_case 3 'refused 60 Write' 1024 longest.bpf "limited f 1 extractd asm --source longest.s"
-    # What the file took no more of is less than the buffer holds.
+    # The bytes that don't fit are fewer than the buffer holds.
     try_case 3 "$too_large" 523264 longest.bpf "limited f 511 extractd asm --source longest.s"
     try_case 0 '' all longest.bpf "limited f 512 extractd asm --source longest.s"
-    # A pipe whose reader has ended before.
+    # A pipe whose reader has already exited.
     exec 9> >(exec true)
     wait $!
     try_case 3 'refused 60 Write' 0 nothing "$run >&9"
     for command in "${few[@]}"; do try_case 3 "$broken" 0 nothing "$command >&9"; done
     exec 9>&-
     try_shown "$broken"
-    # No output at all: its number is that of the first file that is opened, which is opened for reading.
+    # Standard output is closed, so the first file that the program opens gets its descriptor, and is opened for reading.
     try_case 3 'refused 60 Write' 0 nothing "$run >&-"
     for command in "${few[@]}"; do
         try_case 3 "error: the output can't be written: Bad file descriptor (os error 9)" 0 nothing "$command >&-"
@@ -329,7 +329,7 @@ try_outputs() {
     for size in 0 1 230 231 65536 65537 1000000 4000000; do try_reader $size; done
 }
 
-# try_reader SIZE: the reader of the rows takes so many bytes of them, and ends.
+# try_reader SIZE: a reader that takes SIZE bytes of the rows and exits.
 try_reader() {
     local command="extractd run --program all.bpf --data large 01001 | head -c $1" codes
     extractd run --program all.bpf --data large 01001 2> err | head -c $1 > out
@@ -338,12 +338,12 @@ try_reader() {
     judge 3 'refused 60 Write' $1 large.rows "$command"
 }
 
-# Programs and sources that are longer than memory.
+# Programs and sources that are larger than memory.
 try_long_files() {
     local command file text place options
     local -A options=([run]=' --data small 01001' [verify]='' [dis]='' [trace]=' --data small --line 1 --limit 65536 01001')
     for command in run verify dis trace; do
-        # What a small program needs, and less than a program of the greatest length twice beside it.
+        # The space that a small program needs and 768 KiB, which is less than two copies of the longest program.
         place="limited v $((least[$command] + 768))"
         for file in word_more many gibibyte; do
             try_case 1 'refused 12 TooLong' 0 nothing "$place extractd $command --program $file.bpf${options[$command]}"
@@ -352,12 +352,12 @@ try_long_files() {
             try_case 1 'refused 11 NotWhole' 0 nothing "$place extractd $command --program $file.bpf${options[$command]}"
         done
     done
-    # The greatest length itself.
+    # The longest program.
     try_case 0 '' all small.rows 'extractd run --program longest.bpf --data small 01001'
     try_case 0 '' all accepted 'extractd verify --program longest.bpf'
     try_case 0 '' all traced 'extractd trace --program longest.bpf --data small --line 1 --limit 65536 01001'
     try_case 0 '' all longest.s 'extractd dis --program longest.bpf'
-    # A source is kept whole.
+    # A source is read completely into memory.
     place="limited v $((least[asm] + 128))"
     try_case 4 'refused memory' 0 nothing "$place extractd asm --source gibibyte.bpf"
     try_case 4 'refused memory' 0 nothing "$place extractd asm --source <(yes 'mov r0, 1')"
@@ -369,7 +369,7 @@ try_long_files() {
 # Files that end where their writer stops, and files that change while they are read.
 try_changing_files() {
     local type size status_wanted text_wanted rows
-    # By FIFOs: what is in a county's file up to any byte. A CR that no LF follows is a byte of its line.
+    # FIFOs that deliver a county's file up to a given byte. A CR without LF is a byte of its line.
     while IFS='|' read -r type size status_wanted rows text_wanted; do
         try_fifo "$type" "$size" "$status_wanted" "$text_wanted" "$rows"
     done <<'END'
@@ -399,17 +399,17 @@ END
     try_case 1 'refused 11 NotWhole' 0 nothing 'extractd run --program <(cat half_word.bpf) --data small 01001'
     try_case 1 'refused 33 place 0 LastNotExit' 0 nothing 'extractd run --program <(cat no_exit.bpf) --data small 01001'
     try_case 0 '' all small.rows 'extractd run --program <(cat all.bpf) --data small 01001'
-    # A file of 4.6 MB, of which less than 200 KB are read before the rows are: 64 KiB stand in the pipe, in the output's buffer and in the input's.
+    # Of a file of 4.6 MB, less than 200 KB are read before the reader takes the rows: 64 KiB each in the pipe, the output buffer and the input buffer.
     try_held 1000000 1 'refused 1 rt1 line 4348 WrongLength' 4347 'truncate -s 1000000 held/TGR01001.RT1'
     try_held 999810 0 '' 4347 'truncate -s 999810 held/TGR01001.RT1'
     head -c 1000000 large/TGR01001.RT1 > beginning
     try_held 1000000 0 '' 20000 'tail -c +1000001 large/TGR01001.RT1 >> held/TGR01001.RT1' beginning
-    # Less is left than was read already: where reading ends isn't said then, but that each row is of a whole line before there.
+    # The file is now shorter than what was already read. The line where reading ends varies, but each row comes from a complete line before it.
     try_held 1000 1 'refused 1 rt1 line * WrongLength' '*' 'truncate -s 1000 held/TGR01001.RT1'
 }
 
-# try_fifo TYPE SIZE STATUS TEXT ROWS: the small county, whose file of the type is a FIFO that gets so many bytes. What is refused is so for `trace`
-# and `geocode` too, and without output.
+# try_fifo TYPE SIZE STATUS TEXT ROWS: runs over the small county, whose file of this type is a FIFO that delivers SIZE bytes. What `run` refuses must also be
+# refused by `trace` and `geocode`, without output.
 try_fifo() {
     local file=fifo/TGR01001.RT$1
     rm -rf fifo
@@ -423,7 +423,7 @@ try_fifo() {
     try_case $3 "$4" 0 nothing 'through "extractd geocode --data fifo --number 1785 --name persimmon 01001"'
 }
 
-# try_held SIZE STATUS TEXT ROWS CHANGE [FILE]: changes a file of type 1, the large county's or FILE, while `run` is held by a full pipe.
+# try_held SIZE STATUS TEXT ROWS CHANGE [FILE]: changes a file of type 1, the large county's or FILE, while `run` waits for a full pipe.
 try_held() {
     local size
     rm -rf held pipe
@@ -447,7 +447,7 @@ try_held() {
     fi
 }
 
-# With how many descriptors a command is started, and what it says. The loader needs the fourth before `main`.
+# Descriptors that a command may use, and its result. The loader needs the fourth before `main`.
 try_descriptors() {
     local number command status_wanted size file text_wanted
     local -A commands=([verify]='extractd verify --program all.bpf' [asm]='extractd asm --source all.text' [dis]='extractd dis --program all.bpf'
@@ -485,7 +485,7 @@ try_descriptors() {
 5|serve|3|0|nothing|RT5
 6|serve|3|0|nothing|RT6
 END
-    # A county's files are closed before the next county's are opened.
+    # A county's files are closed before those of the next county are opened.
     try_case 0 '' all twice.hits 'cat small.hits small.hits > twice.hits; limited n 7 extractd geocode --data small --number 1785 --name persimmon 01001 01001'
 }
 
@@ -497,7 +497,7 @@ stop_server() {
     server=""
 }
 
-# start_server FOLDER [COMMAND..]: serves its county at a free port, by way of the command. Where it ends before it listens, `status` and `text` say how.
+# start_server FOLDER [COMMAND..]: serves its county at a free port, started by the command. If it ends before it listens, sets `status` and `text`.
 start_server() {
     local folder=$1
     shift
@@ -519,7 +519,7 @@ start_server() {
     return 1
 }
 
-# ask NAME STATUS FILE CURL-ARGUMENTS: one request. Its reply has to be whole, by its Content-Length, and its body the file.
+# ask NAME STATUS FILE CURL-ARGUMENTS: sends one request. The reply must be complete by its Content-Length, and its body must equal the file.
 ask() {
     local name=$1 wanted=$2 file=$3 code got
     shift 3
@@ -531,7 +531,7 @@ ask() {
     fi
 }
 
-# says NAME STATUS TEXT CURL-ARGUMENTS: the same, where the body is a line.
+# says NAME STATUS TEXT CURL-ARGUMENTS: does the same for a body that is one line.
 says() {
     local name=$1 wanted=$2
     printf '%s\n' "$3" > wanted
@@ -539,10 +539,10 @@ says() {
     ask "$name" "$wanted" wanted "$@"
 }
 
-# turns COUNT: as many connections, each with a turn behind it.
+# turns COUNT: makes COUNT connections. A turn follows each.
 turns() { curl -s -m 60 -o /dev/null "http://127.0.0.1:$port/jobs/0?[1-$1]"; }
 
-# is_well NAME COUNTY [JOB FILE]: the server over the county still gives a verdict, hits, and the rows of a job, which stand in the file.
+# is_well NAME COUNTY [JOB FILE]: checks that the server over the county still returns a verdict, hits, and the rows of a job, which are in the file.
 is_well() {
     local url=127.0.0.1:$port
     says "$1, then a verdict" 200 accepted --data-binary @all.bpf $url/verify
@@ -550,7 +550,7 @@ is_well() {
     [ $# -lt 4 ] || ask "$1, then a job" 200 "$4" $url/jobs/$3
 }
 
-# job_is JOB NAME: the reply to a GET of the job is how far it is, and whole rows so far, all of them. Its program chooses each segment of the county.
+# job_is JOB NAME COUNTY: checks the reply to a GET of a job that selects every segment: its progress, followed by exactly the rows so far.
 job_is() {
     local code got
     got=$(curl -s -m 60 -o got -w '%{http_code}' 127.0.0.1:$port/jobs/$1)
@@ -562,7 +562,7 @@ job_is() {
     fi
 }
 
-# Standard output and standard error that can't be used.
+# Unusable standard output and standard error.
 try_announcing() {
     local output reason
     while IFS='|' read -r output reason; do
@@ -580,7 +580,7 @@ try_announcing() {
 END
 }
 
-# Spaces from far too small to ample: the server isn't started, ends with 4, or listens. `least[serve_COUNTY]` is the least in which it listens.
+# Spaces from far too small to ample: the server isn't started, exits with 4, or listens. Sets `least[serve_COUNTY]` to the smallest in which it listens.
 try_server_space() {
     local limit middle refused=0 right=0 extra
     look() {
@@ -613,16 +613,16 @@ try_server_space() {
     least[serve_$1]=$right
 }
 
-# serve_in COUNTY ROOM: serves the county in the least space in which the server listens and ROOM KiB more.
+# serve_in COUNTY ROOM: serves the county in the smallest space in which the server listens and ROOM KiB more.
 #
-# The search for the least space stops at 16 KiB, and the allocator takes memory in pieces of up to 132 KiB, which differ from run to run. So what is asked
-# either needs much less than ROOM or exceeds it by more than half a mebibyte, and the answer is the same on both sides of that slack.
+# The search for the smallest space stops at 16 KiB, and the allocator takes memory in pieces of up to 132 KiB, which differ from run to run. So a request
+# either needs much less than ROOM or exceeds it by more than half a mebibyte, which gives the same reply on both sides of that slack.
 serve_in() {
     start_server $1 limited v $((least[serve_$1] + $2)) || fail "serve over $1" "$text"
     url=127.0.0.1:$port
 }
 
-# A body of a mebibyte where there is room for a quarter of one.
+# A body of a mebibyte with room for a quarter of one.
 try_large_bodies() {
     local route
     head -c 1048576 /dev/zero > mebibyte
@@ -635,8 +635,8 @@ try_large_bodies() {
     stop_server
 }
 
-# Jobs of long programs, over 400 segments, up to the first that is refused. Each keeps some 200 KiB, so there is room for about twenty of them. What is
-# left then is anything from nothing to what a job needs, so it is only asked for what needs no memory, or three mebibytes, until half of the jobs are gone.
+# Opens jobs of long programs over 400 segments until one is refused. Each takes some 200 KiB, so about twenty of them fit. The space left then is anything
+# up to what a job needs. So until half of the jobs are dropped, requests need either no memory or three mebibytes.
 try_many_jobs() {
     local jobs id job half
     serve_in small 4096
@@ -663,15 +663,15 @@ try_many_jobs() {
     stop_server
 }
 
-# The rows of 20,000 segments, 4.6 MB, where there is room for two mebibytes and a half. The room of a list of rows doubles, so it grows to one or two
-# mebibytes, by whether the old one is still held meanwhile, and at least 300 KiB are missing for the next and left for small requests.
+# The rows of 20,000 segments, 4.6 MB, with room for two and a half mebibytes. A list of rows doubles its capacity, so it grows to one or two mebibytes,
+# depending on whether the old one is still in memory. Then at least 300 KiB are missing for the next step and free for small requests.
 try_long_extracts() {
     local progress total stood
     serve_in large 2560
     says 'an extract' 503 'refused memory' --data-binary @all.bpf $url/extract
     is_well 'an extract' large
     ask 'a small extract' 200 house.rows --data-binary @house.bpf $url/extract
-    # A job goes on up to where its rows find no room, and stays there with whole rows.
+    # A job goes on until its rows no longer fit, and then keeps its complete rows.
     says 'a long job' 200 1 --data-binary @all.bpf $url/jobs
     turns 90
     job_is 1 'a long job' large
@@ -688,7 +688,7 @@ try_long_extracts() {
     stop_server
 }
 
-# Requests that take more memory than there is.
+# Requests that need more memory than there is.
 try_server_memory() {
     local url
     try_server_space small
@@ -721,7 +721,7 @@ try_clients() {
         is_well "a client that leaves behind $bytes" large 1 house.job
     done
     says 'a second job' 200 2 --data-binary @all.bpf $url/jobs
-    # A whole request is done, whether or not its client stays for the reply.
+    # A complete request is processed even if its client leaves before the reply.
     send 'POST /jobs HTTP/1.1\r\nContent-Length: 16\r\n\r\n\xb7\0\0\0\1\0\0\0\x95\0\0\0\0\0\0\0'
     hang_up
     says 'a fourth job' 200 4 --data-binary @all.bpf $url/jobs
@@ -732,7 +732,7 @@ try_clients() {
     turns 80
     { echo 20000 20000; cat large.rows; } > finished
     is_well 'a second job' large 2 finished
-    # 4.6 MB are more than sockets hold, so the server is still writing when its client leaves.
+    # 4.6 MB exceed the socket buffers, so the server is still writing when its client leaves.
     for bytes in 'GET /jobs/2 HTTP/1.1\r\n\r\n' 'POST /extract HTTP/1.1\r\nContent-Length: 16\r\n\r\n\xb7\0\0\0\1\0\0\0\x95\0\0\0\0\0\0\0'; do
         send "$bytes"
         if [ "$(head -c 15 <&$connection)" = 'HTTP/1.1 200 OK' ]; then pass; else fail "no reply to $bytes"; fi
@@ -743,14 +743,14 @@ try_clients() {
     stop_server
 }
 
-# Descriptors for files and for one client at a time, and then none for a client.
+# Enough descriptors for the files and one client, and then none for a client.
 try_server_descriptors() {
     start_server small limited n 7 || fail 'serve with 7 descriptors' "$text"
     is_well 'serve with 7 descriptors' small
     python3 -c 'import resource, sys; resource.prlimit(int(sys.argv[1]), resource.RLIMIT_NOFILE, (5, 5))' $server
     is_well 'serve with 5 descriptors' small
     python3 -c 'import resource, sys; resource.prlimit(int(sys.argv[1]), resource.RLIMIT_NOFILE, (4, 4))' $server
-    # The call that waits took its descriptor before: it still gets a client, and the next call fails.
+    # The waiting call has already taken its descriptor: it still gets a client, and the next call fails.
     observe "curl -s -m 20 127.0.0.1:$port/jobs/0"
     case $status:$(cat out) in
     '0:not found' | [1-9]*:) pass ;;

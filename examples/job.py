@@ -1,14 +1,14 @@
 #!/usr/bin/env python3
 """Has a server make the rows of a program as a job, and writes them.
 
-The server is `extractd serve`, or a proxy before it. The job is submitted, driven to its end, fetched, and removed from the server, also where this is
-interrupted. Rows go to standard output, or to a file, which is there only when they are whole.
+The server is `extractd serve`, or a proxy in front of it. The script submits the job, drives it to its end, fetches the rows and removes the job from the
+server, even if it is interrupted. Rows go to standard output, or to a file that appears only when they are complete.
 """
-# Needs Python 3.8 or later, and nothing else.
+# Needs only Python 3.8 or later.
 #
-# How it asks: a job goes on by one turn of 256 segments behind each connection, so requests drive it, and waiting doesn't. But each GET of the job
-# carries all rows so far. So most requests are a GET of job 0, which no server has: a short 404. The job itself is asked for once in a while, to see how
-# far it is, and of that reply no more than the first line is read while it isn't finished.
+# Polling: a job advances by one turn of 256 segments after each connection, so requests drive it and waiting doesn't. But each GET of the job returns all
+# rows so far. So most requests are a GET of job 0, which never exists: a short 404. The script gets the job itself only now and then, to see its progress,
+# and reads no more than the first line of the reply while the job isn't finished.
 
 import argparse
 import http.client
@@ -21,17 +21,17 @@ import time
 from urllib.parse import urlsplit
 
 SEGMENTS_PER_TURN = 256
-# How long small requests are made before the job itself is asked for.
+# How long to send small requests before getting the job itself.
 ROUND_SECONDS = 1.0
-# How long is waited where the job can't be asked for just now, and tried again.
+# How long to wait before trying again if the job can't be read just now.
 PAUSES = (0.5, 1, 2, 4, 8, None)
 PIECE = 65536
-# What is left of a reply is read up to so much, to keep a proxy's connection, and dropped with the connection beyond.
+# Up to this much of a reply's rest is read to keep a proxy's connection. If there is more, the connection is closed.
 SPARE = 65536
 
 
 class Refused(Exception):
-    """The server's own words, where a status isn't 200."""
+    """The server's own message, for a status other than 200."""
 
     def __init__(self, response, text, before=""):
         super().__init__(before + (text or "%d %s" % (response.status, response.reason)))
@@ -43,7 +43,7 @@ class Failed(Exception):
 
 
 class Stopped(Exception):
-    """A signal."""
+    """A signal has arrived."""
 
     def __init__(self, number):
         super().__init__()
@@ -51,7 +51,7 @@ class Stopped(Exception):
 
 
 class Server:
-    """Requests, one after the other, over one connection where the other side keeps it."""
+    """Sends requests one after the other, over one connection if the other side keeps it open."""
 
     def __init__(self, url, context, timeout):
         parts = urlsplit(url)
@@ -65,7 +65,7 @@ class Server:
             self.connection = http.client.HTTPConnection(parts.hostname, parts.port, timeout=timeout)
 
     def ask(self, method, path, body=None):
-        """The response to one request, its head read. Nothing but a GET is sent over a kept connection, since the other side may just have closed it."""
+        """Returns the response to one request after reading its head. Only a GET reuses a connection, since the other side may just have closed it."""
         if method != "GET":
             self.connection.close()
         kept = self.connection.sock is not None
@@ -85,7 +85,7 @@ class Server:
             raise self.failure(fault) from None
 
     def finish(self, response):
-        """Reads what is left of a reply if it is short, and drops the connection if it isn't."""
+        """Reads the rest of a reply if it is short, and closes the connection if not."""
         if response.length is not None and response.length <= SPARE:
             self.read(response)
         else:
@@ -93,7 +93,7 @@ class Server:
             self.connection.close()
 
     def text(self, method, path, body=None):
-        """The reply's text, which is an error where the status isn't 200."""
+        """Returns the text of a reply. Raises Refused if its status isn't 200."""
         response = self.ask(method, path, body)
         text = self.read(response, SPARE).decode("utf-8", "replace").strip()
         if response.status != 200:
@@ -106,7 +106,7 @@ class Server:
 
 
 class Bar:
-    """Progress, on standard error, where that is a terminal."""
+    """Shows progress on standard error if that is a terminal."""
 
     def __init__(self):
         self.shown = sys.stderr.isatty()
@@ -132,7 +132,7 @@ class Job:
             raise Failed("%s: this is no server of jobs" % server.url)
 
     def fetch(self, out):
-        """How many segments are done, and how many there are. The rows are written to `out` where all are done."""
+        """Returns how many segments are done and how many there are. Writes the rows to `out` if all are done."""
         for pause in PAUSES:
             response = self.server.ask("GET", "/jobs/" + self.id)
             if response.status == 200:
@@ -140,7 +140,7 @@ class Job:
             text = self.server.read(response, SPARE).decode("utf-8", "replace").strip()
             if response.status not in (502, 503, 504) or pause is None:
                 raise Refused(response, text, "job %s: " % self.id)
-            # Memory is wanting, or a proxy has too much to do: nothing has changed.
+            # The server is out of memory, or a proxy is overloaded: nothing has changed.
             time.sleep(pause)
         # Two numbers below 2^64, a blank and LF.
         line = b""
@@ -167,7 +167,7 @@ class Job:
         return done, total
 
     def nudge(self):
-        """A request that brings a turn and carries no rows."""
+        """Sends a request that causes a turn and returns no rows."""
         self.server.read(self.server.ask("GET", "/jobs/0"))
 
     def drive(self, bar, out):
@@ -175,7 +175,7 @@ class Job:
         while done < total:
             bar.show(done, total)
             began = time.monotonic()
-            # A turn comes behind each request, also behind the one that asked how far the job is.
+            # A turn follows each request, including the one that read the progress.
             turns = -(-(total - done) // SEGMENTS_PER_TURN) - 1
             while turns > 0 and time.monotonic() - began < ROUND_SECONDS:
                 self.nudge()
@@ -183,7 +183,7 @@ class Job:
             before = done
             done, total = self.fetch(out)
             if done == before:
-                # All turns went to jobs that are further behind, or memory is wanting: half of the time is left to others.
+                # All turns went to jobs with less progress, or memory ran out: leave half of the time to others.
                 time.sleep(min(1.0, max(0.01, time.monotonic() - began)))
         bar.show(done, total)
 
@@ -191,13 +191,13 @@ class Job:
         try:
             self.server.text("DELETE", "/jobs/" + self.id)
         except (Refused, Failed, Stopped) as fault:
-            # 404: it is gone already.
+            # 404: it is already gone.
             if getattr(fault, "status", None) != 404:
                 sys.stderr.write("job %s may still be open\n" % self.id)
 
 
 class Output:
-    """Standard output, or a file that gets its name when it is whole."""
+    """Writes to standard output, or to a file that gets its name when it is complete."""
 
     def __init__(self, name):
         self.name = name
@@ -232,7 +232,7 @@ class Output:
             try:
                 self.file.close()
             except OSError:
-                # What wasn't written yet isn't wanted either.
+                # What wasn't written yet isn't needed either.
                 pass
             try:
                 os.unlink(self.part)
@@ -242,13 +242,13 @@ class Output:
 
     def failure(self, fault):
         if self.name is None:
-            # Python flushes standard output once more at its end, and would fail again.
+            # Python flushes standard output again at its end, and would fail again.
             os.dup2(os.open(os.devnull, os.O_WRONLY), sys.stdout.fileno())
         return Failed("%s: %s" % (self.name or "the output", fault.strerror))
 
 
 class Signals:
-    """Raises at Ctrl-C and the like. One can be held back, while a request is made that must not be cut; so is one behind that which was raised."""
+    """Raises Stopped at Ctrl-C and the like. A signal is held back during a request that must not be cut, and also after another was raised."""
 
     def __init__(self):
         self.held = False
@@ -314,7 +314,7 @@ def run(given, server, signals):
         raise Failed("%s: %s" % (given.program, fault.strerror)) from None
     output, bar, job = Output(given.output), Bar(), None
     try:
-        # Its id is what the job can be removed by.
+        # The job can be removed only by its id, so this request isn't cut.
         signals.hold()
         job = Job(server, program)
         signals.release()

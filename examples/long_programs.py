@@ -3,18 +3,18 @@
 
     python3 long_programs.py PATH_TO_extractd [--words 65536]
 
-It makes programs of 4,096 words, and of 65,536 or as many as are asked for, runs `verify`, `asm` and `dis` on each, and prints a table with a row
-a program. A cell of times has the least of several runs on the short program and on the long one, in milliseconds. Beside it stands the ratio of
-the two, and then the ratio of what is left of them without the time of a start, that is of the same command on a program of two words. The last
-column is the most memory that `verify` holds of the long program (the maximum resident set), above what it holds of that of two words.
+Makes programs of 4,096 words and of 65,536 or the given number, runs `verify`, `asm` and `dis` on each, and prints a table with one row per
+program. A cell of times has the shortest of several runs on the short program and on the long one, in milliseconds. The cell after it has the
+ratio of the two, and the ratio after the startup time is subtracted, which is the time of the same command on a program of two words. The last
+column is the peak memory of `verify` on the long program (its maximum resident set), minus that on a program of two words.
 
-What is promised is that 16 times as many words take at most 20 times as long in the first rows, by both ratios, and that straight code takes at most
-4 MiB. The other rows are hostile programs, of which many states wait at once: they show what such a program can come to. It ends with 0 where the
-promise is kept, and with 1 where it isn't, or where a program isn't accepted.
+The first rows have limits: 16 times as many words may take at most 20 times as long, by both ratios, and straight-line code may take at most
+4 MiB. The other rows are hostile programs in which many states wait at the same time; they show the worst cases. Exit status 0 means that the
+limits hold, and 1 that one doesn't or that a program isn't accepted.
 
-Times are of the whole process. On a machine that does other things at the same time they are longer, and the ratios less steady.
+Times are of whole processes. On a busy machine they are longer and the ratios vary more.
 """
-# Needs Linux, Python 3.8 or later, and a small sh (dash, say), and nothing else.
+# Needs only Linux, Python 3.8 or later, and a small sh such as dash.
 
 import argparse
 import ctypes
@@ -30,15 +30,15 @@ SHORT, LONG = 4096, 65536
 MOST_RATIO, MOST_PEAK = 20, 4 << 20
 COMMANDS = {"verify": "--program", "asm": "--source", "dis": "--program"}
 
-# A measurement goes on for so many runs at least, and until so many seconds are over.
+# The least number of runs of a measurement, and its least duration.
 LEAST_RUNS, LEAST_SECONDS = 7, 0.5
 PEAK_RUNS = 3
 
-FARTHEST = 32767        # how many words a jump of 16 bits passes over at the most
+FARTHEST = 32767        # the most words that a jump of 16 bits passes over
 START = ["mov r0, 1", "exit"]
 LOADED = ["mov r0, 1", "ldxb r2, [r1+55]"]
 
-# ---- The programs, as lines of text. Of each comparison both ways are reached, since 65 is within 0 to 255 and no end of it.
+# ---- The programs, as lines of text. Both edges of each comparison are reached, since 65 is inside of 0 to 255 and not an end of it.
 
 
 def straight(words):
@@ -46,12 +46,12 @@ def straight(words):
 
 
 def jumps_of_0(words):
-    """As many jumps as there are whole thousands."""
+    """The number of jumps is a multiple of 1,000."""
     return ["ldxb r2, [r1+55]"] + ["jne r2, 65, +0"] * (words // 1000 * 1000) + ["mov r0, 1", "exit"]
 
 
 def all_jumps_to_the_end(words):
-    """The jumps that are too far away for their 16 bits stand before those that aren't, each as its opposite over a jump of 32 bits."""
+    """Jumps that are too far away for 16 bits come first. Each is the opposite condition over a jump of 32 bits."""
     near = min(words - 3, FARTHEST + 1)
     pairs, left = divmod(words - 3 - near, 2)
     far = ["jne r2, 65, +1", "ja32 end"] * pairs
@@ -59,7 +59,7 @@ def all_jumps_to_the_end(words):
 
 
 def all_distinct_targets(words):
-    """The first jump leads to the first target, the second to the second, and so on; so the states of half the words wait at once."""
+    """The first jump leads to the first target, the second to the second, and so on, so the states of half of the words wait at the same time."""
     count, left = divmod(words - 3, 2)
     jumps = ["jeq r2, 65, t%d" % at for at in range(count)]
     targets = [line for at in range(count) for line in ("t%d:" % at, "mov r0, 1")]
@@ -72,7 +72,7 @@ def alternating(words):
 
 
 def nested(words):
-    """The first jump leads to the last word, the second to the one before it, and so on. Where 16 bits don't reach, a jump is a pair as above."""
+    """The first jump leads to the last word, the second to the one before it, and so on. A jump that is too long for 16 bits is a pair as above."""
     pairs = max(0, -((FARTHEST + 4 - words) // 3))
     near, left = divmod(words - 2 - 3 * pairs, 2)
     far = [line for at in range(pairs) for line in ("jne r2, 65, +1", "ja32 t%d" % at)]
@@ -111,7 +111,7 @@ def arguments_of(extractd, command, files):
 
 
 def made(extractd, folder, name, lines):
-    """Writes a program, which has to be accepted, and has to be the same again when its text is made of it."""
+    """Writes a program. It must be accepted, and stay the same when it is turned into text and back."""
     source, program = folder / (name + ".s"), folder / (name + ".bpf")
     source.write_text("\n".join(lines) + "\n")
 
@@ -135,7 +135,7 @@ def made(extractd, folder, name, lines):
 
 
 def run_once(arguments, nowhere):
-    """How many seconds a process takes from its start to its end."""
+    """Returns the seconds from the start of a process to its end."""
     began = time.perf_counter()
     process = os.posix_spawn(arguments[0], arguments, os.environ, file_actions=[(os.POSIX_SPAWN_DUP2, nowhere, to) for to in (0, 1)])
     status = os.wait4(process, 0)[1]
@@ -146,7 +146,7 @@ def run_once(arguments, nowhere):
 
 
 def least_times(runs, nowhere):
-    """The least time of each of some runs. They take turns, so that what else the machine does at a time is done to all."""
+    """Returns the shortest time of each run. The runs alternate, so that other work on the machine affects all of them."""
     least = [float("inf")] * len(runs)
     spent = [0.0] * len(runs)
     rounds = 0
@@ -162,10 +162,10 @@ def least_times(runs, nowhere):
 
 
 def peak_once(arguments):
-    """The maximum resident set of a process, in bytes.
+    """Returns the maximum resident set of a process, in bytes.
 
-    A process that is started from here begins with the resident set of this one, which is larger than all of its own. So a shell starts it, and
-    ends; then it is a child of this process, which takes orphans, and is waited for here.
+    A direct child would start with the resident set of this process, which is larger than its own. So a shell starts it and exits. This process
+    adopts the orphan and waits for it.
     """
     shell = subprocess.Popen(["sh", "-c", '"$@" > /dev/null & echo $!', "sh", *arguments], stdin=subprocess.DEVNULL, stdout=subprocess.PIPE)
     process = int(shell.communicate()[0])
@@ -180,7 +180,7 @@ def peak(arguments):
 
 
 def take_orphans():
-    """Makes this process the parent of what its children leave behind."""
+    """Makes this process adopt the orphans of its children."""
     PR_SET_CHILD_SUBREAPER = 36
     if ctypes.CDLL(None, use_errno=True).prctl(PR_SET_CHILD_SUBREAPER, 1, 0, 0, 0) != 0:
         raise Failed("this system can't say how much memory a process takes: %s" % os.strerror(ctypes.get_errno()))
@@ -190,14 +190,14 @@ def take_orphans():
 
 
 class Times(NamedTuple):
-    """Of one command, in seconds: on two words, on the short program, on the long one."""
+    """The times of one command in seconds: on two words, on the short program and on the long one."""
 
     start: float
     short: float
     long: float
 
     def ratios(self):
-        """Of the whole runs, and without the start."""
+        """Returns the ratio of the whole times, and the one without the startup time."""
         return self.long / self.short, (self.long - self.start) / max(self.short - self.start, 1e-9)
 
 
@@ -217,7 +217,7 @@ def header():
 
 
 def broken(name, times, held):
-    """What a row promises and doesn't keep."""
+    """Yields the limits that a row exceeds."""
     if name in PROMISED:
         for command, each in times.items():
             for which, ratio in zip(("", " without the start"), each.ratios()):
@@ -228,7 +228,7 @@ def broken(name, times, held):
 
 
 def measure(extractd, words, folder):
-    """Prints the table. The answer is what isn't kept."""
+    """Prints the table. Returns the limits that are exceeded."""
     take_orphans()
     two = made(extractd, folder, "two words", START)
     verify_two = peak(arguments_of(extractd, "verify", two))
