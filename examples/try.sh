@@ -1,42 +1,42 @@
 #!/usr/bin/env bash
-# Tries a built program: examples/try.sh PATH_TO_extractd
+# Tests a built program: examples/try.sh PATH_TO_extractd
 #
 # First the documents: README.md, docs/*.md and examples/README.md.
-# - A block ```console is what a terminal shows. Each command in it, `$ ` with further lines behind `> `, runs in a copy of the documents and
-#   the examples, and what it writes has to be what stands below it. Words behind `console` name commands that the block needs
-#   beside coreutils: where one isn't there, the block is left out, and said to be. `rt` is played: `rt try -- ..` and `rt run -- ..`
+# - A block ```console shows a terminal. Each command in it, `$ ` and continuation lines after `> `, runs in a copy of the documents and the
+#   examples, and must print what is below it. Words after `console` name commands that the block needs beside coreutils: if one isn't
+#   installed, the block is left out, with a message. `rt` is simulated: `rt try -- ..` and `rt run -- ..`
 #   run the program that is tried, and `.ci/run` does nothing.
 # - A block ```bash is commands that succeed and print nothing. Words after `bash` name commands as above.
 # - A block ```asm that a block ```hex follows is a program and its words: `asm` makes these of it, and of what `dis` writes of them.
-# - In a block ```verdicts each row is a program, with `|` between its lines, and behind `;` what `verify` says of it. A row that ends with `|`
-#   goes on in the next line.
-# - A block ```http FOLDER is what a terminal shows beside a server that was just started over the county in FOLDER. It stands at port 8080 there, and
-#   at a free one here. Words behind the folder name further commands. What curl shows of a head is compared without its CRs.
-# - A row of a table with a status, its phrase and a text is a reply. A row with a request in its first cell, which ends a line by `\n`, and a
-#   status in its second is sent as it stands, and the whole reply has to be that of the status, byte for byte.
-#   What docs/http.md shows so, with curl's heads, has to be what crates/wire_tests/src/examples.rt has, row for row.
-# - In a block ```answers each line is the beginning of a program, and behind `;` is what r0 holds at its end, on the segment of examples/one.
-# - A row of a table with bytes in its first cell and a refusal in its second is a program that `verify` and `run` refuse so; one with a
-#   place, an instruction and its bytes is a program of one instruction, and is tried as above.
+# - In a block ```verdicts each row is a program, with `|` between its lines, then `;` and the output of `verify`. A row that ends with `|`
+#   continues in the next line.
+# - A block ```http FOLDER shows a terminal next to a server just started over the county in FOLDER. The server is at port 8080 there and at
+#   a free one here. Words after the folder name further commands. Heads that curl shows are compared without their CRs.
+# - A row of a table with a status, its phrase and a text is a reply. A row with a request in its first cell, in which `\n` ends a line, and a
+#   status in its second is sent as written, and the complete reply must be that of the status, byte for byte.
+#   The requests and replies that docs/http.md shows with curl must be those of crates/wire_tests/src/examples.rt, row for row.
+# - In a block ```answers each line is the beginning of a program, then `;` and the value of r0 at its end, on the segment of examples/one.
+# - A row of a table with bytes in its first cell and a refusal in its second is a program that `verify` and `run` refuse that way. One with a
+#   place, an instruction and its bytes is a program of one instruction, tested as above.
 #
-# Then the rows of examples/verdicts, which are such programs; there a line that begins with `#` says what the rows below it are of. Each program is
-# also sent to the server, which has to say the same.
+# Then the rows of examples/verdicts, which are such programs; a line that begins with `#` describes the rows below it. The server must return
+# the same verdicts.
 #
 # Then the tables of examples/rows, by rows.py.
 #
-# Then the program over files that are missing or faulty, and the outcomes of a trace: each text of an error has to stand in docs/refusals.md. And
-# examples/verdicts/generated.txt has to be what annotations.py writes,
-# and examples/town what mktown.py writes.
+# Then the program with missing or faulty files, and the outcomes of a trace: docs/refusals.md must have every error text.
+# examples/verdicts/generated.txt must be the output of annotations.py,
+# and examples/town that of mktown.py.
 #
-# Then 300 filters, whose rows have to be those that SQLite selects, by filters.py, and 1,000 addresses, which have to be where addresses.py finds them.
+# Then 300 filters, whose rows must be those that SQLite selects, by filters.py, and 1,000 addresses, whose places must be those that addresses.py finds.
 #
-# Then the tests of c/forward.py, and 40 programs in C, which have to select the rows that they select when they are compiled for this machine, by
+# Then the tests of c/forward.py, and 40 programs in C, which must select the same rows as when they are compiled for this machine, by
 # c/random_programs.py.
 #
-# At last exhaustion.sh, which stands beside it: the program without memory, room or descriptors enough.
+# Finally exhaustion.sh, which is in the same folder: the program without enough memory, space or descriptors.
 #
-# Prints what failed, and ends with 0 where nothing did, else with 1. It needs bash and coreutils, and takes less than two minutes. The blocks ```http
-# need curl, annotations.py and rows.py need python3, filters.py, addresses.py, listings.py, mktown.py and the scripts of c need Python 3.11,
+# Prints what failed. Exit status 0 means that nothing failed, else it is 1. It needs bash and coreutils, and takes less than two minutes. The blocks
+# ```http need curl, annotations.py and rows.py need python3, filters.py, addresses.py, listings.py, mktown.py and the scripts of c need Python 3.11,
 # random_programs.py also clang, llvm-objcopy and cc, and exhaustion.sh needs curl and python3.
 
 set -u
@@ -61,12 +61,12 @@ mkdir "$scratch/bin" "$scratch/home"
 cp "$program" "$scratch/bin/extractd"
 cat > "$scratch/bin/rt" <<'END'
 #!/bin/sh
-# Stands in for the toolchain's command.
+# Replaces the toolchain's command.
 case "$1 ${2-}" in "try --" | "run --") shift 2 && exec extractd "$@" ;; esac
 END
 chmod 755 "$scratch/bin/extractd" "$scratch/bin/rt"
 export PATH="$scratch/bin:$PATH" HOME="$scratch/home"
-# On a terminal curl shows no progress either.
+# A terminal shows no progress of curl either.
 echo silent > "$scratch/home/.curlrc"
 
 server="" port=""
@@ -77,7 +77,7 @@ stop_server() {
     server=""
 }
 
-# listens_here: the server's port is open at 127.0.0.1 alone. The addresses of open ports are in hexadecimal, the last byte first.
+# listens_here: whether the server's port is open at 127.0.0.1 only. Addresses of open ports are in hexadecimal, the last byte first.
 listens_here() {
     local file address state open="" wanted
     [ -r /proc/net/tcp ] || return 0
@@ -108,7 +108,7 @@ start_server() {
     return 1
 }
 
-# The documents' commands run in a folder that looks as a clone does once it was built.
+# Runs the documents' commands in a folder that looks like a clone after a build.
 clone() {
     mkdir -p "$1/crates/extractd/out" "$1/.ci"
     printf '#!/bin/sh\n' > "$1/.ci/run"
@@ -117,7 +117,7 @@ clone() {
     cp "$program" "$1/crates/extractd/out/extractd"
 }
 
-# try_console NAME NEEDED TEXT [DROPPED]: DROPPED is a character that isn't shown.
+# try_console NAME NEEDED TEXT [DROPPED]: the output is compared without the character DROPPED.
 try_console() {
     local needed line command="" shown="" script=$'last=0\n' wrote
     for needed in $2; do
@@ -201,7 +201,7 @@ try_verdict_rows() {
     [ $((tried + failed)) -gt $before ] || fail "$1 has no row"
 }
 
-# try_answers NAME ROWS: a program's r0 is made the score, which its row begins with.
+# try_answers NAME ROWS: makes r0 of each program the score, which its row begins with.
 try_answers() {
     local row wrote
     while IFS= read -r row; do
@@ -221,8 +221,8 @@ try_http() {
     stop_server
 }
 
-# show_replies TEXT: adds to the examples each request of curl whose reply's head the text shows, and that reply, as a row of the tests. A body that
-# curl writes to a file has the file's name.
+# show_replies TEXT: adds to the examples, as rows of the tests, each request by curl with a reply whose head the text shows. A body that curl
+# writes to a file has the file's name.
 show_replies() {
     local line asked="" head="" body="" allow="" record tab=$'\t' escape='\t'
     record=$(tr -d '\r' < "$top/examples/one/TGR01001.RT1")
@@ -244,7 +244,7 @@ show_replies() {
     add_reply
 }
 
-# asked_of COMMAND: what curl asks for, as the tests have it, but for the body.
+# asked_of COMMAND: prints the request of a curl command in the tests' notation, without its body.
 asked_of() {
     local method=GET target=${1#*127.0.0.1:8080}
     case $1 in
@@ -254,7 +254,7 @@ asked_of() {
     printf '%s\n' "${method%% *} ${target%%[\' ]*}{curl}"
 }
 
-# try_example_rows NAME: the tests have just the rows of the examples, in the document's order, before those of requests that are told in words.
+# try_example_rows NAME: the tests must start with exactly these examples, in the document's order, before the requests that are described in words.
 try_example_rows() {
     local line asked held=""
     while IFS= read -r line; do
@@ -274,7 +274,7 @@ try_request() {
     if [ -z "$server" ] && ! start_server examples/one; then fail "$1: no server" "$(cat "$scratch/said.err")"; return; fi
     wanted="HTTP/1.1 $3 ${phrases[$3]-}\r\nContent-Type: text/plain\r\nContent-Length: $((${#bodies[$3]} + 1))\r\nConnection: close\r\n"
     wanted+="${4:+$4\r\n}\r\n${bodies[$3]}\n."
-    # What is left of a request may be refused, as the server reads no further than it needs.
+    # The rest of a request may be refused, as the server reads no further than it needs.
     wrote=$(timeout 30 bash -c 'exec 3<> "/dev/tcp/127.0.0.1/$1" && printf %b "$2" >&3 2> /dev/null; cat <&3; echo .' - $port "$2")
     if [ "$wrote" = "$(printf %b "$wanted")" ]; then pass; else fail "$1 shows" "$wanted" "for" "$2" "and it is" "$wrote"; fi
 }
@@ -290,7 +290,7 @@ try_refusal() {
     done
 }
 
-# try_document FILE: all that it shows.
+# try_document FILE: tests everything that it shows.
 try_document() {
     local line number=0 kind="" needed="" text="" asm="" begin=0 cell
     local refusal='^\| ((`[0-9a-f ]+`(, )?)+) \| `(refused [^`]*)` \|$' instruction='^\| [0-9]+ \| `([^`]+)` \| `([0-9a-f ]+)` \|$'
@@ -337,8 +337,8 @@ try_document() {
     if [ "$1" = docs/http.md ]; then try_example_rows "$1"; fi
 }
 
-# try_case STATUS SIZE TEXT COMMAND: the exit status, how many bytes are written, and what stands on standard error. The text of status 3 and that of a
-# wrong argument has to stand in docs/refusals.md, with FILE for a file's name. `*` stands for any size or any text.
+# try_case STATUS SIZE TEXT COMMAND: checks the exit status, the number of bytes written, and standard error. docs/refusals.md must have the text of
+# status 3 and of a wrong argument, with FILE for a file's name. `*` matches any size or any text.
 try_case() {
     local status size text
     : > out; : > err
@@ -356,12 +356,12 @@ try_shown() {
     esac
 }
 
-# As root no file is forbidden, so the program then runs as nobody, where that can be done.
+# Root can read every file, so then the program runs as nobody if that is possible.
 unprivileged() {
     if [ "$(id -u)" = 0 ]; then chroot --userspec=65534:65534 / "$scratch/bin/extractd" "$@"; else extractd "$@"; fi
 }
 
-# try_county FILES: makes the folder `county` a copy of the example county with these files alone, as 1456.
+# try_county FILES: copies the example county to the folder `county`, with only these files, such as 1456.
 try_county() {
     local type
     rm -rf county
@@ -371,8 +371,8 @@ try_county() {
     done
 }
 
-# The files of a county: missing, empty, folders, forbidden, faulty. One program chooses the segments that have an alternate name, another
-# those that have a further range.
+# The files of a county: missing, empty, folders, forbidden, faulty. One program selects the segments with an alternate name, another those
+# with a further range.
 try_counties() {
     local files names ranges type line text
     printf 'call 3\nexit\n' > names.s
@@ -402,7 +402,7 @@ END
     try_county 456
     try_case 3 0 'error: county/TGR01001.RT1: not found' 'extractd run --program "$all" --data county 01001'
     try_case 3 0 'error: county/TGR01001.RT1: not found' 'extractd trace --program "$all" --data county --line 1 --limit 1 01001'
-    # A fault in each file; one of the files read before comes first, whatever the line.
+    # A fault in each file. A fault in a file that is read earlier is reported first, whatever its line.
     while IFS='|' read -r type line text; do
         try_county 1456
         printf "$line" >> county/TGR01001.RT$type
@@ -421,7 +421,7 @@ END
 6|10006 107000725  1       3901       3999                      01  36067     \n|refused 2 rt6 line 39 WrongType
 6|60006            1       3901       3999                      01  36067     \n|refused 3 rt6 line 39 BadTlid
 END
-    # A fault in type 1 comes behind the rows of the lines before it.
+    # A fault in type 1 is reported after the rows of the lines before it.
     try_county 1456
     printf 'x\n' >> county/TGR01001.RT1
     try_case 1 $rows 'refused 1 rt1 line 401 WrongLength' 'extractd run --program "$all" --data county 01001'
@@ -447,7 +447,7 @@ END
     done
 }
 
-# Filters, over one county and several, and what they are refused for. The counties stand in the folders of the house numbers.
+# Filters over one county and several, and their refusals. The counties are in the folders of the house numbers.
 try_filter_commands() {
     local arguments status size text
     while IFS='|' read -r arguments status size text; do
@@ -470,7 +470,7 @@ END
     try_shown 'error: --score is a column with numbers, and "FENAME" isn'\''t'
 }
 
-# House numbers, over one county and several, and what `geocode` can't be asked for.
+# House numbers over one county and several, and invalid arguments of `geocode`.
 try_geocodes() {
     local arguments status size text
     mkdir faulty
@@ -502,7 +502,7 @@ END
     try_shown 'error: --name is 1 to 30 bytes, and "" isn'\''t'
 }
 
-# Batches of addresses: files that aren't such, and what `geocode-batch` can't be asked for.
+# Batches of addresses: invalid files, and invalid arguments of `geocode-batch`.
 try_batches() {
     local arguments status size text
     mkdir batch
@@ -548,7 +548,7 @@ END
     try_progress
 }
 
-# try_lines COMMAND: it gives the header of a batch and then the lines of standard input.
+# try_lines COMMAND: the command gets the header of a batch and then the lines of standard input.
 try_lines() {
     local lines
     lines=$(cat)
@@ -556,7 +556,7 @@ try_lines() {
     if [ "$(tail -n +2 out)" = "$lines" ]; then pass; else fail "$1" "gives $(cat out)"; fi
 }
 
-# A terminal is told how far a batch is, and nothing else is.
+# Progress of a batch is shown only on a terminal.
 try_progress() {
     command -v script > /dev/null || { skip "the progress of a batch (there is no script here)"; return; }
     { printf 'number,name\n'; yes 751,Main | head -n 100000; } > batch/many.csv
@@ -567,7 +567,7 @@ try_progress() {
     try_case 0 '*' '' "extractd geocode-batch --addresses batch/many.csv --data $county 01001"
 }
 
-# The outcomes of `trace`, and what it can't be asked for.
+# The outcomes of `trace`, and its invalid arguments.
 try_traces() {
     local arguments status text
     printf 'exit\n' > bare.s
@@ -624,7 +624,7 @@ try_cases() {
     chmod 000 closed/all.bpf
     printf 'exit ; \377\n' > latin.s
 
-    # What is well: all.bpf gives each line as a row, byte for byte.
+    # Success: all.bpf writes each line as a row, byte for byte.
     local wanted=$(paste <(printf '0%.0s\n' {1..400}) <(tr -d '\r' < "$county/TGR01001.RT1") | sha256sum)
     if [ "$(extractd run --program "$all" --data "$county" 01001 | sha256sum)" = "$wanted" ]; then pass; else
         fail "the rows of examples/all.bpf are the lines of TGR01001.RT1, each behind a score of 0 and a tab"
@@ -636,7 +636,7 @@ try_cases() {
     try_case 0 9 '' 'extractd verify --program "$all"'
     try_case 0 16 '' 'extractd asm --source <(extractd dis --program "$all")'
 
-    # Refusals, by way of real files.
+    # Refusals of real files.
     try_case 1 0 'refused 10 Empty' 'extractd run --program nothing --data "$county" 01001'
     try_case 1 0 'refused 10 Empty' 'extractd verify --program nothing'
     try_case 1 0 'refused 10 Empty' 'extractd dis --program nothing'
@@ -701,7 +701,7 @@ END
     cd "$top" || exit 1
 }
 
-# The table of verdicts on generated programs is what the tool that writes it prints.
+# The table of verdicts on generated programs must be the output of its script.
 try_table() {
     local table=examples/verdicts/generated.txt
     command -v python3 > /dev/null || { skip "$table (there is no python3 here)"; return; }
@@ -710,7 +710,7 @@ try_table() {
     fi
 }
 
-# The made-up town is what the script that writes it writes.
+# The made-up town must be the output of its script.
 try_town() {
     python3 -c 'import sys; sys.exit(sys.version_info < (3, 11))' 2> /dev/null || { skip "examples/town (there is no Python 3.11 here)"; return; }
     if python3 -B examples/mktown.py "$scratch/town" && diff -r "$scratch/town" examples/town > "$scratch/differences"; then pass; else
@@ -718,7 +718,7 @@ try_town() {
     fi
 }
 
-# The table of public calls, and what compares it with the sources.
+# The table of public calls must agree with the sources.
 try_calls() {
     command -v python3 > /dev/null || { skip "examples/calls.txt (there is no python3 here)"; return; }
     if python3 examples/calls.py > "$scratch/calls"; then pass; else
@@ -741,21 +741,21 @@ try_rows() {
     if said=$(python3 -B examples/rows.py "$program"); then tried=$((tried + ${said%% *})); else fail "examples/rows" "$said"; fi
 }
 
-# Filters and counties are drawn, and SQLite selects the same segments.
+# Filters and counties are drawn, and SQLite must select the same segments.
 try_filters() {
     local said
     python3 -c 'import sqlite3, sys; sys.exit(sys.version_info < (3, 11))' 2> /dev/null || { skip "examples/filters.py (there is no Python 3.11 here)"; return; }
     if said=$(python3 -B examples/filters.py 300); then tried=$((tried + ${said%% *})); else fail "examples/filters.py" "$said"; fi
 }
 
-# Counties and addresses are drawn, and a second reading of the files answers the same.
+# Counties and addresses are drawn, and an independent reading of the files must give the same answers.
 try_addresses() {
     local said
     python3 -c 'import sys; sys.exit(sys.version_info < (3, 11))' 2> /dev/null || { skip "examples/addresses.py (there is no Python 3.11 here)"; return; }
     if said=$(python3 -B examples/addresses.py 1000); then tried=$((tried + ${said%% *})); else fail "examples/addresses.py" "$said"; fi
 }
 
-# Listings of many programs are those of a second reading of the rules.
+# Listings of many programs must be those of an independent implementation of the rules.
 try_listings() {
     local said
     python3 -c 'import sys; sys.exit(sys.version_info < (3, 11))' 2> /dev/null || { skip "examples/listings.py (there is no Python 3.11 here)"; return; }
@@ -775,7 +775,7 @@ try_c() {
     fi
 }
 
-# A program of 4,003 words, nearly all of them conditional jumps: of it `verify` and the server say the same, too.
+# A program of 4,003 words, nearly all of them conditional jumps: `verify` and the server must return the same verdict.
 try_long_program() {
     mkdir -p "$scratch/long" && cd "$scratch/long" || exit 1
     command -v curl > /dev/null && start_server "$top/examples/one"
