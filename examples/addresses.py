@@ -8,8 +8,8 @@ coordinates. It draws addresses on and near their streets, as a CSV file with it
 lines and either line ending. It reads the four files by docs/records.md and answers the addresses by docs/geocoding.md. `geocode-batch` must write the
 same bytes.
 
-Prints each address with a different answer, then how many agree and how many differ. Exits with 1 if any differs. SEED defaults to 1; the same seed draws
-the same addresses.
+Prints each address with a different answer, then how many agree and how many differ. Exits with 1 if any differs. SEED defaults to 1; the same seed
+draws the same addresses.
 """
 # Needs only Python 3.11 or later.
 

@@ -4,12 +4,12 @@
     python3 calls.py             prints each row that is wrong and each call without a row; exits with 1 if there are any
     python3 calls.py --list      prints the calls in the sources, each with the kinds of its cells
 
-A call belongs in the table if its types let it allocate memory, read or write: if it has an allocator, a reader or a writer, as a parameter or
-through the type that it is a method of, or if its result may say that memory ran out. Its row has its path and one cell for each of `memory`,
-`read` and `write` that its types let it do. Such a cell ends with one of these:
+A call belongs in the table if its types let it allocate memory, read or write: if it has an allocator, a reader or a writer, as a parameter
+or through the type that it is a method of, or if its result may say that memory ran out. Its row has its path and one cell for each of
+`memory`, `read` and `write` that its types let it do. Such a cell ends with one of these:
 
-- the path of a sweep, such as `tl_tests::segments::sweep::loads`: a test or a function that injects a failure into each allocation, each read or
-  each write and makes the call, either itself or through functions that it calls in its crate and in `fixtures`;
+- the path of a sweep, such as `tl_tests::segments::sweep::loads`: a test or a function that injects a failure into each allocation, each read
+  or each write and makes the call, either itself or through functions that it calls in its crate and in `fixtures`;
 - `by` and the path of another call, which makes this one and whose sweep covers both;
 - `none` if the call never does it, whatever its types allow, followed by the path of the test that shows this, if there is one;
 - `Global` if all memory comes from the global allocator, which no test can make fail;
@@ -230,8 +230,8 @@ def functions(crate):
 
 
 def bodies(crate, module, word, others):
-    """Returns the texts of the functions that a word in a file may name: any method, or a function of that file, or else one of another file or
-    of other crates."""
+    """Returns the texts of the functions that a word in a file may name: any method, or a function of that file, or else one of another
+    file or of other crates."""
     name = word.lstrip(".")
     own = functions(crate).get(name, [])
     here = [found for found in own if found[0] == module and name == word]

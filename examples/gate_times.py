@@ -11,8 +11,7 @@ put together from several runs with --table. --anew proves everything again.
 
 The output of `rt` goes to standard error, and the exit status is its own.
 """
-# Needs Linux, Python 3.8 or later, and nothing else. The processes below `rt` are looked at ten times a second, so what each of them does in its last tenth
-# of a second is missed.
+# Needs only Linux and Python 3.8 or later. The processes that `rt` starts are sampled ten times a second, so the last tenth of a second of each is missed.
 
 import argparse
 import os

@@ -3,8 +3,8 @@
 
     python3 links.py
 
-Addresses on the web aren't fetched. Prints each link that leads nowhere, then how many links there are. The exit status is 1 if one leads
-nowhere.
+Addresses on the web aren't fetched. Prints each broken link, and then the number of links. Exit status 1 means that
+a link is broken.
 """
 
 import re
@@ -20,12 +20,12 @@ LINK = re.compile(r"\]\(([^)\s]+)\)")
 
 
 def text_of(page: Path) -> str:
-    """Returns a page without its blocks of code."""
+    """Returns a page without its code blocks."""
     return FENCED.sub("", page.read_text(encoding="utf-8"))
 
 
 def anchors_of(page: Path) -> set[str]:
-    """Returns the anchors of the headings, as a host of repositories makes them: a repeated one gets a number."""
+    """Returns the anchors of the headings as code hosts make them. A repeated heading gets a number."""
     seen: Counter[str] = Counter()
     anchors = set()
     for heading in re.findall(r"^#+ (.*)$", text_of(page), re.MULTILINE):
@@ -37,7 +37,7 @@ def anchors_of(page: Path) -> set[str]:
 
 
 def links_of(page: Path) -> Iterator[tuple[str, Path, str]]:
-    """Yields each link to a file: as it is written, the file, and the anchor."""
+    """Yields each link to a file: the link as written, the file, and the anchor."""
     for link in LINK.findall(text_of(page)):
         if not re.match(r"[a-z]+:", link):
             path, _, anchor = link.partition("#")

@@ -4,10 +4,10 @@ and .RT6, and in the folder `one` what they have of a single segment.
 
     python3 make_county.py [FOLDER]
 
-The files go into FOLDER, or beside this script where none is given. The same
-bytes come out of every run: the numbers are drawn by a generator of this
-script's own, so that no version of Python changes them. Nothing in the files
-describes a real street, stream or boundary.
+The files go into FOLDER, by default the folder of this script. Every run
+writes the same bytes: the numbers come from a generator in this script, so
+no version of Python changes them. Nothing in the files describes a real
+street, stream or boundary.
 """
 
 import sys
@@ -19,10 +19,10 @@ JOINED_SEED = 59    # for types 4, 5 and 6, so that type 1 doesn't depend on the
 ONE = 146           # the segment of the folder `one`, counted from 1
 LINE_END = b"\r\n"
 
-# The lengths of lines by record type.
+# Lengths of lines by record type.
 LENGTHS = {"1": 228, "4": 58, "5": 56, "6": 76}
 
-# First and last place of each field that is filled in, counted from 1.
+# The first and the last place of each field that is filled in, counted from 1.
 TYPE_1 = {
     "RT": (1, 1), "VERSION": (2, 5), "TLID": (6, 15), "SIDE1": (16, 16),
     "SOURCE": (17, 17), "FEDIRP": (18, 19), "FENAME": (20, 49),
@@ -73,7 +73,7 @@ LANDMARKS = [("Pine Rest", "Cem", "D82"), ("Heron Point", "Park", "D85"),
 BOUNDARIES = ["F10", "F10", "F11", "F12", "F40", "F50", "F74"]
 COUNTY_SUBDIVISIONS = ["90101", "90202", "90303"]
 TOWN = "50505"
-# What a highway is called beside its number, here or there along its way.
+# Names of a highway in addition to its number, along parts of it.
 HIGHWAY_NAMES = [("State Route 6", ""), ("Main", "St"), ("Founders", "Pkwy"),
                  ("Old Ferry", "Pike"), ("Cannery", "Ave"), ("Truck Route 480", ""),
                  ("Veterans Memorial", "Hwy"), ("Gristmill", "Rd")]
@@ -106,7 +106,7 @@ class Dice:
 
 
 def record(fields):
-    """The bytes of one line: the fields at their places, blanks elsewhere."""
+    """Returns the bytes of a line: the fields at their places, and blanks elsewhere."""
     line = bytearray(b" " * LENGTHS[fields["RT"]])
     for name, text in fields.items():
         first, last = LAYOUTS[fields["RT"]][name]
@@ -118,7 +118,7 @@ def record(fields):
 
 
 def road_feature(dice):
-    """The name, type, directions and class of a road, and whether it has addresses."""
+    """Draws the name, type, direction and class of a road, and whether it has addresses."""
     kind = dice.below(100)
     if kind < 5:
         return {"FENAME": "I-99", "CFCC": dice.one_of(["A11", "A15"])}, False
@@ -174,7 +174,7 @@ def boundary_feature(dice):
 
 
 def addresses(dice, block, falling, has_left, has_right, zips):
-    """One block's house numbers: odd ones on the left, even ones on the right."""
+    """Returns the house numbers of a block: odd ones on the left, even ones on the right."""
     highest = 99 if not dice.once_in(6) else dice.between(5, 48) * 2 - 1
     fields = {}
     for side, present, low, high, zip_code in (
@@ -191,7 +191,7 @@ def addresses(dice, block, falling, has_left, has_right, zips):
 
 
 def areas(dice, apart):
-    """The areas on both sides; `apart` gives the sides other subdivisions and tracts."""
+    """Returns the areas on both sides. With `apart` the sides differ in subdivision and tract."""
     subdivision = dice.below(len(COUNTY_SUBDIVISIONS))
     other = (subdivision + 1) % len(COUNTY_SUBDIVISIONS) if apart else subdivision
     tract = dice.between(1, 9)
@@ -207,7 +207,7 @@ def areas(dice, apart):
 
 
 def chain(dice, feature, has_addresses, count):
-    """`count` segments of one feature, each starting where the one before ends."""
+    """Returns `count` segments of a feature, each starting at the end of the one before."""
     longitude = -dice.between(86450000, 86880000)
     latitude = dice.between(32320000, 32680000)
     east, north = dice.between(-1500, 1500), dice.between(-1200, 1200)
@@ -237,7 +237,7 @@ def chain(dice, feature, has_addresses, count):
 
 
 def county(dice):
-    """All segments, a feature's side by side, with TLIDs that grow along the file."""
+    """Returns all segments, grouped by feature, with TLIDs that grow along the file."""
     chains = []
     for feature_of, total, longest in ((road_feature, 240, 7),
                                        (railroad_feature, 16, 8),
@@ -262,7 +262,7 @@ def named(name, feature_type="", direction=""):
 
 
 def alternate_names(dice, segment):
-    """The names that a chain has beside that of its segments; mostly none."""
+    """Returns the alternate names of a chain; mostly none."""
     feature_class = segment["CFCC"]
     if feature_class in ("A11", "A15"):
         return [named("Purple Martin Memorial", "Hwy")]
@@ -282,7 +282,7 @@ def alternate_names(dice, segment):
 
 
 def street_names(dice, segment):
-    """A street's former name, its number as a county road, or both."""
+    """Returns a street's former name, its number as a county road, or both."""
     name = segment["FENAME"]
     former = named(name[4:] if name.startswith("Old ") else "Old " + name,
                    segment["FETYPE"], segment.get("FEDIRP", ""))
@@ -291,7 +291,7 @@ def street_names(dice, segment):
 
 
 def further_ranges(dice, segment):
-    """The house numbers that a segment has beside its range; mostly none."""
+    """Returns a segment's house numbers outside of its own range; mostly none."""
     has_left, has_right = "FRADDL" in segment, "FRADDR" in segment
     if not (has_left or has_right) or not dice.once_in(8):
         return []
@@ -307,7 +307,7 @@ def name_of(fields):
 
 
 def joined(dice, chains):
-    """The fields of the lines of types 4, 5 and 6. Type 5 has each name of the county once."""
+    """Returns the fields of type 4, 5 and 6 lines. Type 5 has each name of the county once."""
     feats, type_4, type_6 = {}, [], []
 
     def feat_of(fields):
@@ -342,7 +342,7 @@ def write(folder, lines_of_types):
 
 
 def one_of_them(segments, type_4, type_5, type_6):
-    """The lines that one segment has."""
+    """Returns the lines of a single segment."""
     tlid = segments[ONE - 1]["TLID"]
     names = [fields for fields in type_4 if fields["TLID"] == tlid]
     feats = {text for fields in names for field, text in fields.items() if field[:4] == "FEAT"}

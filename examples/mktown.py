@@ -11,7 +11,7 @@ are shape points, record type 2.
 The same seed writes the same bytes on every machine: numbers come from make_county's generator, and curves need only
 + - * / and square roots. Nothing in the files describes a real place.
 """
-# Needs Python 3.11 or later, and nothing else.
+# Needs only Python 3.11 or later.
 
 import argparse
 import math
@@ -28,11 +28,11 @@ CODE = "01007"
 SEED = 2006
 FIRST_TLID = 207000000
 
-# Points are east and north of the county's south-west corner, in tenths of a meter.
+# Points are east and north of the county's southwest corner, in tenths of a meter.
 Point = tuple[int, int]
 WEST, SOUTH = -87_170_000, 32_930_000  # of that corner, in millionths of a degree
-LONGITUDE_STEP, LATITUDE_STEP = 1.07, 0.9  # millionths of a degree for a tenth of a meter, at 33 degrees north
-SNAP = 150  # a crossing this near to a point of a line is at that point
+LONGITUDE_STEP, LATITUDE_STEP = 1.07, 0.9  # millionths of a degree per tenth of a meter, at 33 degrees north
+SNAP = 150  # a crossing this close to a point of a line is at that point
 SIDE = 150  # how far from a segment its left and right areas are looked up
 
 TOWN = (37_000, 30_000)  # the corner of Main and Broad Street
@@ -62,7 +62,7 @@ COURT_TYPES = ("Ct", "Ct", "Ln", "Pl", "Cir", "Way")
 
 @dataclass(frozen=True)
 class Name:
-    """A name with its type and the direction before it, as N Broad St."""
+    """A name with its type and the direction before it, such as N Broad St."""
 
     name: str = ""
     type: str = ""
@@ -99,7 +99,7 @@ def distance(a: Point, b: Point) -> float:
 
 
 def curve(controls: Sequence[Point], pieces: int = 5) -> list[Point]:
-    """A smooth line through all control points, a Catmull-Rom spline."""
+    """Returns a smooth line through all control points, a Catmull-Rom spline."""
     padded = [controls[0], *controls, controls[-1]]
     points = [controls[0]]
     for four in zip(padded, padded[1:], padded[2:], padded[3:]):
@@ -109,19 +109,19 @@ def curve(controls: Sequence[Point], pieces: int = 5) -> list[Point]:
 
 
 def spline(values: Sequence[int], t: float) -> int:
-    """The spline between the second and the third of four values."""
+    """Returns a value of the spline between the second and the third of four values."""
     p, q, r, s = values
     return round((2 * q + (r - p) * t + (2 * p - 5 * q + 4 * r - s) * t * t + (3 * q - p - 3 * r + s) * t * t * t) / 2)
 
 
 def ring(controls: Sequence[Point], pieces: int = 4) -> list[Point]:
-    """A smooth closed line, which starts and ends at the first control point."""
+    """Returns a smooth closed line that starts and ends at the first control point."""
     around = [controls[-1], *controls, controls[0], controls[1]]
     return curve(around, pieces)[pieces:-pieces]
 
 
 def crossing(a: Point, b: Point, c: Point, d: Point) -> Point | None:
-    """Where the straight pieces a-b and c-d meet, None if they don't."""
+    """Returns the point where the straight pieces a-b and c-d meet, or None if they don't."""
     east, north = b[0] - a[0], b[1] - a[1]
     other_east, other_north = d[0] - c[0], d[1] - c[1]
     turn = east * other_north - north * other_east
@@ -139,7 +139,7 @@ def crosses(a: Point, b: Point, line: Sequence[Point]) -> bool:
 
 
 def is_inside(point: Point, polygon: Sequence[Point]) -> bool:
-    """By the number of edges that a ray to the east crosses."""
+    """Returns whether a polygon contains a point. Counts the edges that a ray to the east crosses."""
     inside = False
     for (x, y), (to_x, to_y) in pairwise([*polygon, polygon[0]]):
         if (y > point[1]) != (to_y > point[1]) and point[0] < x + (point[1] - y) * (to_x - x) / (to_y - y):
@@ -148,7 +148,7 @@ def is_inside(point: Point, polygon: Sequence[Point]) -> bool:
 
 
 def height_at(line: Sequence[Point], east: float) -> float:
-    """How far north a line that runs from west to east is."""
+    """Returns how far north a line is at this point. The line runs from west to east."""
     for (x, y), (to_x, to_y) in pairwise(line):
         if x <= east < to_x:
             return y + (east - x) * (to_y - y) / (to_x - x)
@@ -159,7 +159,7 @@ def height_at(line: Sequence[Point], east: float) -> float:
 
 
 def corner(column: float, row: float) -> Point:
-    """A corner of the grid, which is tilted by 9 in 40 and bent."""
+    """Returns a corner of the grid, which is tilted by 9 in 40 and bent."""
     east = BLOCK_WIDTH * column - 14 * row * abs(row) + 3 * row * row
     north = BLOCK_HEIGHT * row + 7.5 * column * column + 0.35 * column * row * row
     return round(TOWN[0] + (40 * east - 9 * north) / 41), round(TOWN[1] + (9 * east + 40 * north) / 41)
@@ -177,7 +177,7 @@ CEMETERY = (3, 5, 6, 7)
 
 
 def has_block(column: int, row: int, to_column: int, to_row: int, dice: Dice) -> bool:
-    """Whether the grid has a street between these two neighboring corners."""
+    """Returns whether the grid has a street between these two neighboring corners."""
     middle = (column + to_column) / 2, (row + to_row) / 2
     for west, east, south, north in (PARK, CEMETERY):
         if west < middle[0] < east and south < middle[1] < north:
@@ -195,7 +195,7 @@ def has_block(column: int, row: int, to_column: int, to_row: int, dice: Dice) ->
 
 
 def runs(corners: Sequence[tuple[int, int]], dice: Dice) -> Iterator[list[tuple[int, int]]]:
-    """The parts of a street that the grid has, as lists of neighboring corners."""
+    """Yields the parts of a street that the grid has, as lists of neighboring corners."""
     run: list[tuple[int, int]] = []
     for a, b in pairwise(corners):
         if has_block(*a, *b, dice):
@@ -208,7 +208,7 @@ def runs(corners: Sequence[tuple[int, int]], dice: Dice) -> Iterator[list[tuple[
 
 
 def grid_street(line: Line, corners: Sequence[tuple[int, int]], dice: Dice) -> Iterator[Line]:
-    """The parts of a street from an axis of the grid outwards, with 100 house numbers per block."""
+    """Yields the parts of a street from an axis of the grid outwards, with 100 house numbers per block."""
     for run in runs(corners, dice):
         blocks = [column if run[0][1] == run[1][1] else row for column, row in run]
         yield replace(line, points=[corner(*at) for at in run], numbers=[100.0 * (1 + abs(block)) for block in blocks])
@@ -234,7 +234,7 @@ def grid(dice: Dice) -> Iterator[Line]:
 
 
 def block_ring(area: tuple[int, int, int, int]) -> list[Point]:
-    """The edge of an area of whole blocks, a little within its streets."""
+    """Returns the edge of an area of whole blocks, slightly inside of its streets."""
     west, east, south, north = area
     west_end, east_end, south_end, north_end = west + 0.14, east - 0.14, south + 0.14, north - 0.14
     points = [corner(east, north) for north in (south_end, north_end) for east in (west_end, east_end)]
@@ -288,7 +288,7 @@ CREEKS: tuple[tuple[Name, str, tuple[Point, ...]], ...] = (
 
 
 def numbered(points: Sequence[Point], first: int, length: int) -> list[float]:
-    """House numbers along a road: 100 for each `length`."""
+    """Returns the house numbers along a road: 100 for each `length`."""
     numbers = [float(first)]
     for a, b in pairwise(points):
         numbers.append(numbers[-1] + 100 * distance(a, b) / length)
@@ -320,7 +320,7 @@ def highways() -> Iterator[Line]:
 def spurs(
     line: Line, every: int, lengths: tuple[int, int], dice: Dice, names: Iterator[Name], others: list[Line]
 ) -> list[Line]:
-    """Adds to `others` the dead ends that leave a line, to its left and right by turns, and cross no other line."""
+    """Adds to `others` the dead ends that leave a line, alternately to its left and right, and cross no other line."""
     added = []
     for number, place in enumerate(range(every, len(line.points) - 2, every)):
         start, next_point = line.points[place : place + 2]
@@ -341,7 +341,7 @@ def spurs(
 
 
 def suburbs(dice: Dice, others: list[Line]) -> None:
-    """Adds roads that wind, with courts along them."""
+    """Adds winding roads with courts along them."""
     names = cycle([Name(name, dice.one_of(COURT_TYPES)) for name in COURTS])
     others.append(road(Name("Lake", "Rd"), "A41", curve([corner(8, 5), (45_600, 41_800), LAKE_DRIVE[0]]), 900, 1200))
     loops = [road(Name("Lakeview", "Dr"), "A41", ring(LAKE_DRIVE), 100, 1200)]
@@ -375,7 +375,7 @@ def waters() -> Iterator[Line]:
 
 
 def drawn(dice: Dice) -> list[Line]:
-    """All lines of the county, before they are cut."""
+    """Returns all lines of the county before they are cut."""
     roads = list(highways())
     lines = [*waters(), *grid(dice), *roads]
     lines.append(Line(Name("Central Valley", "Rlwy"), "B11", RAILROAD, others=(Name("Mill River", "Line"),)))
@@ -397,7 +397,7 @@ def reversed_line(line: Line) -> Line:
 
 
 def pieces_by_cell(lines: Sequence[Line]) -> Iterator[list[tuple[int, int]]]:
-    """The straight pieces in each square of the county, by line and place."""
+    """Yields the straight pieces in each square of the county, by line and place."""
     cells: dict[Point, list[tuple[int, int]]] = defaultdict(list)
     for number, line in enumerate(lines):
         for place, (a, b) in enumerate(pairwise(line.points)):
@@ -408,7 +408,7 @@ def pieces_by_cell(lines: Sequence[Line]) -> Iterator[list[tuple[int, int]]]:
 
 
 def cut_points(lines: Sequence[Line]) -> dict[tuple[int, int], set[Point]]:
-    """The points to insert into each straight piece, so that lines meet at points that both have."""
+    """Returns the points to insert into each straight piece, so that lines meet at points that both have."""
     cuts: dict[tuple[int, int], set[Point]] = defaultdict(set)
     for pieces in pieces_by_cell(lines):
         for one, other in combinations(pieces, 2):
@@ -428,7 +428,7 @@ def cut_points(lines: Sequence[Line]) -> dict[tuple[int, int], set[Point]]:
 
 
 def with_cuts(line: Line, cuts: Sequence[set[Point]]) -> Line:
-    """The line with the cuts of each of its pieces as further points."""
+    """Returns the line with the cuts of each of its pieces as further points."""
     points, numbers = line.points[:1], line.numbers[:1]
     for place, (a, b) in enumerate(pairwise(line.points)):
         inserted = sorted(cuts[place], key=lambda point: (distance(a, point), point))
@@ -440,7 +440,7 @@ def with_cuts(line: Line, cuts: Sequence[set[Point]]) -> Line:
 
 
 def segments_of(lines: Sequence[Line]) -> Iterator[Line]:
-    """The lines cut at their nodes; parts outside of the county are left out."""
+    """Yields the lines cut at their nodes, without parts outside of the county."""
     cuts = cut_points(lines)
     cut_lines = []
     for number, line in enumerate(lines):
@@ -458,7 +458,7 @@ def segments_of(lines: Sequence[Line]) -> Iterator[Line]:
 
 
 def sides(points: Sequence[Point]) -> tuple[Point, Point]:
-    """A point to the left of the middle of a segment, and one to the right."""
+    """Returns a point to the left of the middle of a segment, and one to the right."""
     a, b = points[len(points) // 2 - 1 : len(points) // 2 + 1]
     scale = SIDE / max(distance(a, b), 1)
     east, north = round((b[0] - a[0]) * scale), round((b[1] - a[1]) * scale)
@@ -470,7 +470,7 @@ def sides(points: Sequence[Point]) -> tuple[Point, Point]:
 
 
 def area_fields(code: str, side: str, at: Point) -> dict[str, str]:
-    """The areas around a point, with the name of the side at the end of each field. `code` is the county's."""
+    """Returns the areas around a point. Field names end with the side's letter. `code` is the county's."""
     if not is_inside(at, BORDER):
         return {}
     in_town = ((at[0] - TOWN[0]) / 17_500) ** 2 + ((at[1] - TOWN[1]) / 13_500) ** 2 < 1
@@ -488,14 +488,14 @@ def area_fields(code: str, side: str, at: Point) -> dict[str, str]:
 
 
 def zip_code(at: Point) -> str:
-    """The ZIP Code of a place: east of the interstate, or north or south of US 31 and Main Street."""
+    """Returns the ZIP Code of a point: east of the interstate, or north or south of US 31 and Main Street."""
     if at[0] > INTERSTATE[18][0]:
         return "35184"
     return "35042" if at[1] > height_at(HIGHWAY_31, at[0]) else "35034"
 
 
 def range_fields(low: int, high: int, is_rising: bool, zips: Sequence[str], sides_with: str = "LR") -> dict[str, str]:
-    """The house numbers from `low`, which is even, to `high`, which is odd. If they rise, odd ones are on the left."""
+    """Returns the house numbers from `low`, which is even, to `high`, which is odd. Rising ones are odd on the left."""
     fields = {}
     for side, zip_text in zip("LR", zips):
         if side in sides_with:
@@ -508,7 +508,7 @@ def range_fields(low: int, high: int, is_rising: bool, zips: Sequence[str], side
 
 
 def house_numbers(segment: Line, dice: Dice) -> tuple[dict[str, str], list[dict[str, str]]]:
-    """The fields of a segment's own range and of its further ranges."""
+    """Returns the fields of a segment's own range and of its further ranges."""
     if not segment.numbers:
         return {}, []
     low, high = sorted(2 * round(number / 2) for number in (segment.numbers[0], segment.numbers[-1]))
@@ -528,7 +528,7 @@ def house_numbers(segment: Line, dice: Dice) -> tuple[dict[str, str], list[dict[
 
 
 def shape_records(tlid: str, points: Sequence[Point]) -> Iterator[bytes]:
-    """The lines of type 2: ten shape points each, and zeros after the last one."""
+    """Yields the lines of type 2: ten shape points each, and zeros after the last point."""
     for first in range(0, len(points), 10):
         ten = [degrees(point) for point in points[first : first + 10]]
         ten += [(0, 0)] * (10 - len(ten))
@@ -537,7 +537,7 @@ def shape_records(tlid: str, points: Sequence[Point]) -> Iterator[bytes]:
 
 
 def degrees(point: Point) -> tuple[int, int]:
-    """Longitude and latitude in millionths of a degree."""
+    """Returns longitude and latitude in millionths of a degree."""
     return round(WEST + point[0] * LONGITUDE_STEP), round(SOUTH + point[1] * LATITUDE_STEP)
 
 
@@ -582,7 +582,7 @@ def type_1(code: str, segment: Line, tlid: str, numbers: dict[str, str]) -> byte
 
 
 def county(seed: int, code: str) -> dict[str, list[bytes]]:
-    """The lines of each record type."""
+    """Returns the lines of each record type."""
     dice = Dice(seed)
     segments = list(segments_of(drawn(dice)))
     names, tlid = Names(dice), FIRST_TLID

@@ -1,23 +1,23 @@
 #!/usr/bin/env python3
-"""Asks a built program the rows of the tables in examples/rows, and reports each row that it answers differently.
+"""Runs a built program on the rows of the tables in examples/rows, and reports each row with a different result.
 
     python3 rows.py PATH_TO_extractd [TABLE..]
 
 A line that begins with `#` is a comment, one that begins with two blanks continues the row above, and `;` separates cells. A table's kind is its name up to
 the first `_` or `.`:
 
-words    bytes; their text, with ` | ` between its lines, or a refusal. `dis` writes the text, and `asm` of the text writes the bytes; or `dis` and
-         `verify` refuse the bytes.
+words    bytes; their text, with ` | ` between its lines, or a refusal. `dis` must write the text and `asm` turn it back into the bytes; or `dis` and
+         `verify` must refuse the bytes.
 sources  a text; the program that it means, or a refusal: by `asm`.
-values   an instruction; what it makes of r1 and r2, `x,y=z`, or of its one operand, `x=z`, in hexadecimal. A jump makes 1 if it is taken, else 0.
-answers  an outcome; a program; maybe the county's four files, else those of a segment with two alternate names and a further range; maybe a limit of
-         steps. `trace` ends so on line 1: with `N` in r0 and `score S` unless that is 0, `running`, or stuck as the refusal says. `run` of
-         a program that is accepted writes the row of line 1 if N isn't 0.
+values   an instruction; its results for r1 and r2, `x,y=z`, or for its only operand, `x=z`, in hexadecimal. A jump's result is 1 if it is taken, else 0.
+answers  an outcome; a program; optionally the county's four files, by default a segment with two alternate names and a further range; optionally a
+         limit of steps. `trace` must end this way on line 1: with `N` in r0 and `score S` unless it is 0, `running`, or stuck as the refusal says.
+         If the program is accepted and N isn't 0, `run` must write the row of line 1.
 extracts a program; the county's four files; `ok` and the number of rows, or a refusal; the rows: by `run`.
 
-Programs and bytes are written as in the tests: crates/fixtures has the notation, its named programs, its records and their fields.
+Programs and bytes use the notation of the tests: crates/fixtures has the notation, its named programs, its records and their fields.
 """
-# Needs Python 3.8 or later, and nothing else.
+# Needs only Python 3.8 or later.
 
 import os
 import re
@@ -32,7 +32,7 @@ TOP = Path(__file__).resolve().parent.parent
 ROWS = Path(__file__).with_name("rows")
 FIXTURES = TOP / "crates" / "fixtures" / "src"
 COUNTY = "01001"
-# A limit that no row's run comes to.
+# A limit that the run of no row reaches.
 STEPS = "100000"
 NAMED = [
     r"{rt1}\n",
@@ -43,7 +43,7 @@ NAMED = [
 
 
 class Said(NamedTuple):
-    """What a command ended with."""
+    """How a command ended, and what it printed."""
 
     status: int
     output: bytes
@@ -111,7 +111,7 @@ class Notation:
         return program
 
     def record(self, words: str) -> bytes:
-        """Returns a record's example line with its changes: texts over fields, and places that are kept."""
+        """Returns a record's example line with changes: texts for fields, and ranges of places to keep."""
         name, *changes = words.split()
         line = self.records[name]
         for change in changes:
@@ -126,7 +126,7 @@ class Notation:
         return line
 
     def named(self, name: str) -> bytes:
-        """Returns what stands in braces, without a count: a record, a row of one, a program or a text."""
+        """Returns the meaning of braces without a count: a record, a row of a record, a program or a text."""
         if name.startswith("rt"):
             return self.record(name)
         score, is_row, record = name.partition(r"\t")
@@ -154,7 +154,7 @@ class Notation:
 
 
 class Asked:
-    """The built program, in a folder of its own for each row."""
+    """Runs the built program, in a new folder for each row."""
 
     def __init__(self, program: str) -> None:
         self.extractd = program
@@ -200,7 +200,7 @@ class Asked:
         return None if made == Said(0, self.notation.program(row[1]), "") else str(made)
 
     def values(self, folder: str, row: List[str]) -> Optional[str]:
-        """All of a row's values are asked by one program, which answers the number of the first that is wrong, counted from 1, or else 0."""
+        """Checks all values of a row by one program. It returns the number of the first wrong one, counted from 1, or 0."""
         made = self.asm(folder, "\n".join([*value_lines(row[0], row[1].split()), ""]).encode())
         self.write_program(folder, made.output)
         self.write_files(folder, NAMED)
@@ -234,7 +234,7 @@ class Asked:
         return None if ended and said.output == rows and not is_counted else str(said)
 
     def wrong(self, kind: str, row: str) -> Optional[str]:
-        """Returns what is wrong with a row, if anything is."""
+        """Returns what is wrong with a row, or None."""
         ask: Dict[str, Callable[[str, List[str]], Optional[str]]] = {
             "words": self.words,
             "sources": self.sources,
@@ -250,7 +250,7 @@ class Asked:
 
 
 def value_lines(instruction: str, values: Iterable[str]) -> Iterator[str]:
-    """Yields a program that answers which of these values an instruction doesn't make, as program text."""
+    """Yields the text of a program that returns which of these values an instruction doesn't compute."""
     is_jump = instruction.startswith("j")
     for number, value in enumerate(values, 1):
         operands, _, made = value.partition("=")
@@ -265,7 +265,7 @@ def value_lines(instruction: str, values: Iterable[str]) -> Iterator[str]:
 
 
 def traced(outcome: str) -> bytes:
-    """Returns the line that `trace` writes of an outcome."""
+    """Returns the line that `trace` prints for an outcome."""
     stuck = re.fullmatch(r"refused (\d+) place (\d+) \S+", outcome)
     if stuck:
         return f"stuck place {stuck[2]} cause {stuck[1]}\n".encode()
