@@ -8,8 +8,8 @@ A call belongs in the table if its types let it allocate memory, read or write: 
 or through the type that it is a method of, or if its result may say that memory ran out. Its row has its path and one cell for each of
 `memory`, `read` and `write` that its types let it do. Such a cell ends with one of these:
 
-- the path of a sweep, such as `tl_tests::segments::sweep::loads`: a test or a function that injects a failure into each allocation, each read
-  or each write and makes the call, either itself or through functions that it calls in its crate and in `fixtures`;
+- the path of a sweep, such as `tl_tests::segments::sweep::loads`: a test or a function that injects a failure into each allocation, each
+  read or each write and makes the call, either itself or through functions that it calls in its crate and in `fixtures`;
 - `by` and the path of another call, which makes this one and whose sweep covers both;
 - `none` if the call never does it, whatever its types allow, followed by the path of the test that shows this, if there is one;
 - `Global` if all memory comes from the global allocator, which no test can make fail;

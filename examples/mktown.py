@@ -495,7 +495,7 @@ def zip_code(at: Point) -> str:
 
 
 def range_fields(low: int, high: int, is_rising: bool, zips: Sequence[str], sides_with: str = "LR") -> dict[str, str]:
-    """Returns the house numbers from `low`, which is even, to `high`, which is odd. Rising ones are odd on the left."""
+    """Returns the house numbers from `low` (even) to `high` (odd). If they rise, odd ones are on the left."""
     fields = {}
     for side, zip_text in zip("LR", zips):
         if side in sides_with:
