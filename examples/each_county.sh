@@ -1,7 +1,7 @@
 #!/bin/sh
 # Runs a program over each county of a folder, and keeps the rows of the counties that were read completely:
 #     each_county.sh PROGRAM DATA OUT
-# OUT gets a file for each of these, named by the county's code. Each other county is named on standard error; then the exit status is 1.
+# OUT gets one file per such county, named by its code. The others are named on standard error; then the exit status is 1.
 [ $# = 3 ] || { echo "usage: ${0##*/} PROGRAM DATA OUT" >&2; exit 2; }
 program=$1 data=$2 out=$3 ended=0
 mkdir -p "$out" || exit 3

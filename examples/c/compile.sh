@@ -3,9 +3,9 @@
 #
 #     compile.sh [--section NAME] [--lines LINES] PROGRAM.c OUTPUT [FLAG...]
 #
-# The program is the first function of the section .text unless another section is named. With --lines it also writes the source lines of the words,
-# as `extractd explain --lines` reads them. Each FLAG goes to the compiler after those of the file `flags`, so -Os replaces its -O2. With -O1
-# clang gets those of `flags-O1`, too.
+# The program is the first function of the section .text, or of the given section. With --lines the script also writes the source lines of the
+# words, as `extractd explain --lines` reads them. Each FLAG goes to the compiler after those of the file `flags`, so -Os replaces its -O2.
+# With -O1 clang also gets those of `flags-O1`.
 #
 # CC names the compiler: clang if it isn't set, or GCC's bpf-gcc. Needs llvm-objcopy and Python 3.11, and llvm-objdump for --lines.
 set -eu

@@ -5,7 +5,7 @@
 #include <stddef.h>
 #include <stdint.h>
 
-/* A segment's record, of TIGER/Line record type 1: bytes without gaps, so that a field's place is one more than its offset.
+/* A segment's record, TIGER/Line record type 1. It has no padding, so a field's place is its offset plus one.
    docs/records.md says what the fields mean. */
 struct record {
     uint8_t rt[1];         /* place 1 */
@@ -50,16 +50,16 @@ _Static_assert(offsetof(struct record, cfcc) == 55, "CFCC begins at place 56");
 _Static_assert(offsetof(struct record, statel) == 130, "STATEL begins at place 131");
 _Static_assert(offsetof(struct record, frlong) == 190, "FRLONG begins at place 191");
 
-/* The fields that field and has know. */
+/* The fields for field and has. */
 enum {
     TLID, FRADDL, TOADDL, FRADDR, TOADDR, ZIPL, ZIPR, STATEL, STATER,
     COUNTYL, COUNTYR, PLACEL, PLACER, TRACTL, TRACTR, BLOCKL, BLOCKR
 };
 
-/* The coordinates that coord knows. */
+/* The coordinates for coord. */
 enum { FRLONG, FRLAT, TOLONG, TOLAT };
 
-/* What in_range answers. */
+/* The results of in_range. */
 enum { NO_SIDE, LEFT, RIGHT, BOTH_SIDES };
 
 /* How each compiler calls a helper function, by its number. */
@@ -80,15 +80,15 @@ HELPER(7, uint64_t, name_is, (uint64_t name, const void *bytes, uint64_t length)
 HELPER(8, uint64_t, emit, (uint64_t score));
 HELPER(9, int64_t, coord, (uint64_t which));
 
-/* Stands before a loop with a fixed number of rounds, up to 100, and unrolls it. */
+/* Unrolls the loop after it, which must have a fixed number of iterations, up to 100. */
 #ifdef __clang__
 #define UNROLL _Pragma("unroll")
 #else
 #define UNROLL _Pragma("GCC unroll 100")
 #endif
 
-/* The number's bits that the mask has, such as bounded(x, 15) for an index of 0 to 15. A compiler may leave out a plain `&` that it proves
-   needless, and the verifier then doesn't know the bound. */
+/* Returns number & mask, such as bounded(x, 15) for an index from 0 to 15. A compiler may omit a plain `&` that it proves redundant, and
+   then the verifier doesn't know the bound. */
 static inline __attribute__((always_inline)) uint64_t bounded(uint64_t number, uint64_t mask)
 {
     __asm__("" : "+r"(number));

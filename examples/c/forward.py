@@ -17,7 +17,7 @@ places.
 The output is verified like any other program, so nothing depends on this tool being right. Exit status 1 means that
 no program was written.
 """
-# Needs Python 3.11, and nothing else.
+# Needs only Python 3.11.
 
 import argparse
 import heapq
@@ -32,7 +32,7 @@ from pathlib import Path
 
 WORD = 8
 MOST_WORDS = 65_536
-# How far the offset field of a jump reaches, in words from the word after the jump.
+# The reach of a jump's offset field, in words from the word after the jump.
 FARTHEST = 32_767
 
 # Opcodes of RFC 9669.
@@ -75,7 +75,7 @@ class Instruction:
 
     @property
     def target(self) -> int:
-        """The place to which the jump leads."""
+        """Returns the place that the jump leads to."""
         offset: int
         immediate: int
         offset, immediate = struct.unpack_from("<hi", self.data, 2)
@@ -83,7 +83,7 @@ class Instruction:
 
     @property
     def fall_through(self) -> int | None:
-        """The place of the next word if the program may go on there without a jump."""
+        """Returns the place of the next word if the program may go on there without a jump, else None."""
         return None if self.opcode in (JA, JA32, EXIT) else self.next_place
 
     def successors(self) -> list[int]:
@@ -94,7 +94,7 @@ class Instruction:
 
 
 def read_instructions(data: bytes) -> dict[int, Instruction]:
-    """Returns the instructions by their places."""
+    """Returns the instructions by place."""
     if not data:
         raise ProgramError("the program is empty")
     if len(data) % WORD:
@@ -114,8 +114,8 @@ def read_instructions(data: bytes) -> dict[int, Instruction]:
 def check_length(words: int) -> None:
     """Raises an error if a program is too long.
 
-    A compiler may cut the distance of a jump to 16 bits. In a program that isn't too long, the target of such a jump is
-    always outside of the program, so it is never taken for another one.
+    A compiler may truncate the distance of a jump to 16 bits. Unless the program is too long, the target of such a jump
+    is outside of the program, so it isn't mistaken for another place.
     """
     if words > MOST_WORDS:
         raise ProgramError(f"the program has {words} words, and it may have {MOST_WORDS}")
@@ -151,7 +151,7 @@ def find_reachable(instructions: dict[int, Instruction]) -> list[Instruction]:
 
 @dataclass(frozen=True)
 class Block:
-    """Instructions that the program enters at the first one and leaves after the last one."""
+    """Instructions that the program enters only at the first and leaves only after the last."""
 
     instructions: tuple[Instruction, ...]
 
@@ -165,13 +165,13 @@ class Block:
 
     @cached_property
     def body(self) -> bytes:
-        """The words without those of a jump at the end."""
+        """Returns the words without those of a jump at the end."""
         kept = self.instructions[:-1] if self.last.is_jump else self.instructions
         return b"".join(instruction.data for instruction in kept)
 
 
 def split_into_blocks(reachable: list[Instruction]) -> dict[int, Block]:
-    """Returns the blocks by their starts, in the program's order."""
+    """Returns the blocks by start, in the program's order."""
     starts = {0}
     for instruction in reachable:
         if instruction.is_jump:
@@ -188,9 +188,9 @@ def split_into_blocks(reachable: list[Instruction]) -> dict[int, Block]:
 
 
 def order_blocks(blocks: dict[int, Block]) -> list[Block]:
-    """Returns the blocks in an order in which each comes after all that lead to it.
+    """Returns the blocks in an order in which each comes after all blocks that lead to it.
 
-    The block that follows in the program comes next if it can, else the first one that can.
+    The block that follows in the program comes next if possible, else the first possible one.
     """
     missing = Counter(target for block in blocks.values() for target in block.last.successors())
     order: list[Block] = []
@@ -213,7 +213,7 @@ def order_blocks(blocks: dict[int, Block]) -> list[Block]:
 
 
 def find_loop(blocks: dict[int, Block]) -> list[Block]:
-    """Returns the blocks of a loop, of which there must be one: a search in depth from place 0."""
+    """Returns the blocks of a loop, which must exist. Searches depth-first from place 0."""
     path: dict[int, None] = {0: None}
     finished: set[int] = set()
     following = [iter(blocks[0].last.successors())]
@@ -231,7 +231,7 @@ def find_loop(blocks: dict[int, Block]) -> list[Block]:
 
 
 def closing_jump(loop: list[Block]) -> Instruction:
-    """Returns the jump of a loop that leads to an earlier word, or to itself. Each loop has one."""
+    """Returns the jump of a loop that leads to an earlier word or to itself. Each loop has one."""
     for block, following in pairwise([*loop, loop[0]]):
         if following.start <= block.last.place:
             return block.last
@@ -243,7 +243,7 @@ def closing_jump(loop: list[Block]) -> Instruction:
 
 @dataclass(frozen=True)
 class Branch:
-    """A jump at the end of a block: a conditional one as it was read, or a plain one."""
+    """A jump at the end of a block: conditional as it was read, or unconditional."""
 
     target: int
     condition: Instruction | None = None
@@ -259,14 +259,14 @@ class Branch:
 
 @dataclass
 class Layout:
-    """Blocks in their order, and the starts of those whose conditional jump is too far from its target."""
+    """Blocks in order, and the starts of those whose conditional jump is too far from its target."""
 
     order: list[Block]
     far: set[int]
 
     @cached_property
     def branches(self) -> list[list[Branch]]:
-        """The jumps at the end of each block."""
+        """Returns the jumps at the end of each block."""
         follower = [block.start for block in self.order[1:]]
         return [self.branches_of(block, start) for block, start in zip(self.order, [*follower, None], strict=True)]
 
@@ -282,7 +282,7 @@ class Layout:
 
     @cached_property
     def places(self) -> dict[int, int]:
-        """The new place of each block, by its start."""
+        """Returns the new place of each block by its start."""
         places, place = {}, 0
         for block, branches in zip(self.order, self.branches, strict=True):
             places[block.start] = place
@@ -291,7 +291,7 @@ class Layout:
         return places
 
     def encode(self) -> bytes | None:
-        """Returns the words, or None if a conditional jump is too far from its target. Its block is then in `far`."""
+        """Returns the words, or None after adding a block to `far` whose conditional jump is too far from its target."""
         words = bytearray()
         known = len(self.far)
         for block, branches in zip(self.order, self.branches, strict=True):
@@ -307,7 +307,7 @@ class Layout:
         return bytes(words) if len(self.far) == known else None
 
     def moved(self) -> Iterator[tuple[Instruction, int]]:
-        """Yields the instructions in their order, each with its new place."""
+        """Yields the instructions in order, each with its new place."""
         for block in self.order:
             for instruction in block.instructions:
                 yield instruction, self.places[block.start] + instruction.place - block.start
@@ -327,7 +327,7 @@ def put_in_order(data: bytes) -> tuple[bytes, Layout]:
 
 
 def read_lines(text: str) -> dict[int, list[str]]:
-    """Returns the source lines of each place that has some."""
+    """Returns the source lines of each place that has any."""
     lines: dict[int, list[str]] = {}
     for line in text.split("\n"):
         place, tab, source = line.partition("\t")
@@ -341,8 +341,8 @@ def read_lines(text: str) -> dict[int, list[str]]:
 def move_lines(lines: dict[int, list[str]], layout: Layout) -> str:
     """Returns the source lines with their new places.
 
-    A line also stands for the words after its own, up to the next line. So a block that no longer follows those words
-    gets the line again.
+    A line also covers the words after its own, up to the next line. So a block that no longer follows those words gets
+    the line again.
     """
     moved, following = [], None
     for instruction, place in layout.moved():

@@ -4,9 +4,9 @@
 #     lines.sh [--section NAME] PROGRAM.o
 #     lines.sh PROGRAM.s
 #
-# PROGRAM.o is an object file that was compiled with -g; its code is in the section .text unless another one is named. PROGRAM.s is a text for
-# `extractd asm`, of which each instruction is a line of its own. A row is a place, a tab and a source line. Places count words from 0 and ascend;
-# several source lines before one word have its place. Needs llvm-objdump, and the sources where they were when PROGRAM.o was compiled.
+# PROGRAM.o is an object file compiled with -g; its code is in the section .text or in the given section. PROGRAM.s is a text for
+# `extractd asm` with one instruction per line. A row is a place, a tab and a source line. Places count words from 0 and ascend; several
+# source lines before one word have its place. Needs llvm-objdump, and the sources where they were when PROGRAM.o was compiled.
 set -eu
 export LC_ALL=C
 
@@ -15,7 +15,7 @@ usage() {
     exit 2
 }
 
-# The lines of an assembler text. A wide load has two words; labels, comments and empty lines have none.
+# Prints the lines of an assembler text. A wide load has two words; labels, comments and empty lines have none.
 text_lines() {
     awk '
         { sub(/\r$/, "") ; code = $0; sub(/;.*/, "", code); gsub(/^[ \t]+|[ \t]+$/, "", code) }
@@ -24,7 +24,7 @@ text_lines() {
     ' "$1"
 }
 
-# The lines of an object file. llvm-objdump counts words, and shows a source line as `; ` and the line, before the first word that it is of.
+# Prints the lines of an object file. llvm-objdump counts words, and shows a source line as `; ` and the line, before its first word.
 object_lines() {
     "${OBJDUMP:-llvm-objdump}" -d -S --no-show-raw-insn --section="$2" "$1" 2> "$scratch" | awk '
         /^;/ { sub(/\r$/, ""); held[count++] = substr($0, 3) }
@@ -50,7 +50,7 @@ scratch=$(mktemp)
 trap 'rm -f "$scratch"' EXIT
 lines=$(object_lines "$1" "$section")
 if [ -z "$lines" ]; then
-    # Warnings of relocations, which GCC's objects cause in great number, say nothing of the lines.
+    # GCC's objects cause many warnings about relocations, which don't concern the lines.
     grep -v 'failed to compute relocation' "$scratch" >&2 || true
     echo "${0##*/}: $1: no source lines in the section $section; was it compiled with -g?" >&2
     exit 1

@@ -39,7 +39,7 @@ static void *checked(void *memory)
     return memory;
 }
 
-/* Reads a file's lines, each of `width` bytes and its line end. A file that isn't there has none. */
+/* Reads a file's lines, each of `width` bytes and its line end. A missing file has no lines. */
 static struct lines read_lines(const char *folder, const char *code, char type, size_t width)
 {
     struct lines lines = { .width = width };
@@ -64,7 +64,7 @@ static const char *line_of(const struct lines *lines, size_t index)
 
 /* ---- Fields */
 
-/* Takes the blanks off both ends of a field. */
+/* Strips the blanks from both ends of a field. */
 static size_t stripped(const char **field, size_t length)
 {
     while (length > 0 && (*field)[0] == ' ') {
@@ -111,7 +111,7 @@ static int64_t read_coordinate(const char *line, struct place place)
     return minus ? -(int64_t) number : (int64_t) number;
 }
 
-/* ---- The segment whose turn it is */
+/* ---- The current segment */
 
 static const char *segment;
 static const char *segment_names[MOST_NAMES];
@@ -127,7 +127,7 @@ static bool same_tlid(const char *line)
     return read_number(segment, tlid_place, &wanted) && read_number(line, tlid_place, &found) && wanted == found;
 }
 
-/* Adds the name that a line of type 5 has for a number, the first one. */
+/* Adds the name with this number, from the first line of type 5 that has it. */
 static void add_name(uint64_t feature)
 {
     for (size_t i = 0; i < features.count; i++) {
@@ -172,7 +172,7 @@ static const struct place coordinate_places[] = {
     [FRLONG] = { 191, 200 }, [FRLAT] = { 201, 209 }, [TOLONG] = { 210, 219 }, [TOLAT] = { 220, 228 },
 };
 
-/* Ends where the verifier would refuse the program: 50 BadArgument. */
+/* Exits if the verifier would refuse the program: 50 BadArgument. */
 static void require(bool good)
 {
     if (!good) {

@@ -27,7 +27,7 @@ enum {
 enum { FRLONG = 0, FRLAT = 1, TOLONG = 2, TOLAT = 3 };
 enum { NO_SIDE = 0, LEFT = 1, RIGHT = 2, BOTH_SIDES = 3 };
 
-/* A loop is a loop here. */
+/* Loops stay loops on this machine. */
 #define UNROLL
 
 uint64_t field(uint64_t id);
@@ -40,8 +40,8 @@ uint64_t name_is(uint64_t name, const void *bytes, uint64_t length);
 uint64_t emit(uint64_t score);
 int64_t coord(uint64_t which);
 
-/* The number's bits that the mask has, such as bounded(x, 15) for an index of 0 to 15. A compiler may leave out a plain `&` that it proves
-   needless, and the verifier then doesn't know the bound. */
+/* Returns number & mask, such as bounded(x, 15) for an index from 0 to 15. A compiler may omit a plain `&` that it proves redundant, and
+   then the verifier doesn't know the bound. */
 static inline __attribute__((always_inline)) uint64_t bounded(uint64_t number, uint64_t mask)
 {
     __asm__("" : "+r"(number));

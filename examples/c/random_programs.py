@@ -16,7 +16,7 @@ Prints each build that is refused or writes other rows, with the program's sourc
 agree, that differ, and that have a loop or too long a jump. The exit status is 1 if any differs. The same seed draws
 the same programs.
 """
-# Needs Python 3.11, cc, llvm-objcopy and the compiler, and nothing else.
+# Needs only Python 3.11, cc, llvm-objcopy and the compiler.
 
 import argparse
 import os
@@ -42,7 +42,7 @@ CPUS = "v1,v2,v3"
 
 # ---- Programs
 
-# Fields of struct record and their lengths.
+# The fields of struct record and their lengths.
 BYTES = {
     "fedirp": 2, "fename": 30, "fetype": 4, "cfcc": 3, "fraddl": 11, "toaddr": 11, "imputed": 4, "zipl": 5, "zipr": 5,
     "countyl": 3, "cousubr": 5, "placel": 5, "tractl": 6, "blockr": 4, "frlong": 10, "tolat": 9,
@@ -57,14 +57,14 @@ NAMES = ("Yarrow", "yarrow", "Northgate", "Lantern", "Pine Rest", "County Road 6
 OPERATORS = ("+", "-", "*", "&", "|", "^")
 COMPARISONS = ("==", "!=", "<", "<=", ">", ">=")
 DEEPEST_BLOCK = 4
-# Bytes of arrays in a program, of the frame's 512. At -O1 each array has its own, and the compiler's values need some, too.
+# The bytes for a program's arrays, of the frame's 512. At -O1 each array has its own, and the compiler's values need some.
 MOST_ARRAY_BYTES = 256
 INLINE = "static inline __attribute__((always_inline))"
 
 
 @dataclass
 class ProgramWriter:
-    """Draws one program. All numbers in it are uint64_t, so that nothing overflows but unsigned."""
+    """Draws a program. All its numbers are uint64_t, so only unsigned overflow can occur."""
 
     dice: Random
     lines: list[str] = field(default_factory=list)
@@ -97,7 +97,7 @@ class ProgramWriter:
         return f"{self.dice.getrandbits(bits)}ull"
 
     def byte(self) -> str:
-        """Returns an expression of type uint8_t, of the record."""
+        """Returns an expression of type uint8_t that reads the record."""
         name = self.dice.choice(list(BYTES))
         if self.counters and self.chance(60):
             counter, rounds = self.dice.choice(self.counters)
@@ -192,7 +192,7 @@ class ProgramWriter:
         leave = f"return {self.dice.choice(('0', '1', bare(self.number(1))))};"
         if self.gotos and self.chance(40):
             leave = f"goto {self.dice.choice(('found', 'missed'))};"
-        # Clang often leaves a loop if it and one in it are left in this way.
+        # Clang often fails to unroll nested loops that end this way.
         if len(self.counters) == 1 and self.chance(50):
             leave = self.dice.choice(("break;", "continue;"))
         with self.block(f"if ({bare(self.condition(2))})"):
@@ -234,7 +234,7 @@ class ProgramWriter:
             self.counters.pop()
 
     def takes_frame(self, size: int) -> bool:
-        """Takes bytes of the frame for arrays, if there are enough."""
+        """Takes bytes of the frame for arrays if enough are left."""
         if self.array_bytes + size > MOST_ARRAY_BYTES:
             return False
         self.array_bytes += size
@@ -283,7 +283,7 @@ class ProgramWriter:
                 self.endings()
 
     def endings(self) -> None:
-        """Writes what the gotos of the function lead to."""
+        """Writes the targets of the function's gotos."""
         self.write("found:")
         self.score()
         self.write("return 1;")
@@ -304,7 +304,7 @@ class ProgramWriter:
 
 
 def bare(expression: str) -> str:
-    """Takes off the parentheses around an expression."""
+    """Removes the parentheses around an expression."""
     depth = 0
     for position, character in enumerate(expression):
         depth += {"(": 1, ")": -1}.get(character, 0)
@@ -321,15 +321,15 @@ def draw_program(seed: int, number: int) -> str:
 
 
 class BuildFailure(Exception):
-    """A command failed: its name, then what it wrote to standard error."""
+    """A command failed. Has its name and its standard error."""
 
 
 class LoopFailure(Exception):
-    """The compiler left a loop, and warned, or a jump is too long."""
+    """The compiler left a loop and warned, or a jump is too long."""
 
 
 class Order(Enum):
-    """What makes jumps lead forwards."""
+    """The tool that makes jumps lead forwards."""
 
     FLAGS = "flags"
     FORWARD = "forward"
@@ -346,7 +346,7 @@ def run(*command: str | Path) -> subprocess.CompletedProcess[bytes]:
 
 @dataclass(frozen=True)
 class Build:
-    """How a program becomes BPF words."""
+    """How a program is compiled to BPF words."""
 
     compiler: str
     level: str
@@ -385,7 +385,7 @@ class Build:
 
 
 def put_in_order(program: Path, warned: bool) -> None:
-    """Puts a program in order. `warned` says that the compiler warned of a loop that it left."""
+    """Puts a program in order. `warned` means that the compiler warned about a loop that it left."""
     try:
         words, _ = forward.put_in_order(program.read_bytes())
     except forward.LoopError as error:
@@ -398,7 +398,7 @@ def put_in_order(program: Path, warned: bool) -> None:
 
 
 def native_rows(source: Path, harness: Path, scratch: Path) -> bytes:
-    """Returns the rows that the program writes if it runs on this machine. Undefined behavior ends it."""
+    """Returns the rows that the program writes when it runs on this machine. Undefined behavior ends it."""
     program = scratch / "native"
     trap = ("-fsanitize=undefined", "-fsanitize-undefined-trap-on-error")
     run("cc", "-w", "-O1", *trap, f"-I{HERE}", "-include", HERE / "native.h", source, harness, "-o", program)
@@ -406,7 +406,7 @@ def native_rows(source: Path, harness: Path, scratch: Path) -> bytes:
 
 
 def rows_of(build: Build, source: Path, scratch: Path) -> bytes:
-    """Returns the rows that the build's program writes by `extractd run`."""
+    """Returns the rows that `extractd run` writes with the build's program."""
     program = build.words(source, scratch)
     return run("extractd", "run", "--program", program, "--data", COUNTY, CODE).stdout
 

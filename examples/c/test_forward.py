@@ -1,7 +1,7 @@
 #!/usr/bin/env python3
 """Tests forward.py, with programs as text: python3 test_forward.py
 
-`extractd`, whose `asm` and `dis` turn text into words and back, is the one on the search path. The expected orders,
+`extractd`, whose `asm` and `dis` turn text into words and back, is taken from the search path. The expected orders,
 distances and messages were worked out by hand.
 """
 
@@ -25,17 +25,17 @@ ORDERS = (
         "ja start | found: | mov r0, 1 | exit | start: | ldxb r2, [r1+55] | jeq r2, 65, found | mov r0, 0 | exit",
         "ldxb r2, [r1+55] | jeq r2, 65, +2 | mov r0, 0 | exit | mov r0, 1 | exit",
     ),
-    # Both ways of a conditional jump may lead backwards.
+    # Both edges of a conditional jump may lead backwards.
     (
         "ja start | no: | mov r0, 0 | exit | yes: | mov r0, 1 | exit | start: | jeq r1, 1, no | ja yes",
         "jeq r1, 1, +1 | ja +2 | mov r0, 0 | exit | mov r0, 1 | exit",
     ),
-    # A block that can't follow what was before it is reached by a jump.
+    # A block that can't follow the one before it is reached by a jump.
     (
         "jeq r1, 1, second | join: | mov r0, 2 | exit | second: | mov r2, 3 | ja join",
         "jeq r1, 1, +1 | ja +1 | mov r2, 3 | mov r0, 2 | exit",
     ),
-    # Blocks without a way to them go, whatever they hold. So do jumps to the next word.
+    # Unreachable blocks are removed, whatever they contain. So are jumps to the next word.
     ("mov r0, 1 | exit | mov r0, 2 | ja -2 | exit", "mov r0, 1 | exit"),
     ("mov r0, 1 | ja +0 | exit", "mov r0, 1 | exit"),
     ("jeq r1, 1, +0 | exit", "jeq r1, 1, +0 | exit"),
@@ -60,7 +60,7 @@ ERRORS = (
     ("lddw r0, 1 | top: | add r0, 1 | ja top", "there is a loop: the jump at place 3 leads back to place 2"),
     ("ja -1", "there is a loop: the jump at place 0 leads back to place 0"),
     ("jeq r1, 1, +0 | ja -2", "there is a loop: the jump at place 1 leads back to place 0"),
-    # The search meets the later block of the loop first; the jump backwards is named all the same.
+    # The search meets the later block of the loop first; the error names the backward jump anyway.
     (
         "jeq r1, 1, two | ja two | one: | mov r0, 1 | two: | mov r0, 2 | ja one",
         "there is a loop: the jump at place 4 leads back to place 2",
@@ -80,7 +80,7 @@ BYTE_ERRORS = (
     (bytes((0x95,)) + bytes(7) + bytes((0x18,)) + bytes(7), "the wide load at place 1 lacks its second word"),
 )
 
-# The beginning of a program whose first ending is before the jump to it.
+# The start of a program whose first ending comes before the jump to it.
 FOUND_FIRST = "ja start | out: | mov r0, 1 | exit | start: | jeq r1, 1, out"
 
 LINES = "0\tint x = f();\n1\tif (x)\n2\t{\n2\t    return 1;\n4\treturn 0;\n"
@@ -122,7 +122,7 @@ class ForwardTest(unittest.TestCase):
             self.assertEqual(str(caught.exception), expected)
 
     def test_farthest_jump(self) -> None:
-        """A conditional jump reaches 32,767 words, and one word more by way of a ja32."""
+        """A conditional jump reaches 32,767 words, and one more word with the help of a ja32."""
         for filling, beginning in (
             (32_765, ["jeq r1, 1, +32767"]),
             (32_766, ["jeq r1, 1, +1", "ja +1", "ja32 +32768"]),
@@ -134,25 +134,25 @@ class ForwardTest(unittest.TestCase):
             self.assertEqual(listing[len(beginning) :], ["mov r0, 0"] * (filling + 1) + ["exit", "mov r0, 1", "exit"])
 
     def test_far_plain_jump(self) -> None:
-        """A plain jump that its offset field doesn't reach is a ja32."""
+        """A plain jump that its offset field can't reach becomes a ja32."""
         text = "jeq r1, 1, second | join: | mov r0, 2" + " | exit | second:" + " | mov r2, 3" * 32_768 + " | ja32 join"
         words, _ = forward.put_in_order(self.assemble(text))
         listing = self.disassemble(words).splitlines()
         self.assertEqual(listing, ["jeq r1, 1, +1", "ja32 +32768", *["mov r2, 3"] * 32_768, "mov r0, 2", "exit"])
 
     def test_too_long(self) -> None:
-        """Jumps that are added may make a program too long."""
+        """Added jumps may make a program too long."""
         text = "jeq r1, 1, second | join: | mov r0, 2 | exit | second:" + " | mov r2, 3" * 65_532 + " | ja32 join"
         words, _ = forward.put_in_order(self.assemble(text))
         self.assertEqual(len(words) // 8, 65_536)
-        # Here the first jump gets too far, and takes two words more.
+        # Here the first jump becomes too long and takes two more words.
         text = FOUND_FIRST + " | mov r0, 0" * 65_531 + " | exit"
         with self.assertRaises(forward.ProgramError) as caught:
             forward.put_in_order(self.assemble(text))
         self.assertEqual(str(caught.exception), "the program has 65537 words, and it may have 65536")
 
     def test_lines(self) -> None:
-        """A block keeps its lines, and gets the line that it goes on with if it is moved away from it."""
+        """A block keeps its lines, and repeats the line before it if it is moved away from it."""
         text = "mov r0, 1 | ja start | out: | mov r0, 1 | exit | start: | jeq r0, 1, out | mov r0, 0 | exit"
         words = self.assemble(text)
         _, layout = forward.put_in_order(words)

@@ -1,11 +1,11 @@
 #!/bin/bash
 # Measures each way to select the segments of many counties: measure.sh FOLDER [COUNTIES] [COPIES] [WORKERS...]
 #
-# It makes COUNTIES counties, by default 300, in five states. Each has COPIES times the segments of the example county, by default
-# 38, which are 15,200. It needs 4.2 MB per county in FOLDER, and as much for the output. extractd has to be on the search path.
-# A way is left out if its program is missing. Checks that all ways write the same, and prints a line for each:
-# the way, how many counties ran at once, the seconds and the segments per second. Dask's start isn't counted. Slurm runs as many
-# states at once as it has processors.
+# Makes COUNTIES counties, by default 300, in five states. Each has COPIES times the segments of the example county, by default
+# 38, which makes 15,200. Needs 4.2 MB per county in FOLDER, and as much for the output. extractd must be on the search path.
+# Leaves out a way if its program is missing. Checks that all ways write the same rows, and prints a line for each:
+# the way, the number of counties at once, the seconds and the segments per second. Dask's start isn't counted. Slurm runs one
+# state per processor at once.
 
 set -euo pipefail
 export LC_ALL=C
@@ -21,7 +21,7 @@ export EXTRACTD PYTHONPATH=$top/python
 mkdir -p "$folder"
 cd "$folder"
 
-# copy_records TYPE: the records of the example county, with other TLIDs in each copy.
+# copy_records TYPE: prints the records of the example county, with different TLIDs in each copy.
 copy_records() {
     awk -v copies="$copies" '{ record[NR] = $0 }
     END { for (copy = 0; copy < copies; copy++) for (line = 1; line <= NR; line++)

@@ -4,8 +4,8 @@
 #SBATCH --output=%x-%A-%a.log
 # Selects the segments of one state in each task of a Slurm array: sbatch --array=1-78 examples/cluster/slurm.sh DATA OUT FILTER
 #
-# Submit it at the top of a clone. The number of a task is the FIPS code of its state. DATA and OUT are in a file system that all
-# nodes share. Each county's rows appear as OUT/CODE.rows. A task fails if one of its counties does: submit its number again.
+# Submit it at the top of a clone. The number of a task is the FIPS code of its state. DATA and OUT must be on a file system that
+# all nodes share. Each county's rows appear as OUT/CODE.rows. A task fails if one of its counties does: submit its number again.
 
 set -euo pipefail
 export LC_ALL=C

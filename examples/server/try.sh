@@ -1,17 +1,17 @@
 #!/usr/bin/env bash
-# Tries the files next to it with a built program: examples/server/try.sh PATH_TO_extractd
+# Tests the files next to it with a built program: examples/server/try.sh PATH_TO_extractd
 #
-# It needs bash, coreutils and curl. What else it tries is left out if a command is missing:
-# - site.conf, through nginx.conf: nginx (1.19.5 or later) and openssl, which makes a certificate that is good for a day;
+# It needs bash, coreutils and curl. Other tests are left out if a command is missing:
+# - site.conf, through nginx.conf: nginx (1.19.5 or later) and openssl, which makes a certificate that is valid for a day;
 # - extractd.service: systemd-analyze, of systemd 249 or later;
 # - ../job.py: python3 (3.8 or later).
 # With REQUIRE_ALL set, as .ci/run sets it, missing commands are installed by apt-get, and anything left out is a failure.
 #
-# It serves the example county at a free port and requests each route, directly and through nginx, comparing status and body. The server may listen at
-# 127.0.0.1 alone. A client whose request is refused before its end may go on sending for a while, and gets its reply.
-# Then it tries what nginx is there for: a chunked body, many header lines, a client that sends slowly, several clients at once, users, and two clients of which
-# one is hostile. The hostile client has an address of its own, 127.0.0.2.
-# It ends what it started and removes its folder of temporary files.
+# It serves the example county at a free port and requests each route, directly and through nginx, comparing status and body. The server must listen at
+# 127.0.0.1 only. A client whose request is refused early may go on sending for a while, and still gets its reply.
+# Then it tests nginx's part: a chunked body, many header lines, a slow client, several clients at once, users, and two clients of which one is hostile.
+# The hostile client has an address of its own, 127.0.0.2.
+# It stops what it started and removes its folder of temporary files.
 #
 # Prints the failures, then the counts. Exit status 0 means that nothing failed, else it is 1. It takes about a minute.
 
@@ -33,7 +33,7 @@ skip() {
     if [ -n "${REQUIRE_ALL-}" ]; then fail "left out: $1"; else printf 'left out: %s\n' "$1"; fi
 }
 
-# has COMMAND PACKAGE: whether there is such a command, which the package has.
+# has COMMAND PACKAGE: whether the command exists. With REQUIRE_ALL set it is installed from the package.
 has() {
     command -v "$1" > /dev/null && return
     [ -n "${REQUIRE_ALL-}" ] || return
@@ -49,7 +49,7 @@ finish() {
 
 scratch=$(mktemp -d) || exit 1
 started=()
-# end: ends what was started last.
+# end: stops the process that was started last.
 end() {
     kill "${started[-1]}" 2> /dev/null
     wait "${started[-1]}" 2> /dev/null
@@ -57,10 +57,10 @@ end() {
 }
 trap 'while [ ${#started[@]} -gt 0 ]; do end; done; rm -rf "$scratch"' EXIT
 trap 'exit 1' INT TERM HUP
-# nginx's worker isn't root, also where this script is.
+# nginx's worker isn't root, even if this script is.
 chmod 755 "$scratch"
 cd "$scratch" || exit 1
-# No settings of the user's.
+# Ignores the user's settings.
 export HOME=$scratch
 
 if ! has curl curl; then
@@ -68,7 +68,7 @@ if ! has curl curl; then
     finish
 fi
 
-# start FOLDER: serves its county at a free port, which is in `port` then.
+# start FOLDER: serves its county at a free port, and sets `port`.
 start() {
     local pid
     for _ in {1..20}; do
@@ -87,7 +87,7 @@ start() {
     return 1
 }
 
-# ask NAME STATUS BODY CURL-ARGUMENTS: one request; BODY is a file.
+# ask NAME STATUS BODY CURL-ARGUMENTS: sends one request and checks the reply; BODY is a file.
 ask() {
     local name=$1 status=$2 body=$3 got
     shift 3
@@ -98,7 +98,7 @@ ask() {
     fi
 }
 
-# says NAME STATUS TEXT CURL-ARGUMENTS: the same, where the body is a line.
+# says NAME STATUS TEXT CURL-ARGUMENTS: does the same for a body that is one line.
 says() {
     local name=$1 status=$2
     printf '%s\n' "$3" > wanted
@@ -106,7 +106,7 @@ says() {
     ask "$name" "$status" wanted "$@"
 }
 
-# try_routes URL: each route, and each status.
+# try_routes URL: tests each route and each status.
 try_routes() {
     local url=$1 id
     says "$1: verify" 200 accepted --data-binary @all.bpf "$url/verify"
@@ -145,7 +145,7 @@ try_routes() {
     says "$1: a job is gone" 404 'not found' "$url/jobs/$id"
 }
 
-# try_job NAME ARGUMENTS: the client, at a server.
+# try_job NAME ARGUMENTS: runs job.py with a server.
 try_job() {
     local name=$1 status id
     shift
@@ -176,7 +176,7 @@ try_job() {
 # connects ADDRESS: whether something listens at the server's port there.
 connects() { timeout 5 bash -c 'exec 3<> "/dev/tcp/$1/$2"' - "$1" "$port" 2> /dev/null; }
 
-# try_address: the server listens at 127.0.0.1, and at no other of this machine's addresses.
+# try_address: the server listens at 127.0.0.1, and at none of this machine's other addresses.
 try_address() {
     local address
     if connects 127.0.0.1; then pass; else fail 'nothing listens at 127.0.0.1'; fi
@@ -186,7 +186,7 @@ try_address() {
     done
 }
 
-# try_refused_client: a body that is too long is refused at its head. Its client goes on sending for a second, and then reads the reply.
+# try_refused_client: a body that is too long is refused after its head. The client goes on sending for a second, and then reads the reply.
 try_refused_client() {
     local reply
     reply=$(timeout 30 bash -c '
@@ -202,14 +202,14 @@ try_refused_client() {
     fi
 }
 
-# now: milliseconds.
+# now: the time in milliseconds.
 now() { echo $(($(date +%s%N) / 1000000)); }
 
 # The hostile client has another address. It prints the status after the reply.
 hostile=(curl -k -s --interface 127.0.0.2 -w '%{http_code}')
 
-# costly: writes costly.bpf, which chooses all segments of the county in `large` and takes a second or more for it, but has no more words than nginx
-# lets through to /extract. The rows are in `large.rows`.
+# costly: writes costly.bpf, which selects all segments of the county in `large` and takes a second or more, but has no more words than nginx allows for
+# /extract. The rows are in `large.rows`.
 costly() {
     local words=100 copies=1 time
     mkdir large
@@ -228,7 +228,7 @@ costly() {
     done
 }
 
-# try_slow_extracts: 12 requests of the hostile client whose bodies don't end. nginx takes 8 of one client, and none of them holds the place for /extract.
+# try_slow_extracts: the hostile client sends 12 requests with endless bodies. nginx accepts 8 per client, and none of them blocks /extract.
 try_slow_extracts() {
     local client sent=()
     for client in {1..12}; do
@@ -257,7 +257,7 @@ try_left_extracts() {
     says 'a request after 8 extracts whose client has left' 200 accepted --data-binary @all.bpf "$url/verify"
     time=$(($(now) - time))
     if [ $time -lt $((one * 3 + 1000)) ]; then pass; else fail "it took $time ms, and one extract takes $one ms"; fi
-    # From then on one extract at a time: one of these is made and the other is refused.
+    # After that there is one extract at a time: of these two, one succeeds and the other is refused.
     "${hostile[@]}" -m 60 -o first --data-binary @costly.bpf "$url/extract" > first.status &
     started+=("$!")
     "${hostile[@]}" -m 60 -o second --data-binary @costly.bpf "$url/extract" > second.status
@@ -271,7 +271,7 @@ try_left_extracts() {
     ask 'an extract when the others are done' 200 large.rows --data-binary @all.bpf "$url/extract"
 }
 
-# try_job_loop: the hostile client opens and removes jobs in a loop. nginx stops it after some 20, and another client's job is finished meanwhile.
+# try_job_loop: the hostile client opens and removes jobs in a loop. nginx stops it after some 20, and another client's job finishes meanwhile.
 try_job_loop() {
     local id looped status
     id=$(curl -k -s -m 60 --data-binary @all.bpf "$url/jobs")
@@ -291,14 +291,14 @@ try_job_loop() {
     says 'its job is removed' 200 dropped -X DELETE "$url/jobs/$id"
 }
 
-# try_log: a line for each request, with its client, without its query.
+# try_log: each request has a line, with its client and without its query.
 try_log() {
     if grep -q ' 127\.0\.0\.2 - POST /extract 503 ' "$1" && grep -q ' 127\.0\.0\.1 - GET /geocode 200 ' "$1" && ! grep -q 'name=' "$1"; then pass; else
         fail 'the log of requests' "$(tail -n 5 "$1")"
     fi
 }
 
-# try_hostile: two clients, one of them hostile, at a server whose extracts take a second.
+# try_hostile: two clients, one of them hostile, and a server whose extracts take a second.
 try_hostile() {
     if ! costly || ! start "$PWD/large"; then fail "no large county: $(cat said.err)"; return; fi
     segments=$(wc -l < large.rows)
@@ -309,7 +309,7 @@ try_hostile() {
     try_log proxy/extractd.log
 }
 
-# try_users: nginx asks for a user if the two lines of site.conf say so.
+# try_users: nginx asks for a user if two lines of site.conf are enabled.
 try_users() {
     printf 'alice:%s\n' "$(openssl passwd -6 'a secret')" > proxy/extractd.users
     start_nginx 's/# \(auth_basic\)/\1/'
@@ -318,7 +318,7 @@ try_users() {
     says 'a user' 200 accepted -u 'alice:a secret' --data-binary @all.bpf "$url/verify"
 }
 
-# try_down: without a server nginx says so. Nothing listens at port 1.
+# try_down: nginx's reply without a server. Nothing listens at port 1.
 try_down() {
     local port=1
     start_nginx
@@ -326,7 +326,7 @@ try_down() {
     says 'no server for an extract' 502 'no server' --data-binary @all.bpf "$url/extract"
 }
 
-# start_nginx [EDIT]: runs site.conf, changed by a further edit for sed, before the server at `port`, and sets `url`.
+# start_nginx [EDIT]: runs site.conf, changed by a further sed command, in front of the server at `port`, and sets `url`.
 start_nginx() {
     local tls nginx
     cp "$here/nginx.conf" proxy
@@ -349,13 +349,13 @@ start_nginx() {
     finish
 }
 
-# try_proxy: what nginx is there for.
+# try_proxy: tests nginx's part.
 try_proxy() {
     local client lines=()
     says 'a body in chunks gets a length' 200 accepted -H 'Transfer-Encoding: chunked' --data-binary @all.bpf "$url/verify"
     for client in {1..70}; do lines+=(-H "X-Line-$client: $(printf '%0100d' "$client")"); done
     says 'many header lines are left out' 200 accepted "${lines[@]}" --data-binary @all.bpf "$url/verify"
-    # It has sent the first half of its body, and then waits.
+    # This client sends the first half of its body, and then waits.
     mkfifo half
     curl -k -s -m 60 -X POST -T - "$url/verify" < half > slow &
     started+=("$!")
@@ -432,10 +432,10 @@ if ! has systemd-analyze systemd; then
     skip 'extractd.service (there is no systemd-analyze here)'
 else
     mkdir unit
-    # A word of a unit's command line may be anywhere but with a blank in it.
+    # A unit's command line can't name a program with a blank in its path, so this is a link.
     ln -s "$program" unit/extractd
     sed "s|^ExecStart=/usr/local/bin/extractd |ExecStart=$PWD/unit/extractd |" "$here/extractd.service" > unit/extractd.service
-    # A line that it doesn't know is said, and no fault.
+    # An unknown line only causes a message, not a failure.
     if systemd-analyze verify --man=no "$PWD/unit/extractd.service" > unit/said 2>&1 && [ ! -s unit/said ]; then pass; else
         fail "systemd-analyze verify: $(cat unit/said)"
     fi
