@@ -291,7 +291,7 @@ class Layout:
         return places
 
     def encode(self) -> bytes | None:
-        """Returns the words, or None after adding a block to `far` whose conditional jump is too far from its target."""
+        """Returns the words, or None after adding a block to `far` whose conditional jump can't reach its target."""
         words = bytearray()
         known = len(self.far)
         for block, branches in zip(self.order, self.branches, strict=True):
