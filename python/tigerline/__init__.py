@@ -9,7 +9,7 @@ tuples, and needs the standard library alone.
 
 from importlib import import_module
 
-TYPE_CHECKING = False  # For type checkers this is true. The module typing takes long to import.
+TYPE_CHECKING = False  # True for type checkers. Importing the module typing takes long.
 if TYPE_CHECKING:
     from ._frames import read_county, select
     from ._program import Refused
@@ -19,7 +19,7 @@ if TYPE_CHECKING:
 __all__ = ["Address", "Match", "Refused", "Row", "geocode", "read_county", "rows", "select"]
 __version__ = "1.0.0"
 
-# Each is imported on its first use, so that `rows` does without pandas, and commands start soon.
+# Each name is imported on its first use, so that `rows` works without pandas and commands start quickly.
 _MODULES = {
     "Address": "geocoding",
     "Match": "geocoding",
@@ -40,5 +40,5 @@ def __getattr__(name: str) -> object:
 
 
 def __dir__() -> list[str]:
-    """Returns the names of the package, also those that aren't imported yet."""
+    """Returns the names of the package, including those that aren't imported yet."""
     return sorted({*globals(), *__all__})

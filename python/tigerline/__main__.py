@@ -74,14 +74,14 @@ def _add_engines(result: argparse.ArgumentParser) -> None:
 
 
 def positive(text: str) -> int:
-    """Returns a number of at least 1."""
+    """Returns a number, which must be at least 1."""
     if not text.isdecimal() or int(text) < 1:
         raise argparse.ArgumentTypeError(f"{text!r} is no number of at least 1")
     return int(text)
 
 
 def path_with(suffixes: Sequence[str]) -> Callable[[str], Path]:
-    """Returns a function that takes paths with these suffixes alone."""
+    """Returns a function that accepts only paths with these suffixes."""
 
     def path(text: str) -> Path:
         if Path(text).suffix.lower() not in suffixes:
@@ -117,7 +117,7 @@ def write(options: argparse.Namespace) -> int:
 
 
 def shows_background(options: argparse.Namespace) -> bool:
-    """Whether the map shows segments that aren't selected."""
+    """Returns whether the map shows segments that aren't selected."""
     return options.map is not None and not options.no_background
 
 
@@ -153,7 +153,7 @@ def _write_in_parts(
     interrupts: Interrupts,
     files: ExitStack,
 ) -> int:
-    """Has worker processes or a scheduler select the counties. The parts stay until all files are published."""
+    """Has worker processes or a scheduler select the counties. Keeps the parts until all files are published."""
     from . import _batch, _cluster, _workers
 
     engine: _batch.Engine = partial(_workers.run_here, options.workers or 1)
@@ -189,7 +189,7 @@ def draw(file: PendingFile, content: MapContent, options: argparse.Namespace, in
 
 
 def counted(segments: int) -> str:
-    """Returns the number with its noun."""
+    """Returns the number with its noun, singular or plural."""
     return f"{segments} segment{'' if segments == 1 else 's'}"
 
 

@@ -1,4 +1,4 @@
-"""Takes street strings such as `123 N Main St Apt 4` apart. A string has several readings, and only the data decides."""
+"""Parses street strings such as `123 N Main St Apt 4`. A string has several readings, and only the data decides."""
 
 import re
 from collections.abc import Iterator
@@ -34,9 +34,9 @@ class Reason(StrEnum):
 
 
 class Reading(NamedTuple):
-    """A street as the fields FENAME, FEDIRP, FETYPE and FEDIRS would have it. What isn't stated is empty.
+    """A street as the fields FENAME, FEDIRP, FETYPE and FEDIRS would have it. Missing parts are empty.
 
-    `is_other_route` says that the name has another word than was written: `State Hwy 17` for `SR 17`.
+    `is_other_route` means that the name uses another word than the address: `State Hwy 17` for `SR 17`.
     """
 
     name: str
@@ -47,7 +47,7 @@ class Reading(NamedTuple):
 
 
 class Street(NamedTuple):
-    """A house number, and the readings of the rest: those without units first, and of these the fullest."""
+    """A house number and the readings of the rest: those without units first, and then those that state the most."""
 
     number: int
     readings: tuple[Reading, ...]
@@ -60,7 +60,7 @@ _BOX = re.compile(
 )
 _CROSSING = re.compile(r".*(?:[&@]| AND | AT ).*", re.DOTALL)
 _FRACTION = re.compile(r"[0-9]+/[0-9]+|[¼½¾⅓⅔⅛⅜⅝⅞]")
-# Kinds of first words, the first that fits. A letter after the number is cut like a unit, but N, S, E and W are directions.
+# Kinds of first words; the first match counts. A letter after the number is removed like a unit, except N, S, E and W.
 _FIRST_WORDS = (
     (Reason.FRACTIONAL_NUMBER, re.compile(r"[0-9]+(?:-?[0-9]+/[0-9]+|/[0-9]+|[¼½¾⅓⅔⅛⅜⅝⅞])")),
     (Reason.HYPHENATED_NUMBER, re.compile(r"[0-9]+[A-Z]?-+[0-9A-Z]+")),
@@ -73,7 +73,7 @@ _UNIT_VALUE = re.compile(r"#?[0-9A-Z]+(?:[-/][0-9A-Z]+)*")
 
 
 def take_apart(text: str) -> Street | Reason:
-    """Returns the house number and the readings of a street string, or the reason for having none."""
+    """Returns the house number and the readings of a street string, or the reason why it has none."""
     words = re.sub(r"#\s+", "#", re.sub(r"(?<=\w)#", " #", text)).replace(",", ", ").split()
     words = [word for word in words if _key(word)]
     keys = [_key(word) for word in words]
@@ -114,7 +114,7 @@ def _number(keys: list[str]) -> int | Reason:
 
 
 def _ways(words: list[str]) -> Iterator[list[str]]:
-    """Yields the words of a street without its units, and then with them, as a street may be called `Lot 5`."""
+    """Yields the words of a street without its units, and then with them, since a street may be called `Lot 5`."""
     count = _without_unit([_key(word) for word in words])
     yield words[:count]
     if count < len(words) and not any("#" in word for word in words[count:]):
@@ -122,7 +122,7 @@ def _ways(words: list[str]) -> Iterator[list[str]]:
 
 
 def _without_unit(keys: list[str]) -> int:
-    """Returns how many words are left before the units. One is always left, unless it begins with #."""
+    """Returns the number of words before the units. One always remains, unless it begins with #."""
     count = len(keys)
     while cut := _unit_at_end(keys[:count]):
         count -= cut
@@ -130,7 +130,7 @@ def _without_unit(keys: list[str]) -> int:
 
 
 def _unit_at_end(keys: list[str]) -> int:
-    """Returns how many of the last words are a unit."""
+    """Returns the number of words at the end that are a unit."""
     if keys and keys[-1].startswith("#"):
         return 2 if len(keys) > 2 and keys[-2] in UNITS else 1
     if len(keys) > 2 and keys[-2] in UNITS and _is_unit_value(keys[-1]):
@@ -149,7 +149,7 @@ def _is_unit_value(key: str) -> bool:
 
 
 def _readings(words: list[str]) -> list[Reading]:
-    """Returns the readings of a street without number and unit, those that state the most parts first."""
+    """Returns the readings of a street without number and unit, starting with those that state the most parts."""
     keys = [_key(word) for word in words]
     found = []
     for predir, first in _directions_at_start(keys):
@@ -191,7 +191,7 @@ def _type_at_end(keys: list[str]) -> Iterator[tuple[str, int]]:
 
 
 def _names(words: list[str]) -> Iterator[tuple[str, bool]]:
-    """Yields what the words may be in FENAME, and whether it's another word for a numbered road."""
+    """Yields possible contents of FENAME, and whether each is another word for a numbered road."""
     if not words:
         return
     name = " ".join(word.strip(",;") for word in words)

@@ -1,8 +1,8 @@
-"""Splits a selection into a task for each county, and joins what the tasks wrote in the order of the counties.
+"""Splits a selection into one task per county, and joins the tasks' results in the order of the counties.
 
-A task can run anywhere and any number of times: what it writes depends on its fields alone. It writes a part, which is
-the county's lines of the table and of the map. The part appears under its name when it is complete, and its name has a digest of all
-that it depends on. So a run that was cut off can go on with the parts that are there.
+A task can run anywhere and any number of times: its result depends only on its fields. It writes a part, which is the
+county's lines of the table and of the map. The part appears under its name when it is complete, and its name contains a
+digest of everything it depends on. So an interrupted run can continue with the parts that exist.
 """
 
 import fcntl
@@ -58,7 +58,7 @@ class Stamp:
 
 @dataclass(frozen=True)
 class CountyTask:
-    """The selection of one county. It has all that a worker needs but the county's files and the program."""
+    """The selection of one county: all that a worker needs except the county's files and the program."""
 
     county: County
     files: tuple[Stamp, ...]
@@ -68,7 +68,7 @@ class CountyTask:
     all_rows: bool
 
     def rows(self, interrupts: Interrupts) -> CountyRows:
-        """Returns the county's rows. Raises OSError if a file isn't the one that the task was made for."""
+        """Returns the county's rows. Raises OSError if a file has changed since the task was made."""
         self._check("isn't the same file on")
         self._check_program(interrupts)
         program = self.program.path
@@ -82,7 +82,7 @@ class CountyTask:
                 raise OSError(f"county {self.county.code}: {stamp.path} {fault} {host()}: its size or time differs")
 
     def _check_program(self, interrupts: Interrupts) -> None:
-        """Raises OSError unless the program is there, in the version of this package. Looks at each program once."""
+        """Raises OSError unless the program exists in this package's version. Checks each program only once."""
         stamp = self._visible(self.program.path, "extractd")
         if stamp not in _checked_programs:
             find_program(stamp.path, interrupts)
@@ -96,7 +96,7 @@ class CountyTask:
 
 
 def not_visible(code: str, path: PathLike, what: str, error: OSError) -> str:
-    """Says that a worker doesn't see a file."""
+    """Returns the message that a worker doesn't see a file."""
     return (
         f"county {code}: {path}: {error.strerror} on {host()}: {what} has to be in a file system that all workers "
         "share, under the same path"
@@ -111,7 +111,7 @@ def host() -> str:
 
 @dataclass(frozen=True)
 class Form:
-    """How the lines of a part are written: as a CSV file or as the source of GDAL, and with what a map needs."""
+    """The form of a part's lines: a CSV file or the input for GDAL, with or without the data for a map."""
 
     names: tuple[str, ...]
     has_lines: bool
@@ -122,9 +122,9 @@ class Form:
 
 @dataclass(frozen=True)
 class Summary:
-    """What a part says of itself.
+    """The summary of a part.
 
-    These are the bytes of its table, and of the selected and the other segments of its map; then what is in them.
+    Has the sizes in bytes of its table and of its map's selected and other segments, and then what they contain.
     """
 
     table: int
@@ -138,7 +138,7 @@ class Summary:
 
 @dataclass(frozen=True)
 class PartTask:
-    """The part of one county, and the file to write it to."""
+    """The part of one county and the file to write it to."""
 
     source: CountyTask
     form: Form
@@ -168,13 +168,13 @@ class PartTask:
 
 
 def run_part(task: PartTask) -> str:
-    """Writes a part, outside this package's own processes."""
+    """Writes a part in a process that this package didn't start."""
     with Interrupts() as interrupts:
         return task.run(interrupts)
 
 
 def run_county(task: CountyTask) -> CountyRows:
-    """Returns the rows of a county, outside this package's own processes."""
+    """Returns the rows of a county in a process that this package didn't start."""
     with Interrupts() as interrupts:
         return task.rows(interrupts)
 
@@ -235,12 +235,12 @@ def _end_of(path: Path) -> tuple[bytes, bytes]:
 
 
 def summary_of(path: Path) -> Summary:
-    """Reads the summary of a part that is whole."""
+    """Reads the summary of a complete part."""
     return Summary(**json.loads(_end_of(path)[0]))
 
 
 def is_whole(path: Path) -> bool:
-    """Whether this is a complete part, by its checksum."""
+    """Returns whether a part is complete, by its checksum."""
     checksum = _end_of(path)[1]
     return checksum == _checksum(path, path.stat().st_size - len(checksum))
 
@@ -256,7 +256,7 @@ def county_tasks(
     all_rows: bool,
     interrupts: Interrupts,
 ) -> list[CountyTask]:
-    """Returns a task for each county. All paths in it are absolute, and a program is there by its words."""
+    """Returns one task per county. All paths in it are absolute, and a program is included as its words."""
     folder = Path(os.path.abspath(data))
     program = Stamp.of(os.path.abspath(find_program(request.extractd, interrupts)))
     chosen = choose_counties(find_counties(folder), counties, folder)
@@ -290,9 +290,9 @@ def part_task(source: CountyTask, form: Form, store: Path) -> PartTask:
 
 @contextmanager
 def part_store(final: Path, resume: bool) -> Iterator[Path]:
-    """Makes the folder for the parts, next to the final file. It is removed at the end.
+    """Makes the folder for the parts next to the final file, and removes it at the end.
 
-    With `resume` its name is that of the final file and `.parts`, and after a failure it stays if it has a part.
+    With `resume` its name is that of the final file and `.parts`, and it is kept after a failure if it has a part.
     """
     with ExitStack() as cleanup:
         if resume:
@@ -306,14 +306,14 @@ def part_store(final: Path, resume: bool) -> Iterator[Path]:
                 folder = cleanup.enter_context(scratch_folder(final.parent))
             store = folder / "parts"
             store.mkdir()
-            # From then on a task that still runs on another machine can't add a file.
+            # From now on a task that still runs on another machine can't add a file.
             cleanup.callback(store.rename, folder / "ended")
         yield store
 
 
 @contextmanager
 def _locked(store: Path) -> Iterator[None]:
-    """Holds a lock. Some shared file systems have none; then two runs with one output may disturb each other."""
+    """Holds a lock. Some shared file systems don't support it; there, two runs with the same output may interfere."""
     with open(store / "lock", "ab") as lock:
         try:
             fcntl.flock(lock, fcntl.LOCK_EX | fcntl.LOCK_NB)
@@ -325,7 +325,7 @@ def _locked(store: Path) -> Iterator[None]:
 
 
 def _leave(store: Path, kind: type[BaseException] | None, *_: object) -> None:
-    """Removes the folder, but no file in it that isn't ours. After an exception it stays if it has a part."""
+    """Removes the folder, but not files of others in it. After an exception it is kept if it has a part."""
     ours = [path for path in store.iterdir() if _PART.fullmatch(path.name)]
     if kind is not None and any(path.suffix == ".part" for path in ours):
         return
@@ -343,7 +343,7 @@ Parts = Sequence[tuple[Path, Summary]]
 
 
 def run_tasks(tasks: Sequence[PartTask], store: Path, engine: Engine, progress: bool, interrupts: Interrupts) -> Parts:
-    """Has an engine run the tasks whose parts aren't in the store yet, and returns all parts in order."""
+    """Has an engine run the tasks whose parts aren't in the store yet. Returns all parts in order."""
     waiting = _unfinished(tasks, store, interrupts)
     with closing(engine(waiting, interrupts)) as ran:
         for _ in counted(waiting, progress):
@@ -358,7 +358,7 @@ def run_tasks(tasks: Sequence[PartTask], store: Path, engine: Engine, progress: 
 def join_parts(
     file: PendingFile, parts: Parts, selection: Selection, content: MapContent | None, interrupts: Interrupts
 ) -> int:
-    """Writes the file of the parts, and returns the number of segments. Adds their segments to those of a map.
+    """Writes the file of the parts and returns the number of segments. Adds their segments to those of a map.
 
     The columns are those of `selection`; its counties aren't used.
     """
@@ -371,7 +371,7 @@ def join_parts(
 
 
 def _unfinished(tasks: Sequence[PartTask], store: Path, interrupts: Interrupts) -> list[PartTask]:
-    # A network file system may remember for long that a file wasn't there, so it isn't asked for single files.
+    # A network file system may keep reporting that a file doesn't exist, so single files aren't looked up.
     present = set(os.listdir(store))
     waiting = []
     for task in tasks:
@@ -382,11 +382,11 @@ def _unfinished(tasks: Sequence[PartTask], store: Path, interrupts: Interrupts) 
 
 
 def _require_visible(task: PartTask, where: str, interrupts: Interrupts) -> None:
-    """Raises OSError if a part isn't there. A network file system may show it some seconds after it was written."""
+    """Raises OSError if a part doesn't exist. A network file system may show it some seconds after it was written."""
     deadline = time.monotonic() + VISIBLE_SECONDS
     while not task.path.exists():
         interrupts.check()
-        os.listdir(task.path.parent)  # Brings what a network file system remembers up to date.
+        os.listdir(task.path.parent)  # Refreshes the cache of a network file system.
         if time.monotonic() > deadline:
             raise OSError(
                 f"county {task.code}: {where} wrote {task.path}, which isn't there on {host()}: OUT has to be in a "
@@ -396,7 +396,7 @@ def _require_visible(task: PartTask, where: str, interrupts: Interrupts) -> None
 
 
 def _join(out: Path, parts: Parts, interrupts: Interrupts) -> tuple[int, int]:
-    """Writes the tables of the parts one after the other, under the first one's head line. Returns their counts."""
+    """Writes the tables of the parts one after the other, under the header of the first. Returns their counts."""
     with open(out, "wb") as file:
         for path, summary in parts:
             with open(path, "rb") as part:

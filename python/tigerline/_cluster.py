@@ -1,6 +1,6 @@
 """Runs tasks on the workers of a dask.distributed scheduler.
 
-The scheduler runs a task again if its worker dies. What is here connects, waits for results, and says what went wrong.
+The scheduler runs a task again if its worker dies. This module connects, waits for results, and reports failures.
 """
 
 import logging
@@ -28,7 +28,7 @@ Task = TypeVar("Task", CountyTask, PartTask)
 def run_there(
     address: str, tasks: Sequence[PartTask], interrupts: Interrupts
 ) -> Generator[tuple[PartTask, str], None, None]:
-    """Yields the tasks when they are done, with the worker's machine. Raises the exception of the first that fails."""
+    """Yields the tasks as they finish, with the worker's machine. Raises the exception of the first that fails."""
     with connected(address, interrupts.check) as client, closing(
         completed(client, run_part, tasks, interrupts.check)
     ) as done:
@@ -43,7 +43,7 @@ def connected(address: str, check: Callable[[], None]) -> Iterator[Any]:
         from distributed.comm import get_address_host_port, normalize_address
     except ImportError:
         raise OSError("a scheduler needs dask.distributed: install python3-distributed") from None
-    logging.disable(logging.CRITICAL)  # What went wrong is raised.
+    logging.disable(logging.CRITICAL)  # Failures are raised.
     try:
         get_address_host_port(normalize_address(address), strict=True)
         client = Client(address, timeout=CONNECT_SECONDS, set_as_default=False)
@@ -65,7 +65,7 @@ def connected(address: str, check: Callable[[], None]) -> Iterator[Any]:
 def completed(
     client: Any, run: Callable[[Task], Any], tasks: Sequence[Task], check: Callable[[], None]
 ) -> Generator[tuple[Task, Any], None, None]:
-    """Yields the tasks with their results when they are done, and cancels the others if one fails."""
+    """Yields the tasks with their results as they finish, and cancels the others if one fails."""
     done: SimpleQueue[Any] = SimpleQueue()
     futures: dict[str, tuple[Any, Task]] = {}
     try:
@@ -104,14 +104,14 @@ def _next(done: "SimpleQueue[Any]", check: Callable[[], None]) -> Any:
 
 
 def _result(client: Any, future: Any, code: str) -> Any:
-    """Returns the result of a task that is done, or raises what it raised, also if its worker or scheduler died."""
+    """Returns the result of a finished task, or raises its exception, even if its worker or scheduler died."""
     from distributed import CancelledError, KilledWorker, TimeoutError
     from distributed.comm import CommClosedError
 
     try:
         return future.result(timeout=CLOSE_SECONDS if client.status != "running" else None)
     except KilledWorker as error:
-        # The scheduler also blames the counties that waited at these workers.
+        # The scheduler also blames the counties that were waiting at these workers.
         raise OSError(f"county {code}: each worker that had it died, the last at {error.last_worker.address}") from None
     except (CancelledError, CommClosedError, TimeoutError):
         if future.status == "error":
@@ -130,7 +130,7 @@ def extract(
     all_rows: bool,
     progress: bool,
 ) -> Iterator[CountyRows]:
-    """Yields the rows of each county in order, selected by the workers of a client."""
+    """Yields the rows of each county in order. The workers of a client select them."""
     from distributed import Client
 
     if not isinstance(client, Client) or client.asynchronous:

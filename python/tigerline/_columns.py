@@ -16,11 +16,11 @@ AFTER_SCORE = RECORD_LENGTH + 2
 MICRODEGREES = 1_000_000
 WORD = 8
 
-Array = Any  # numpy's own types need a later version of its stubs.
+Array = Any  # numpy's own types need newer stubs.
 
 
 def split(rows: bytes) -> tuple[Array, Array]:
-    """Returns the scores, and the records as an array of 228 bytes each. Raises OSError if these aren't rows."""
+    """Returns the scores, and the records as an array of 228 bytes each. Raises OSError if the data isn't rows."""
     data = np.frombuffer(rows, np.uint8)
     if not len(data):
         return np.zeros(0, np.uint64), np.zeros((0, RECORD_LENGTH), np.uint8)
@@ -33,7 +33,7 @@ def split(rows: bytes) -> tuple[Array, Array]:
 
 
 def _are_rows(table: Array) -> bool:
-    """Whether each line of the table is one row: LF is at its end and nowhere before, and its score is digits."""
+    """Returns whether each line of the table is a row: it has LF only at its end, and its score is digits."""
     scores = table[:, :-AFTER_SCORE]
     return bool(
         (table[:, -1] == LINE_FEED).all()
@@ -102,21 +102,21 @@ def numbers(field: Array) -> tuple[Array, Array]:
 def coordinates(field: Array) -> Array:
     """Returns the coordinate of each field in degrees, or NaN.
 
-    A field has one if between blanks there are at most one sign and 1 to 9 digits.
+    A field has one if it contains, between blanks, at most one sign and 1 to 9 digits.
     """
     places = np.ascontiguousarray(field.T)
     digits = places - np.uint8(ZERO) <= 9
     minus = places == MINUS
     signs = minus | (places == PLUS)
     has = _has_one_run(digits, longest=9) & (digits | signs | (places == BLANK)).all(axis=0)
-    # A sign is directly before a digit. There is one run of digits, so this allows one sign.
+    # A sign is directly before a digit. There is one run of digits, so there is at most one sign.
     has &= ~signs[-1] & (~signs[:-1] | (digits[1:] & ~digits[:-1])).all(axis=0)
     values = _values(places, digits)
     return np.where(has, np.where(minus.any(axis=0), -values, values) / MICRODEGREES, np.nan)
 
 
 def _has_one_run(marked: Array, longest: int) -> Array:
-    """Whether the marked places of each field are next to each other, at least one and at most `longest`."""
+    """Returns whether the marked places of each field are contiguous, at least one and at most `longest`."""
     starts = np.count_nonzero(marked[1:] & ~marked[:-1], axis=0) + marked[0]
     return (starts == 1) & (np.count_nonzero(marked, axis=0) <= longest)
 
@@ -150,7 +150,7 @@ def _string_column(records: Array, field: Field, read: Callable[[str], str | Non
 
 
 def _distinct(records: Array, field: Field) -> tuple[Array, Array]:
-    """Returns for each record which distinct field it has, and for each distinct field a record that has it.
+    """Returns which distinct field each record has, and a record for each distinct field.
 
     Fields are compared as words of up to 8 bytes, which is several times faster than as objects.
     """

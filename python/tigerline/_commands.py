@@ -1,4 +1,4 @@
-"""What the commands of this package have in common: exit statuses and one-line errors."""
+"""What the commands of this package share: exit statuses and one-line errors."""
 
 import os
 import sys
@@ -11,7 +11,7 @@ REFUSED, USAGE, FILES, MEMORY = 1, 2, 3, 4
 
 
 def exit_status(work: Callable[[], bytes]) -> int:
-    """Does the work of a command, writes what it returns to standard output, and returns the exit status.
+    """Does the work of a command, writes its result to standard output, and returns the exit status.
 
     Errors and warnings go to standard error.
     """
@@ -41,7 +41,7 @@ def _write(output: bytes) -> int:
         sys.stdout.buffer.flush()
         return 0
     except OSError as error:
-        # Python would fail once more when it flushes at its end.
+        # Python would fail again when it flushes at its end.
         os.dup2(os.open(os.devnull, os.O_WRONLY), sys.stdout.fileno())
         return _fail(f"error: the output can't be written: {error.strerror}", FILES)
 
@@ -52,7 +52,7 @@ def _fail(text: str, status: int) -> int:
 
 
 def _report(text: str) -> None:
-    """Writes to standard error, if that is possible. `print` takes standard output if standard error is closed."""
+    """Writes to standard error if possible. `print` would use standard output if standard error is closed."""
     if sys.stderr is not None:
         with suppress(OSError):
             print(text, file=sys.stderr)

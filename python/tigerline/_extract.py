@@ -16,13 +16,13 @@ from ._scratch import scratch_folder
 from ._shapes import Shapes, shape_points
 from ._sources import County, choose_counties, find_counties, missing_names, opened_county
 
-# The system takes arguments of up to 131,072 bytes.
+# The system's limit on an argument is 131,072 bytes.
 LONGEST_ARGUMENT = 100_000
 
 
 @dataclass(frozen=True)
 class Request:
-    """Which segments are requested: by a filter, or by a program that is a file or its words."""
+    """The request for segments: a filter, or a program as a file or as its words."""
 
     where: str | None = None
     program: PathLike | bytes | None = None
@@ -43,8 +43,8 @@ ALL_SEGMENTS = Request("TRUE")
 class CountyRows:
     """The rows of a county as `extractd` wrote them.
 
-    If they were requested, the shape points of the segments, and the rows of all segments of a county of which some are
-    selected. `warning` says which files are missing.
+    On request it also has the shape points of the segments and, if some segments are selected, the rows of all
+    segments. `warning` names the missing files.
     """
 
     county: str
@@ -67,8 +67,8 @@ def extract(
 ) -> Iterator[CountyRows]:
     """Yields the rows of each county after `extractd` has ended for it with status 0.
 
-    When it yields, its temporary files and its processes are gone. With a client of dask.distributed its workers run
-    the counties.
+    At each yield, the county's temporary files and processes are gone. With a client of dask.distributed, its workers
+    run the counties.
     """
     if client is not None:
         from . import _cluster
@@ -119,7 +119,7 @@ def _command(
 ) -> list[str]:
     """Returns the command that writes the rows of a county.
 
-    A program that isn't in a file yet, and that of a long filter, is written to a file in `scratch`.
+    A program that isn't in a file yet, or that of a long filter, is written to a file in `scratch`.
     """
     of_county = ["--data", str(folder), code]
     words = scratch / "program.bpf"
@@ -135,7 +135,7 @@ def _command(
 
 
 def with_own_paths(error: OSError, county: County, files: dict[str, Path]) -> OSError:
-    """Names the county's files, not the temporary links to them."""
+    """Returns an error that names the county's files instead of the temporary links to them."""
     text = str(error)
     for record_type, path in files.items():
         text = text.replace(str(path), str(county.files.get(record_type, f"{county.archive}: {path.name}")))

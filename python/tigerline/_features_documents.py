@@ -1,4 +1,4 @@
-"""The documents that describe the service: its start page, its definition, its counties and what filters can name."""
+"""The documents that describe the service: its landing page, its API definition, its counties and the queryables."""
 
 from typing import Any
 
@@ -37,7 +37,7 @@ def link(relation: str, media_type: str, target: str, title: str | None = None) 
 
 
 def landing(base: str) -> Document:
-    """Returns the start page."""
+    """Returns the landing page."""
     return {
         "title": TITLE,
         "description": "Each collection is a county. The program extractd selects the segments of a filter.",
@@ -51,7 +51,7 @@ def landing(base: str) -> Document:
 
 
 def county(base: str, code: str, summary: Summary | None) -> Document:
-    """Returns the description of a county. Its extent is there if the summary is given and some segment has one."""
+    """Returns the description of a county. It has an extent if the summary is given and has one."""
     here = f"{base}/collections/{code}"
     document: Document = {
         "id": code,
@@ -72,7 +72,7 @@ def county(base: str, code: str, summary: Summary | None) -> Document:
 
 
 def queryables(base: str, code: str) -> Document:
-    """Returns the columns that are of the same type in a filter as in a feature."""
+    """Returns the columns that have the same type in a filter as in a feature."""
     properties: Document = {field.name: {"title": field.name, **_schema(field)} for field in PROPERTIES}
     return {
         "$schema": "https://json-schema.org/draft/2020-12/schema",
@@ -94,7 +94,7 @@ def _schema(field: Field) -> Document:
 
 
 def definition(base: str, codes: list[str], limits: Limits) -> Document:
-    """Returns the definition of the service in OpenAPI 3.0."""
+    """Returns the API definition in OpenAPI 3.0."""
     paths = {
         "/": _operation("getLandingPage", [], JSON),
         "/api": _operation("getDefinition", [], OPENAPI),
@@ -135,7 +135,7 @@ def _items_parameters(limits: Limits) -> list[Document]:
         _parameter("filter", {"type": "string", "maxLength": limits.filter_length}),
         _parameter("filter-lang", {"type": "string", "enum": list(LANGUAGES), "default": LANGUAGES[0]}),
         *(_parameter(name, systems) for name in ("bbox-crs", "filter-crs", "crs")),
-        # GDAL sends filters that name these alone.
+        # GDAL sends only filters that name these.
         *(_parameter(field.name, _schema(field)) for field in PROPERTIES),
     ]
 

@@ -20,7 +20,7 @@ MISSING = "null"
 
 
 def _split() -> Struct:
-    """Returns the layout that takes a record apart: the fields, and bytes without a name between them."""
+    """Returns the layout that unpacks a record: the fields, and unnamed bytes between them."""
     form, place = "", 0
     for field in FIELDS:
         form += f"{field.first - 1 - place}x{field.last - field.first + 1}s"
@@ -29,7 +29,7 @@ def _split() -> Struct:
 
 
 def _value(field: Field) -> Callable[[bytes], str]:
-    """Returns a function that writes the value of a field as JSON. Texts and codes recur, so these are kept."""
+    """Returns a function that writes the value of a field as JSON. Texts and codes recur, so they are cached."""
     read = _READ[field.kind]
 
     @lru_cache(KEPT_VALUES)

@@ -10,7 +10,7 @@ RETRY_SECONDS = 5
 
 
 class Problem(Exception):
-    """A request that gets an error: the status, the kind of problem, a text for people and further members."""
+    """A request that results in an error: the status, the kind of problem, a text for people and further members."""
 
     def __init__(self, status: int, kind: str, detail: str, **members: Any) -> None:
         super().__init__(status, kind, detail)
@@ -31,21 +31,21 @@ class Problem(Exception):
 
 
 class ClientLeft(Exception):
-    """The client has closed its connection, so nobody waits for the reply."""
+    """The client has closed its connection, so nobody needs the reply."""
 
 
 def bad_parameter(name: str, detail: str) -> Problem:
-    """Returns the problem of a parameter with a value that can't be used."""
+    """Returns the problem of a parameter with an invalid value."""
     return Problem(400, "bad-parameter", f"{name}: {detail}", parameter=name)
 
 
 def not_found(what: str) -> Problem:
-    """Returns the problem of something that isn't there."""
+    """Returns the problem of something that doesn't exist."""
     return Problem(404, "not-found", f"there is no {what}")
 
 
 def refused_filter(refused: Refused) -> Problem:
-    """Returns the problem of a filter that `extractd` refuses, with the place in the text of the parameter."""
+    """Returns the problem of a filter that `extractd` refuses, with the place in the parameter's text."""
     found = _PLACE.fullmatch(refused.place)
     place = {"line": int(found[1]), "column": int(found[2])} if found else {}
     members = {"parameter": "filter", "refusal": refused.number, "name": refused.name, **place}

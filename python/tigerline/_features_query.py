@@ -1,4 +1,4 @@
-"""Reads the parameters of a request for features, and makes the filter of them that `extractd` compiles."""
+"""Reads the parameters of a request for features, and makes a filter of them for `extractd`."""
 
 import math
 import re
@@ -10,12 +10,12 @@ from urllib.parse import parse_qsl
 from ._features_problems import Problem, bad_parameter
 from ._layout import FIELDS, Field, Kind
 
-# The longitude comes first in both. The files are in NAD 83, which is CRS83.
+# In both, the longitude comes first. The files are in NAD 83, which is CRS83.
 CRS84 = "http://www.opengis.net/def/crs/OGC/1.3/CRS84"
 CRS83 = "http://www.opengis.net/def/crs/OGC/1.3/CRS83"
 SYSTEMS = (CRS84, CRS83)
 LANGUAGES = ("cql2-text", "cql-text")
-# The fields that are of the same type in a filter as in a feature. Codes aren't: ZIPL is a number in a filter alone.
+# The fields that have the same type in a filter as in a feature. Codes don't: ZIPL is a number only in a filter.
 PROPERTIES = tuple(field for field in FIELDS if field.kind is not Kind.CODE)
 DEFAULT_PAGE = 1000
 LARGEST_NUMBER = 999_999_999_999_999_999
@@ -34,7 +34,7 @@ _TIME = re.compile(rf"{_DAY}|({_DAY}|(\.\.)?)/({_DAY}|(\.\.)?)")
 
 @dataclass(frozen=True)
 class Box:
-    """A box of longitudes and latitudes as literals of a filter. West of `east`, it crosses the 180th meridian."""
+    """A box of longitudes and latitudes as literals of a filter. It crosses the 180th meridian if `west` > `east`."""
 
     west: Decimal
     south: Decimal
@@ -42,10 +42,10 @@ class Box:
     north: Decimal
 
     def filter(self) -> str:
-        """Returns the filter for the segments with both ends known, and with a box around these that meets this one."""
+        """Returns the filter for segments with two known ends whose bounding box intersects this box."""
         longitudes = [_either("LONG", ">=", self.west), _either("LONG", "<=", self.east)]
         latitudes = [_either("LAT", ">=", self.south), _either("LAT", "<=", self.north)]
-        # These are last, so that they are looked at for few segments.
+        # These come last, so that they are evaluated for few segments.
         known = [f"{name} IS NOT NULL" for name in ("FRLONG", "FRLAT", "TOLONG", "TOLAT")]
         across = " OR " if self.west > self.east else " AND "
         return " AND ".join((f"({across.join(longitudes)})", *latitudes, *known))
@@ -57,12 +57,12 @@ def _either(axis: str, operator: str, value: Decimal) -> str:
 
 @dataclass(frozen=True)
 class Selection:
-    """Which segments of a county a request is about: those of a filter, of which all conditions are true too."""
+    """The segments of a county that a request is about: those for which the filter and all conditions are true."""
 
     filter: str | None = None
     conditions: tuple[str, ...] = ()
 
-    # What is in front of the filter in the text of both.
+    # The part of the text that precedes the filter.
     PREFIX = "("
 
     @property
@@ -85,7 +85,7 @@ class ItemsQuery:
 
 
 def parameters(query: str, known: Collection[str]) -> dict[str, str]:
-    """Returns the parameters of a query. Raises Problem for an unknown one, and for one that is there twice."""
+    """Returns the parameters of a query. Raises Problem for an unknown or a repeated one."""
     try:
         pairs = parse_qsl(query, keep_blank_values=True, errors="strict")
     except (UnicodeDecodeError, ValueError):
@@ -105,7 +105,7 @@ def parameters(query: str, known: Collection[str]) -> dict[str, str]:
 
 
 def items_query(given: dict[str, str], filter_length: int, largest_page: int) -> ItemsQuery:
-    """Returns the request that the parameters make. Raises Problem for values that can't be used."""
+    """Returns the request of the parameters. Raises Problem for invalid values."""
     for name in ("bbox-crs", "filter-crs"):
         system(given, name)
     if given.get("filter-lang", LANGUAGES[0]) not in LANGUAGES:
@@ -138,7 +138,7 @@ def system(given: dict[str, str], name: str) -> str:
 
 
 def whole_number(given: dict[str, str], name: str, default: int) -> int:
-    """Returns the number of a parameter. One of more than 18 digits becomes the largest that has 18."""
+    """Returns the number of a parameter. One of more than 18 digits becomes the largest of 18 digits."""
     text = given.get(name, str(default))
     if not re.fullmatch(r"[0-9]+", text):
         raise bad_parameter(name, "it is a whole number")
@@ -147,7 +147,7 @@ def whole_number(given: dict[str, str], name: str, default: int) -> int:
 
 
 def equality(field: Field, value: str) -> str:
-    """Returns the filter for the segments that have a value in a field. Raises Problem if none can have it."""
+    """Returns the filter for segments with a value in a field. Raises Problem if no segment can have it."""
     if field.kind is Kind.TEXT:
         width = field.last - field.first + 1
         if not value.strip(" ") or len(value) > width or not value.isprintable() or max(value) > "\xff":
@@ -159,12 +159,12 @@ def equality(field: Field, value: str) -> str:
 
 
 def quoted(text: str) -> str:
-    """Returns the literal of a text."""
+    """Returns a text as a literal."""
     return "'" + text.replace("'", "''") + "'"
 
 
 def box(text: str) -> Box:
-    """Returns the box of the parameter bbox. Heights, in a box of six numbers, don't matter: segments have none."""
+    """Returns the box of the parameter bbox. Ignores the heights in a box of six numbers: segments have none."""
     parts = [part.strip(" ") for part in text.split(",")]
     if len(parts) not in (4, 6) or not all(_NUMBER.fullmatch(part) for part in parts):
         raise bad_parameter("bbox", "it is four or six numbers with commas between them")
@@ -187,7 +187,7 @@ def box(text: str) -> Box:
 
 
 def _literal(number: float, rounding: str) -> Decimal:
-    """Returns a literal that the same coordinates are at least, or at most, which have up to six decimals too.
+    """Rounds a bound to six decimals. Coordinates have no more, so the same ones satisfy it.
 
     GDAL sends -86.7 as -86.700000000000003. Both are the same floating point number, and -86.7 is its shortest form.
     """

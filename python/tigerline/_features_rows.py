@@ -1,4 +1,4 @@
-"""Has `extractd` select segments under limits, and keeps the rows of the latest selections."""
+"""Has `extractd` select segments within limits, and caches the rows of the latest selections."""
 
 import math
 import os
@@ -27,7 +27,7 @@ SCORE = b"0\t"
 ROW_LENGTH = len(SCORE) + RECORD_LENGTH + 1
 CHUNK = 10_000  # rows
 POLL_SECONDS = 0.02
-SMALLEST_BUFFER = 4096  # bytes that a buffer without rows is counted as
+SMALLEST_BUFFER = 4096  # bytes; a buffer without rows counts as this size
 MOST_BUFFERS = 256  # each is an open file
 
 ClientIsThere = Callable[[], bool]
@@ -35,7 +35,7 @@ ClientIsThere = Callable[[], bool]
 
 @dataclass(frozen=True)
 class Limits:
-    """What the service allows. Sizes are in bytes, and pages in features."""
+    """The limits of the service. Sizes are in bytes, and page sizes in features."""
 
     processes: int = 2
     waiting: int = 32
@@ -47,7 +47,7 @@ class Limits:
 
 
 class Rows:
-    """The rows of a selection in a temporary file, which has no name and ends with this object."""
+    """The rows of a selection, in an unnamed temporary file that is deleted with this object."""
 
     def __init__(self, file: IO[bytes]) -> None:
         size = os.fstat(file.fileno()).st_size
@@ -75,7 +75,7 @@ class Rows:
 
 
 class Watch(Interrupts):
-    """Ends a selection when its time is over, and when nobody waits for it any longer."""
+    """Ends a selection when its time is over or when no client waits for it any longer."""
 
     def __init__(self, seconds: float, client_is_there: ClientIsThere) -> None:
         super().__init__()
@@ -93,7 +93,7 @@ class Watch(Interrupts):
 
 @dataclass(frozen=True)
 class Summary:
-    """What is known of a county: its west, south, east and north, and the records of each TLID that it has twice."""
+    """A county's west, south, east and north, and the records of each repeated TLID."""
 
     extent: tuple[float, float, float, float] | None
     repeated: dict[int, list[bytes]]
@@ -119,7 +119,7 @@ class Processes:
                     kill_group(process)
 
     def select(self, county: County, selection: Selection, client_is_there: ClientIsThere) -> Rows:
-        """Returns the rows of a selection. Raises Problem if there are none to return."""
+        """Returns the rows of a selection. Raises Problem if it has none to return."""
         with self._slot(client_is_there), tempfile.TemporaryFile() as output:
             watch = Watch(self._limits.seconds, lambda: client_is_there() and not self._closed)
             if selection.filter is not None and selection.conditions:
@@ -133,7 +133,7 @@ class Processes:
     def _compile(self, text: str, watch: Watch) -> None:
         """Raises Problem if a filter is refused.
 
-        It goes alone before a filter with conditions, so that no parenthesis in it can end the one in front of it.
+        A filter with conditions is first checked alone, so that no parenthesis in it can close the one before it.
         """
         with tempfile.TemporaryFile() as output:
             try:
@@ -201,7 +201,7 @@ def _wait(process: subprocess.Popen[bytes], watch: Watch) -> int:
 
 
 def _problem(refused: Refused, county: str, selection: Selection) -> Problem:
-    """Returns the problem of a refusal, with a place in the filter as the client wrote it."""
+    """Returns the problem of a refusal, with a place in the filter as the client sent it."""
     if refused.county is not None:
         return refused_county(refused, county)
     problem = refused_filter(refused)
@@ -212,7 +212,7 @@ def _problem(refused: Refused, county: str, selection: Selection) -> Problem:
 
 @dataclass
 class Store:
-    """The rows of the latest selections. A selection is made once, also if several clients request it at once."""
+    """The rows of the latest selections. Makes each selection only once, even if several clients request it at once."""
 
     processes: Processes
     limits: Limits
@@ -224,7 +224,7 @@ class Store:
     _waiting: int = 0
 
     def rows(self, county: County, selection: Selection, client_is_there: ClientIsThere, *, keep: bool = True) -> Rows:
-        """Returns the rows of a selection, which `extractd` makes only if they aren't kept."""
+        """Returns the rows of a selection. `extractd` runs only if they aren't cached."""
         key = (county.code, selection)
         while True:
             with self._lock:
@@ -242,7 +242,7 @@ class Store:
                 if pending is not None:
                     return pending.result()
             except ClientLeft:
-                # It was another client's, so this one makes the selection now.
+                # The client that made the selection has left, so this one makes it now.
                 if mine is not None:
                     raise
             finally:
@@ -268,7 +268,7 @@ class Store:
         return rows
 
     def _keep(self, key: tuple[str, Selection], rows: Rows) -> None:
-        """Keeps rows in place of those that weren't requested for the longest time. The latest are always kept."""
+        """Caches rows and drops those that were requested longest ago. The latest are always cached."""
         self._buffers[key] = rows
         self._size += _size(key, rows)
         while len(self._buffers) > 1 and (self._size > self.limits.buffers or len(self._buffers) > MOST_BUFFERS):
@@ -292,7 +292,7 @@ def tlid_of(record: bytes) -> int:
 
 
 def _repeated(rows: Rows) -> dict[int, list[bytes]]:
-    """Returns the records of each TLID that several segments have, in the order of the file."""
+    """Returns the records of each TLID that several segments have, in the file's order."""
     seen: set[int] = set()
     twice: set[int] = set()
     for record in rows.all_records():
@@ -306,7 +306,7 @@ def _repeated(rows: Rows) -> dict[int, list[bytes]]:
 
 
 def _extent(rows: Rows) -> tuple[float, float, float, float] | None:
-    """Returns the west, south, east and north of all ends that have coordinates."""
+    """Returns the west, south, east and north of all ends with coordinates."""
     fields = {field.name: field for field in FIELDS if field.kind is Kind.COORDINATE}
     longitudes = _range(rows, fields["FRLONG"], fields["TOLONG"])
     latitudes = _range(rows, fields["FRLAT"], fields["TOLAT"])

@@ -1,7 +1,7 @@
-"""An HTTP/1.1 server for one WSGI application, in which slow clients hold up no others.
+"""An HTTP/1.1 server for one WSGI application, in which slow clients don't delay others.
 
-A task reads each request and sends each reply, and threads run the application. So a client that is slow, or does
-nothing, costs a connection alone, and at the limit of connections that is closed which has waited longest.
+A task reads each request and sends each reply, and threads run the application. So a slow or idle client occupies only
+a connection. At the limit of connections, the one that has waited longest is closed.
 """
 
 import asyncio
@@ -25,14 +25,14 @@ CLIENT_IS_THERE = "tigerline.client_is_there"
 LONGEST_HEAD = 65_536
 IDLE_SECONDS = 30.0
 SENDING_SECONDS = 60.0
-# Replies that clients haven't taken yet have up to this many bytes; past it the oldest of them is given up.
+# The most bytes of replies that clients haven't read yet. Above it the oldest reply is dropped.
 MOST_UNSENT = 128 << 20
 SPARE_THREADS = 8
 BACKLOG = 512
 
 
 class BadRequest(Exception):
-    """A request that isn't HTTP, or that this server doesn't take."""
+    """A request that isn't HTTP, or that this server doesn't support."""
 
     def __init__(self, status: HTTPStatus) -> None:
         super().__init__(status)
@@ -50,13 +50,13 @@ class Request:
 
     @property
     def keeps_alive(self) -> bool:
-        """Whether the connection has another request after this one. A body isn't read, so it ends the connection."""
+        """Returns whether the connection takes another request. A body isn't read, so it ends the connection."""
         has_body = self.headers.get("content-length", "0") != "0" or "transfer-encoding" in self.headers
         return self.version == "HTTP/1.1" and not has_body and self.headers.get("connection", "").lower() != "close"
 
 
 def read_request(head: bytes) -> Request:
-    """Returns the request of a head. Raises BadRequest if it is none."""
+    """Returns the request of a head. Raises BadRequest if it isn't one."""
     first, *lines = head.decode("latin-1").removesuffix("\r\n\r\n").split("\r\n")
     parts = first.split(" ")
     if len(parts) != 3 or not parts[0].isalpha() or not parts[1] or parts[2] not in ("HTTP/1.0", "HTTP/1.1"):
@@ -75,14 +75,14 @@ def read_request(head: bytes) -> Request:
 
 @dataclass(eq=False)
 class Connection:
-    """A connection, and the bytes of its reply that the client hasn't taken yet."""
+    """A connection, and the bytes of its reply that the client hasn't read yet."""
 
     reader: asyncio.StreamReader
     writer: asyncio.StreamWriter
     unsent: int = 0
 
     def client_is_there(self) -> bool:
-        """Whether the client still has its connection."""
+        """Returns whether the client still has its connection."""
         return not self.reader.at_eof() and self.reader.exception() is None
 
     def abort(self) -> None:
@@ -92,13 +92,13 @@ class Connection:
 
 @dataclass
 class Server:
-    """The connections of a service. All of this runs in one thread, but for the application."""
+    """The connections of a service. Everything except the application runs in one thread."""
 
     service: "Service"
     limits: Limits
     threads: ThreadPoolExecutor
     connections: dict[Connection, "asyncio.Task[None] | None"] = field(default_factory=dict)
-    # Both are in the order of time.
+    # Both are ordered by time.
     waiting: dict[Connection, None] = field(default_factory=dict)
     sending: dict[Connection, None] = field(default_factory=dict)
     unsent: int = 0
@@ -124,7 +124,7 @@ class Server:
                 await writer.wait_closed()
 
     def _has_room(self) -> bool:
-        """Whether there is room for another connection; makes it by closing the one that has waited longest."""
+        """Returns whether another connection fits. If necessary, closes the one that has waited longest."""
         if len(self.connections) < self.limits.connections:
             return True
         for oldest in self.waiting:
@@ -135,7 +135,7 @@ class Server:
         return False
 
     async def _answer(self, connection: Connection) -> bool:
-        """Answers one request, and returns whether another may follow."""
+        """Answers one request. Returns whether another may follow."""
         try:
             request = read_request(await self._read_head(connection))
         except BadRequest as error:
@@ -159,7 +159,7 @@ class Server:
             self.waiting.pop(connection, None)
 
     async def _send(self, connection: Connection, reply: bytes) -> None:
-        """Sends a reply by one write, so that its head and its body leave together."""
+        """Sends a reply in one write, so that its head and its body leave together."""
         connection.unsent = len(reply)
         self.unsent += connection.unsent
         self.sending[connection] = None
@@ -183,14 +183,14 @@ class Server:
 
 
 def bare_reply(status: HTTPStatus) -> bytes:
-    """Returns a reply of the server itself, to what isn't a request to the application."""
+    """Returns a reply of the server itself, for input that isn't a request to the application."""
     body = f'{{"type":"about:blank","title":"{status.phrase}","status":{status.value}}}'
     head = f"HTTP/1.1 {status.value} {status.phrase}\r\nContent-Type: application/problem+json\r\n"
     return f"{head}Content-Length: {len(body)}\r\nConnection: close\r\n\r\n{body}".encode()
 
 
 def environ_of(request: Request, connection: Connection) -> dict[str, Any]:
-    """Returns what WSGI says of a request (PEP 3333)."""
+    """Returns the WSGI environment of a request (PEP 3333)."""
     target = request.target
     if "://" in target.partition("?")[0]:
         target = "/" + target.split("://", 1)[1].partition("/")[2]
@@ -217,7 +217,7 @@ def environ_of(request: Request, connection: Connection) -> dict[str, Any]:
 
 
 def call(service: "Service", environ: dict[str, Any], keeps_alive: bool) -> bytes:
-    """Returns the whole reply of the application."""
+    """Returns the complete reply of the application."""
     head: list[str] = []
 
     def start_response(status: str, headers: list[tuple[str, str]], *_: object) -> Callable[[bytes], object]:
@@ -234,7 +234,7 @@ def call(service: "Service", environ: dict[str, Any], keeps_alive: bool) -> byte
 
 
 async def serve(service: "Service", host: str, port: int, limits: Limits, say: Callable[[str], object]) -> None:
-    """Serves until SIGINT, SIGTERM or SIGHUP. Then all connections and processes are ended."""
+    """Serves until SIGINT, SIGTERM or SIGHUP, and then ends all connections and processes."""
     stopped = asyncio.Event()
     for number in (signal.SIGINT, signal.SIGTERM, signal.SIGHUP):
         if signal.getsignal(number) is not signal.SIG_IGN:  # nohup ignores SIGHUP.

@@ -1,4 +1,4 @@
-"""Asks `extractd geocode-batch` about all readings of addresses, and chooses among its hits."""
+"""Runs `extractd geocode-batch` with all readings of addresses, and chooses among its hits."""
 
 import csv
 import io
@@ -25,7 +25,7 @@ HIT_COLUMNS = (
 
 
 class Hit(NamedTuple):
-    """A line of `geocode-batch`: a range that has the house number, with the name of the segment that fits."""
+    """A line of `geocode-batch`: a range with the house number, and the name of its segment that matches."""
 
     longitude: str
     latitude: str
@@ -47,7 +47,7 @@ class Hit(NamedTuple):
 
 
 class ZipCode(IntEnum):
-    """How the ZIP Code of a hit agrees with that of an address, the best first."""
+    """How the ZIP Code of a hit agrees with that of an address, best first."""
 
     SAME = 0
     MISSING = 1
@@ -71,7 +71,7 @@ class Answer:
     street_exists: bool = False
 
     def add(self, reading: Reading, hit: Hit, order: tuple[int, int]) -> None:
-        """Takes a hit if it agrees with the reading, and drops those that agree less. `order` is of county and reading."""
+        """Adds a hit that agrees with the reading, and drops those that agree less. `order`: county and reading."""
         difference = compare_street(reading, hit)
         if difference is None:
             return
@@ -88,7 +88,7 @@ class Answer:
 
 
 def compare_street(reading: Reading, hit: Hit) -> tuple[tuple[Reason, ...], int] | None:
-    """Returns what only one of the two states, and how much of it is the reading's. None if both state something else.
+    """Returns the parts that only one of the two states, and how many are the reading's, or None if they contradict.
 
     A direction on the other side of the name is the same direction: `Main St W` may be `W Main St`, but not `E Main St`.
     """
@@ -139,7 +139,7 @@ def ask(
     *,
     warns: bool = True,
 ) -> None:
-    """Adds to the answers what `geocode-batch` finds, by one run for each county."""
+    """Adds the hits of `geocode-batch` to the answers. Runs it once per county."""
     askers, given = _questions(addresses)
     if not askers:
         return
@@ -165,10 +165,10 @@ def ask(
 
 
 def _questions(addresses: Sequence[tuple[Street, Answer]]) -> tuple[list[list[Asker]], bytes]:
-    """Returns who asks each question, and the CSV file of the questions, each of which is in it once.
+    """Returns the askers of each question, and a CSV file with each question once.
 
-    The program compares the first name of a segment that fits the given parts, and a segment may be called both
-    `Main Ave` and `Main St`. So the parts are given once, and once left out, as the data may leave them out.
+    The program compares the first name of a segment that matches the given parts, and a segment may be called both
+    `Main Ave` and `Main St`. So each question is asked with the parts and without them, since the data may omit them.
     """
     askers: dict[tuple[int, str, tuple[str, str, str]], list[Asker]] = {}
     for street, answer in addresses:

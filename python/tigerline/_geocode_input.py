@@ -23,7 +23,7 @@ _HEADS = {"street", "address", "street address"}
 
 
 class Address(NamedTuple):
-    """An address: its id, the street with the house number, and the rest. Only `street` and `zip` are looked at."""
+    """An address: its id, the street with the house number, and the rest. Only `street` and `zip` are used."""
 
     id: str
     street: str
@@ -37,7 +37,7 @@ COLUMNS = Address._fields
 
 @dataclass(frozen=True)
 class AddressFile:
-    """A CSV file of addresses: a regular file, and how it is named in messages."""
+    """A CSV file of addresses: a regular file, and its name in messages."""
 
     path: Path
     name: str
@@ -82,7 +82,7 @@ class AddressFile:
             yield Address._make([row[at] if at >= 0 else "" for at in columns])
 
     def _rows(self, file: TextIO) -> Iterator[tuple[int, list[str]]]:
-        """Yields the rows with anything in them, and the lines in which they begin."""
+        """Yields the nonempty rows, with the lines in which they begin."""
         reader = csv.reader(file, strict=True)
         while True:
             line = reader.line_num + 1
@@ -101,7 +101,7 @@ class AddressFile:
         return f"{count}: {', '.join(COLUMNS[:-1])} and {COLUMNS[-1]}"
 
     def _columns_of(self, head: list[str], line: int) -> list[int]:
-        """Returns the place of each column of an address in the rows, -1 if there is none."""
+        """Returns the place of each column of an address in the rows, or -1 if it is missing."""
         names = [name.strip().lower() for name in head]
         for required in ("id", "street"):
             if required not in names:
@@ -115,7 +115,7 @@ class AddressFile:
             )
 
     def _line_of_encoding_error(self) -> int:
-        """Returns the first line that can't be decoded, by decoding again line after line."""
+        """Returns the first line that can't be decoded, by decoding line by line again."""
         decoder = codecs.getincrementaldecoder(self.encoding)()
         number = 0
         with open(self.path, "rb") as file:
@@ -144,7 +144,7 @@ def opened_input(name: str, interrupts: Interrupts) -> Iterator[Path]:
                 raise OSError("standard input is closed")
             _copy(sys.stdin.fileno(), copy, "standard input", interrupts)
         else:
-            # Opening a named pipe would otherwise wait for a writer, and Ctrl-C would wait with it.
+            # Otherwise opening a named pipe would wait for a writer, and delay Ctrl-C.
             descriptor = os.open(name, os.O_RDONLY | os.O_NONBLOCK)
             try:
                 _copy(descriptor, copy, name, interrupts)
@@ -154,7 +154,7 @@ def opened_input(name: str, interrupts: Interrupts) -> Iterator[Path]:
 
 
 def _copy(descriptor: int, copy: Path, name: str, interrupts: Interrupts) -> None:
-    """Copies what can be read to a file. It waits for a short time only, so that Ctrl-C is noticed."""
+    """Copies all input to a file. Waits only for short times, so that Ctrl-C is noticed."""
     with naming(copy), open(copy, "wb") as file:
         while True:
             interrupts.check()

@@ -41,7 +41,7 @@ _TYPES = """
     Thwy Throughway Thruway Trwy | Tpke Turnpike Tpk | Trce Trace | Trk Track | Trl Trail Trails | Tunl Tunnel
     Un Union | Vis Vista | Vlg Village | Vly Valley | Vw View | Walk | Way Wy | Wls Wells | Xing Crossing | Xrd Crossroad
 """
-# What may be written for a street type, in capitals, and the field FETYPE.
+# Spellings of street types in capitals, and their FETYPE.
 TYPES = {
     word.upper(): words.split()[0]
     for line in _TYPES.splitlines()
@@ -50,7 +50,7 @@ TYPES = {
 }
 
 _UNITS = "APARTMENT APT BLDG BOX BUILDING DEPT DEPARTMENT FL FLOOR HANGAR HNGR LOT RM ROOM SLIP SPACE SPC STE SUITE"
-# Words that come before the number of a unit, and words that are a unit by themselves.
+# Words before the number of a unit, and words that are a unit by themselves.
 UNITS = frozenset(f"{_UNITS} TRAILER TRLR UNIT".split())
 PARTS_OF_HOUSES = frozenset("BASEMENT BSMT FRNT FRONT LOWER LOWR PENTHOUSE PH REAR UPPER UPPR".split())
 
@@ -66,7 +66,7 @@ _FARM_ROAD = ("FM {}", "F M {}", "FM Road {}", "Farm to Market Road {}", "Farm-t
 
 _COUNTY, _STATE, _US = "(?:CO|CNTY|COUNTY)", "(?:ST|STATE)", "(?:US|U S|UNITED STATES)"
 _ROAD, _ROUTE, _HIGHWAY = "(?:RD|ROAD)", "(?:RT|RTE|ROUTE)", "(?:HWY|HIGHWAY|HIWAY)"
-# How a numbered road may be written, the names that mean the same, and those of the same system with another word.
+# Spellings of numbered roads, names with the same meaning, and names of the same system with another word.
 _ROUTES = [
     (re.compile(rf"(?:{written})[ -]{{0,2}}([0-9]{{1,5}}[A-Z]?)"), same, other)
     for written, same, other in (
@@ -86,9 +86,9 @@ _ROUTES = [
 
 
 def route_names(name: str) -> tuple[list[str], list[str]]:
-    """Returns what else a numbered road may be called: names that mean the same, and names with another word.
+    """Returns the other names of a numbered road: those with the same meaning, and those with another word.
 
-    `CR 46` means `County Road 46`; `County Highway 46` is called by another word. The name is in capitals, without dots.
+    `CR 46` means `County Road 46`; `County Highway 46` has another word. The name is in capitals, without dots.
     """
     for pattern, same, other in _ROUTES:
         if found := pattern.fullmatch(name):
@@ -97,7 +97,7 @@ def route_names(name: str) -> tuple[list[str], list[str]]:
 
 
 def same_type(one: str, other: str) -> bool:
-    """Says whether two street types are the same one, however they are abbreviated."""
+    """Returns whether two street types are the same, however they are abbreviated."""
     return _type_of(one) == _type_of(other)
 
 

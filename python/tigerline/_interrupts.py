@@ -1,4 +1,4 @@
-"""Delays signals such as Ctrl-C while files and processes are open, so that none is left when one arrives."""
+"""Delays signals such as Ctrl-C while files and processes are open, so that none of them is left over."""
 
 import os
 import signal
@@ -12,8 +12,8 @@ from typing import Any, Self
 class Interrupts:
     """Holds signals back until the end of a `with` block, which then ends as if the signal had just arrived.
 
-    Ctrl-C would otherwise raise KeyboardInterrupt between any two steps, for example after a folder was made and before
-    anything is there to remove it. Outside the main thread, where Python handles no signals, this does nothing.
+    Otherwise Ctrl-C would raise KeyboardInterrupt between any two steps, for example after a folder is made and before
+    its removal is ensured. Outside of the main thread, where Python handles no signals, this does nothing.
     """
 
     def __init__(self, *signals: signal.Signals) -> None:
@@ -50,7 +50,7 @@ class Interrupts:
             raise KeyboardInterrupt
 
     def watch(self, process: subprocess.Popen[bytes] | None) -> None:
-        """Has the process and its group killed when a signal arrives, so that nothing waits for it any longer."""
+        """Has a process and its group killed when a signal arrives, so that nothing waits for it any longer."""
         self._process = process
         if process is not None and self._arrived is not None:
             kill_group(process)

@@ -1,4 +1,4 @@
-"""The fields of record type 1 (docs/records.md), and the number and the coordinate of a field."""
+"""The fields of record type 1 (docs/records.md), and the numbers and coordinates in fields."""
 
 import re
 from enum import Enum
@@ -17,7 +17,7 @@ class Kind(Enum):
 
 
 class Field(NamedTuple):
-    """A field of record type 1. Places are counted from 1, and both ends are included."""
+    """A field of record type 1. Places are counted from 1 and include both ends."""
 
     name: str
     first: int
@@ -77,19 +77,19 @@ _COORDINATE = re.compile(r" *([+-]?[0-9]{1,9}) *")
 
 
 def number(field: str) -> int | None:
-    """Returns the number of a field, or None if it has none."""
+    """Returns the number in a field, or None if there is none."""
     found = _NUMBER.fullmatch(field)
     return int(found[1]) if found else None
 
 
 def coordinate(field: str) -> float | None:
-    """Returns the coordinate of a field in degrees, or None if it has none."""
+    """Returns the coordinate in a field in degrees, or None if there is none."""
     found = _COORDINATE.fullmatch(field)
     return int(found[1]) / 1_000_000 if found else None
 
 
 def text(field: str) -> str | None:
-    """Returns a text without the blanks at its end, or None if the field is blank."""
+    """Returns a text without trailing blanks, or None if the field is blank."""
     return field.rstrip(" ") or None
 
 

@@ -9,7 +9,7 @@ Line = tuple[Point, ...] | None
 
 
 def line_of(row: Row, shapes: Shapes) -> Line:
-    """Returns the points of a segment from its start to its end, or None if one of the two has no coordinates."""
+    """Returns the points of a segment from its start to its end, or None if one of these has no coordinates."""
     if row.FRLONG is None or row.FRLAT is None or row.TOLONG is None or row.TOLAT is None:
         return None
     between = shapes.get(row.TLID, ()) if row.TLID is not None else ()

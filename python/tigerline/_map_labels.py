@@ -1,4 +1,4 @@
-"""Names on a map: one place for each name, where it doesn't overlap another."""
+"""The names on a map: one place per name, without overlaps."""
 
 import math
 from collections import deque
@@ -26,7 +26,7 @@ class Label(NamedTuple):
 
     @property
     def width(self) -> float:
-        """About how wide the text is: nothing here knows the font."""
+        """The approximate width of the text: the font isn't known here."""
         return text_width(self.text)
 
     def cells(self) -> set[tuple[int, int]]:
@@ -43,7 +43,7 @@ class Label(NamedTuple):
 
 
 def labels_of(groups: Sequence[Group], view: View) -> list[Label]:
-    """Chooses one place for each name, the main roads' first, so that names don't overlap."""
+    """Returns one place for each name, the main roads' first, without overlaps."""
     labels: list[Label] = []
     taken: set[tuple[int, int]] = set()
     for group in reversed([group for group in groups if group.layer.names]):
@@ -94,7 +94,7 @@ def chains_of(group: Group) -> Iterator[tuple[str, list[Position]]]:
 
 
 def label_on(chain: Sequence[Position], label: Label, may_be_area: bool) -> Label | None:
-    """Puts a name into the middle of an area, or along a straight part of a line; None if there is no place for it."""
+    """Returns a name's place in the middle of an area or along a straight part of a line, or None if there is none."""
     if may_be_area and chain[0] == chain[-1]:
         across, down = [x for x, _ in chain], [y for _, y in chain]
         if max(across) - min(across) >= label.width * 0.9:
@@ -109,7 +109,7 @@ def label_on(chain: Sequence[Position], label: Label, may_be_area: bool) -> Labe
         straight = math.dist(chain[first], chain[last])
         if length < label.width * 1.15 or straight < length * 0.95:
             continue
-        # Straight is best, and then a little off the middle, where other lines cross.
+        # Straight is best, then a little away from the middle, since other lines cross there.
         cost = (1 - straight / length) * 8 + abs(abs((first + last) / 2 / len(steps) - 0.5) - 0.2)
         if best is None or cost < best[0]:
             start, end = sorted((chain[first], chain[last]))

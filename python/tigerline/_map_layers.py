@@ -22,7 +22,7 @@ class Layer:
     prefixes: tuple[str, ...]
     color: str
     width: float
-    casing: str = ""  # the color of the edges, for lines that have some
+    casing: str = ""  # the color of the edges, for lines with edges
     dashes: str = ""
     pale: str = PALE  # the color in the background
     fill: str = ""  # the color of areas
@@ -52,12 +52,12 @@ AREA_CLASSES = ("H3", "H4", "H5", "H6", "D8")
 
 @cache
 def class_place(cfcc: str) -> int:
-    """Returns the place of the layer that has the longest prefix of the class."""
+    """Returns the place of the layer with the longest prefix of the class."""
     return next(PLACE_OF_PREFIX[cfcc[:length]] for length in (3, 2, 1, 0) if cfcc[:length] in PLACE_OF_PREFIX)
 
 
 class Group(NamedTuple):
-    """A row of the legend: its look, its segments, and the lines of those that have points, in pixels."""
+    """A row of the legend: its look, its segments, and the lines of those with points, in pixels."""
 
     layer: Layer
     segments: list[MapSegment]
@@ -80,7 +80,7 @@ def groups_of(segments: Sequence[MapSegment], view: View, by: By) -> list[Group]
 
 
 def score_starts(segments: Sequence[MapSegment]) -> list[int]:
-    """Returns the lowest score of each class. Few scores are a class each; of many, classes are about equally large."""
+    """Returns the lowest score of each class. Few scores are a class each; many form classes of about equal size."""
     scores = sorted(segment.score for segment in segments)
     distinct = sorted(set(scores))
     if len(distinct) <= SCORE_CLASSES:

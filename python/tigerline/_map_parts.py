@@ -18,7 +18,7 @@ NOT_XML = re.compile("[^\t\n\r\x20-\ud7ff\ue000-\ufffd\U00010000-\U0010ffff]")
 
 
 def text_of(text: str) -> str:
-    """Escapes a text, without the characters that XML can't have."""
+    """Escapes a text, and removes the characters that XML doesn't allow."""
     return escape(printable(text))
 
 
@@ -48,7 +48,7 @@ def background_parts(groups: Sequence[Group], thickness: float) -> Iterator[str]
 
 
 def line_parts(groups: Sequence[Group], thickness: float) -> Iterator[str]:
-    """The lines of the selected segments. The edges of all roads are below them, so that roads join at corners."""
+    """Yields the lines of the selected segments. The edges of all roads are below them, so that corners join."""
     yield from area_parts(groups, 1)
     cased = [group for group in groups if group.layer.casing]
     for layer, _, lines in groups:
@@ -75,7 +75,7 @@ def name_parts(labels: Sequence[Label]) -> Iterator[str]:
 
 
 def legend_parts(groups: Sequence[Group], rest: int, x: float, y: float) -> Iterator[str]:
-    """A row for each group, main roads first, with a line as on the map and the number of segments."""
+    """Yields a row for each group, main roads first, with a line as on the map and the number of segments."""
     for layer, segments, _ in reversed(groups):
         line = f'fill="none" d="M{x} {y}h30"'
         if layer.fill:
@@ -104,7 +104,7 @@ def scale_length(longest: float) -> float:
 
 
 def scale_parts(pixels_per_kilometer: float, x: float, y: float) -> Iterator[str]:
-    """Two bars with their lengths, kilometers above miles."""
+    """Yields two bars with their lengths, kilometers above miles."""
     yield '<g id="scale" font-size="11">'
     for unit, kilometers, tick, text_y in (("km", 1.0, -6, y - 5), ("mi", KILOMETERS_PER_MILE, 6, y + 14)):
         pixels = kilometers * pixels_per_kilometer
@@ -115,7 +115,7 @@ def scale_parts(pixels_per_kilometer: float, x: float, y: float) -> Iterator[str
 
 
 def map_parts(view: View, groups: Sequence[Group], background: Sequence[Group], top: float) -> Iterator[str]:
-    """The map, which has its own view box, and the frame around it."""
+    """Yields the map, which has its own view box, and the frame around it."""
     size = f'width="{view.width}" height="{view.height}"'
     yield f'<svg id="map" x="{MARGIN}" y="{top}" {size} viewBox="0 0 {view.width} {view.height}">'
     yield f'<rect {size} fill="{PAPER}"/>'

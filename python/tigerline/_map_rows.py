@@ -11,7 +11,7 @@ from ._lines import Line, line_of
 from ._map_view import SMALLEST_EXTENT, Box, MapSegment, extent_of
 from ._rows import Row, read_rows, without
 
-AROUND = 0.15  # how far around the selection the map goes, as a part of its larger extent
+AROUND = 0.15  # how far the map extends around the selection, as a part of its larger extent
 MOST_SEGMENTS = 500_000  # about a small state; drawing more takes long, and so does opening the map
 
 Reader = Callable[[], Iterator[MapSegment]]
@@ -24,7 +24,7 @@ def map_segment(row: Row, line: Line) -> MapSegment:
 
 
 def box_around(segments: Iterable[MapSegment]) -> Box | None:
-    """Returns a box that is somewhat larger than the segments, or None if none of them has points."""
+    """Returns a box slightly larger than the segments, or None if none of them has points."""
     positions = [position for segment in segments for position in segment.points]
     if not positions:
         return None
@@ -36,7 +36,7 @@ def box_around(segments: Iterable[MapSegment]) -> Box | None:
 class MapContent:
     """Collects the segments that a map shows: the selected ones, and the others of counties with selected ones.
 
-    How to read the others is kept until it is known where the selected ones are.
+    The function that reads the others is kept until the place of the selected ones is known.
     """
 
     def __init__(self) -> None:
@@ -49,7 +49,7 @@ class MapContent:
         self.selected.append(map_segment(row, line))
 
     def add_others(self, count: int, read: Reader) -> None:
-        """Adds the other segments of a county. If there are too many in all, none is kept."""
+        """Adds the other segments of a county. If there are too many in total, none is kept."""
         self.others_count += count
         if self.others_count <= MOST_SEGMENTS:
             self._others.append(read)
@@ -72,7 +72,7 @@ class MapContent:
                 yield segment
 
     def background(self, box: Box | None, interrupts: Interrupts) -> list[MapSegment]:
-        """Returns the other segments that are near the box. If there were too many to keep, a warning says so."""
+        """Returns the other segments near the box. Warns if there were too many to keep."""
         if self.others_count > MOST_SEGMENTS:
             warnings.warn(
                 f"the map shows the selection alone: its counties have more than {MOST_SEGMENTS:,} other segments",

@@ -11,7 +11,7 @@ Position = tuple[float, float]
 # Lengths are in pixels.
 MAP_WIDTH, MAP_HEIGHT, SMALLEST_MAP = 860, 700, 360
 MARGIN = 14
-SMALLEST_EXTENT = 0.002  # degrees, so that a short segment isn't drawn larger than life
+SMALLEST_EXTENT = 0.002  # degrees, so that a short segment isn't magnified too much
 KILOMETERS_PER_DEGREE = 111.195  # of latitude, on a sphere of 6,371 km
 
 
@@ -33,7 +33,7 @@ class Box(NamedTuple):
     north: float
 
     def touches(self, other: "Box") -> bool:
-        """Whether the two have a position in common."""
+        """Returns whether the two have a position in common."""
         across = self.west <= other.east and other.west <= self.east
         return across and self.south <= other.north and other.south <= self.north
 
@@ -64,12 +64,12 @@ class View:
 
     @property
     def thickness(self) -> float:
-        """The factor of line widths: 1 for a town, less for a state."""
+        """The factor for line widths: 1 for a town, less for a state."""
         return min(max(math.sqrt(self.pixels_per_kilometer / 100), 0.3), 1.25)
 
 
 def view_of(groups: Iterable[Sequence[MapSegment]], box: Box | None) -> View:
-    """Returns the view in which all segments are in the frame, or those parts of them that are in the box."""
+    """Returns the view whose frame contains all segments, or the parts of them in the box."""
     positions = [position for segments in groups for segment in segments for position in segment.points] or [(0.0, 0.0)]
     west, south, east, north = extent_of(positions)
     if box:
@@ -86,7 +86,7 @@ def view_of(groups: Iterable[Sequence[MapSegment]], box: Box | None) -> View:
 
 
 def path_data(lines: Iterable[Sequence[Position]]) -> str:
-    """Returns lines of pixels as the data of one path. A line that starts where the one before ends continues it."""
+    """Returns lines of pixels as the data of one path. A line that starts at the end of the one before continues it."""
     parts: list[str] = []
     last = ""
     for line in lines:
@@ -99,7 +99,7 @@ def path_data(lines: Iterable[Sequence[Position]]) -> str:
 
 
 def rings(lines: Sequence[Sequence[Position]]) -> Iterator[list[Position]]:
-    """Joins lines at their ends, and returns those that come out closed."""
+    """Joins lines at their ends, and yields those that become closed."""
     at: dict[Position, list[int]] = defaultdict(list)
     for place, line in enumerate(lines):
         at[line[0]].append(place)

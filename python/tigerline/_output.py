@@ -19,7 +19,7 @@ class PendingFile:
     overwrite: bool
 
     def publish(self) -> None:
-        """Moves the file to its final place. Without `overwrite` a file that has appeared there since is kept."""
+        """Moves the file to its final place. Without `overwrite`, keeps a file that has appeared there meanwhile."""
         with naming(self.final):
             _store(self.path)
             if self.overwrite:
@@ -30,7 +30,7 @@ class PendingFile:
 
 @contextmanager
 def pending_file(final: Path, overwrite: bool) -> Iterator[PendingFile]:
-    """Prepares a file. Unless it is published, nothing is left of it."""
+    """Prepares a file. Removes it unless it is published."""
     final = Path(os.path.realpath(final))
     if final.is_dir():
         raise IsADirectoryError(errno.EISDIR, os.strerror(errno.EISDIR), str(final))
@@ -48,7 +48,7 @@ def _refuse_existing(final: Path) -> None:
 
 
 def _store(path: Path) -> None:
-    """Has the system store what it still buffers, which may fail."""
+    """Flushes the system's buffers, which may fail."""
     with open(path, "rb") as file:
         os.fsync(file.fileno())
 

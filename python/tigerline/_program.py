@@ -37,9 +37,9 @@ class Refused(Exception):
 
 
 def find_program(extractd: PathLike | None, interrupts: Interrupts) -> str:
-    """Returns the path of `extractd`: the argument, else the environment variable EXTRACTD, else the first in PATH.
+    """Returns the path of `extractd`: the argument, the environment variable EXTRACTD, or the first in PATH.
 
-    Raises OSError if there is none, or if it isn't of the version that this package is for.
+    Raises OSError if there is none or if it has another version than this package supports.
     """
     path = os.fspath(extractd) if extractd is not None else os.environ.get("EXTRACTD") or "extractd"
     found = shutil.which(path)
@@ -60,7 +60,7 @@ def find_program(extractd: PathLike | None, interrupts: Interrupts) -> str:
 def run(
     command: Sequence[str], interrupts: Interrupts, *, standard_input: bytes = b"", county: str | None = None
 ) -> bytes:
-    """Runs `extractd` and returns its output. Raises an exception for any status but 0, and drops the output."""
+    """Runs `extractd` and returns its output. Drops the output and raises an exception for any status but 0."""
     status, output, said = run_process(command, interrupts, standard_input)
     if status != 0:
         raise failure(command[0], status, said, county)
@@ -70,8 +70,8 @@ def run(
 def run_process(command: Sequence[str], interrupts: Interrupts, standard_input: bytes = b"") -> tuple[int, bytes, str]:
     """Runs a process to its end, and returns its status, its output and what it wrote to standard error.
 
-    It has a process group of its own, so that Ctrl-C reaches it through `interrupts` alone. SIGPIPE and SIGXFSZ stay
-    ignored as they are in Python, so that it reports a closed pipe or a file that may not grow as an error.
+    It has a process group of its own, so that Ctrl-C reaches it only through `interrupts`. SIGPIPE and SIGXFSZ stay
+    ignored as they are in Python, so that it reports a closed pipe or a file size limit as an error.
     """
     with tempfile.TemporaryFile() as given, tempfile.TemporaryFile() as errors:
         given.write(standard_input)
@@ -119,7 +119,7 @@ def _refused(found: re.Match[str], said: str, county: str | None) -> Refused:
 
 
 def compile_filter(program: str, where: str, score: str | None, path: Path, interrupts: Interrupts) -> None:
-    """Writes the words of a filter to a file. For filters that are too long for an argument of `extractd select`."""
+    """Writes the words of a filter to a file, for filters that are too long for an argument of `extractd select`."""
     command = [program, "compile", "--filter", "-", *score_option(score)]
     path.write_bytes(run(command, interrupts, standard_input=where.encode()))
 

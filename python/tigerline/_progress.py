@@ -1,4 +1,4 @@
-"""Shows on standard error how far a long selection is."""
+"""Shows the progress of a long selection on standard error."""
 
 import sys
 from collections.abc import Iterable, Sequence
@@ -8,7 +8,7 @@ Item = TypeVar("Item")
 
 
 def counted(counties: Sequence[Item], progress: bool) -> Iterable[Item]:
-    """Returns the counties, and shows progress while they are taken: a bar of tqdm, or a count without tqdm."""
+    """Returns the counties, and shows progress as they are consumed: a bar of tqdm, or a count without tqdm."""
     if not progress:
         return counties
     try:

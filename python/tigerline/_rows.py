@@ -8,7 +8,7 @@ from ._extract import CountyRows, Request, extract
 from ._layout import FIELDS, RECORD_LENGTH, Kind, coordinate, number
 from ._program import PathLike
 
-# Most fields are texts and codes, which methods of str read: calls of Python functions would take twice the time.
+# Most fields are texts and codes. Methods of str read these; Python functions would take twice the time.
 _STRIP = {Kind.TEXT: str.rstrip}
 _TEXTS = tuple((field.bytes, _STRIP.get(field.kind, str.strip)) for field in FIELDS)
 _READ = {Kind.NUMBER: number, Kind.COORDINATE: coordinate}
@@ -75,17 +75,17 @@ def rows(
 ) -> Iterator[Row]:
     """Yields the selected segments as typed tuples. It needs the standard library alone.
 
-    The arguments are those of `select`. The rows of a county come after `extractd` has ended for it with status 0, so a
-    failure raises its exception before the first of them.
+    The arguments are those of `select`. The rows of a county follow after `extractd` has ended for it with status 0, so
+    a failure raises its exception before the first of them.
     """
     request = Request(where, program, score, extractd)
     return (row for county in extract(request, data, counties, progress=progress) for row in read_rows(county, signed))
 
 
 def read_rows(county: CountyRows, signed: bool) -> Iterator[Row]:
-    """Reads the rows of a county. Raises OSError if these aren't rows.
+    """Reads the rows of a county. Raises OSError if the data isn't rows.
 
-    A record may have any byte but LF, so it is found by its length from the end, and not by the tab before it.
+    A record may contain any byte but LF, so it is found by its length from the end, and not by the tab before it.
     """
     for line in io.BytesIO(county.rows):
         before, record = line[: -RECORD_LENGTH - 1], line[-RECORD_LENGTH - 1 :]
@@ -109,5 +109,5 @@ def without(rows: bytes, others: bytes) -> bytes:
 
 
 def score_of(score: int, signed: bool) -> int:
-    """Returns the score, or the signed number of the same 64 bits."""
+    """Returns the score, or the signed number with the same 64 bits."""
     return score - (1 << 64) if signed and score >= 1 << 63 else score

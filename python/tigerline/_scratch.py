@@ -21,7 +21,7 @@ def scratch_folder(beside: Path | None = None) -> Iterator[Path]:
 
 @contextmanager
 def naming(path: Path) -> Iterator[None]:
-    """Has errors of the system name this file, if they name none, as those of writing, or one in a folder beside it."""
+    """Makes system errors name this file if they name none, as for writes, or one in a folder next to it."""
     try:
         yield
     except OSError as error:

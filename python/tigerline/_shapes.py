@@ -17,7 +17,7 @@ NO_POINT = (0, 0)
 Point = tuple[float, float]
 Shapes = Mapping[int, tuple[Point, ...]]
 
-# The usual form of a point, for which there is a fast way.
+# The usual form of a point, which is parsed fast.
 _FULL_POINT = re.compile(r"([+-][0-9]{9})([+-][0-9]{8})")
 
 
@@ -44,7 +44,7 @@ def _records(path: Path) -> Iterator[str]:
 
 
 def _points(record: str) -> list[Point]:
-    """Returns the points that a record uses: an unused one is 0, 0 or blank."""
+    """Returns the points of a record: unused ones are 0, 0 or blank."""
     full = _FULL_POINT.findall(record, FIRST_POINT)
     if len(full) < POINTS:
         return list(_points_of_any_form(record))

@@ -16,7 +16,7 @@ from typing import BinaryIO
 from ._interrupts import Interrupts
 from ._scratch import naming, scratch_folder
 
-# The FIPS codes of the states, of the District of Columbia, and of the territories that TIGER/Line has.
+# The FIPS codes of the states, the District of Columbia, and the territories in TIGER/Line.
 STATES = {
     "AL": "01", "AK": "02", "AZ": "04", "AR": "05", "CA": "06", "CO": "08", "CT": "09", "DE": "10", "DC": "11",
     "FL": "12", "GA": "13", "HI": "15", "ID": "16", "IL": "17", "IN": "18", "IA": "19", "KS": "20", "KY": "21",
@@ -33,7 +33,7 @@ _FILE = re.compile(r"TGR([0-9]{5})\.(?:RT([12456])|(ZIP))", re.IGNORECASE)
 
 @dataclass(frozen=True)
 class County:
-    """The files of a county: one for each record type, or a zip file that has them."""
+    """The files of a county: one per record type, or a zip file with all of them."""
 
     code: str
     folder: Path
@@ -49,7 +49,7 @@ class County:
 def find_counties(data: Path) -> list[County]:
     """Returns the counties of a folder and the folders in it, or of a zip file.
 
-    A county may be there several times. In one folder unpacked files come before a zip file.
+    A county may be there several times. Within a folder, unpacked files take precedence over a zip file.
     """
     if not data.is_dir():
         return _counties_of_archive(data)
@@ -135,7 +135,7 @@ def _depth(county: County) -> int:
 def opened_county(county: County, types: str, interrupts: Interrupts) -> Iterator[dict[str, Path]]:
     """Makes a temporary folder with the files of a county, named in capitals, and yields their paths by record type.
 
-    They are links to files, or unpacked from a zip file. A missing file of type 4, 5 or 6 is reported as a warning.
+    They are links to files or unpacked from a zip file. Warns if a file of type 4, 5 or 6 is missing.
     """
     with scratch_folder() as folder:
         if county.archive is None:
@@ -165,7 +165,7 @@ def _require(county: County, types: str, present: dict[str, Path]) -> None:
 
 
 def missing_names(county: County, present: Container[str]) -> str | None:
-    """Says which files of type 4, 5 and 6 are missing, or returns None if all are there."""
+    """Returns the names of missing files of type 4, 5 and 6, or None if all are there."""
     missing = [f"TGR{county.code}.RT{record_type}" for record_type in "456" if record_type not in present]
     if not missing:
         return None
@@ -186,8 +186,8 @@ def _opened_archive(path: Path) -> Iterator[zipfile.ZipFile]:
 def _members(archive: zipfile.ZipFile, path: Path) -> dict[tuple[str, str], zipfile.ZipInfo]:
     """Returns the members with records, by county and record type.
 
-    Raises OSError if a member is outside the archive's folder, a link or another zip file, if one is there twice, or if
-    there are several counties.
+    Raises OSError for a member that is outside of the archive's folder, a link or another zip file, for repeated
+    members, and for several counties.
     """
     found: dict[tuple[str, str], zipfile.ZipInfo] = {}
     for member in archive.infolist():
@@ -227,9 +227,9 @@ def _unpack(path: Path, code: str, types: str, folder: Path, interrupts: Interru
 def _unpack_member(
     archive: zipfile.ZipFile, member: zipfile.ZipInfo, path: Path, file: BinaryIO, interrupts: Interrupts
 ) -> None:
-    """Writes a member to a file. Raises OSError if it hasn't the stated size.
+    """Writes a member to a file. Raises OSError if it doesn't have the stated size.
 
-    `zipfile` stops after the stated size without an error, so it is told one byte more.
+    `zipfile` stops after the stated size without an error, so it is given one byte more.
     """
     stated = member.file_size
     member.file_size = stated + 1

@@ -1,10 +1,10 @@
-"""What comes before the command. This module imports as little as it can, since Ctrl-C may arrive meanwhile."""
+"""The start of the command. This module imports as little as possible, since Ctrl-C may arrive meanwhile."""
 
 import signal
 
 
 def end_at_interrupt() -> None:
-    """Has Ctrl-C end the process at once and without a traceback. If it is ignored, it stays ignored."""
+    """Makes Ctrl-C end the process at once and without a traceback. If it is ignored, it stays ignored."""
     if signal.getsignal(signal.SIGINT) is signal.default_int_handler:
         signal.signal(signal.SIGINT, signal.SIG_DFL)
 
@@ -12,6 +12,6 @@ def end_at_interrupt() -> None:
 def main() -> int:
     """Runs the command `tigerline`, and returns its exit status."""
     end_at_interrupt()
-    from .__main__ import main  # Its imports take some time.
+    from .__main__ import main  # These imports take some time.
 
     return main()

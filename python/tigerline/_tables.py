@@ -1,4 +1,4 @@
-"""Writes selected segments as files: CSV itself, the other formats by GDAL's tools."""
+"""Writes selected segments as files: CSV directly, other formats with GDAL's tools."""
 
 import csv
 import os
@@ -23,7 +23,7 @@ SUFFIXES = (*DRIVERS, ".csv")
 CRS = "EPSG:4269"  # NAD 83
 GEOJSON_END = b"]\n}\n"
 LARGEST_INTEGER = (1 << 63) - 1
-# Readers of CSV, also GDAL's, end a text at NUL and take CR for a line end, so both become question marks.
+# CSV readers, including GDAL's, end a text at NUL and read CR as a line end, so both become question marks.
 READABLE = bytes.maketrans(b"\0\r", b"??")
 
 Watcher = Callable[[Row, Line], None]
@@ -31,7 +31,7 @@ Watcher = Callable[[Row, Line], None]
 
 @dataclass(frozen=True)
 class Selection:
-    """The rows to write, which columns of them, whether with lines, and whether scores are signed.
+    """The rows to write, their columns, whether they have lines, and whether scores are signed.
 
     `watcher` is called with each row and its line.
     """
@@ -44,15 +44,15 @@ class Selection:
 
     @property
     def columns(self) -> tuple[str, ...]:
-        """The names of all columns but that of the lines."""
+        """The names of all columns except that of the lines."""
         return ("county", "score", *self.names)
 
     def values_of(self) -> Callable[[Row], tuple[object, ...]]:
-        """Returns a function that takes these columns from a row."""
+        """Returns a function that returns the values of these columns for a row."""
         return itemgetter(*[Row._fields.index(name) for name in self.columns])
 
     def rows(self, interrupts: Interrupts) -> Iterator[tuple[Row, Line]]:
-        """Yields each row with its line, which is None for a segment without coordinates."""
+        """Yields each row with its line, or None for a segment without coordinates."""
         for county in self.counties:
             readable = replace(county, rows=county.rows.translate(READABLE))
             for row in read_rows(readable, self.signed):
@@ -64,7 +64,7 @@ class Selection:
 
 
 def write_csv(file: PendingFile, selection: Selection, interrupts: Interrupts) -> int:
-    """Writes a CSV file in UTF-8, with lines as WKT in a last column, and returns the number of segments."""
+    """Writes a CSV file in UTF-8, with lines as WKT in the last column. Returns the number of segments."""
     values_of = selection.values_of()
     count = 0
     with naming(file.final), open(file.path, "w", encoding="utf-8", newline="") as output:
@@ -78,7 +78,7 @@ def write_csv(file: PendingFile, selection: Selection, interrupts: Interrupts) -
 
 
 def write_source(path: Path, selection: Selection, interrupts: Interrupts) -> tuple[int, int]:
-    """Writes CSV for ogr2ogr, with lines as WKB. Returns how many segments there are, and how many have no line."""
+    """Writes CSV for ogr2ogr, with lines as WKB. Returns the number of segments, and how many have no line."""
     values_of = selection.values_of()
     count = without_line = 0
     with open(path, "w", encoding="utf-8", newline="") as file:
@@ -102,7 +102,7 @@ SourceWriter = Callable[[Path, Selection, Interrupts], tuple[int, int]]
 def write_by_gdal(
     file: PendingFile, selection: Selection, interrupts: Interrupts, write_source: SourceWriter = write_source
 ) -> int:
-    """Has ogr2ogr write a file, and returns the number of segments. Raises OSError if the file lacks some."""
+    """Has ogr2ogr write a file, and returns the number of segments. Raises OSError if some are missing in the file."""
     suffix = file.path.suffix
     if suffix == ".fgb" and not selection.has_lines:
         raise ValueError("FlatGeobuf has no segments without geometry: use .gpkg, .geojson or .csv")
@@ -155,7 +155,7 @@ def _convert(ogr2ogr: str, source: Path, file: PendingFile, has_lines: bool, int
 
 
 def _features_of_geojson(path: Path) -> int | None:
-    """Returns how many features a file of GDAL has, one per line, if it is whole. ogrinfo takes much longer."""
+    """Returns the number of features in a GDAL file, one per line, if it is complete. ogrinfo takes much longer."""
     with open(path, "rb") as file:
         features = sum(line.startswith(b'{ "type": "Feature", ') for line in file)
         file.seek(-min(file.tell(), len(GEOJSON_END)), os.SEEK_END)
@@ -163,7 +163,7 @@ def _features_of_geojson(path: Path) -> int | None:
 
 
 def _count(ogrinfo: str, path: Path, interrupts: Interrupts) -> int | None:
-    """Returns how many segments a file has, by reading it: ogr2ogr may end with status 0 on a full disk."""
+    """Returns the number of segments in a file by reading it: ogr2ogr may exit with status 0 on a full disk."""
     query = "SELECT COUNT(score) AS segments FROM segments"
     status, output, _ = run_process([ogrinfo, "-ro", "-q", "-sql", query, str(path)], interrupts)
     found = re.search(rb"^  segments \(Integer(?:64)?\) = ([0-9]+)$", output, re.MULTILINE)

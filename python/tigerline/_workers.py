@@ -32,7 +32,7 @@ class Worker:
 
     def __init__(self, scratch: Path) -> None:
         path = [str(Path(__file__).parents[1]), *filter(None, [os.environ.get("PYTHONPATH")])]
-        # Its own process group keeps Ctrl-C from it: it ends by the end of its input.
+        # Its own process group shields it from Ctrl-C. It ends at the end of its input.
         self.process = subprocess.Popen(
             [sys.executable, "-P", "-m", __name__],
             stdin=subprocess.PIPE,
@@ -44,7 +44,7 @@ class Worker:
 
     @property
     def output(self) -> IO[bytes]:
-        """The answers of the process."""
+        """The pipe with the answers of the process."""
         assert self.process.stdout is not None
         return self.process.stdout
 
@@ -65,7 +65,7 @@ class Worker:
             return None
 
     def end_input(self) -> None:
-        """Has the process end. If it runs a task, it drops it first."""
+        """Makes the process end. If it runs a task, it drops it first."""
         assert self.process.stdin is not None
         with suppress(BrokenPipeError):
             self.process.stdin.close()
@@ -81,7 +81,7 @@ class Worker:
 
 
 class Pool:
-    """Workers, and the tasks that wait for one. Temporary files of the workers are in the folder `scratch`."""
+    """Workers, and the tasks that wait for one. The workers' temporary files are in the folder `scratch`."""
 
     def __init__(self, tasks: Sequence[PartTask], scratch: Path) -> None:
         self.scratch = scratch
@@ -98,7 +98,7 @@ class Pool:
         self.give(worker)
 
     def give(self, worker: Worker) -> None:
-        """Gives a worker the next task, or has it end if there is none."""
+        """Gives a worker the next task, or makes it end if there is none."""
         if self.waiting:
             worker.start(self.waiting.popleft())
         else:
@@ -106,7 +106,7 @@ class Pool:
             worker.end_input()
 
     def ready(self, interrupts: Interrupts) -> list[Worker]:
-        """Waits for answers."""
+        """Waits for answers, and returns the workers that have one."""
         while True:
             interrupts.check()
             ready = [key.data for key, _ in self.selector.select(LOOK_SECONDS)]
@@ -134,7 +134,7 @@ class Pool:
 def run_here(
     workers: int, tasks: Sequence[PartTask], interrupts: Interrupts
 ) -> Generator[tuple[PartTask, str], None, None]:
-    """Yields the tasks when they are done, with this machine's name. Raises the exception of the first that fails."""
+    """Yields the tasks as they finish, with this machine's name. Raises the exception of the first that fails."""
     with scratch_folder() as scratch, closing(Pool(tasks, scratch)) as pool:
         for _ in range(min(workers, len(tasks))):
             pool.add()
@@ -157,7 +157,7 @@ def run_here(
 
 
 def serve(tasks: "SimpleQueue[PartTask | None]", answers: BinaryIO, interrupts: Interrupts) -> None:
-    """Runs tasks until there is no further one, or the input has ended."""
+    """Runs tasks until there are no more, or the input has ended."""
     while (task := tasks.get()) is not None:
         answer: str | Exception
         try:
@@ -178,7 +178,7 @@ def _pickled(answer: str | Exception) -> bytes:
 
 
 def receive(tasks: "SimpleQueue[PartTask | None]", source: BinaryIO) -> None:
-    """Takes tasks from the input. At its end it stops the task that runs."""
+    """Reads tasks from the input. At its end, stops the running task."""
     with suppress(EOFError, pickle.UnpicklingError):
         while True:
             tasks.put(pickle.load(source))
@@ -187,9 +187,9 @@ def receive(tasks: "SimpleQueue[PartTask | None]", source: BinaryIO) -> None:
 
 
 def main() -> None:
-    """Runs the tasks of standard input, and writes what they return or raise to standard output."""
+    """Runs the tasks of standard input, and writes their results or exceptions to standard output."""
     tasks: SimpleQueue[PartTask | None] = SimpleQueue()
-    warnings.simplefilter("ignore")  # A part has its warning.
+    warnings.simplefilter("ignore")  # The part contains its warning.
     answers = os.fdopen(os.dup(sys.stdout.fileno()), "wb")
     os.dup2(sys.stderr.fileno(), sys.stdout.fileno())
     with suppress(BrokenPipeError, KeyboardInterrupt), Interrupts(signal.SIGTERM) as interrupts:

@@ -1,6 +1,6 @@
 """Serves street segments as OGC API - Features 1.0, parts 1 and 3: the command `tigerline-features`, and a WSGI application.
 
-Each collection is a county, and `extractd select` selects the segments. It needs the standard library alone.
+Each collection is a county, and `extractd select` selects the segments. Needs only the standard library.
 """
 
 import argparse
@@ -37,10 +37,10 @@ if TYPE_CHECKING:
 __all__ = ["Limits", "Service", "application", "main"]
 
 USAGE, FILES = 2, 3
-# The second segment with a TLID, which has up to ten digits, has the TLID and this number as its id, and so on.
+# The second segment with a TLID, which has up to ten digits, has the TLID plus this number as its id, and so on.
 REPEATED = 10**10
 MOST_BUILDING = 4
-# /collections has the extents of so many counties; each needs all rows of its county once.
+# The most counties for which /collections has the extent. Each needs all rows of its county once.
 MOST_EXTENTS = 10
 
 _HOST = re.compile(r"[A-Za-z0-9.\-_:\[\]]+")
@@ -71,7 +71,7 @@ def application(
 
 
 def checked_url(url: str) -> str:
-    """Returns an address without a slash at its end. Raises ValueError if it is none of HTTP."""
+    """Returns an address without a trailing slash. Raises ValueError if it isn't an HTTP address."""
     parts = urlsplit(url)
     if parts.scheme not in ("http", "https") or not parts.netloc or parts.query or parts.fragment:
         raise ValueError(f"{url!r} is no address such as https://example.org/tiger")
@@ -89,7 +89,7 @@ class Service:
         self._building = threading.BoundedSemaphore(MOST_BUILDING)
 
     def close(self) -> None:
-        """Ends all processes; requests that need one get status 503 from now on."""
+        """Ends all processes. Requests that need one get status 503 from then on."""
         self._store.processes.close()
 
     def __call__(self, environ: "WSGIEnvironment", start_response: "StartResponse") -> Iterable[bytes]:
@@ -158,7 +158,7 @@ class Service:
         return {"links": [link("self", JSON, f"{base}/collections")], "collections": collections}
 
     def _collection(self, county: County, base: str, client_is_there: ClientIsThere) -> dict[str, Any]:
-        """Describes a county. One that can't be read has no extent, and the others are there all the same."""
+        """Describes a county. One that can't be read has no extent, and the others are served anyway."""
         try:
             summary = self._store.summary(county, client_is_there)
         except (Problem, OSError, MemoryError) as error:
@@ -198,7 +198,7 @@ class Service:
 
 
 def _ids(records: list[bytes], rows: Rows, offset: int, repeated: dict[int, list[bytes]]) -> Iterable[int]:
-    """Yields the id of each record of a page: its TLID, and more for the second segment with this TLID.
+    """Yields the id of each record of a page: its TLID, plus an offset for further segments with this TLID.
 
     Lines that are equal byte for byte are selected together, so the n-th of them in the rows is the n-th in the file.
     """
@@ -216,7 +216,7 @@ def _ids(records: list[bytes], rows: Rows, offset: int, repeated: dict[int, list
 
 
 def _page_links(items: str, given: dict[str, str], request: ItemsQuery, matched: int) -> list[dict[str, str]]:
-    """Returns the links to this page, the next and the previous one. Pages in a row have each feature once."""
+    """Returns the links to this page, the next and the previous one. Consecutive pages have each feature once."""
 
     def page(relation: str, offset: int, limit: int) -> dict[str, str]:
         query = urlencode(given | {"offset": str(offset), "limit": str(limit)})
@@ -240,7 +240,7 @@ def _own_url(environ: "WSGIEnvironment") -> str:
 
 
 def _as_problem(error: Exception) -> Problem:
-    """Returns the problem of an error. What names files of this machine goes to standard error alone."""
+    """Returns the problem of an error. Names of files on this machine go only to standard error."""
     if isinstance(error, Problem):
         return error
     if isinstance(error, ClientLeft):

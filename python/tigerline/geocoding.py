@@ -1,7 +1,7 @@
-"""Geocodes addresses by the program `extractd`: the function `geocode`, and the command `tigerline geocode`.
+"""Geocodes addresses with the program `extractd`: the function `geocode`, and the command `tigerline geocode`.
 
-Positions, and which segments have a house number, come from `extractd geocode-batch` alone. Taking street strings apart
-and choosing among hits is done here.
+Only `extractd geocode-batch` finds positions and the segments with a house number. This module parses street strings
+and chooses among the hits.
 """
 
 import argparse
@@ -34,14 +34,14 @@ from ._sources import choose_counties, find_counties
 __all__ = ["Address", "Match", "Reason", "Status", "geocode"]
 
 COMMAND = "geocode"
-# So many addresses have their readings and hits in memory. Each time the counties are loaded again.
+# The number of addresses whose readings and hits are in memory. The counties are loaded again for each such part.
 ADDRESSES_AT_ONCE = 20_000
 OUTPUT_COLUMNS = ("id", "address", "match", "exact", "matched_address", "coordinates", "tlid", "side")
 _ZIP = re.compile(r"([0-9]{3,5})(?:[- ]?[0-9]{4})?")
 
 
 class Status(StrEnum):
-    """What came of an address, in the words of the Census Bureau's batch geocoder."""
+    """The result for an address, in the words of the Census Bureau's batch geocoder."""
 
     MATCH = "Match"
     TIE = "Tie"
@@ -50,10 +50,10 @@ class Status(StrEnum):
 
 @dataclass(frozen=True, slots=True)
 class Match:
-    """What came of an address.
+    """The result for an address.
 
-    For a match, `matched` is the address as the data has it, and the place is in degrees (NAD 83). `reasons` says why there
-    is none, or what a match that isn't exact lacks.
+    For a match, `matched` is the address in the data's spelling, and the place is in degrees (NAD 83). `reasons` says
+    why there is no match, or what is missing for an exact one.
     """
 
     address: Address
@@ -68,7 +68,7 @@ class Match:
 
     @property
     def is_exact(self) -> bool:
-        """Says whether the address states the same direction, name, type and ZIP Code as the data."""
+        """Returns whether the address has the same direction, name, type and ZIP Code as the data."""
         return self.status is Status.MATCH and not self.reasons
 
 
@@ -79,9 +79,9 @@ def geocode(
     *,
     extractd: PathLike | None = None,
 ) -> Iterator[Match]:
-    """Yields a match for each address, in their order. It needs the standard library alone.
+    """Yields a match for each address, in order. Needs only the standard library.
 
-    An address is an `Address`, or its id, street, city, state and zip as strings; the last three may be missing. `data`,
+    An address is an `Address`, or its id, street, city, state and zip as strings; the last three are optional. `data`,
     `counties` and `extractd` are those of `select`. Many addresses are looked up at once, so the first match comes late.
     """
     return _geocode(map(_checked, addresses), data, counties, extractd, None)
@@ -100,7 +100,7 @@ def _geocode(
     extractd: PathLike | None,
     interrupts: Interrupts | None,
 ) -> Iterator[Match]:
-    """Yields the matches. Without `interrupts` each part of the addresses holds signals back for itself."""
+    """Yields the matches. Without `interrupts`, delays signals separately for each part of the addresses."""
 
     folder = Path(data)
     with active_interrupts(interrupts) as held:
@@ -119,13 +119,13 @@ def _geocode(
 
 
 def zip_of(cell: str) -> str:
-    """Returns the five digits of a ZIP Code, empty if there is none. Spreadsheets drop leading zeros."""
+    """Returns the five digits of a ZIP Code, or an empty string. Spreadsheets drop leading zeros."""
     found = _ZIP.fullmatch(cell.strip())
     return found[1].zfill(5) if found and found[1].isascii() else ""
 
 
 def _match(address: Address, street: Street | Reason, answer: Answer) -> Match:
-    """Returns what came of an address."""
+    """Returns the result for an address."""
     if isinstance(street, Reason):
         return Match(address, Status.NO_MATCH, (street,))
     if answer.best is None:
@@ -200,7 +200,7 @@ def run_command(options: argparse.Namespace) -> bytes:
         source = files.enter_context(opened_input(options.addresses, interrupts))
         addresses = AddressFile(source, name, options.encoding, options.header)
         for _ in addresses.addresses(interrupts):
-            pass  # A faulty line is found before the first address is looked up.
+            pass  # Finds a faulty line before the first address is looked up.
         matches = _geocode(
             addresses.addresses(interrupts), options.data, options.counties, options.extractd, interrupts
         )
@@ -215,7 +215,7 @@ def run_command(options: argparse.Namespace) -> bytes:
 
 
 def _write(path: Path, matches: Iterable[Match], options: argparse.Namespace, interrupts: Interrupts) -> Counter[str]:
-    """Writes the matches to a file, and returns how many there are of each kind."""
+    """Writes the matches to a file, and returns the number of each kind."""
     counts: Counter[str] = Counter()
     with open(path, "w", encoding="utf-8", errors="replace", newline="") as file:
         writer = csv.writer(file, quoting=csv.QUOTE_ALL, lineterminator="\n")
@@ -229,7 +229,7 @@ def _write(path: Path, matches: Iterable[Match], options: argparse.Namespace, in
 
 
 def row_of(match: Match, has_reason: bool) -> list[str]:
-    """Returns the columns of the Census Bureau's batch geocoder, which has three if there is no match."""
+    """Returns a row of the Census Bureau's batch geocoder, which has three columns if there is no match."""
     row = [match.address.id, ", ".join(cell.strip() for cell in match.address[1:]), match.status]
     if match.status is Status.MATCH:
         row += [
@@ -253,7 +253,7 @@ def _summary(counts: Counter[str]) -> str:
 
 
 def _copy_to_output(path: Path, interrupts: Interrupts) -> None:
-    """Copies a file to standard output, which may be a pipe that is closed, or one that nobody reads for a long time."""
+    """Copies a file to standard output, which may be a closed pipe, or one that nobody reads for a long time."""
     if sys.stdout is None:
         raise OSError("the output can't be written: standard output is closed")
     output = sys.stdout.fileno()
@@ -262,7 +262,7 @@ def _copy_to_output(path: Path, interrupts: Interrupts) -> None:
             while chunk := file.read(PIPE_BUF):
                 while chunk:
                     interrupts.check()
-                    # A pipe that is ready takes so much at once. More would wait, and Ctrl-C with it.
+                    # A writable pipe accepts at least this much. A larger write could block, and delay Ctrl-C.
                     if select([], [output], [], POLL)[1]:
                         chunk = chunk[os.write(output, chunk) :]
     except OSError as error:

@@ -3,7 +3,7 @@
     extractd select --where "CFCC LIKE 'A%'" --data examples/town 01007 > rows
     python3 -m tigerline.maps --county examples/town/TGR01007.RT1 --caption Roads rows > roads.svg
 
-Needs the standard library alone. A degree of longitude is as wide as it is at the middle latitude, which suits a
+Needs only the standard library. A degree of longitude is drawn as wide as it is at the middle latitude, which suits a
 county or a state.
 """
 
@@ -35,7 +35,7 @@ FONT = "'Liberation Sans', Arial, Helvetica, sans-serif"
 
 
 class Sheet(NamedTuple):
-    """A picture: its view, and its parts in order, of which `map_end` is the end of the map."""
+    """A picture: its view, and its parts in order. The map's parts end at `map_end`."""
 
     view: View
     parts: list[str]
@@ -45,7 +45,7 @@ class Sheet(NamedTuple):
 def sheet_of(
     segments: Sequence[MapSegment], caption: str, by: By, background: Sequence[MapSegment], box: Box | None
 ) -> Sheet:
-    """Returns the picture of `draw_svg` in parts."""
+    """Returns the parts of the picture of `draw_svg`."""
     view = view_of((segments, background), box)
     groups, pale = groups_of(segments, view, by), groups_of(background, view, "class")
     count = f"{len(segments):,} segment" + ("" if len(segments) == 1 else "s")
@@ -84,9 +84,9 @@ def draw_svg(
 ) -> str:
     """Returns the segments as an SVG picture with a caption, a legend and scale bars.
 
-    `by` chooses what the colors and the legend stand for: classes of features, or scores. The segments of `background`
-    are drawn below the others, in pale colors. A segment without points is counted and not drawn. `box` is the part that
-    the map shows; without it the map shows all segments.
+    `by` chooses what the colors and the legend show: classes of features, or scores. The segments of `background` are
+    drawn below the others, in pale colors. A segment without points is counted but not drawn. `box` is the part that
+    the map shows; by default it shows all segments.
     """
     return "\n".join(sheet_of(segments, caption, by, background, box).parts) + "\n"
 
@@ -94,7 +94,7 @@ def draw_svg(
 def page_rows(
     segments: Iterable[MapSegment], view: View, names: dict[str, int], is_selected: bool
 ) -> Iterator[list[object]]:
-    """Class, number of the name, score and points of each segment. Scores are texts, as JavaScript would round them."""
+    """Returns class, name number, score and points of each segment. Scores are texts: JavaScript would round numbers."""
     for segment in segments:
         name = names.setdefault(printable(segment.name), len(names))
         points = [round(10 * value) for position in segment.points for value in view.place(position)]
@@ -144,7 +144,7 @@ def parsed_arguments(arguments: Sequence[str] | None) -> argparse.Namespace:
 
 
 def county_of(path: Path) -> CountyRows:
-    """Returns all segments of a type 1 file, with the shape points of the type 2 file next to it if there is one.
+    """Returns all segments of a type 1 file, with the shape points of the type 2 file next to it if it exists.
 
     Raises OSError if a line isn't of its type.
     """
@@ -159,7 +159,7 @@ def county_of(path: Path) -> CountyRows:
 
 
 def drawing(options: argparse.Namespace) -> str:
-    """Returns the map of the rows in a file, and of the other segments of their county."""
+    """Returns the map of the rows in a file, with the other segments of their county."""
     county = county_of(options.county) if options.county else CountyRows("", b"")
     selected = CountyRows("", options.rows.read_bytes(), county.shapes)
     rest = CountyRows("", without(county.rows, selected.rows), county.shapes)
