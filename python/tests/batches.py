@@ -1,4 +1,4 @@
-"""Counties for the tests of batches, the command that selects them, and stand-ins for `extractd` that disturb it."""
+"""Counties for the tests of batches, the command that selects them, and replacements of `extractd` that disturb it."""
 
 import os
 import subprocess
@@ -12,13 +12,13 @@ from counties import EXAMPLES, TOP, copy_county, program_of, records
 CODES = ("01001", "01003", "01005", "01007", "02013")
 ROADS = "CFCC LIKE 'A%'"
 SEGMENTS = 60
-# Counted by the letter of the class, which is the 56th byte of a record.
+# Counts the class A, which is in the 56th byte of a record.
 ROAD_COUNT = sum(record[55:56] == b"A" for record in records(EXAMPLES / "TGR01001.RT1")[: SEGMENTS * len(CODES)])
 COMMAND = [sys.executable, "-m", "tigerline"]
 
 
 def write_counties(folder: Path) -> Path:
-    """Writes five counties, each with other segments of the example county."""
+    """Writes five counties, each with different segments of the example county."""
     lines = records(EXAMPLES / "TGR01001.RT1")
     for place, code in enumerate(CODES):
         copy_county(folder, types="456", code=code)
@@ -28,7 +28,7 @@ def write_counties(folder: Path) -> Path:
 
 
 def environment(**further: str) -> dict[str, str]:
-    """The environment of the command. GDAL writes this date into a GeoPackage."""
+    """Returns the environment of the command. GDAL writes this date into a GeoPackage."""
     return {
         **os.environ,
         "PYTHONPATH": str(TOP / "python"),
@@ -38,7 +38,7 @@ def environment(**further: str) -> dict[str, str]:
 
 
 def start(*arguments: object, **further: str) -> subprocess.Popen[str]:
-    """Starts the command in a process group of its own, with what it prints in a pipe."""
+    """Starts the command in its own process group, with pipes for its output."""
     command, pipe = [*COMMAND, *map(str, arguments)], subprocess.PIPE
     return subprocess.Popen(
         command, env=environment(**further), stdout=pipe, stderr=pipe, text=True, start_new_session=True
@@ -46,7 +46,7 @@ def start(*arguments: object, **further: str) -> subprocess.Popen[str]:
 
 
 def run(*arguments: object, **further: str) -> tuple[int, str, str]:
-    """Runs the command, and returns its status, its output and what it wrote to standard error."""
+    """Runs the command, and returns its status, its output and its standard error."""
     process = start(*arguments, **further)
     output, said = process.communicate(timeout=120)
     return process.returncode, output, said
@@ -61,9 +61,9 @@ def wait_for(condition: Callable[[], object], seconds: float = 120) -> None:
 
 
 def disturbed(path: Path, extractd: str, disturbance: str) -> str:
-    """Writes a stand-in for `extractd` that logs each county and then disturbs the run of one.
+    """Writes a replacement of `extractd` that logs each county and then disturbs the run of one.
 
-    The variable `code` is the county's code, and `state` a folder for what the disturbance has to remember.
+    The variable `code` is the county's code, and `state` a folder for the disturbance's state.
     """
     state = path.with_name(path.name + ".state")
     state.mkdir()
@@ -73,18 +73,18 @@ def disturbed(path: Path, extractd: str, disturbance: str) -> str:
 
 
 def counties_run(program: str) -> list[str]:
-    """The counties that a stand-in was run for."""
+    """Returns the counties that a replacement was run for."""
     log = Path(f"{program}.state/log")
     return log.read_text().split() if log.exists() else []
 
 
-# Kills the worker, which is the parent of the program, in the first run of a county, or in each.
+# Kills the worker, which is the program's parent, in the first run of a county or in each.
 KILL_ONCE = '[ "$code" = 01005 ] && [ ! -e "$state/killed" ] && { touch "$state/killed"; kill -9 $PPID; }'
 KILL_ALWAYS = '[ "$code" = 01005 ] && kill -9 $PPID'
-# Waits in a county until a file is there, but not for ever.
+# Waits in a county until a file exists, but not forever.
 WAIT = (
     'for turn in $(seq 2400); do [ "$code" = 01005 ] && [ ! -e "$state/go" ] || break; '
     'touch "$state/waits"; sleep 0.05; done'
 )
-# Lets the last county end after all others have started.
+# Delays the last county until all others have started.
 FIRST_IS_LAST = 'while [ "$code" = 02013 ] && [ "$(wc -l < "$state/log")" -lt 5 ]; do sleep 0.05; done'

@@ -13,7 +13,7 @@ import pytest
 with contextlib.suppress(ImportError):
     import hypothesis
 
-    # The same examples each time, so that one commit has one verdict.
+    # Uses the same examples each time, so that a commit always has the same result.
     hypothesis.settings.register_profile("repeatable", derandomize=True, deadline=None, database=None)
     hypothesis.settings.load_profile("repeatable")
 
@@ -23,7 +23,7 @@ _skipped: Counter[str] = Counter()
 
 @pytest.fixture(scope="session")
 def extractd() -> str:
-    """The built program, by the environment variable EXTRACTD."""
+    """Returns the path of the built program, from the environment variable EXTRACTD."""
     path = os.environ.get("EXTRACTD")
     if not path:
         pytest.skip("EXTRACTD isn't set")
@@ -46,7 +46,7 @@ def gdal() -> None:
 
 @pytest.fixture(autouse=True)
 def signals() -> Iterator[None]:
-    """Handles signals as in a terminal. A run in the background ignores Ctrl-C, and so would all that it starts."""
+    """Handles signals as in a terminal. A background run ignores Ctrl-C, and so would everything that it starts."""
     handlers = {
         signal.SIGINT: signal.default_int_handler,
         signal.SIGTERM: signal.SIG_DFL,
@@ -60,7 +60,7 @@ def signals() -> Iterator[None]:
 
 @pytest.fixture
 def scratch(tmp_path: Path, monkeypatch: pytest.MonkeyPatch) -> Iterator[Path]:
-    """The folder for temporary files of the package and of all processes; at the end it has to be empty."""
+    """Returns the folder for temporary files of the package and of all processes. At the end it must be empty."""
     folder = tmp_path / "scratch"
     folder.mkdir()
     monkeypatch.setenv("TMPDIR", str(folder))
@@ -86,7 +86,7 @@ def _note_skip(report: pytest.TestReport | pytest.CollectReport) -> None:
 
 @pytest.hookimpl(trylast=True)
 def pytest_sessionfinish(session: pytest.Session) -> None:
-    """Where everything has to be there, as in CI, a skipped test is a failure."""
+    """Makes a skipped test a failure if everything must be installed, as in CI."""
     if _skipped and os.environ.get("REQUIRE_ALL") == "1":
         session.exitstatus = pytest.ExitCode.TESTS_FAILED
 

@@ -24,12 +24,12 @@ def copy_county(folder: Path, types: str = "1456", code: str = CODE, name: Calla
 
 
 def records(path: Path) -> list[bytes]:
-    """The lines of a file without their ends."""
+    """Returns the lines of a file without their line ends."""
     return path.read_bytes().replace(b"\r\n", b"\n").removesuffix(b"\n").split(b"\n")
 
 
 def write_shapes(folder: Path, code: str = CODE) -> Path:
-    """Adds a file of type 2. The number of points of a segment is in turn 0, 1, 9, 10, 11, 20 and 23."""
+    """Adds a file of type 2. The segments have 0, 1, 9, 10, 11, 20 and 23 points, one after the other."""
     lines = []
     for index, record in enumerate(records(folder / f"TGR{code}.RT1")):
         count = (0, 1, 9, 10, 11, 20, 23)[index % 7]
@@ -53,20 +53,20 @@ def zip_folder(folder: Path, path: Path, inside: str = "") -> Path:
 
 
 def gdal_rows(path: Path, *options: str) -> list[dict[str, str]]:
-    """The segments of a type 1 file as GDAL's TIGER driver reads them, with their lines in the column WKT."""
+    """Returns the segments of a type 1 file as GDAL's TIGER driver reads them, with their lines in the column WKT."""
     command = ["ogr2ogr", "-f", "CSV", "/vsistdout/", str(path), "CompleteChain", "-lco", "GEOMETRY=AS_WKT", *options]
     written = subprocess.run(command, stdout=subprocess.PIPE, check=True).stdout.decode("latin-1")
     return list(csv.DictReader(io.StringIO(written)))
 
 
 def points_of(wkt: str) -> list[tuple[float, float]]:
-    """The points of a line in WKT."""
+    """Returns the points of a line in WKT."""
     pairs = wkt[wkt.index("(") + 1 : -1].split(",")
     return [(float(pair.split()[0]), float(pair.split()[1])) for pair in pairs]
 
 
 def program_of(path: Path, script: str, version: str = "extractd 1.0.0") -> str:
-    """Writes a shell script that stands in for `extractd`."""
+    """Writes a shell script that replaces `extractd`."""
     path.write_text(f'#!/bin/sh\n[ "$1" = --version ] && {{ echo "{version}" >&2; exit 2; }}\n{script}\n')
     os.chmod(path, 0o755)
     return str(path)

@@ -1,4 +1,4 @@
-"""Taking street strings apart: all readings of a string, the fullest first, or the reason for none."""
+"""Parsing street strings: all readings of a string, the fullest first, or the reason for none."""
 
 import pytest
 from tigerline._addresses import LONGEST_NAME, Reading, Reason, Street, take_apart
@@ -41,7 +41,7 @@ READINGS = """
 5 Main St 7                | - Main_St_7 - -
 """.strip().splitlines()
 
-# A numbered road, a name that it has to be read as, and whether this is another word.
+# A numbered road, a name that it must be read as, and whether this is another word.
 ROUTES = """
 CR 46                   | County Road 46      | same
 CR-46                   | Co Rd 46            | same
@@ -140,7 +140,7 @@ def test_reasons(row: str) -> None:
 
 
 def test_abbreviations() -> None:
-    """The fields have two and four places, and no word stands for two types."""
+    """The fields have two and four places, and no word means two types."""
     assert set(DIRECTIONS.values()) == {"N", "S", "E", "W", "NE", "NW", "SE", "SW"}
     assert all(len(abbreviation) <= 4 for abbreviation in TYPES.values())
     assert len(TYPES) == len(_TYPES.replace("|", " ").split())
@@ -157,7 +157,7 @@ def test_long_names() -> None:
 
 
 class TestAnything:
-    """Hypothesis: no string fails, and what is written from the fields is read as these."""
+    """Property tests: no string fails, and an address written from the fields is read as the same fields."""
 
     def test_no_string_fails(self) -> None:
         hypothesis = pytest.importorskip("hypothesis", reason="no hypothesis")

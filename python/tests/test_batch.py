@@ -1,4 +1,4 @@
-"""Counties in several processes: the bytes of one process, also after a worker was killed or a run was cut off."""
+"""Counties in several processes give the bytes of one process, even after a killed worker or an interrupted run."""
 
 import os
 import random
@@ -47,7 +47,7 @@ def data(tmp_path: Path) -> Path:
 
 @pytest.fixture
 def out(tmp_path: Path) -> Iterator[Path]:
-    """A folder for output, in which no temporary file may be left."""
+    """Makes a folder for output, in which no temporary file may be left."""
     folder = tmp_path / "out"
     folder.mkdir()
     yield folder
@@ -57,7 +57,7 @@ def out(tmp_path: Path) -> Iterator[Path]:
 
 
 def plain(data: Path, path: Path, *options: object) -> bytes:
-    """The bytes that a run in one process writes."""
+    """Returns the bytes that a run in one process writes."""
     status, _, said = run(data, path, *options)
     assert (status, said) == (0, "")
     return path.read_bytes()
@@ -94,7 +94,7 @@ def test_same_bytes(data: Path, out: Path, suffix: str, gdal: None) -> None:
     ],
 )
 def test_same_map(data: Path, out: Path, name: str, options: tuple[str, ...]) -> None:
-    """With the segments around the selection, and without them."""
+    """With and without the segments around the selection."""
     for code in CODES:
         write_shapes(data, code)
     selection = ("--where", "FENAME LIKE 'C%' OR CFCC = 'A21'", *options)
@@ -116,7 +116,7 @@ def test_too_much_background(
 
 
 def test_order_of_counties(data: Path, out: Path) -> None:
-    """The first county ends after the others, and its lines come first."""
+    """The first county ends after the others, but its lines come first."""
     program = disturbed(out.parent / "slow", os.environ["EXTRACTD"], FIRST_IS_LAST)
     options = ("--where", "TRUE", "--counties", "02013", *CODES[:4])
     assert run(data, out / "a.csv", *options, "--workers", "5", "--extractd", program)[0] == 0
@@ -135,7 +135,7 @@ def test_order_of_counties(data: Path, out: Path) -> None:
 def test_same_bytes_of_options(
     data: Path, out: Path, options: tuple[str, ...], monkeypatch: pytest.MonkeyPatch
 ) -> None:
-    """Also if counties are zip files, and if the program is named by a relative path."""
+    """Also if counties are zip files, and if the path of the program is relative."""
     (out.parent / "all.bpf").write_bytes(bytes.fromhex("b700000001000000 9500000000000000"))
     monkeypatch.chdir(out.parent)
     for code in CODES:
@@ -146,7 +146,7 @@ def test_same_bytes_of_options(
 
 
 def test_warnings(data: Path, out: Path) -> None:
-    """A warning of a county is that of one process, also if its part was there already."""
+    """A county's warning is the same as in one process, even if its part already existed."""
     (data / "TGR01003.RT4").unlink()
     options = ("--where", "TRUE", "--extractd", disturbed(out.parent / "stop", os.environ["EXTRACTD"], WAIT))
     warning = f"warning: {data} has no TGR01003.RT4: names or address ranges may be missing\n"
@@ -159,7 +159,7 @@ def test_warnings(data: Path, out: Path) -> None:
 
 
 class TestResume:
-    """A run that was cut off goes on with the parts that are there."""
+    """An interrupted run continues with the existing parts."""
 
     @pytest.mark.parametrize("number", [signal.SIGKILL, signal.SIGINT])
     def test_cut_off(self, data: Path, out: Path, number: signal.Signals, scratch: Path) -> None:
@@ -183,7 +183,7 @@ class TestResume:
             shutil.rmtree(folder)
 
     def test_folder_of_others(self, data: Path, out: Path) -> None:
-        """Files that aren't ours stay, and a second run at once is an error."""
+        """Files of others stay, and a second simultaneous run is an error."""
         program = disturbed(out.parent / "stop", os.environ["EXTRACTD"], WAIT)
         (out / "a.csv.parts").mkdir()
         (out / "a.csv.parts/notes.txt").write_text("mine")
@@ -215,7 +215,7 @@ def test_worker_killed_each_time(data: Path, out: Path) -> None:
 
 
 class TestFaults:
-    """One error, and nothing is left."""
+    """One error, and no leftovers."""
 
     def test_refused_county(self, data: Path, out: Path) -> None:
         with open(data / "TGR01005.RT1", "ab") as file:
@@ -257,7 +257,7 @@ class TestFaults:
 
 
 class TestTasks:
-    """What a worker on another machine sees is what the task was made for."""
+    """A worker on another machine must see the same files as the task."""
 
     def task(
         self,
@@ -277,7 +277,7 @@ class TestTasks:
             _batch.run_part(task)
 
     def test_part_of_another_selection(self, data: Path, tmp_path: Path, extractd: str) -> None:
-        """A part has another name if anything that it depends on is different."""
+        """A part has another name if anything that it depends on differs."""
         program = disturbed(tmp_path / "program", extractd, ":")
         seen = {self.task(data, tmp_path).path, self.task(data, tmp_path).path}
         assert len(seen) == 1
@@ -309,7 +309,7 @@ class TestTasks:
             seen.add(path)
 
     def test_spoilt_parts(self, data: Path, tmp_path: Path) -> None:
-        """No part counts as whole that lacks an end, or has another byte, at any place."""
+        """A part without its end, or with a changed byte anywhere, doesn't count as complete."""
         task = self.task(data, tmp_path)
         _batch.run_part(task)
         content = task.path.read_bytes()

@@ -1,4 +1,4 @@
-"""Counties on the workers of dask.distributed: the bytes of one process, also after a worker was killed."""
+"""Counties on the workers of dask.distributed give the bytes of one process, even after a killed worker."""
 
 import logging
 import os
@@ -40,7 +40,7 @@ Cluster = tuple[str, subprocess.Popen[bytes]]
 
 @contextmanager
 def running_cluster(folder: Path, workers: int, *options: object) -> Iterator[Cluster]:
-    """A scheduler that gives up on a task after two workers have died of it, and workers. Yields its address."""
+    """Starts workers, and a scheduler that gives up on a task after two workers have died of it. Yields its address."""
     folder.mkdir(exist_ok=True)
     file = folder / "scheduler"
     variables = environment(DASK_DISTRIBUTED__SCHEDULER__ALLOWED_FAILURES="1", TMPDIR=str(folder))
@@ -69,7 +69,7 @@ def address_in(file: Path) -> str:
 
 @pytest.fixture(scope="module")
 def address(tmp_path_factory: pytest.TempPathFactory) -> Iterator[str]:
-    """The address of a scheduler with two workers."""
+    """Returns the address of a scheduler with two workers."""
     with running_cluster(tmp_path_factory.mktemp("cluster"), 2, "--nthreads", 1) as (found, _):
         yield found
 
@@ -81,7 +81,7 @@ def data(tmp_path: Path) -> Path:
 
 @pytest.fixture
 def out(tmp_path: Path) -> Iterator[Path]:
-    """A folder for output, in which no temporary file may be left."""
+    """Makes a folder for output, in which no temporary file may be left."""
     folder = tmp_path / "out"
     folder.mkdir()
     yield folder
@@ -104,7 +104,7 @@ def test_select(data: Path, address: str, frames: None) -> None:
 
 
 def test_worker_killed(data: Path, out: Path, address: str) -> None:
-    """The bytes of one process, of a table and a map. A scheduler may be named without tcp://."""
+    """The bytes of one process, for a table and a map. A scheduler's address may lack tcp://."""
     program = disturbed(out.parent / "killing", os.environ["EXTRACTD"], KILL_ONCE)
     options = ("--where", ROADS, "--counties", "02", "01005", "AL")
     cluster = ("--extractd", program, "--scheduler", address.removeprefix("tcp://"))
@@ -130,16 +130,16 @@ def test_interrupted(data: Path, out: Path, address: str) -> None:
 
 
 def test_worker_killed_each_time(data: Path, out: Path, address: str) -> None:
-    """No test after this one needs these workers, so none waits until they have started again."""
+    """No later test needs these workers, so none waits for their restart."""
     program = disturbed(out.parent / "killing", os.environ["EXTRACTD"], KILL_ALWAYS)
     status, output, said = run(data, out / "a.csv", "--where", ROADS, "--extractd", program, "--scheduler", address)
-    # The scheduler also blames counties that waited at the workers that died.
+    # The scheduler also blames counties that were waiting at the workers that died.
     assert (status, output) == (3, "") and re.match("error: county [0-9]{5}: each worker that had it died, ", said)
     assert said.count("\n") == 1 and not list(out.iterdir())
 
 
 class TestScheduler:
-    """A scheduler that isn't there is a clear error."""
+    """A missing scheduler is a clear error."""
 
     def test_missing(self, data: Path, out: Path) -> None:
         status, output, said = run(data, out / "a.csv", "--where", "TRUE", "--scheduler", "tcp://127.0.0.1:1")
@@ -157,7 +157,7 @@ class TestScheduler:
         assert not output and not list(out.iterdir())
 
     def test_gone(self, data: Path, out: Path, tmp_path: Path) -> None:
-        """What was finished before stays for --resume."""
+        """Finished parts stay for --resume."""
         program = disturbed(out.parent / "stop", os.environ["EXTRACTD"], WAIT)
         options = (data, out / "a.csv", "--where", ROADS, "--extractd", program, "--resume")
         with running_cluster(tmp_path / "cluster", 1, "--nthreads", 2, "--no-nanny") as (address, scheduler):
@@ -193,7 +193,7 @@ class TestScripts:
 
     @pytest.fixture(autouse=True)
     def program(self, tmp_path: Path, monkeypatch: pytest.MonkeyPatch, extractd: str) -> None:
-        """Has the scripts find the program as `extractd`."""
+        """Makes the scripts find the program as `extractd`."""
         (tmp_path / "bin").mkdir()
         (tmp_path / "bin/extractd").symlink_to(extractd)
         monkeypatch.setenv("PATH", f"{tmp_path}/bin{os.pathsep}{os.environ['PATH']}")
@@ -209,7 +209,7 @@ class TestScripts:
         return b"".join(subprocess.run([*command, code], stdout=subprocess.PIPE).stdout for code in CODES)
 
     def test_parallel(self, data: Path, out: Path) -> None:
-        """A second call runs the county that failed, and no other."""
+        """A second call runs only the county that failed."""
         if not shutil.which("parallel"):
             pytest.skip("no parallel")
         expected = self.rows(data)
@@ -224,7 +224,7 @@ class TestScripts:
         assert (out / "rows").read_bytes() == expected
 
     def test_task_of_an_array(self, data: Path, out: Path, monkeypatch: pytest.MonkeyPatch) -> None:
-        """Plays Slurm: a task is a state, and one without a county does nothing."""
+        """Simulates Slurm: a task is a state, and one without a county does nothing."""
         for task in ("1", "2", "4"):
             monkeypatch.setenv("SLURM_ARRAY_TASK_ID", task)
             assert self.script("slurm.sh", data, out, ROADS) == 0

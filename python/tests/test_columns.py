@@ -1,4 +1,4 @@
-"""Rows as columns and as tuples, on any bytes."""
+"""Rows as columns and as tuples, with arbitrary bytes."""
 
 import pytest
 from tigerline import _layout as layout
@@ -14,7 +14,7 @@ from tigerline import _columns  # noqa: E402
 
 
 def records_of(alphabet: bytes) -> st.SearchStrategy[bytes]:
-    """Records of these bytes alone."""
+    """Returns records of only these bytes."""
     table = bytes(alphabet[byte % len(alphabet)] for byte in range(256))
     return st.binary(min_size=228, max_size=228).map(lambda record: record.translate(table))
 

@@ -1,4 +1,4 @@
-"""What the documents show of the package is what happens. The other blocks are those of examples/try.sh."""
+"""The documents' examples of the package. examples/try.sh tests the other blocks."""
 
 import doctest
 import os
@@ -19,7 +19,7 @@ pytestmark = pytest.mark.usefixtures("extractd", "frames", "gdal", "scratch")
 
 
 class Block(NamedTuple):
-    """A block of a page, and the line in which it begins."""
+    """A block of a page, and its first line."""
 
     page: str
     line: int
@@ -30,7 +30,7 @@ class Block(NamedTuple):
 
 
 def blocks(page: str, kind: str) -> list[Block]:
-    """The blocks of a page whose first line matches the kind."""
+    """Returns the blocks of a page whose first line matches the kind."""
     content = (TOP / page).read_text()
     found = re.finditer(rf"^```{kind}\n((?:.*\n)*?)```$", content, re.MULTILINE)
     return [Block(page, content.count("\n", 0, match.start()) + 1, match[1]) for match in found]
@@ -41,7 +41,7 @@ CONSOLES = [block for page in PAGES for block in blocks(page, r"console(?: \S+)*
 
 @pytest.fixture
 def clone(tmp_path: Path, monkeypatch: pytest.MonkeyPatch) -> Path:
-    """A folder with the examples, in which commands find `tigerline` and the Python that runs the tests."""
+    """Makes a folder with the examples, in which commands find `tigerline` and the Python that runs the tests."""
     shutil.copytree(EXAMPLES, tmp_path / "clone/examples")
     commands = tmp_path / "bin"
     commands.mkdir()

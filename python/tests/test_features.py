@@ -1,4 +1,4 @@
-"""The OGC API as a WSGI application: pages, boxes, ids, bad input, and how often `extractd` runs."""
+"""The OGC API as a WSGI application: pages, boxes, ids, bad input, and the number of runs of `extractd`."""
 
 import json
 import random
@@ -36,7 +36,7 @@ class Answer(NamedTuple):
 
 
 def ask(service: Service, target: str, method: str = "GET", **environ: Any) -> Answer:
-    """Requests a path, with its query, in the way of WSGI, which is checked."""
+    """Requests a path with its query through WSGI, which is validated."""
     path, _, query = target.removeprefix(BASE).partition("?")
     environ |= {"REQUEST_METHOD": method, "SCRIPT_NAME": "", "PATH_INFO": path, "QUERY_STRING": query}
     setup_testing_defaults(environ)
@@ -60,7 +60,7 @@ def query(**parameters: object) -> str:
 
 
 def pages(service: Service, target: str, relation: str = "next") -> Iterator[dict[str, Any]]:
-    """The pages from one on, by their links."""
+    """Yields this page and the following ones, by their links."""
     while target:
         page = ask(service, target).document
         yield page
@@ -77,7 +77,7 @@ def ids(document: dict[str, Any]) -> list[int]:
 
 @pytest.fixture
 def make() -> Iterator[Make]:
-    """Makes services, and ends their processes."""
+    """Returns a function that makes services. At the end, ends their processes."""
     made: list[Service] = []
 
     def start(data: Path = EXAMPLES, counties: str | None = None, **options: Any) -> Service:
@@ -95,7 +95,7 @@ def service(make: Make, extractd: str) -> Service:
 
 
 class TestDocuments:
-    """What the standard asks of the documents beside the features."""
+    """The standard's requirements on the documents other than features."""
 
     def test_every_link(self, make: Make, extractd: str, tmp_path: Path) -> None:
         copy_county(copy_county(tmp_path), code="01003")
@@ -123,7 +123,7 @@ class TestDocuments:
         assert listed[0]["storageCrs"].endswith("CRS83") and listed[0]["crs"][0].endswith("CRS84")
 
     def test_definition_has_the_parameters(self, service: Service) -> None:
-        """Each parameter of the definition can be used, and GDAL finds `cql-text` in it."""
+        """Each parameter of the definition works, and GDAL finds `cql-text` in it."""
         paths = ask(service, "/api").document["paths"]
         given = {item["name"]: item for item in paths["/collections/{collectionId}/items"]["get"]["parameters"]}
         assert given["filter-lang"]["schema"]["enum"] == ["cql2-text", "cql-text"]
@@ -135,7 +135,7 @@ class TestDocuments:
                 assert ask(service, query(**{name: values.get(name, default)})).status == 200, name
 
     def test_queryables_are_of_their_types(self, service: Service) -> None:
-        """A filter takes the values of a feature in all listed columns."""
+        """A filter accepts a feature's values in all listed columns."""
         columns = ask(service, f"/collections/{CODE}/queryables").document["properties"]
         for column in columns:
             feature = ask(service, query(filter=f"{column} IS NOT NULL", limit=1)).document["features"]
@@ -204,7 +204,7 @@ class TestFeatures:
         assert tlids(ask(service, links["self"]).document) == tlids(ask(service, query(**given)).document)
 
     def test_all_conditions_hold(self, service: Service) -> None:
-        """Filter, box and properties are joined by AND, also if the filter has an OR."""
+        """Filter, box and properties are joined by AND, even if the filter has an OR."""
         given = {"filter": "CFCC = 'A41' OR CFCC = 'A61'", "FETYPE": "Ct", "bbox": "-86.7,32.3,-86.5,32.6"}
         found = ask(service, query(**given)).document["features"]
         each = [set(ids(ask(service, query(**{name: value})).document)) for name, value in given.items()]
@@ -219,7 +219,7 @@ class TestFeatures:
 
 
 class TestIds:
-    """Ids are unique, and the same in each selection, even if a file has a TLID several times."""
+    """Ids are unique, and the same in each selection, even if a file repeats a TLID."""
 
     @pytest.fixture
     def repeated(self, make: Make, extractd: str, tmp_path: Path) -> Service:
@@ -254,7 +254,7 @@ class TestIds:
 
 
 class TestBoxes:
-    """A box selects the segments with a box around their ends that meets it; SQLite compares the same numbers."""
+    """A box selects the segments whose bounding box of the ends intersects it; SQLite compares the same numbers."""
 
     @pytest.fixture
     def moved(self, make: Make, extractd: str, tmp_path: Path) -> tuple[Service, sqlite3.Connection]:
@@ -298,7 +298,7 @@ class TestBoxes:
 
     @staticmethod
     def near(randoms: random.Random, numbers: tuple[float, ...]) -> float:
-        """A number at, next to, or not far from ends of segments, also between two millionths of a degree."""
+        """Returns a number at, next to, or close to ends of segments, also between two millionths of a degree."""
         largest, steps = randoms.choice(((4000, 1e6), (3, 1e6), (35, 1e7)))
         return randoms.choice(numbers) + randoms.randint(-largest, largest) / steps
 
@@ -337,7 +337,7 @@ FILTERS = [
     ("CFCC = 'A410'", 94, 1, 8),
     ("(" * 65, 95, 1, 65),
     ("HAS_NAME('Main', 5000)", 96, 1, 1),
-    # Parentheses that aren't pairs, other lines, other characters, nothing.
+    # Unpaired parentheses, other lines, other characters, nothing.
     ("TRUE) OR (TRUE", 90, 1, 5),
     ("TRUE AND\n  ZIP = 1", 91, 2, 3),
     ("FENAME = 'é' AND ZIP = 1", 91, 1, 18),
@@ -348,7 +348,7 @@ FILTERS = [
 
 
 class TestBadInput:
-    """Each fault has its status, its kind, and the parameter or the place that has it."""
+    """Each fault has its status, its kind, and its parameter or place."""
 
     @pytest.mark.parametrize("more", [{}, {"bbox": "-87,32,-86,33"}, {"CFCC": "A41"}], ids=["alone", "box", "property"])
     @pytest.mark.parametrize(("text", "number", "line", "column"), FILTERS)
@@ -363,7 +363,7 @@ class TestBadInput:
         assert place == (number, line, column) and problem["detail"].startswith(f"refused {number} line {line} column")
 
     def test_deep_filter_and_box(self, service: Service) -> None:
-        """The box costs a filter one of its 64 levels of parentheses, and the place is in the filter as it was sent."""
+        """The box costs a filter one of its 64 levels of parentheses, and the place is in the filter as sent."""
         given = {"filter": "(" * 64 + "TRUE" + ")" * 64}
         assert ask(service, query(**given)).status == 200
         problem = ask(service, query(**given, bbox="-87,32,-86,33")).document
@@ -472,7 +472,7 @@ class TestBadInput:
         assert ["extent" in item for item in ask(service, "/collections").document["collections"]] == [False, True]
 
     def test_missing_file(self, make: Make, extractd: str, tmp_path: Path, capfd: pytest.CaptureFixture[str]) -> None:
-        """Names of files are for the operator alone."""
+        """Only the operator sees names of files."""
         service = make(copy_county(tmp_path))
         (tmp_path / "TGR01001.RT1").unlink()
         answer = ask(service, ITEMS)
@@ -481,7 +481,7 @@ class TestBadInput:
 
 
 class Counting:
-    """The built program with a list of its calls."""
+    """The built program with a log of its calls."""
 
     def __init__(self, folder: Path, extractd: str, before: str = "") -> None:
         self.log = folder / "calls"
@@ -501,7 +501,7 @@ class TestRuns:
         service = make(extractd=program.path)
         for where in ("CFCC LIKE 'A%'", "CFCC LIKE 'H%'"):
             assert len(list(pages(service, query(filter=where, limit=5)))) > 10
-        # One of all segments, for the ids, and one for each filter.
+        # One for all segments, for the ids, and one per filter.
         assert program.calls() == ["select"] * 3
         list(pages(service, query(filter="CFCC LIKE 'A%'", limit=50)))
         list(pages(service, query(limit=50)))
@@ -510,7 +510,7 @@ class TestRuns:
         assert program.calls() == ["compile", "select"]
 
     def test_buffers_are_bounded(self, make: Make, extractd: str, tmp_path: Path) -> None:
-        """A county that has more bytes than all buffers together may have is kept while it is read."""
+        """A county with more bytes than all buffers may have is kept while it is read."""
         program = Counting(tmp_path, extractd)
         service = make(extractd=program.path, limits=Limits(buffers=50_000))
         assert sum(len(page["features"]) for page in pages(service, query(limit=10))) == SEGMENTS

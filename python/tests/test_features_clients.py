@@ -1,4 +1,4 @@
-"""Clients that nobody here wrote: GDAL's OAPIF driver and OWSLib."""
+"""Independent clients: GDAL's OAPIF driver and OWSLib."""
 
 import csv
 import importlib.util
@@ -23,7 +23,7 @@ pytestmark = pytest.mark.usefixtures("scratch")
 
 
 def write_large_county(folder: Path) -> None:
-    """Writes a county of some thousand segments: several that make_county.py draws, with TLIDs of their own."""
+    """Writes a county of some thousand segments: several from make_county.py, each with its own TLIDs."""
     sys.path.insert(0, str(EXAMPLES))
     try:
         spec = importlib.util.spec_from_file_location("make_county", EXAMPLES / "make_county.py")
@@ -44,7 +44,7 @@ def write_large_county(folder: Path) -> None:
 
 @pytest.fixture(scope="module")
 def data(tmp_path_factory: pytest.TempPathFactory) -> Path:
-    """Three counties without shape points, which neither the service nor the TIGER driver reads then."""
+    """Writes three counties without shape points, so that neither the service nor the TIGER driver reads any."""
     folder = tmp_path_factory.mktemp("counties")
     for source, code in ((EXAMPLES, CODE), (EXAMPLES / "town", TOWN)):
         for record_type in "1456":
@@ -61,7 +61,7 @@ def service(extractd: str, data: Path) -> Iterator[Running]:
 
 
 def oapif(service: Running, code: str, *options: str) -> tuple[list[dict[str, str]], str]:
-    """The segments as GDAL's OAPIF driver reads them, with their lines in the column WKT, and what it requested."""
+    """Returns the segments as GDAL's OAPIF driver reads them, with their lines in the column WKT, and its requests."""
     command = ["ogr2ogr", "-f", "CSV", "/vsistdout/", f"OAPIF:{service.url}", code, "-lco", "GEOMETRY=AS_WKT"]
     environment = {**os.environ, "CPL_DEBUG": "HTTP,OAPIF"}
     done = subprocess.run([*command, *options], capture_output=True, env=environment)
@@ -102,7 +102,7 @@ class TestGdal:
 
     @pytest.fixture(scope="class")
     def package(self, extractd: str, data: Path, tmp_path_factory: pytest.TempPathFactory) -> Path:
-        """The same rows as a GeoPackage, with columns of the same types."""
+        """Makes a GeoPackage with the same rows and with columns of the same types."""
         path = tmp_path_factory.mktemp("package") / "large.gpkg"
         command = [sys.executable, "-m", "tigerline", str(data), str(path), "--where", "TRUE", "--counties", LARGE]
         environment = {**os.environ, "PYTHONPATH": str(TOP / "python")}
@@ -130,7 +130,7 @@ class TestGdal:
         ],
     )
     def test_where(self, service: Running, package: Path, where: str, sent: bool) -> None:
-        """`sent` says whether GDAL has the service evaluate the filter, or a part of it."""
+        """`sent` means that GDAL has the service evaluate the filter or a part of it."""
         self.compare(service, package, "-where", where)
         _, said = oapif(service, LARGE, "-oo", "PAGE_SIZE=10000", "-where", where)
         assert ("&filter=" in said) == sent
@@ -143,7 +143,7 @@ class TestGdal:
         self.compare(service, package, "-spat", *box.split())
 
     def test_box_of_an_end(self, service: Running, package: Path) -> None:
-        """A box that ends just at the end of a segment has this segment."""
+        """A box that ends exactly at the end of a segment contains it."""
         record = records(EXAMPLES / "TGR01001.RT1")[0].decode()
         for record in (line.decode() for line in records(package.parent.parent / "counties0/TGR01003.RT1")[:3]):
             west, south = int(record[190:200]) / 1e6, int(record[200:209]) / 1e6
@@ -162,7 +162,7 @@ class TestGdal:
         assert sorted_lines(found) == sorted_lines(list(csv.DictReader(io.StringIO(written))))
 
     def test_error(self, service: Running) -> None:
-        """GDAL shows what the service says of a filter that it refuses."""
+        """GDAL shows the service's message for a refused filter."""
         command = ["ogrinfo", f"OAPIF:{service.url}", CODE, "-where", "CFCC = 'A410'"]
         done = subprocess.run(command, capture_output=True, text=True)
         assert "refused 94 line 1 column" in done.stdout + done.stderr

@@ -1,4 +1,4 @@
-"""The command `tigerline-features`: starting and stopping it, what it says, and its HTTP in the face of bad clients."""
+"""The command `tigerline-features`: start, stop, messages, and HTTP with bad clients."""
 
 import json
 import os
@@ -19,11 +19,11 @@ from counties import CODE, EXAMPLES, TOP, copy_county, program_of, records
 from test_interrupts import processes_with
 
 ITEMS = f"/collections/{CODE}/items"
-# The number of segments of TCP with data that arrived, in Linux's tcp_info.
+# The place of the number of TCP data segments received in Linux's tcp_info.
 DATA_SEGMENTS_IN = slice(152, 156)
-# A command that never ends, and that no other run of the tests has.
+# A command that never ends, and that no other run of the tests uses.
 HANGING = f"sleep 98765.{os.getpid()}"
-# With this in front, the times of the server are short enough for a test.
+# Shortens the server's times for a test.
 SHORT_TIMES = "from tigerline import _features_server as s; s.IDLE_SECONDS = 1; s.SENDING_SECONDS = 2; "
 RUN = "import sys; from tigerline.features import main; sys.exit(main())"
 
@@ -46,7 +46,7 @@ class Running:
         self.port = int(self.url.rpartition(":")[2])
 
     def stop(self, number: int = signal.SIGTERM) -> tuple[int, str]:
-        """Ends the service, and returns its status and what it wrote to standard error."""
+        """Ends the service, and returns its status and its standard error."""
         self.process.send_signal(number)
         said = self.process.communicate(timeout=30)[1]
         return self.process.returncode, said
@@ -61,7 +61,7 @@ class Running:
 
 @pytest.fixture
 def start(extractd: str) -> Iterator[Callable[..., Running]]:
-    """Starts services. At the end each has to end by SIGTERM with status 0 and without a word, and leave no process."""
+    """Starts services. Each must end by SIGTERM with status 0 and without a message, and leave no process."""
     running: list[Running] = []
 
     def started(*arguments: object, before: str = "") -> Running:
@@ -101,7 +101,7 @@ def read_reply(connection: socket.socket) -> bytes:
 
 
 def is_whole(connection: socket.socket) -> bool:
-    """Whether the rest of a reply can be read."""
+    """Returns whether the rest of a reply can be read."""
     try:
         return len(read_reply(connection)) > 0
     except (OSError, AssertionError):
@@ -113,7 +113,7 @@ def status_of(reply: bytes) -> int:
 
 
 class TestCommand:
-    """How it starts and stops."""
+    """Start and stop."""
 
     @pytest.mark.parametrize(
         ("arguments", "status", "text"),
@@ -174,7 +174,7 @@ class TestHttp:
 
     @pytest.mark.parametrize("target", ["/", f"{ITEMS}?limit=10", f"{ITEMS}?limit=40"])
     def test_head_and_body_in_one_segment(self, service: Running, target: str) -> None:
-        """In two, the system holds the second back until the client has acknowledged the first, for up to 40 ms."""
+        """In two, the system delays the second until the client has acknowledged the first, for up to 40 ms."""
         service.get(target)
         with closing(service.connect()) as connection:
             for count in range(1, 6):
@@ -190,7 +190,7 @@ class TestHttp:
             for _ in range(100):
                 connection.sendall(request(f"{ITEMS}?limit=10"))
                 assert status_of(read_reply(connection)) == 200
-        assert time.monotonic() - started < 3  # 40 ms each would be 4 s.
+        assert time.monotonic() - started < 3  # 40 ms each would be 4 s
 
     def test_two_requests_in_one_write(self, service: Running) -> None:
         with closing(service.connect()) as connection:
@@ -245,10 +245,10 @@ class TestHttp:
 
 
 class TestBadClients:
-    """Clients that are slow, many, or gone don't hold up others."""
+    """Slow, many and gone clients don't delay others."""
 
     def test_thousand_connections(self, service: Running) -> None:
-        """Past 500 connections the oldest that does nothing is closed, so a new client is always served."""
+        """Above 500 connections the oldest idle one is closed, so a new client is always served."""
         service.get(f"{ITEMS}?limit=1")
         with ExitStack() as stack:
             connections = [stack.enter_context(closing(service.connect())) for _ in range(1000)]
@@ -280,7 +280,7 @@ class TestBadClients:
             assert status_of(read_reply(other)) == 503
 
     def test_slow_head(self, start: Callable[..., Running]) -> None:
-        """A client has a time for a whole head, however often it sends a byte."""
+        """A client has a limited time for a complete head, however often it sends a byte."""
         service = start("--data", EXAMPLES, "--counties", CODE, before=SHORT_TIMES)
         with closing(service.connect()) as slow:
             started = time.monotonic()
@@ -300,7 +300,7 @@ class TestBadClients:
         ids=["time", "bytes"],
     )
     def test_slow_reader(self, start: Callable[..., Running], tmp_path: Path, before: str, served: list[bool]) -> None:
-        """A client that doesn't take its reply loses its connection, and others are served meanwhile."""
+        """A client that doesn't read its reply loses its connection, and others are served meanwhile."""
         lines = b"\n".join(records(EXAMPLES / "TGR01001.RT1") * 25) + b"\n"
         (copy_county(tmp_path) / "TGR01001.RT1").write_bytes(lines)
         service = start("--data", tmp_path, before=before)
@@ -316,7 +316,7 @@ class TestBadClients:
             assert [is_whole(connection) for connection in slow] == served
 
     def test_client_that_leaves(self, start: Callable[..., Running], tmp_path: Path) -> None:
-        """Its selection is killed, and nothing is said."""
+        """Its selection is killed, without a message."""
         program = program_of(tmp_path / "hanging", f"{HANGING}; true")
         service = start("--data", EXAMPLES, "--counties", CODE, "--extractd", program)
         for end in (socket.SHUT_RDWR, None):
@@ -343,7 +343,7 @@ class TestBadClients:
         assert service.get(f"{ITEMS}?limit=1")
 
     def test_many_filters_at_once(self, service: Running) -> None:
-        """40 clients with a filter each: each gets its rows, or is told to come again; none waits for ever."""
+        """Of 40 clients, each with a filter, each gets its rows or a request to try again later; none waits forever."""
         found: list[int] = []
 
         def client(number: int) -> None:

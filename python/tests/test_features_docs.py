@@ -1,4 +1,4 @@
-"""What docs/features.md shows is what happens."""
+"""The examples of docs/features.md."""
 
 import doctest
 import re
@@ -24,7 +24,7 @@ def blocks(kind: str) -> list[str]:
 
 @pytest.fixture
 def service(start: Callable[..., Running], tmp_path: Path, monkeypatch: pytest.MonkeyPatch) -> Running:  # noqa: F811
-    """A service over a copy of the examples, in whose folder the commands run."""
+    """Starts a service over a copy of the examples. The commands run in its folder."""
     shutil.copytree(EXAMPLES, tmp_path / "clone/examples")
     monkeypatch.chdir(tmp_path / "clone")
     return start("--data", "examples")

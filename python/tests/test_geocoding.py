@@ -1,4 +1,4 @@
-"""The command `tigerline geocode` and the function: columns, input, output that appears completely or not at all."""
+"""The command `tigerline geocode` and the function: columns, input, and output that appears only if complete."""
 
 import csv
 import io
@@ -30,7 +30,7 @@ ROW += ["-86.852619,32.484638", "107001116", "L"]
 
 @pytest.fixture
 def out(tmp_path: Path) -> Iterator[Path]:
-    """A folder for output, in which no temporary file may be left."""
+    """Makes a folder for output, in which no temporary file may be left."""
     folder = tmp_path / "out"
     folder.mkdir()
     yield folder
@@ -46,7 +46,7 @@ def rows_of(text: str) -> list[list[str]]:
 
 
 class TestColumns:
-    """As the Census Bureau's batch geocoder has them: all quoted, eight columns, or three without a match."""
+    """The columns of the Census Bureau's batch geocoder: all quoted, eight of them, or three without a match."""
 
     LINES = (
         f"{EXACT}\n2,751 Main Blvd,Town,AL,36003\n3,751 Main,,,\n4,164-20 Main St,Town,AL,36067\n5,9999 Lantern St,,,\n"
@@ -88,7 +88,7 @@ class TestColumns:
         )
 
 
-# Input, options, and the lines of output, or the status and the end of the message.
+# Input, options, and the lines of output or the status and the end of the message.
 INPUTS = [
     ("byte order mark", b"\xef\xbb\xbf" + EXACT.encode(), [], 1),
     ("CR LF", f"{EXACT}\r\n{EXACT}\r\n".encode(), [], 2),
@@ -232,7 +232,7 @@ class TestFunction:
             next(tigerline.geocode([address], EXAMPLES, CODE))
 
     def test_parts(self, monkeypatch: pytest.MonkeyPatch, tmp_path: Path) -> None:
-        """Addresses are taken in parts, and a warning about missing files comes once."""
+        """Addresses are processed in parts, and a warning about missing files comes once."""
         addresses = [(str(number), f"{number} Main St", "", "", "") for number in range(700, 750)]
         expected = list(tigerline.geocode(addresses, EXAMPLES, CODE))
         assert sum(match.status == "Match" for match in expected) > 5
@@ -244,7 +244,7 @@ class TestFunction:
         assert list(tigerline.geocode([], EXAMPLES, CODE)) == []
 
     def test_counties(self, tmp_path: Path) -> None:
-        """A segment that two counties have is one place; the first county is named. Zip files are unpacked."""
+        """A segment in two counties is one place, and the first county is named. Zip files are unpacked."""
         copy_county(tmp_path / "two")
         zip_folder(copy_county(tmp_path / "other", code="01003"), tmp_path / "two/tgr01003.zip")
         both = list(tigerline.geocode([EXACT.split(",")], tmp_path / "two", ["01003", CODE]))
@@ -281,7 +281,7 @@ class TestFunction:
 
 
 class TestInterrupts:
-    """Ctrl-C and other signals: no process, no folder and no half file is left."""
+    """Ctrl-C and other signals leave no process, no folder and no partial file."""
 
     def start(self, *arguments: object, **options: object) -> subprocess.Popen[bytes]:
         command = [sys.executable, "-m", "tigerline", "geocode", *map(str, arguments), "--data", str(EXAMPLES)]
@@ -344,7 +344,7 @@ class TestInterrupts:
 
 
 def test_page(tmp_path: Path, monkeypatch: pytest.MonkeyPatch) -> None:
-    """What docs/geocoding.md shows of `tigerline` is what happens."""
+    """The examples of `tigerline` in docs/geocoding.md."""
     page = (TOP / "docs/geocoding.md").read_text()
     shutil.copytree(EXAMPLES, tmp_path / "clone/examples")
     command = tmp_path / "bin/tigerline"
@@ -384,7 +384,7 @@ S Holly - -                    | 1-99    | 36067
 - County_Rd_8 - -; - County_Road_8 - - | 1-99 | 36067
 """.strip().splitlines()
 
-# An address and its ZIP Code; the segment that matches, or none; the reasons.
+# An address and its ZIP Code, the segment that matches or none, and the reasons.
 CHOICES = """
 5 E Jefferson St       | 36067 | 1  |
 5 Jefferson St E       | 36067 | 1  | direction
@@ -447,7 +447,7 @@ def test_choices(tmp_path: Path, step: int) -> None:
 
 
 def test_order_of_readings(tmp_path: Path) -> None:
-    """Two readings match one segment. That another address asks for the second one before changes nothing."""
+    """Two readings match one segment. An earlier address with the second reading changes nothing."""
     write_segments(tmp_path)
     expected = {"5 CR 8": "5 COUNTY ROAD 8, , , 36067", "5 County Rd 8": "5 COUNTY RD 8, , , 36067"}
     for streets in (list(expected), list(expected)[::-1]):

@@ -1,7 +1,7 @@
-"""Geocoding equals an index that is written here, over the files and in plain Python, for 2,000 made-up addresses.
+"""Geocoding agrees with an independent index, over the files and in plain Python, for 2,000 made-up addresses.
 
-The index shares no code with the package. It looks for names of the data in a string, while the package looks for readings of
-the string in the data.
+The index shares no code with the package. It looks for names of the data in a string, while the package looks for
+readings of the string in the data.
 """
 
 import importlib.util
@@ -17,7 +17,7 @@ import pytest
 import tigerline
 from counties import EXAMPLES, TOP
 
-ADDRESSES, SPOILT = 1000, 250  # of each county
+ADDRESSES, SPOILT = 1000, 250  # per county
 PARTS = 12
 OTHER_TYPES = {"St": "Ave", "Ave": "St", "Rd": "Ln", "Ct": "Rd"}
 LONG = {
@@ -53,7 +53,7 @@ class Found(NamedTuple):
 
 
 class Index:
-    """The segments of a county by their names."""
+    """The segments of a county by name."""
 
     def __init__(self, folder: Path, code: str) -> None:
         def lines(record_type: int) -> list[str]:
@@ -86,7 +86,7 @@ class Index:
                 self.by_name[name[1].lower()].append((segment, name))
 
     def answer(self, number: int, street: str, zip_code: str) -> tuple[str, list[Found]]:
-        """Match, Tie or the reason, and the best hits."""
+        """Returns Match, Tie or the reason, and the best hits."""
         hits, street_exists = [], False
         for name, prefix, type_, suffix in self.splits(street.lower().replace(".", "").split()):
             for segment, (fedirp, fename, fetype, fedirs) in self.by_name[name]:
@@ -114,7 +114,7 @@ class Index:
                 yield Found((agrees, *rank), segment.tlid, side, place(segment, number, first, last))
 
     def splits(self, words: list[str]) -> Iterator[tuple[str, str, str, str]]:
-        """The names of the data in a string, with what is before and after them."""
+        """Yields the names of the data in a string, with the words before and after them."""
         for first in range(len(words)):
             prefix = " ".join(words[:first])
             if prefix and prefix not in DIRECTIONS:
@@ -131,7 +131,7 @@ class Index:
 
     @staticmethod
     def same(name: str) -> list[str]:
-        """The name, and the full name of a numbered road."""
+        """Returns the name, and the full name of a numbered road."""
         for full, short in SHORT_ROUTES.items():
             for start in short:
                 number = name.removeprefix(start.lower().replace(".", "") + " ")
@@ -141,7 +141,7 @@ class Index:
 
 
 def place(segment: Segment, number: int, first: int, last: int) -> tuple[str, str] | None:
-    """The place of a house number in degrees, by whole numbers cut towards zero."""
+    """Returns the place of a house number in degrees, calculated in integers and truncated towards zero."""
     if segment.ends is None:
         return None
 
@@ -155,7 +155,7 @@ def place(segment: Segment, number: int, first: int, last: int) -> tuple[str, st
 
 
 class Drawn(NamedTuple):
-    """An address: what was done to it, the segment and side that it is of, and what the index is asked."""
+    """An address: how it was altered, its segment and side, and the input for the index."""
 
     kind: str
     tlid: int
@@ -167,7 +167,7 @@ class Drawn(NamedTuple):
     zip: str
 
 
-# What is done to an address, and whether it can still be found on its own segment.
+# Alterations of an address, and whether it can still be found on its own segment.
 HARMLESS = ["canonical", "long words", "capitals", "unit", "blanks", "short route"]
 SPOILS = {
     "direction moved": True,
@@ -182,7 +182,7 @@ REASONS = {
 
 
 def altered(random: Random, kind: str, parts: list[str]) -> list[str]:
-    """Direction, name, type and direction as they are written."""
+    """Returns direction, name, type and direction as they are written."""
     if kind == "long words":
         return [LONG.get(part, part) if at != 1 else part for at, part in enumerate(parts)]
     if kind == "capitals":
@@ -238,7 +238,7 @@ def draw(random: Random, index: Index, kind: str) -> Drawn:
 
 @pytest.fixture(scope="module")
 def many_segments(tmp_path_factory: pytest.TempPathFactory) -> Path:
-    """A county of some thousand segments: several of make_county's, with TLIDs of their own."""
+    """Writes a county of some thousand segments: several from make_county, each with its own TLIDs."""
     maker = module(TOP / "examples/make_county.py")
     folder = tmp_path_factory.mktemp("county")
     chains = []
@@ -296,7 +296,7 @@ def check(index: Index, drawn: Drawn, match: tigerline.Match) -> None:
 
 
 def check_segment(drawn: Drawn, match: tigerline.Match, found: tuple[str, str]) -> None:
-    """No match is on a wrong segment: it is on the address's own, or what is written is in full another address."""
+    """Fails if a match is on a wrong segment: neither the address's own nor one with exactly the written address."""
     is_own = (match.tlid, match.side) == (drawn.tlid, drawn.side) or found == drawn.place
     if drawn.kind in HARMLESS:
         assert is_own and match.is_exact, (drawn, match)

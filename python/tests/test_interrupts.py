@@ -1,4 +1,4 @@
-"""Ctrl-C and other signals at any moment: no temporary folder, no half file and no process is left."""
+"""Ctrl-C and other signals at any moment leave no temporary folder, no partial file and no process."""
 
 import os
 import random
@@ -32,7 +32,7 @@ except KeyboardInterrupt:
 
 @pytest.fixture
 def large(tmp_path: Path) -> Path:
-    """A zip file with a county of some thousand segments."""
+    """Writes a zip file with a county of some thousand segments."""
     folder = tmp_path / "large"
     folder.mkdir()
     lines = records(EXAMPLES / "TGR01001.RT1") * COPIES
@@ -43,7 +43,7 @@ def large(tmp_path: Path) -> Path:
 
 
 def processes_with(text: str) -> list[str]:
-    """The commands of running processes that have the text in them."""
+    """Returns the commands of running processes that contain the text."""
     found = []
     for path in Path("/proc").glob("[0-9]*/cmdline"):
         try:
@@ -67,7 +67,7 @@ def start(large: Path, out: Path) -> subprocess.Popen[bytes]:
 
 
 def check_output(out: Path) -> None:
-    """Either there is no file, or it has all segments. Removes it."""
+    """Checks that there is no file or that it has all segments, and removes it."""
     assert [path.name for path in out.iterdir() if path.name[0] != "."] in ([], ["a.gpkg"])
     if (out / "a.gpkg").exists():
         query = ["ogrinfo", "-q", "-sql", "SELECT COUNT(*) FROM segments", str(out / "a.gpkg")]
@@ -97,7 +97,7 @@ def test_command_at_any_moment(scratch: Path, tmp_path: Path, large: Path) -> No
 
 
 def test_command_is_ready_for_signals_soon() -> None:
-    """Ctrl-C while modules are imported would show a traceback, so only small ones come before it ends the process."""
+    """Ctrl-C during imports would show a traceback, so only small modules are imported before it ends the process."""
     code = "import tigerline._start, sys; print({'typing', 'subprocess', 'zipfile'} & set(sys.modules))"
     done = subprocess.run([sys.executable, "-S", "-c", code], env=environment(), stdout=subprocess.PIPE, text=True)
     assert done.stdout == "set()\n"
@@ -105,7 +105,7 @@ def test_command_is_ready_for_signals_soon() -> None:
 
 @pytest.mark.usefixtures("extractd", "gdal")
 def test_kill(scratch: Path, tmp_path: Path, large: Path) -> None:
-    """After SIGKILL a folder is left, but no half file has the output's name, and the other processes end."""
+    """SIGKILL leaves a folder, but no partial file has the output's name, and the other processes end."""
     out = tmp_path / "out"
     out.mkdir()
     for delay in (0.3, 0.5, 0.7):
@@ -141,8 +141,8 @@ def test_package_at_any_moment(scratch: Path, large: Path) -> None:
 
 
 def test_hanging_program(scratch: Path, tmp_path: Path) -> None:
-    """A program that never ends is killed at once with what it started, even if it ignores Ctrl-C."""
-    sleep = f"sleep 98765.{os.getpid()}"  # which no other run of the tests has
+    """A program that never ends is killed at once with its children, even if it ignores Ctrl-C."""
+    sleep = f"sleep 98765.{os.getpid()}"  # used by no other run of the tests
     program = program_of(tmp_path / "program", f'trap "" INT; {sleep}; true')
     timer = threading.Timer(0.5, os.kill, (os.getpid(), signal.SIGINT))
     timer.start()

@@ -59,7 +59,7 @@ def test_numbers_of_the_document(field: str, number: int | None) -> None:
 
 
 def number_by_hand(field: str) -> int | None:
-    """The rule of docs/records.md in other words."""
+    """Returns the number by the rule of docs/records.md, written differently."""
     digits = field.strip(" ")
     return int(digits) if 1 <= len(digits) <= 11 and set(digits) <= set(string.digits) else None
 

@@ -1,4 +1,4 @@
-"""The command: files that appear completely or not at all, its statuses and errors."""
+"""The command: files that appear completely or not at all, exit statuses and errors."""
 
 import csv
 import json
@@ -32,7 +32,7 @@ def run(*arguments: object, before: list[str] | None = None, **options: object) 
 
 @pytest.fixture
 def out(tmp_path: Path) -> Iterator[Path]:
-    """A folder for output, in which no temporary file may be left."""
+    """Makes a folder for output, in which no temporary file may be left."""
     folder = tmp_path / "out"
     folder.mkdir()
     yield folder
@@ -40,7 +40,7 @@ def out(tmp_path: Path) -> Iterator[Path]:
 
 
 def layer(path: Path) -> list[dict[str, str]]:
-    """The features of a file, as GDAL reads them."""
+    """Returns the features of a file as GDAL reads them."""
     command = ["ogr2ogr", "-f", "CSV", "/vsistdout/", str(path), "-lco", "GEOMETRY=AS_WKT"]
     written = subprocess.run(command, stdout=subprocess.PIPE, check=True, text=True).stdout
     return list(csv.DictReader(written.splitlines()))
@@ -60,7 +60,7 @@ class TestFormats:
         done = run(tmp_path / "data", out / f"roads.{suffix}", "--where", ROADS, "--geometry", "shape")
         assert (done.returncode, done.stderr, done.stdout) == (0, "", f"{out}/roads.{suffix}: 240 segments\n")
         expected = gdal_rows(tmp_path / "data/TGR01001.RT1", "-where", ROADS)
-        found = sorted(layer(out / f"roads.{suffix}"), key=by_tlid)  # FlatGeobuf sorts by place.
+        found = sorted(layer(out / f"roads.{suffix}"), key=by_tlid)  # FlatGeobuf sorts by location.
         assert [row["TLID"] for row in found] == [row["TLID"] for row in expected]
         assert [points_of(row["WKT"]) for row in found] == [points_of(row["WKT"]) for row in expected]
         assert [row["FENAME"] for row in found] == [row["FENAME"] for row in expected]
@@ -140,7 +140,7 @@ class TestFormats:
 
 @pytest.mark.usefixtures("extractd")
 class TestMaps:
-    """A map beside the file."""
+    """A map in addition to the file."""
 
     @pytest.mark.parametrize(("suffix", "by"), [("svg", "class"), ("html", "class"), ("svg", "score")])
     def test_map(self, out: Path, suffix: str, by: str) -> None:
@@ -151,7 +151,7 @@ class TestMaps:
         assert f"CFCC LIKE &#x27;A%&#x27;: 240 segments</text>" in page and ">Not selected<" in page
 
     def test_background_is_around_the_selection(self, out: Path, tmp_path: Path) -> None:
-        """Of the town, its copy far in the east, and a county without selected segments."""
+        """The town, its copy far in the east, and a county without selected segments."""
         town = EXAMPLES / "town"
         copy_county(tmp_path / "data")
         east = []
@@ -208,7 +208,7 @@ class TestMaps:
 
 
 def named_main(folder: Path, code: str) -> list[str]:
-    """The TLIDs of the segments with a name Main, by a join of record types 1, 4 and 5."""
+    """Returns the TLIDs of the segments named Main, by a join of record types 1, 4 and 5."""
     named = {int(record[10:18]): record[20:50].strip().lower() for record in records(folder / f"TGR{code}.RT5")[::-1]}
     names: dict[int, list[bytes]] = {}
     for record in records(folder / f"TGR{code}.RT4"):
@@ -225,7 +225,7 @@ def named_main(folder: Path, code: str) -> list[str]:
 
 @pytest.mark.usefixtures("extractd")
 class TestTasks:
-    """The two tasks of docs/filters.md, with what they find found by other means."""
+    """The two tasks of docs/filters.md, with the results found by other means."""
 
     def test_any_name_main_over_three_counties(self, out: Path, tmp_path: Path) -> None:
         data = copy_county(tmp_path / "data")
@@ -314,7 +314,7 @@ class TestFaults:
     def test_unwritable_folder(
         self, out: Path, tmp_path: Path, tmp_path_factory: pytest.TempPathFactory, extractd: str
     ) -> None:
-        """As root no folder is unwritable, so the command runs as nobody then, with copies that nobody may read."""
+        """Root can write to all folders, so then the command runs as nobody, with copies that nobody may read."""
         before = []
         shutil.copytree(TOP / "python/tigerline", tmp_path / "python/tigerline")
         shutil.copy(extractd, tmp_path / "extractd")
@@ -349,7 +349,7 @@ class TestFaults:
         ],
     )
     def test_full_disk(self, out: Path, tmp_path: Path, suffix: str, kilobytes: int, gdal: None) -> None:
-        """A limit on the size of files fails writes as a full disk does."""
+        """A limit on the size of files makes writes fail like a full disk."""
         before = ["sh", "-c", f'ulimit -f {kilobytes * 2}; exec "$@"', "sh"]
         done = run(
             EXAMPLES, out / f"a.{suffix}", "--where", "TRUE", "--counties", CODE, "--columns", "TLID", before=before
@@ -363,7 +363,7 @@ class TestFaults:
         self.refused(out, 3, "there is no program ogr2ogr", *options, environment={"PATH": str(tmp_path / "bin")})
 
     def test_no_outputs(self, out: Path) -> None:
-        """With standard output or standard error closed."""
+        """Standard output or standard error is closed."""
         close = ["sh", "-c", 'exec "$@" >&-', "sh"]
         done = run(EXAMPLES, out / "a.csv", "--where", "TRUE", "--counties", CODE, before=close)
         assert (done.returncode, done.stderr) == (3, "error: the output can't be written: it is closed\n")

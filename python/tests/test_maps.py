@@ -48,7 +48,7 @@ def texts_of(element: ElementTree.Element) -> list[str]:
 
 
 def legend_of(text: str) -> dict[str, str]:
-    """The rows of the legend: each label with the text after it."""
+    """Returns the rows of the legend: each label with the text after it."""
     texts = texts_of(tree_of(text))
     start = next(place for place, found in enumerate(texts) if re.fullmatch(r"[0-9,]+ segments?", found))
     rows = [found for found in texts[start + 1 :] if not re.search(" (km|mi)$", found)]
@@ -56,7 +56,7 @@ def legend_of(text: str) -> dict[str, str]:
 
 
 def lines_of(element: ElementTree.Element) -> Iterator[list[tuple[float, float]]]:
-    """The lines of all paths, as pixels."""
+    """Yields the lines of all paths in pixels."""
     for path in element.iter(SVG + "path"):
         data = path.get("d", "")
         assert re.fullmatch(r"(?:[ML]-?[0-9.]+ -?[0-9.]+|Z)*", data)
@@ -247,7 +247,7 @@ def test_closed_outlines_of_lakes_are_filled() -> None:
 
 
 def test_box_is_what_the_map_shows() -> None:
-    """A box reaches beyond what is drawn in the west, and what is drawn reaches beyond the box in the east."""
+    """A box extends beyond the drawn lines in the west, and the lines extend beyond the box in the east."""
     picture = draw_svg([line("A41", (10, 0), (11, 0)), line("A41", (10, 1), (14, 1))], caption="", box=Box(8, 0, 12, 1))
     across = [x for points in lines_of(map_of(picture)) for x, _ in points]
     width = float(map_of(picture).get("width", ""))
@@ -285,7 +285,7 @@ def test_hundred_thousand_segments_take_less_than_three_seconds() -> None:
 
 
 def select_by_hand() -> bytes:
-    """The rows of the roads with the ZIP Code 35042, by slices of the town's file."""
+    """Returns the rows of the roads with the ZIP Code 35042, by slices of the town's file."""
     rows = []
     for record in (TOWN / "TGR01007.RT1").read_bytes().split(b"\r\n"):
         if record[55:56] == b"A" and b"35042" in (record[106:111], record[111:116]):
@@ -357,7 +357,7 @@ def test_command_needs_only_rows() -> None:
 
 
 def needed(program: str) -> str:
-    """Finds a program; without it the test is skipped."""
+    """Finds a program, or skips the test without it."""
     found = shutil.which(program)
     if found is None:
         pytest.skip(f"no {program}")
@@ -365,7 +365,7 @@ def needed(program: str) -> str:
 
 
 def assert_gdal_reads(folder: Path) -> None:
-    """GDAL's TIGER driver finds the same segments with the same points in a folder."""
+    """Checks that GDAL's TIGER driver finds the same segments with the same points in a folder."""
     precision = ["-lco", "COORDINATE_PRECISION=6"]
     command = [needed("ogr2ogr"), "-f", "GeoJSONSeq", "/vsistdout/", str(folder), "CompleteChain", *precision]
     features = subprocess.run(command, stdout=subprocess.PIPE, check=True).stdout.decode().splitlines()
@@ -454,7 +454,7 @@ function probe() {
 
 
 def probed(page: str, folder: Path) -> dict:
-    """What the probe says of a page in a headless browser."""
+    """Returns what the probe reports about a page in a headless browser."""
     (folder / "page.html").write_text(page.replace("<style>", PROBE + "<style>", 1), encoding="utf-8")
     options = ["--headless", "--disable-gpu", "--no-sandbox", "--window-size=1200,900", "--virtual-time-budget=5000"]
     command = [
@@ -478,7 +478,7 @@ def test_browser_runs_the_page(tmp_path: Path) -> None:
 
 
 def test_browser_shows_lines_that_leave_the_map(tmp_path: Path) -> None:
-    """A selection of some meters, and lines of hundreds of kilometers around it."""
+    """A selection of a few meters, surrounded by lines of hundreds of kilometers."""
     around = [line("A11", (-90 + number / 1000, 30), (-84 + number / 1000, 36)) for number in range(100)]
     page = draw_html(
         [STREET._replace(points=((-87, 33), (-86.9999, 33.0001)))],

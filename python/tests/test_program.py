@@ -1,4 +1,4 @@
-"""How the built program is found, and what its statuses become."""
+"""Finding the built program, and its exit statuses as exceptions."""
 
 import os
 import pickle
@@ -20,7 +20,7 @@ def outcome(program: str | None, **options: object) -> list[tigerline.Row]:
 
 @pytest.mark.usefixtures("scratch")
 class TestStatuses:
-    """A status other than 0 raises, and the rows that came before are dropped."""
+    """A status other than 0 raises an exception, and the rows before it are dropped."""
 
     @pytest.mark.parametrize(
         ("script", "error", "text"),
@@ -79,7 +79,7 @@ class TestStatuses:
 
 @pytest.mark.usefixtures("scratch")
 class TestFinding:
-    """The argument comes before the variable, and the variable before PATH."""
+    """The argument takes precedence over the variable, and the variable over PATH."""
 
     def test_order(self, tmp_path: Path, monkeypatch: pytest.MonkeyPatch) -> None:
         rows = {
@@ -116,10 +116,10 @@ class TestFinding:
 
 @pytest.mark.usefixtures("scratch")
 class TestBuilt:
-    """The built program: its version, refusals, and arguments of any form."""
+    """The built program: its version, its refusals, and arguments of any form."""
 
     def test_standard_library_alone(self, extractd: str) -> None:
-        """`rows` needs neither pandas nor numpy, and no installed package at all (-S)."""
+        """`rows` needs neither pandas nor numpy, nor any installed package (-S)."""
         code = (
             f"import sys; sys.path.insert(0, {str(TOP / 'python')!r}); import tigerline; "
             f"print(len(list(tigerline.rows('TRUE', {str(EXAMPLES)!r}, '01001')))); "

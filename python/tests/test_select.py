@@ -1,4 +1,4 @@
-"""Data frames, compared with what GDAL's TIGER driver reads from the same files."""
+"""Data frames, compared with GDAL's TIGER driver on the same files."""
 
 import sys
 from pathlib import Path
@@ -60,7 +60,7 @@ def test_missing_coordinates(tmp_path: Path) -> None:
 
 
 def test_any_byte(tmp_path: Path) -> None:
-    """Bytes that no real file has: the program carries them, and so does the frame."""
+    """Bytes that no real file has are kept by the program and by the frame."""
     odd = bytes(byte for byte in range(256) if byte != 10)
     lines = []
     for shift in range(40):
@@ -69,7 +69,7 @@ def test_any_byte(tmp_path: Path) -> None:
             b"1",
             b"%10d" % (1000 + shift),
             b"9",
-        )  # CR at the end would be the line's.
+        )  # A CR at the end would belong to the line end.
         lines.append(bytes(record))
     (tmp_path / "TGR01001.RT1").write_bytes(b"\n".join(lines) + b"\n")
     with pytest.warns(UserWarning):

@@ -1,4 +1,4 @@
-"""Counties as they are shipped: folders, zip files, names in any case; and files that aren't as they should be."""
+"""Counties as they are shipped: folders, zip files, names in any case; and invalid files."""
 
 import os
 import struct
@@ -22,7 +22,7 @@ def segments(data: Path, counties: str | list[str] | None = None, extractd: str 
 
 @pytest.mark.usefixtures("extractd", "scratch")
 class TestForms:
-    """Each form in which a county may come has the same segments."""
+    """All forms of a county have the same segments."""
 
     @pytest.mark.parametrize("name", [str.upper, str.lower, str.title])
     def test_names_in_any_case(self, tmp_path: Path, name: Callable[[str], str]) -> None:
@@ -70,7 +70,7 @@ def flip(path: Path, at: int, content: bytes) -> None:
 
 
 def state_less(checked: int | None = None) -> Callable[[Path], None]:
-    """Makes both headers of RT1, the first member, state 1,000 bytes, and the checksum of the first `checked` bytes."""
+    """Makes both headers of the first member, RT1, state 1,000 bytes and the checksum of the first `checked`."""
 
     def change(archive: Path) -> None:
         data = archive.read_bytes()
@@ -99,7 +99,7 @@ def encrypt(archive: Path) -> None:
 
 
 def misname(archive: Path) -> None:
-    """Says that the name of a member is UTF-8, which it isn't."""
+    """Marks the name of a member as UTF-8, although it isn't."""
     central = archive.read_bytes().index(b"PK\x01\x02")
     flip(archive, central + 9, b"\x08")
     flip(archive, central + 46, b"\xff")
@@ -135,7 +135,7 @@ def add_link(archive: Path) -> None:
 
 @pytest.mark.usefixtures("scratch")
 class TestBadSources:
-    """Each fault is one error, and the program isn't started, or leaves nothing."""
+    """Each fault is one error, and the program isn't started or leaves nothing."""
 
     @pytest.fixture
     def never(self, tmp_path: Path) -> str:

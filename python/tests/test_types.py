@@ -1,4 +1,4 @@
-"""The types of the package, and the errors that a caller sees."""
+"""The package's types, and the errors that a caller sees."""
 
 import subprocess
 import sys

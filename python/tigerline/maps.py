@@ -94,7 +94,7 @@ def draw_svg(
 def page_rows(
     segments: Iterable[MapSegment], view: View, names: dict[str, int], is_selected: bool
 ) -> Iterator[list[object]]:
-    """Returns class, name number, score and points of each segment. Scores are texts: JavaScript would round numbers."""
+    """Returns class, name number, score and points of each segment. Scores are texts, since JavaScript rounds."""
     for segment in segments:
         name = names.setdefault(printable(segment.name), len(names))
         points = [round(10 * value) for position in segment.points for value in view.place(position)]
