@@ -1,5 +1,5 @@
 #!/bin/sh
-# Installs extractd below a folder, and removes it again. `install.sh --help` says how.
+# Installs extractd below a folder, or uninstalls it. `install.sh --help` describes the options.
 
 set -eu
 umask 022
@@ -64,7 +64,7 @@ case $prefix in
 esac
 prefix=${prefix%/}
 root=${DESTDIR-}$prefix
-# What was installed, a path below PREFIX in each line. Folders end with a slash.
+# What was installed, one path below PREFIX per line. Folders end with a slash.
 list=$root/share/extractd/installed
 
 # Prints what to install: the mode, the source, and the path below PREFIX, separated by tabs.
@@ -84,7 +84,7 @@ files() {
 
 row() { printf '%s\t%s\t%s\n' "$@"; }
 
-# Prints the documents, and of the examples what they name and users need: counties, programs, addresses, the server's surroundings.
+# Prints the documents, and the examples that they name or users need: counties, programs, addresses, and the server's configuration.
 documents() {
     (
         cd "$here"
@@ -98,7 +98,7 @@ documents() {
     )
 }
 
-# Makes the folders of a path that aren't there, and notes them.
+# Makes the missing folders of a path, and records them.
 make_folders() {
     case $1 in
     */*) make_folders "${1%/*}" ;;
@@ -141,7 +141,7 @@ uninstall() {
     done
     folders=$(grep '/$' "$list" | LC_ALL=C sort -r)
     rm -f "$list"
-    # A folder stays if it has other files.
+    # A folder with other files stays.
     echo "$folders" | while IFS= read -r folder; do
         [ -z "$folder" ] || rmdir "$root/$folder" 2> /dev/null || :
     done

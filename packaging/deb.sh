@@ -1,9 +1,9 @@
 #!/usr/bin/env bash
 # Builds a Debian package from a built program: packaging/deb.sh PROGRAM OUT.deb
 #
-# PROGRAM is an x86-64 ELF file. The package has what install.sh installs, at Debian's places, and the program without debugging symbols.
-# It needs dpkg-dev and binutils, and no root. MAINTAINER is the package's maintainer, as in `Name <address>`. Two builds of the same commit
-# and program are equal, byte for byte. Dates are that of the commit, unless SOURCE_DATE_EPOCH gives another.
+# PROGRAM is an x86-64 ELF file. The package contains what install.sh installs, in Debian's folders, and the program without debug symbols.
+# Needs dpkg-dev and binutils, but not root. MAINTAINER is the package's maintainer, such as `Name <address>`. Two builds of the same commit
+# and program are equal, byte for byte. Dates are that of the commit, or SOURCE_DATE_EPOCH.
 
 set -euo pipefail
 export LC_ALL=C
@@ -40,7 +40,7 @@ trap 'exit 1' INT TERM HUP
 root=$scratch/debian/extractd
 documents=$root/usr/share/doc/extractd
 
-# What install.sh installs, at Debian's places.
+# Installs what install.sh installs, in Debian's folders.
 stage() {
     cp "$program" "$scratch/extractd"
     strip --strip-unneeded --remove-section=.comment --remove-section=.note "$scratch/extractd"
@@ -52,7 +52,7 @@ stage() {
     changelog | gzip -9n > "$documents/changelog.Debian.gz"
     install -m 644 "$top/packaging/copyright" "$documents/copyright"
     rm "$documents/CHANGELOG.md" "$documents/LICENSE" "$documents/CONTRIBUTING.md"
-    # The service has its own folder; a copy would only differ.
+    # The service has its own folder; a copy would only differ from it.
     rm "$documents/examples/server/extractd.service"
 }
 
@@ -66,7 +66,7 @@ extractd ($version) unstable; urgency=medium
 END
 }
 
-# The packages of the libraries that the program loads, with the versions that have its symbols.
+# Prints the packages of the libraries that the program loads, with versions that have the symbols it needs.
 depends() {
     printf 'Source: extractd\n\nPackage: extractd\nArchitecture: amd64\n' > "$scratch/debian/control"
     (cd "$scratch" && dpkg-shlibdeps -O debian/extractd/usr/bin/extractd) | sed -n 's/^shlibs:Depends=//p'
@@ -93,7 +93,7 @@ Description: select street segments of TIGER/Line 2006 files
 END
 }
 
-# The unit isn't enabled: it needs a county's files first.
+# The unit isn't enabled, since it needs a county's files first.
 scripts() {
     cat > "$root/DEBIAN/postinst" << 'END'
 #!/bin/sh
@@ -134,7 +134,7 @@ scripts
 control > "$root/DEBIAN/control"
 (cd "$root" && find usr -type f -print0 | sort -z | xargs -0 md5sum) > "$root/DEBIAN/md5sums"
 chmod 644 "$root/DEBIAN/control" "$root/DEBIAN/md5sums"
-# It appears complete or not at all.
+# The package appears completely or not at all.
 partial=$(mktemp "$(dirname "$out")/.extractd.XXXXXX")
 trap 'rm -rf "$scratch" "$partial"' EXIT
 dpkg-deb --root-owner-group -Zxz --build "$root" "$partial" > "$scratch/said" || fail "$(tail -n 1 "$scratch/said")"

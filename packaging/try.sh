@@ -1,18 +1,18 @@
 #!/usr/bin/env bash
-# Tries the package and install.sh with a built program: packaging/try.sh PATH_TO_extractd
+# Tests the package and install.sh with a built program: packaging/try.sh PATH_TO_extractd
 #
-# 1. The manual pages and completions fit the program: tests/options.sh.
-# 2. deb.sh builds the same package twice, and lintian has nothing to say.
-# 3. In a clean root, which debootstrap makes, the package is installed. The first command of README.md runs. The server runs under what its unit
-#    allows: its limits, no capabilities, a system that can't be written. nginx with its site is in front of it, at the real ports of a network
-#    of their own. The server makes no system call that the unit forbids. The package is purged, and each other file is as it was.
-# 4. install.sh does the same below /usr/local.
+# 1. The manual pages and completions match the program: tests/options.sh.
+# 2. deb.sh builds the same package twice, and lintian has no complaints.
+# 3. The package is installed in a clean root, which debootstrap makes. The first command of README.md runs. The server runs within its unit's
+#    limits, without capabilities, on a read-only system. nginx with its site runs in front of it, at the real ports of a network of their own.
+#    The server makes no system call that the unit forbids. After the package is purged, every other file is as before.
+# 4. install.sh is tested in the same way below /usr/local.
 #
-# The steps need root on Debian 12 and a mirror, which MIRROR names if it isn't debootstrap's own. Without them the root has nothing but the
-# package, by dpkg --root, and the server isn't tried. With REQUIRE_ALL set, commands that are missing are installed by apt-get, and what is left
-# out is a failure. What needs systemd as the first process isn't tried: that it starts and stops the unit, and its namespaces.
+# Steps 3 and 4 need root on Debian 12 and a mirror: debootstrap's own, or MIRROR. Without them the root contains only the package, installed
+# by dpkg --root, and the server isn't tested. With REQUIRE_ALL set, missing commands are installed by apt-get, and anything left out is a
+# failure. The parts that need systemd as the first process aren't tested: starting and stopping the unit, and its namespaces.
 #
-# Prints what failed, then how much was tried and how long it took. Exit status 0 means that nothing failed. It takes two to three minutes.
+# Prints what failed, then the number of tests and their time. Exit status 0 means that nothing failed. It takes two to three minutes.
 
 set -u
 export LC_ALL=C.UTF-8
@@ -34,7 +34,7 @@ fail() {
 same() {
     if [ "$2" = "$3" ]; then tried=$((tried + 1)); else fail "$1" "should be: ${2:0:500}" "and is: ${3:0:500}"; fi
 }
-# does NAME COMMAND..: whether a command ends with 0 and writes no error.
+# does NAME COMMAND..: checks that a command exits with 0 and writes no error.
 does() {
     local name=$1
     shift
@@ -47,7 +47,7 @@ does() {
 leave_out() {
     if [ -n "${REQUIRE_ALL-}" ]; then fail "left out: $1"; else echo "left out: $1"; fi
 }
-# has COMMAND PACKAGE: whether there is such a command, which the package has.
+# has COMMAND PACKAGE: whether the command exists. With REQUIRE_ALL set it is installed from the package.
 has() {
     command -v "$1" > /dev/null && return
     [ -n "${REQUIRE_ALL-}" ] || return
@@ -59,7 +59,7 @@ has() {
 scratch=$(mktemp -d) || exit 1
 chmod 755 "$scratch"
 started=()
-# end: ends what was started last.
+# end: stops the process that was started last.
 end() {
     kill "${started[-1]}" 2> /dev/null
     wait "${started[-1]}" 2> /dev/null
@@ -70,7 +70,7 @@ trap 'exit 1' INT TERM HUP
 package=$scratch/extractd.deb root=$scratch/root
 documents=usr/share/doc/extractd
 
-# try_building: the package, built twice, refusals, and what lintian says.
+# try_building: tests two builds of the package, refusals, and lintian's report.
 try_building() {
     does 'the package is built' "$here/deb.sh" "$program" "$package"
     [ -e "$package" ] || return
@@ -82,14 +82,14 @@ try_building() {
     same 'nothing is left of it' '' "$(find "$scratch" -name 'no.deb' -o -name '.extractd*')"
     same 'it depends on the C library' libc6 "$(dpkg-deb -f "$package" Depends | tr -d ' ' | tr ',' '\n' | sed -n 's/^\(libc6\)(.*/\1/p')"
     if has lintian lintian; then
-        # The package isn't for Debian's archive, so there is no request for it.
+        # The package isn't for Debian's archive, so it closes no request for packaging.
         does 'lintian' lintian --allow-root --fail-on error,warning --suppress-tags initial-upload-closes-no-bugs "$package"
     else
         leave_out 'lintian (it is missing)'
     fi
 }
 
-# snapshot: each file of the root, but for dpkg's own and those of /run, with its mode, its owner and its bytes.
+# snapshot: prints each file of the root, except dpkg's own and those of /run, with its mode, its owner and its checksum.
 snapshot() {
     local pruned=(\( -path ./var/lib/dpkg -o -path ./var/log/dpkg.log -o -path ./run \) -prune)
     (
@@ -98,16 +98,16 @@ snapshot() {
         find . "${pruned[@]}" -o -type f -print0 | sort -z | xargs -0 -r sha256sum
     )
 }
-# unchanged NAME: whether the root is as it was when `before` was written.
+# unchanged NAME: checks that the root is as it was when `before` was written.
 unchanged() {
     snapshot > "$scratch/after"
     same "$1" '' "$(diff "$scratch/before" "$scratch/after")"
 }
 
-# inside COMMAND..: a command in the root and its network.
+# inside COMMAND..: runs a command in the root and its network.
 inside() { nsenter --net="/proc/$holder/ns/net" chroot "$root" "$@"; }
 
-# make_root: a clean Debian in `root`, and a network of its own, which a process holds open.
+# make_root: makes a clean Debian in `root` and a network of its own, which a process keeps open.
 make_root() {
     local waited
     [ "$(id -u)" = 0 ] && has debootstrap debootstrap && has nsenter util-linux || return
@@ -126,10 +126,10 @@ make_root() {
     inside ip link set lo up
 }
 
-# setting NAME: the unit's setting.
+# setting NAME: prints the unit's setting.
 setting() { sed -n "s/^$1=//p" "$root/usr/lib/systemd/system/extractd.service" | head -n 1; }
 
-# start_server: runs what the unit runs, by a user without rights and under its limits, where nothing can be written, and traces its system calls.
+# start_server: runs the unit's command as an unprivileged user within its limits on a read-only system, and traces its system calls.
 start_server() {
     local command counties limits rights trace=() waited
     counties=$(setting Environment)
@@ -152,7 +152,7 @@ start_server() {
     same 'the server listens' 'listening 127.0.0.1:8080' "$(cat "$scratch/serving")"
 }
 
-# start_nginx: nginx with the packaged site as its only one, or with the packaged configuration if there is no site, and a certificate. Sets `url`.
+# start_nginx: runs nginx with only the packaged site, or with the packaged configuration if there is no site, and a certificate. Sets `url`.
 start_nginx() {
     local folder=$root/etc/nginx name=extractd arguments=() waited
     if [ -e "$root/$documents/examples/server/site.conf" ]; then
@@ -164,7 +164,7 @@ start_nginx() {
         name=server url=https://127.0.0.1:8443 arguments=(-p /etc/nginx -c nginx.conf)
     fi
     inside openssl req -x509 -newkey rsa:2048 -nodes -days 1 -subj /CN=extractd -keyout "/etc/nginx/$name.key" -out "/etc/nginx/$name.crt" 2> /dev/null
-    # As `inside` does, but by a process that becomes nginx, so that `end` ends it.
+    # Like `inside`, but the process becomes nginx, so that `end` stops it.
     nsenter --net="/proc/$holder/ns/net" chroot "$root" nginx "${arguments[@]}" -g 'daemon off;' > "$scratch/nginx" 2>&1 &
     started+=($!)
     for ((waited = 0; waited < 100; waited++)); do
@@ -175,7 +175,7 @@ start_nginx() {
 }
 
 ask() { inside curl -k -s -m 60 "$@"; }
-# try_routes URL: requests of each kind, compared with what the commands write.
+# try_routes URL: sends requests of each kind and compares the replies with the commands' output.
 try_routes() {
     local examples=/$documents/examples
     same "$1: a verdict" accepted "$(ask --data-binary "@$examples/all.bpf" "$1/verify")"
@@ -187,7 +187,7 @@ try_routes() {
     same "$1: a job is removed" dropped "$(ask -X DELETE "$1/jobs/1")"
 }
 
-# calls_of GROUP..: the system calls of systemd's groups.
+# calls_of GROUP..: prints the system calls of systemd's groups.
 calls_of() {
     local group name
     for group; do
@@ -196,7 +196,7 @@ calls_of() {
         done
     done
 }
-# try_calls: the server made no system call that the unit's filter, a line of what is allowed and one of what isn't, forbids.
+# try_calls: the server made no system call that the unit's filter forbids. The filter is a line of allowed calls and a line of forbidden ones.
 try_calls() {
     local allowed forbidden
     read -r allowed forbidden <<< "$(sed -n 's/^SystemCallFilter=//p' "$root/usr/lib/systemd/system/extractd.service" | tr '\n' ' ')"
@@ -208,7 +208,7 @@ try_calls() {
     same 'system calls that the unit forbids' '' "$(comm -23 "$scratch/made" "$scratch/allowed")"
 }
 
-# try_server: the server under its unit's limits, alone and behind nginx.
+# try_server: tests the server within its unit's limits, alone and through nginx.
 try_server() {
     local url
     mkdir -p "$root/srv/tiger"
@@ -216,7 +216,7 @@ try_server() {
     start_server
     try_routes http://127.0.0.1:8080
     start_nginx
-    # Ids go on.
+    # Job ids continue.
     same "$url: a verdict" accepted "$(ask --data-binary "@/$documents/examples/all.bpf" "$url/verify")"
     same "$url: rows" "$(inside extractd run --program "/$documents/examples/all.bpf" --data "/$documents/examples" 01001 | sha256sum)" \
         "$(ask --data-binary "@/$documents/examples/all.bpf" "$url/extract" | sha256sum)"
@@ -227,7 +227,7 @@ try_server() {
     if [ -s "$scratch/trace" ]; then try_calls; else leave_out 'the system calls of the server (strace is missing)'; fi
 }
 
-# try_package: the package in the clean root.
+# try_package: tests the package in the clean root.
 try_package() {
     cp "$package" "$root/extractd.deb"
     snapshot > "$scratch/before"
@@ -250,14 +250,14 @@ try_package() {
     same 'dpkg knows nothing of it' '' "$(inside dpkg-query --show extractd 2> /dev/null; find "$root/var/lib/dpkg/info" -name 'extractd*')"
 }
 
-# tidy: removes what these tests put into the root.
+# tidy: removes these tests' files from the root.
 tidy() {
     rm -rf "$root/srv/tiger" "$root/etc/nginx" "$root"/var/log/nginx/* "$root/var/lib/nginx"
     cp -a "$scratch/nginx.before/etc" "$scratch/nginx.before/var" "$root/"
     rm -rf "$root/run/nginx.pid"
 }
 
-# try_install NAME COMMAND..: install.sh below a folder of the root, and its reverse; the command runs the program.
+# try_install NAME COMMAND..: tests install.sh below a folder of the root, and the uninstallation. The command runs the program.
 try_install() {
     cp "$program" "$scratch/built"
     snapshot > "$scratch/before"
@@ -293,14 +293,14 @@ elif [ -e "$package" ]; then
     leave_out 'a clean Debian, and the server in it (there is no debootstrap, no mirror, or no root here)'
     rm -rf "$root"
     mkdir -p "$root/var/lib/dpkg"/{info,updates,triggers} "$root/usr/local"
-    # Where dpkg looks for what it may call.
+    # dpkg looks for its helpers in these folders.
     PATH=$PATH:/usr/sbin:/sbin
     touch "$root/var/lib/dpkg"/{status,available}
     forced=(dpkg --root="$root" --log=/dev/null --force-not-root --force-depends --force-script-chrootless)
     snapshot > "$scratch/before"
     "${forced[@]}" --install "$package" > "$scratch/said" 2>&1 || fail 'it is unpacked' "$(cat "$scratch/said")"
     same 'the first command' 110 "$("$root/usr/bin/extractd" select --where "CFCC = 'A41'" --data "$root/$documents/examples" 01001 | wc -l)"
-    # It warns of the folders that belong to no other package.
+    # dpkg warns about folders that belong to no other package.
     "${forced[@]}" --purge extractd > "$scratch/said" 2>&1 || fail 'it is purged' "$(cat "$scratch/said")"
     unchanged 'the package leaves something'
     try_install "$root/usr/local/bin/extractd" select --where "CFCC = 'A41'" --data "$root/usr/local/share/doc/extractd/examples" 01001

@@ -1,11 +1,11 @@
 #!/bin/sh
 # Tests the Python package with a built program: python/try.sh PATH_TO_extractd, or with its path in EXTRACTD.
 #
-# It needs Python 3.11 with pytest. Some tests need geopandas, GDAL's tools, hypothesis, mypy, owslib, chromium, dask.distributed or GNU
-# parallel, and are skipped if these are missing. As root it installs what is missing by apt-get: on a bare Debian 12 that is 300 MB to
-# download, and 1.1 GB on the disk. With REQUIRE_ALL=1, as in CI, a skipped test is a failure.
+# Needs Python 3.11 with pytest. Some tests need geopandas, GDAL's tools, hypothesis, mypy, owslib, chromium, dask.distributed or GNU
+# parallel, and are skipped if these are missing. As root it installs what is missing by apt-get: on a bare Debian 12 that is a download
+# of 300 MB, and 1.1 GB on the disk. With REQUIRE_ALL=1, as in CI, a skipped test is a failure.
 #
-# Prints what failed. The last line says how many tests passed, failed and were skipped, and why. Exit status 0 means that no test failed.
+# Prints the failures. The last line says how many tests passed, failed and were skipped, and why. Exit status 0 means that no test failed.
 
 set -u
 python=${PYTHON:-/usr/bin/python3}

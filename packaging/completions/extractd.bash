@@ -1,6 +1,6 @@
 # Completes the command line of extractd in bash 4.4 or later.
 
-# Prints the options of a command, without the command those of extractd itself.
+# Prints the options of a command, or those of extractd itself without a command.
 _extractd_options() {
     case $1 in
     '') echo --help --version ;;
@@ -29,7 +29,7 @@ _extractd_codes() {
 
 _extractd() {
     local current=${COMP_WORDS[COMP_CWORD]} previous=${COMP_WORDS[COMP_CWORD - 1]} command='' data=. given=' ' words='' index word
-    # Bash takes the = of --data=DIR for a word.
+    # Bash splits --data=DIR into words, and = is one of them.
     if [ "$current" = = ]; then
         current=
     elif [ "$previous" = = ]; then
@@ -67,7 +67,7 @@ _extractd() {
     esac
 
     if [[ $current == -* ]]; then
-        # An option is accepted once.
+        # An option is accepted only once.
         for word in $(_extractd_options "$command"); do
             [[ $given == *" $word "* ]] || words+=" $word"
         done

@@ -1,10 +1,10 @@
-# Prints what bash offers after the words of a command line, one per line: bash complete.bash FILE WORD...
-# It is part of the tests. The last word is the one to complete.
+# Prints bash's completions of a command line's last word, one per line: bash complete.bash FILE WORD...
+# It is part of the tests.
 set -u
 # shellcheck source=packaging/completions/extractd.bash
 source "$1"
 shift
-# Only a shell that reads from a terminal has it.
+# compopt works only while an interactive shell completes.
 compopt() { :; }
 # shellcheck disable=SC2034 # The completion reads them.
 COMP_WORDS=("$@") COMP_CWORD=$(($# - 1))

@@ -1,5 +1,5 @@
-# Prints what zsh offers at the end of each line of standard input, after the line and a colon: zsh -f complete.zsh FOLDER SCRATCH
-# It is part of the tests. FOLDER has the file _extractd, SCRATCH is an empty folder. An interactive shell on a pseudo-terminal completes.
+# Prints zsh's completions at the end of each line of standard input, after the line and a colon: zsh -f complete.zsh FOLDER SCRATCH
+# It is part of the tests. FOLDER contains the file _extractd, and SCRATCH is an empty folder. The shell runs on a pseudo-terminal.
 zmodload zsh/zpty
 zmodload zsh/zselect
 integer waited
@@ -20,15 +20,15 @@ compadd() {
     fi
     builtin compadd "\$@"
 }
-# Both tell that the shell is there for more: the first at its prompt, the other where ^G comes after a completion. The line editor stays, so
-# the terminal takes no key for itself.
+# Both report that the shell is ready for more input: the first at its prompt, the other when ^G follows a completion. The line editor
+# stays active, so the terminal takes no key for itself.
 zle-line-init() { print -- :end >> ${(q)answer} }
 zle -N zle-line-init
 report() { BUFFER=; print -- :end >> ${(q)answer} }
 zle -N report
 bindkey '^G' report
 END
-# ready TEXT: waits until the shell has done what was typed.
+# ready TEXT: waits until the shell has processed its input.
 ready() {
     for ((waited = 0; waited < 3000; waited++)); do
         [[ $(< $answer) != *:end ]] || return 0

@@ -1,11 +1,11 @@
 #!/usr/bin/env bash
 # Compares the manual pages and the completions with a built program: packaging/tests/options.sh PATH_TO_extractd
 #
-# Each command and each option of its --help has to be in its manual page and in both completions, and no other. Each page has to render
-# without a warning and to name the program's version. Each column that is offered has to be accepted, and be in docs/filters.md, as all of its numeric columns.
+# Each command and each option of its --help must be in its manual page and in both completions, and no other may be there. Each page must render
+# without a warning and name the program's version. Each offered column must be accepted, and docs/filters.md must have all numeric columns.
 #
-# It needs bash and coreutils. Without zsh or groff it leaves out what needs them; with REQUIRE_ALL set that is a failure.
-# Prints what failed, then how much was tried. Exit status 0 means that nothing failed.
+# Needs bash and coreutils. Without zsh or groff the tests that need them are left out; with REQUIRE_ALL set that is a failure.
+# Prints what failed, then the number of tests. Exit status 0 means that nothing failed.
 
 set -u
 export LC_ALL=C.UTF-8
@@ -23,7 +23,7 @@ scratch=$(mktemp -d) || exit 1
 trap 'rm -rf "$scratch"' EXIT
 trap 'exit 1' INT TERM HUP
 
-# same NAME EXPECTED ACTUAL: whether two lists of words are equal, in any order.
+# same NAME EXPECTED ACTUAL: checks that two lists of words are equal, in any order.
 same() {
     local expected actual
     # shellcheck disable=SC2086 # They are words.
@@ -38,13 +38,13 @@ leave_out() {
 }
 
 help_of() { "$program" "$@" --help 2>&1; }
-# long_options COMMAND..: the long options in its help.
+# long_options COMMAND..: prints the long options in its help.
 long_options() { help_of "$@" | sed -n 's/^ \{2,6\}\(-., \)\?\(--[a-z-]*\).*/\2/p'; }
-# page_options FILE: the options that a manual page describes.
+# page_options FILE: prints the options that a manual page describes.
 page_options() { sed -n '/^\.It Fl/s/.*Fl Fl \([a-z-]*\).*/--\1/p' "$1"; }
-# bash_offers WORD..: what bash offers for the last word.
+# bash_offers WORD..: prints bash's completions of the last word.
 bash_offers() { bash "$here/complete.bash" "$packaging/completions/extractd.bash" "$@" | tr '\n' ' '; }
-# zsh_offers LINE: what zsh offers at its end, of all lines that were completed at once.
+# zsh_offers LINE: prints zsh's completions at the end of a line. All lines were completed in one run.
 zsh_offers() { grep -F -- "$1: " "$scratch/zsh" | sed "s/^$1: //; s/ -[a-zA-Z] / /g"; }
 
 
@@ -62,7 +62,7 @@ if command -v zsh > /dev/null; then
 else
     leave_out 'completions in zsh (there is no zsh here)'
 fi
-# offers NAME EXPECTED WORD..: what both shells offer for a command line.
+# offers NAME EXPECTED WORD..: checks the completions of a command line in both shells.
 offers() {
     local name=$1 expected=$2
     shift 2
