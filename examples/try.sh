@@ -3,7 +3,7 @@
 #
 # First the documents: README.md, docs/*.md and examples/README.md.
 # - A block ```console shows a terminal. Each command in it, `$ ` and continuation lines after `> `, runs in a copy of the documents and the
-#   examples, and must print what is below it. Words after `console` name commands that the block needs beside coreutils: if one isn't
+#   examples, and must print what is below it. Words after `console` name commands that the block needs in addition to coreutils: if one isn't
 #   installed, the block is left out, with a message. `rt` is simulated: `rt try -- ..` and `rt run -- ..`
 #   run the program that is tried, and `.ci/run` does nothing.
 # - A block ```bash is commands that succeed and print nothing. Words after `bash` name commands as above.
