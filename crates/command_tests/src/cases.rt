@@ -18,20 +18,8 @@ pub struct Case<'a> {
     pub files: Vec<MemoryFile<'a>>,
 }
 
-// Splits a command line into words with the unit separator. In a word, `_` is a blank and `~` an underscore; `\n`, `\r`, `\t` and three `\x..` are
-// escapes as in Rust, and `''` is an empty word.
-const SEPARATORS: [(&str, &str); 10] = [
-    ("''", ""),
-    (" ", "\x1f"),
-    ("_", " "),
-    ("~", "_"),
-    (r"\n", "\n"),
-    (r"\r", "\r"),
-    (r"\t", "\t"),
-    (r"\x01", "\x01"),
-    (r"\x1b", "\x1b"),
-    (r"\x7f", "\x7f"),
-];
+// Splits a command line into words with the unit separator. In a word, `_` is a blank and `~` an underscore, and `''` is an empty word.
+const SEPARATORS: [(&str, &str); 4] = [("''", ""), (" ", "\x1f"), ("_", " "), ("~", "_")];
 
 /// The ways in which the named file, the output and standard error fail, if they do.
 #[derive(Clone, Copy)]
@@ -88,7 +76,7 @@ impl<'a> Case<'a> {
         faults: Faults<'_>,
     ) -> Result<Ending, AllocError> {
         let (line, _) = parts(cell(self.row, 0), '>');
-        let line = filled(alloc, line, &SEPARATORS)?;
+        let line = separated(alloc, line)?;
         let words: Vec<&str> = line.split('\x1f').skip(1).collect(alloc)?;
         let mut files = MemoryFiles {
             files: &self.files,
@@ -136,7 +124,13 @@ impl Ending {
     }
 }
 
-/// Replaces each word in a template with its text, one word after the other.
+/// Puts separators between the words of a command line. `\n`, `\r`, `\t` and `\x7f` in a word are escapes, as in Rust.
+fn separated(alloc: Global, line: &str) -> Result<String, AllocError> {
+    let line = bytes(alloc, &filled(alloc, line, &SEPARATORS)?)?;
+    String::from_utf8_lossy(alloc, &line)
+}
+
+/// Puts texts in the places of words, one word after the other.
 pub fn filled(alloc: Global, template: &str, texts: &[(&str, &str)]) -> Result<String, AllocError> {
     let mut filled = String::from_str(alloc, template)?;
     for (word, text) in texts {
