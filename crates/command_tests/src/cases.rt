@@ -130,7 +130,7 @@ fn separated(alloc: Global, line: &str) -> Result<String, AllocError> {
     String::from_utf8_lossy(alloc, &line)
 }
 
-/// Puts texts in the places of words, one word after the other.
+/// Replaces each word in a template with its text, one word after the other.
 pub fn filled(alloc: Global, template: &str, texts: &[(&str, &str)]) -> Result<String, AllocError> {
     let mut filled = String::from_str(alloc, template)?;
     for (word, text) in texts {
