@@ -225,7 +225,7 @@ def named_main(folder: Path, code: str) -> list[str]:
 
 @pytest.mark.usefixtures("extractd")
 class TestTasks:
-    """The two tasks of docs/filters.md, with the results found by other means."""
+    """Tasks over several counties, with the results found by other means."""
 
     def test_any_name_main_over_three_counties(self, out: Path, tmp_path: Path) -> None:
         data = copy_county(tmp_path / "data")
