@@ -656,11 +656,11 @@ run --program p --data d 01001 01001|error: unexpected argument '01001' found|Us
 run --help=1|error: unexpected value '1' for '--help' found; no more were expected|Usage: extractd run
 run --program p --data d 1001|error: CODE is five digits, and "1001" isn't|
 dis --program $'\377'|error: an argument isn't UTF-8|
---version|extractd 0.1.0|
+--version|extractd 1.0.0|
 END
-    try_case 2 0 "*Usage: extractd <COMMAND>*Examples:*Exit status:*extractd 0.1.0" 'extractd --help'
+    try_case 2 0 "*Usage: extractd <COMMAND>*Examples:*Exit status:*extractd 1.0.0" 'extractd --help'
     for command in select compile run trace geocode geocode-batch verify explain asm dis serve; do
-        try_case 2 0 "*Usage: extractd $command *Example:*extractd $command *Exit status:*extractd 0.1.0" "extractd $command --help"
+        try_case 2 0 "*Usage: extractd $command *Example:*extractd $command *Exit status:*extractd 1.0.0" "extractd $command --help"
     done
 
     # Files that can't be used.
