@@ -103,7 +103,7 @@ class TestFinding:
 
     @pytest.mark.parametrize("version", ["extractd 1.0.1", "", "extractd 1.0.0\nmore", "cat (GNU coreutils) 9.1"])
     def test_other_versions(self, tmp_path: Path, version: str) -> None:
-        with pytest.raises(OSError, match=r"isn't extractd 0\.1\.0"):
+        with pytest.raises(OSError, match=r"isn't extractd 1\.0\.0"):
             outcome(program_of(tmp_path / "program", "exit 0", version))
 
     def test_not_a_program(self, tmp_path: Path) -> None:
