@@ -434,7 +434,7 @@ impl<R: CountedRead> CountedRead for Input<R> {
         self.read(buf)
     }
 
-    #[inline]
+    #[inline(always)]
     fn read_content(&mut self, content: &mut ArrayVec<u8, LONGEST_CONTENT>) -> Stop {
         match self {
             Input::Opened(reader) => reader.read_content(content),

@@ -37,7 +37,7 @@ pub fn row<A: Allocator, W: CountedWrite>(
 
 /// Returns the score with which the code selects a segment, or `None` if it doesn't select it. Reuses `bare`; its previous contents don't matter. It
 /// doesn't allocate.
-#[inline]
+#[inline(always)]
 pub fn score_if_chosen<A: Allocator, B: Allocator>(
     verified: &Verified<A>,
     segment: &Segment<B>,
@@ -71,7 +71,7 @@ pub fn push_row_if_chosen<A: Allocator, B: Allocator, C: Allocator>(
 }
 
 /// Replaces a row with the row of a segment with a score.
-#[inline]
+#[inline(always)]
 #[tactic(auto, using(std::proofs::lemmas::Fmt::decimal_digit))]
 fn put_row<A: Allocator>(text: &mut ArrayVec<u8, LONGEST_ROW>, score: u64, segment: &Segment<A>)
     ensures { text.new.items ≡ row_of score segment.now }
@@ -133,7 +133,7 @@ fn row_with<A: Allocator>(digits: &[u8], segment: &Segment<A>) -> ArrayVec<u8, L
 
 /// Writes the row of a segment if the code selects it, and returns the number of rows written. Reuses `bare` and `text`; their previous contents
 /// don't matter.
-#[inline]
+#[inline(always)]
 pub(crate) fn write_row_if_chosen<A: Allocator, B: Allocator, W: CountedWrite>(
     verified: &Verified<A>,
     segment: &Segment<B>,
