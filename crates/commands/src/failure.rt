@@ -4,7 +4,7 @@ ghost use Rattle.std.specs.List.{flat_map};
 ghost use Rattle.tl_fields.specs.Device.{writer};
 ghost use Rattle.tl_fields.specs.Writing.{WritesText};
 ghost use Rattle.commands.specs.Escape.{escaped};
-ghost use Rattle.commands.specs.Failure.{IsOfCompile, IsOfFilter, Says, SaysFile, SaysText, WritesAs, class_status, of_county_extract, of_county_file, of_extract, of_file, of_opening, of_program, of_source, said, status};
+ghost use Rattle.commands.specs.Failure.{IsOfCompile, IsOfFilter, Says, SaysFile, SaysLine, SaysText, WritesAs, class_status, of_county_extract, of_county_file, of_extract, of_file, of_opening, of_program, of_source, said, status};
 ghost use Rattle.commands.specs.declared.failure.Failure.TheVariants.{Memory};
 
 use crate::county::{CountyFileFault, name_end};
@@ -207,20 +207,15 @@ impl<'a> Failure<'a> {
         ensures { Says self.now (writer E.contents E.counts errors.old) (writer E.contents E.counts errors.new) }
     {
         match self {
-            Failure::Refusal(refusal) => say(errors, &[Text(refusal.line().as_str()), Text("\n")]),
+            Failure::Refusal(refusal) => say_line(errors, refusal.line().as_str()),
             Failure::Filter { refusal, note } => {
                 say_of_filter(errors, refusal.line().as_str(), note.as_str());
             }
             Failure::County { code, refusal } => {
                 say_of_county(errors, refusal.line().as_str(), code);
             }
-            Failure::Memory => {
-                say(
-                    errors,
-                    &[Text(Refusal::memory().line().as_str()), Text("\n")],
-                )
-            }
-            Failure::Write(fault) => say(errors, &[Text(fault.line().as_str()), Text("\n")]),
+            Failure::Memory => say_line(errors, Refusal::memory().line().as_str()),
+            Failure::Write(fault) => say_line(errors, fault.line().as_str()),
             Failure::File { name, error } => {
                 let reason = reason(*error);
                 say_of_file(errors, name, reason.as_str());
@@ -334,6 +329,13 @@ fn say_piece<E: CountedWrite>(errors: &mut E, piece: &Piece<'_>) -> Result<(), W
         Text(text) => write_whole(errors, text.as_bytes()),
         Echo(text) => write_escaped(errors, text),
     }
+}
+
+/// Reports a line.
+fn say_line<E: CountedWrite>(errors: &mut E, line: &str)
+    ensures { SaysLine line.now (writer E.contents E.counts errors.old) (writer E.contents E.counts errors.new) }
+{
+    say(errors, &[Text(line), Text("\n")]);
 }
 
 /// Reports why a filter is refused.

@@ -1,4 +1,4 @@
--- Masks of vectors, in which bit k tells of lane k.
+-- Masks of vectors: bit k stands for lane k.
 use Rattle.std.specs.Prelude.{ℕ, ◌==◌, if◌then◌else◌}
 use Rattle.std.specs.Int.{w64, trailing_zeros}
 

@@ -1,5 +1,6 @@
 -- What an index has for a TLID is what its lines have.
-use Rattle.std.proofs.Common.{◌≡◌, ◌==◌, ◌≤◌, ℕ, Bool, true, false, if◌then◌else◌, inl, inr, length, slice_index, List, [], ◌∷◌, ◌++◌, map, Option, Some, None, Ok, Err, refl}
+use Rattle.std.proofs.Common.{◌≡◌, ◌==◌, ◌≤◌, ℕ, Bool, true, false, if◌then◌else◌, inl, inr, length, slice_index, List}
+use Rattle.std.proofs.Common.{[], ◌∷◌, ◌++◌, map, Option, Some, None, Ok, Err, refl}
 use Rattle.std.proofs.Common.{option_map, is_some, IsSome, sym, ap, subst, ◌∙◌, arith}
 use Rattle.std.specs.List.{filter_map, find, flat_map, cons_option}
 use Rattle.std.specs.Option.{option_and_then, option_map_or}

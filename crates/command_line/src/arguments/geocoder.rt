@@ -29,13 +29,7 @@ Example:
             "TEXT",
             "The street's name, without its type and direction",
         ))?
-        .arg(option(
-            alloc,
-            "zip",
-            "Z",
-            "The ZIP Code that the address must have",
-        )
-        .required(false))?
+        .arg(option(alloc, "zip", "Z", "The ZIP Code that the address must have").required(false))?
         .arg(counties_option(alloc))
 }
 

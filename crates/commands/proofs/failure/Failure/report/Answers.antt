@@ -2,7 +2,7 @@ use Rattle.std.proofs.Common.{append_assoc}
 use Rattle.commands.proofs.failure.Failure.report.Goals as goal
 
 pub returns-in-NotUtf8 : goal.returns-in-NotUtf8
-returns-in-NotUtf8 g c = rw c.in-NotUtf8.is (c.say-in-NotUtf8.ensures.0, simp append_assoc c.say-in-NotUtf8.ensures.1)
+returns-in-NotUtf8 g c = rw c.in-NotUtf8.is (c.say.ensures.0, simp append_assoc c.say.ensures.1)
 
 pub returns-in-Output : goal.returns-in-Output
 returns-in-Output g c =
