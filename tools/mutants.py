@@ -1,0 +1,179 @@
+#!/usr/bin/env python3
+"""Tries every mutant, those in must-fail/ and those in mutants/: the prover has to refuse each.
+
+    python3 tools/mutants.py                the mutants of all crates
+    python3 tools/mutants.py NAME..         those of these crates
+    python3 tools/mutants.py NAME/MUTANT..  single mutants, by the name of the file without `.edit`
+    --jobs N                                so many at once; 1 to 2 GB of memory each
+
+The gate tries those in must-fail/, which are few. This script also tries the others, before a release or after a change of contracts.
+
+A mutant is first tried by `rt check --only`, on the functions that it edits. If that doesn't settle it, `rt must-fail` decides, which checks the crate.
+The crates have to be proved by `rt check`, which the script runs first.
+
+Prints the mutants that weren't refused, and why. The last line is `N passed, N failed`. Exit status 0 means that all were refused.
+"""
+# Needs only Linux, Python 3.8 or later, and `rt`.
+
+import argparse
+import os
+import re
+import shutil
+import subprocess
+import sys
+import tempfile
+from concurrent.futures import ThreadPoolExecutor
+from pathlib import Path
+from typing import Iterator, List, NamedTuple, Optional, Tuple
+
+TOP = Path(__file__).resolve().parent.parent
+FOLDERS = ["must-fail", "mutants"]
+# What a check says of an edit that it can't read, compile or apply: such an edit says nothing of a contract.
+UNREADABLE = re.compile(r"error\[|is not in scope|has no field|is no name|operand is missing|expected the end|cannot continue|was not admitted")
+
+
+class Replacement(NamedTuple):
+    file: str
+    old: str
+    new: str
+
+
+class Mutant(NamedTuple):
+    crate: str
+    path: Path
+
+    @property
+    def name(self) -> str:
+        return f"{self.crate}/{self.path.stem}"
+
+    def replacements(self) -> Iterator[Replacement]:
+        file = old = ""
+        for line in self.path.read_text(encoding="utf-8").splitlines():
+            key, _, text = line.partition(":")
+            if key == "file":
+                file = text.strip()
+            elif key == "old":
+                old = text[1:]
+            elif key == "new":
+                yield Replacement(file, old, text[1:])
+
+
+def mutants_of(crate: str) -> List[Mutant]:
+    folders = [TOP / "crates" / crate / folder for folder in FOLDERS]
+    return [Mutant(crate, path) for folder in folders for path in sorted(folder.glob("*.edit"))]
+
+
+def chosen(names: List[str]) -> List[Mutant]:
+    """Returns the mutants of these crates and those with these names, or all."""
+    crates = sorted(path.name for path in (TOP / "crates").iterdir() if path.is_dir())
+    every = [mutant for crate in crates for mutant in mutants_of(crate)]
+    unknown = [name for name in names if not any(name in (mutant.crate, mutant.name) for mutant in every)]
+    if unknown:
+        sys.exit(f"{unknown[0]}: no such mutant, and no crate with mutants")
+    return [mutant for mutant in every if not names or mutant.crate in names or mutant.name in names]
+
+
+def function_at(text: str, place: int) -> Optional[str]:
+    """Returns the name of the function that this place in a source is in, as `rt check --only` takes it: with its type, if it is a method."""
+    name = owner = None
+    for line in text[:place].splitlines() + [text[place:].partition("\n")[0]]:
+        found = re.match(r"(\s*)(?:pub(?:\([a-z]+\))? )?(?:const )?(?:unsafe )?fn (\w+)", line)
+        if found:
+            name = f"{owner}::{found[2]}" if found[1] and owner else found[2]
+        block = re.match(r"impl\b(?:<.*?>)? (?:.* for )?&?(?:'\w+ )?(?:mut )?(\w+)", line)
+        if block:
+            owner = block[1]
+        elif re.match(r"[})]", line):
+            name = owner = None
+    return name
+
+
+def module_of(file: str) -> List[str]:
+    """Returns the module of a source file."""
+    words = list(Path(file).with_suffix("").parts[1:])
+    return [] if words in (["lib"], ["main"]) else words
+
+
+def edited(mutant: Mutant, folder: Path) -> Optional[List[str]]:
+    """Applies a mutant to a copy of its crate. Returns the functions that it edits, or nothing if it edits anything else."""
+    functions = []
+    for file, old, new in mutant.replacements():
+        path = folder / file
+        text = path.read_text(encoding="utf-8")
+        if text.count(old) != 1 or not file.startswith("src/"):
+            return None
+        name = function_at(text, text.index(old))
+        if name is None:
+            return None
+        functions.append("::".join([*module_of(file), name]))
+        path.write_text(text.replace(old, new), encoding="utf-8")
+    return functions
+
+
+def copied(crate: str, to: Path) -> Path:
+    """Makes a repository in which the crate is a copy, and the others are links. Returns the folder of the crate."""
+    for name in ["crates.txt", "HANDLES"]:
+        shutil.copy2(TOP / name, to / name)
+    (to / "crates").mkdir()
+    for path in (TOP / "crates").iterdir():
+        if path.name != crate:
+            (to / "crates" / path.name).symlink_to(path)
+    folder = to / "crates" / crate
+    # What a check kept is replaced and not changed, so links serve.
+    copy = lambda one, other: os.link(one, other) if one.endswith(".oantt") else shutil.copy2(one, other)
+    shutil.copytree(TOP / "crates" / crate, folder, copy_function=copy, ignore=shutil.ignore_patterns(*FOLDERS))
+    return folder
+
+
+def run(words: List[str], folder: Path) -> Tuple[int, str]:
+    done = subprocess.run(words, cwd=folder, stdin=subprocess.DEVNULL, stdout=subprocess.PIPE, stderr=subprocess.STDOUT, errors="replace")
+    return done.returncode, done.stdout
+
+
+def is_refused(mutant: Mutant) -> bool:
+    """Returns whether a check of the edited functions alone refuses a mutant."""
+    with tempfile.TemporaryDirectory(prefix="mutant-") as room:
+        folder = copied(mutant.crate, Path(room))
+        functions = edited(mutant, folder)
+        if not functions:
+            return False
+        status, said = run(["rt", "check", *(word for name in functions for word in ["--only", name])], folder)
+    counts = re.search(r"^only=(\d+) proved=(\d+)$", said, re.MULTILINE)
+    return status == 1 and counts is not None and int(counts[2]) < int(counts[1]) and not UNREADABLE.search(said)
+
+
+def fault_of(mutant: Mutant) -> Optional[str]:
+    """Returns why a mutant isn't refused as it must be, if so."""
+    if is_refused(mutant):
+        return None
+    with tempfile.TemporaryDirectory(prefix="mutant-") as room:
+        folder = copied(mutant.crate, Path(room))
+        (folder / "must-fail").mkdir()
+        shutil.copy2(mutant.path, folder / "must-fail")
+        status, said = run(["rt", "must-fail", mutant.crate], Path(room))
+    return None if status == 0 else said.strip()
+
+
+def main() -> int:
+    parser = argparse.ArgumentParser(description="Tries every mutant: the prover has to refuse each.")
+    parser.add_argument("--jobs", type=int, default=os.cpu_count(), help="so many at once")
+    parser.add_argument("names", nargs="*", metavar="NAME", help="a crate, or CRATE/MUTANT; none: all")
+    given = parser.parse_args()
+    mutants = chosen(given.names)
+    for crate in dict.fromkeys(mutant.crate for mutant in mutants):
+        status, said = run(["rt", "check"], TOP / "crates" / crate)
+        if status:
+            print(said, end="")
+            return 1
+    failed = 0
+    with ThreadPoolExecutor(given.jobs) as pool:
+        for mutant, fault in zip(mutants, pool.map(fault_of, mutants)):
+            if fault:
+                failed += 1
+                print(f"FAILED: {mutant.name}: {fault}", flush=True)
+    print(f"{len(mutants) - failed} passed, {failed} failed")
+    return 1 if failed else 0
+
+
+if __name__ == "__main__":
+    sys.exit(main())
