@@ -15,6 +15,3 @@ pub use addresses::Addresses;
 pub use fault::{AddressFault, AddressFlaw};
 pub use record::RECORD_LIMIT;
 pub use row::{Address, Row};
-
-#[cfg(test)]
-mod tests;

@@ -1,5 +1,5 @@
 //! The results of instructions on intervals, and the order of kinds.
-ghost use Rattle.std.specs.Prelude.{IfSome};
+ghost use Rattle.std.specs.Prelude.{IfOk};
 ghost use Rattle.bpf_kinds.specs.Interval.{IsProper};
 
 use crate::codes::code_of;
@@ -7,15 +7,16 @@ use bpf_insn::Insn;
 use bpf_kinds::{
     Interval, Kind, Narrowed, Offsets, Order, alu, byte_swap, extend, load, negate, refine,
 };
-use fixtures::cell;
+use fixtures::{Table, TableFault, cells};
 use std::alloc::Global;
 
-// An instruction, its operands and the result; or a jump, the two intervals that it compares, and these intervals after the jump is taken and after
-// it isn't: `same` if nothing is narrowed, `none` if the edge isn't reached. Intervals are in hexadecimal; a single number is written alone.
-const ROWS: &str = concat!(
-    // Computed by an independent implementation of the written rules, which was checked on all numbers of small intervals. Each operand of each
-    // case has each of the numbers 0, 1, 2^31 - 1, 2^31, 2^32 - 1, 2^32, 2^63 - 1, 2^63 and 2^64 - 1 as an end, and each rule has its row.
-    "\
+// An instruction, its operands and the result. Intervals are in hexadecimal, and a single number is written alone.
+//
+// Computed by an independent implementation of the written rules, which was checked on all numbers of small intervals. Each operand of each case has
+// each of the numbers 0, 1, 2^31 - 1, 2^31, 2^32 - 1, 2^32, 2^63 - 1, 2^63 and 2^64 - 1 as an end, and each rule has its row.
+const RESULTS: Table = Table {
+    rows: 318,
+    text: "\
 add r1, r2; 80000000-ffffffff 0-1; 80000000-100000000
 add r1, r2; 8000000000000000-ffffffffffffffff 8000000000000000-ffffffffffffffff; 0-fffffffffffffffe
 add r1, r2; 7fffffff-100000000 7fffffff-80000000; fffffffe-180000000
@@ -327,19 +328,25 @@ swap64 r1; 7fffffff-80000000; 0-ffffffffffffffff
 swap64 r1; fedcba98; 98badcfe00000000
 swap64 r1; ffffffff; ffffffff00000000
 swap64 r1; 1122334455667788-112233445566778f; 0-ffffffffffffffff
-ldxb r1, [r2+0]; 0; 0-ff
-ldxh r1, [r2+0]; 0; 0-ffff
-ldxw r1, [r2+0]; 0; 0-ffffffff
-ldxdw r1, [r2+0]; 0; 0-ffffffffffffffff
-ldxsb r1, [r2+0]; 0; 0-ffffffffffffffff
-ldxsh r1, [r2+0]; 0; 0-ffffffffffffffff
-ldxsw r1, [r2+0]; 0; 0-ffffffffffffffff
-",
-    // At the ends of what 31, 32, 63 and 64 bits hold, computed elsewhere with unbounded integers.
-    "\
+ldxb r1, [r2+0];; 0-ff
+ldxh r1, [r2+0];; 0-ffff
+ldxw r1, [r2+0];; 0-ffffffff
+ldxdw r1, [r2+0];; 0-ffffffffffffffff
+ldxsb r1, [r2+0];; 0-ffffffffffffffff
+ldxsh r1, [r2+0];; 0-ffffffffffffffff
+ldxsw r1, [r2+0];; 0-ffffffffffffffff",
+};
+
+// A jump, the two intervals that it compares, and these intervals after the jump is taken and after it isn't: `same` if nothing is narrowed, `none`
+// if the edge isn't reached.
+//
+// At the ends of what 31, 32, 63 and 64 bits hold, computed elsewhere with unbounded integers.
+const EDGES: Table = Table {
+    rows: 179,
+    text: "\
 jeq r1, r2, +0; 0-80000000 80000000; 80000000 80000000; 0-7fffffff 80000000
 jeq r1, r2, +0; 0-ffffffff 0; 0 0; 1-ffffffff 0
-jeq r1, r2, +0; ffffffffffffffff ffffffff-ffffffffffffffff; ffffffffffffffff ffffffffffffffff; \
+jeq r1, r2, +0; ffffffffffffffff ffffffff-ffffffffffffffff; ffffffffffffffff ffffffffffffffff;
   ffffffffffffffff ffffffff-fffffffffffffffe
 jeq r1, r2, +0; 7fffffff 7fffffff-ffffffffffffffff; 7fffffff 7fffffff; 7fffffff 80000000-ffffffffffffffff
 jeq r1, r2, +0; 7fffffff-ffffffff 100000000; none; same
@@ -357,7 +364,7 @@ jeq r1, r2, +0; 0-ffffffffffffffff 0-ffffffffffffffff; same; same
 jgt r1, r2, +0; 0-100000000 0-ffffffff; 1-100000000 0-ffffffff; 0-ffffffff 0-ffffffff
 jgt r1, r2, +0; 7fffffff-ffffffff 0-ffffffff; 7fffffff-ffffffff 0-fffffffe; 7fffffff-ffffffff 7fffffff-ffffffff
 jgt r1, r2, +0; ffffffff 80000000-ffffffffffffffff; ffffffff 80000000-fffffffe; ffffffff ffffffff-ffffffffffffffff
-jgt r1, r2, +0; 80000000-ffffffffffffffff 7fffffffffffffff; 8000000000000000-ffffffffffffffff 7fffffffffffffff; \
+jgt r1, r2, +0; 80000000-ffffffffffffffff 7fffffffffffffff; 8000000000000000-ffffffffffffffff 7fffffffffffffff;
   80000000-7fffffffffffffff 7fffffffffffffff
 jgt r1, r2, +0; 1-7fffffff 8000000000000000; none; same
 jgt r1, r2, +0; 7fffffff 7fffffffffffffff; none; same
@@ -372,12 +379,12 @@ jgt32 r1, r2, +0; ffffffff-100000000 100000000; same; same
 jgt32 r1, r2, +0; ffffffff-8000000000000000 100000000; same; same
 jgt r1, r2, +0; 0 0; none; same
 jgt r1, r2, +0; 0-ffffffffffffffff ffffffffffffffff; none; same
-jge r1, r2, +0; 0-ffffffffffffffff 1-7fffffffffffffff; 1-ffffffffffffffff 1-7fffffffffffffff; \
+jge r1, r2, +0; 0-ffffffffffffffff 1-7fffffffffffffff; 1-ffffffffffffffff 1-7fffffffffffffff;
   0-7ffffffffffffffe 1-7fffffffffffffff
 jge r1, r2, +0; 0-7fffffffffffffff 100000000; 100000000-7fffffffffffffff 100000000; 0-ffffffff 100000000
-jge r1, r2, +0; ffffffff-7fffffffffffffff 1-ffffffffffffffff; ffffffff-7fffffffffffffff 1-7fffffffffffffff; \
+jge r1, r2, +0; ffffffff-7fffffffffffffff 1-ffffffffffffffff; ffffffff-7fffffffffffffff 1-7fffffffffffffff;
   ffffffff-7fffffffffffffff 100000000-ffffffffffffffff
-jge r1, r2, +0; 8000000000000000 0-ffffffffffffffff; 8000000000000000 0-8000000000000000; \
+jge r1, r2, +0; 8000000000000000 0-ffffffffffffffff; 8000000000000000 0-8000000000000000;
   8000000000000000 8000000000000001-ffffffffffffffff
 jge r1, r2, +0; 1-80000000 8000000000000000; none; same
 jge r1, r2, +0; 1-7fffffff 7fffffffffffffff-8000000000000000; none; same
@@ -404,7 +411,7 @@ jset32 r1, r2, +0; 8000000000000000 ffffffffffffffff; none; same
 jset32 r1, r2, +0; ffffffff-100000000 ffffffff; same; same
 jset32 r1, r2, +0; 100000000-8000000000000000 100000000; same; same
 jne r1, r2, +0; 0-80000000 80000000; 0-7fffffff 80000000; 80000000 80000000
-jne r1, r2, +0; 8000000000000000 0-8000000000000000; 8000000000000000 0-7fffffffffffffff; \
+jne r1, r2, +0; 8000000000000000 0-8000000000000000; 8000000000000000 0-7fffffffffffffff;
   8000000000000000 8000000000000000
 jne r1, r2, +0; ffffffff ffffffff-ffffffffffffffff; ffffffff 100000000-ffffffffffffffff; ffffffff ffffffff
 jne r1, r2, +0; 1-ffffffffffffffff 1; 2-ffffffffffffffff 1; 1 1
@@ -421,10 +428,10 @@ jne32 r1, r2, +0; ffffffff-100000000 ffffffff; same; same
 jne32 r1, r2, +0; 0-100000000 ffffffff-100000000; same; same
 jne r1, r2, +0; ffffffffffffffff ffffffffffffffff; none; same
 jne r1, r2, +0; 0 0; none; same
-jsgt r1, r2, +0; ffffffff-100000000 0-7fffffffffffffff; ffffffff-100000000 0-ffffffff; \
+jsgt r1, r2, +0; ffffffff-100000000 0-7fffffffffffffff; ffffffff-100000000 0-ffffffff;
   ffffffff-100000000 ffffffff-7fffffffffffffff
 jsgt r1, r2, +0; 0-100000000 0-7fffffff; 1-100000000 0-7fffffff; 0-7fffffff 0-7fffffff
-jsgt r1, r2, +0; 7fffffffffffffff 7fffffff-7fffffffffffffff; 7fffffffffffffff 7fffffff-7ffffffffffffffe; \
+jsgt r1, r2, +0; 7fffffffffffffff 7fffffff-7fffffffffffffff; 7fffffffffffffff 7fffffff-7ffffffffffffffe;
   7fffffffffffffff 7fffffffffffffff
 jsgt r1, r2, +0; ffffffff-7fffffffffffffff ffffffff; 100000000-7fffffffffffffff ffffffff; ffffffff ffffffff
 jsgt r1, r2, +0; 1-ffffffff ffffffff; none; same
@@ -443,7 +450,7 @@ jsgt32 r1, r2, +0; 7fffffff-ffffffff 100000000; same; same
 jsge r1, r2, +0; 0-7fffffff 1; 1-7fffffff 1; 0 1
 jsge r1, r2, +0; 0-ffffffff 1-80000000; 1-ffffffff 1-80000000; 0-7fffffff 1-80000000
 jsge r1, r2, +0; ffffffff 80000000-7fffffffffffffff; ffffffff 80000000-ffffffff; ffffffff 100000000-7fffffffffffffff
-jsge r1, r2, +0; 80000000-100000000 7fffffff-7fffffffffffffff; 80000000-100000000 7fffffff-100000000; \
+jsge r1, r2, +0; 80000000-100000000 7fffffff-7fffffffffffffff; 80000000-100000000 7fffffff-100000000;
   80000000-100000000 80000001-7fffffffffffffff
 jsge r1, r2, +0; 7fffffff-ffffffff 1-80000000; same; 7fffffff 80000000
 jsge r1, r2, +0; 1-7fffffff 1; same; none
@@ -460,16 +467,16 @@ jsge32 r1, r2, +0; 7fffffff-ffffffff 7fffffff-ffffffff; same; same
 jsge32 r1, r2, +0; 7fffffff 7fffffff-100000000; same; same
 jlt r1, r2, +0; 0-80000000 7fffffff-80000000; 0-7fffffff 7fffffff-80000000; 7fffffff-80000000 7fffffff-80000000
 jlt r1, r2, +0; 0-ffffffffffffffff 80000000; 0-7fffffff 80000000; 80000000-ffffffffffffffff 80000000
-jlt r1, r2, +0; 80000000-ffffffff 1-ffffffffffffffff; 80000000-ffffffff 80000001-ffffffffffffffff; \
+jlt r1, r2, +0; 80000000-ffffffff 1-ffffffffffffffff; 80000000-ffffffff 80000001-ffffffffffffffff;
   80000000-ffffffff 1-ffffffff
 jlt r1, r2, +0; 80000000 0-ffffffffffffffff; 80000000 80000001-ffffffffffffffff; 80000000 0-80000000
-jlt r1, r2, +0; 7fffffff-7fffffffffffffff 100000000-8000000000000000; same; \
+jlt r1, r2, +0; 7fffffff-7fffffffffffffff 100000000-8000000000000000; same;
   100000000-7fffffffffffffff 100000000-7fffffffffffffff
 jlt r1, r2, +0; 7fffffff-8000000000000000 7fffffff-ffffffff; 7fffffff-fffffffe 80000000-ffffffff; same
 jlt32 r1, r2, +0; 1 0-80000000; 1 2-80000000; 1 0-1
 jlt32 r1, r2, +0; 0-1 1; 0 1; 1 1
 jlt32 r1, r2, +0; 1-ffffffff 7fffffff-80000000; 1-7fffffff 7fffffff-80000000; 7fffffff-ffffffff 7fffffff-80000000
-jlt32 r1, r2, +0; 7fffffff-80000000 7fffffff-ffffffff; 7fffffff-80000000 80000000-ffffffff; \
+jlt32 r1, r2, +0; 7fffffff-80000000 7fffffff-ffffffff; 7fffffff-80000000 80000000-ffffffff;
   7fffffff-80000000 7fffffff-80000000
 jlt32 r1, r2, +0; 1 7fffffff; same; none
 jlt32 r1, r2, +0; 1-7fffffff 80000000; same; none
@@ -479,10 +486,10 @@ jlt32 r1, r2, +0; ffffffff-ffffffffffffffff 100000000; same; same
 jlt r1, r2, +0; ffffffffffffffff 0-ffffffffffffffff; none; same
 jlt r1, r2, +0; 0-ffffffffffffffff 0; none; same
 jle r1, r2, +0; 0-ffffffffffffffff 1-80000000; 0-80000000 1-80000000; 2-ffffffffffffffff 1-80000000
-jle r1, r2, +0; 1-7fffffffffffffff 0-8000000000000000; 1-7fffffffffffffff 1-8000000000000000; \
+jle r1, r2, +0; 1-7fffffffffffffff 0-8000000000000000; 1-7fffffffffffffff 1-8000000000000000;
   1-7fffffffffffffff 0-7ffffffffffffffe
 jle r1, r2, +0; 100000000 ffffffff-ffffffffffffffff; 100000000 100000000-ffffffffffffffff; 100000000 ffffffff
-jle r1, r2, +0; 0-ffffffffffffffff 7fffffffffffffff; 0-7fffffffffffffff 7fffffffffffffff; \
+jle r1, r2, +0; 0-ffffffffffffffff 7fffffffffffffff; 0-7fffffffffffffff 7fffffffffffffff;
   8000000000000000-ffffffffffffffff 7fffffffffffffff
 jle r1, r2, +0; 100000000-8000000000000000 1; none; same
 jle r1, r2, +0; 80000000-100000000 100000000; same; none
@@ -499,7 +506,7 @@ jle r1, r2, +0; 0-ffffffffffffffff 0-ffffffffffffffff; same; 1-ffffffffffffffff 
 jslt r1, r2, +0; 0-7fffffffffffffff 1; 0 1; 1-7fffffffffffffff 1
 jslt r1, r2, +0; 1 0-ffffffff; 1 2-ffffffff; 1 0-1
 jslt r1, r2, +0; 0-7fffffff 0-7fffffffffffffff; 0-7fffffff 1-7fffffffffffffff; 0-7fffffff 0-7fffffff
-jslt r1, r2, +0; 0-7fffffffffffffff ffffffff-7fffffffffffffff; 0-7ffffffffffffffe ffffffff-7fffffffffffffff; \
+jslt r1, r2, +0; 0-7fffffffffffffff ffffffff-7fffffffffffffff; 0-7ffffffffffffffe ffffffff-7fffffffffffffff;
   ffffffff-7fffffffffffffff ffffffff-7fffffffffffffff
 jslt r1, r2, +0; 80000000 100000000; same; none
 jslt r1, r2, +0; 7fffffff-100000000 7fffffff-100000000; 7fffffff-ffffffff 80000000-100000000; same
@@ -516,7 +523,7 @@ jslt32 r1, r2, +0; 100000000 7fffffff-80000000; same; same
 jslt32 r1, r2, +0; ffffffff-100000000 7fffffff-80000000; same; same
 jsle r1, r2, +0; ffffffff 0-ffffffff; ffffffff ffffffff; ffffffff 0-fffffffe
 jsle r1, r2, +0; 1-7fffffff 0-7fffffff; 1-7fffffff 1-7fffffff; 1-7fffffff 0-7ffffffe
-jsle r1, r2, +0; 7fffffff-7fffffffffffffff 7fffffff-ffffffff; 7fffffff-ffffffff 7fffffff-ffffffff; \
+jsle r1, r2, +0; 7fffffff-7fffffffffffffff 7fffffff-ffffffff; 7fffffff-ffffffff 7fffffff-ffffffff;
   80000000-7fffffffffffffff 7fffffff-ffffffff
 jsle r1, r2, +0; 1-7fffffffffffffff ffffffff; 1-ffffffff ffffffff; 100000000-7fffffffffffffff ffffffff
 jsle r1, r2, +0; 7fffffff-80000000 1; none; same
@@ -531,83 +538,115 @@ jsle32 r1, r2, +0; 1-7fffffff 0-7fffffff; 1-7fffffff 1-7fffffff; 1-7fffffff 0-7f
 jsle32 r1, r2, +0; 1 1; same; none
 jsle32 r1, r2, +0; ffffffff ffffffffffffffff; same; none
 jsle32 r1, r2, +0; 7fffffff-ffffffff 80000000-ffffffff; same; same
-jsle32 r1, r2, +0; 80000000-100000000 ffffffff-100000000; same; same
-"
-);
+jsle32 r1, r2, +0; 80000000-100000000 ffffffff-100000000; same; same",
+};
+
+/// Reads a number in hexadecimal digits.
+fn hexadecimal(text: &str) -> Result<u64, TableFault> {
+    let is_digit = |byte: u8| matches!(byte, b'0'..=b'9' | b'a'..=b'f');
+    if !text.bytes().all(is_digit) {
+        return Err(TableFault::Number);
+    }
+    u64::from_str_radix(text, 16).map_err(|_| TableFault::Number)
+}
 
 /// Reads an interval from its two ends, or from its only number.
-fn interval(text: &str) -> Option<Interval>
-    ensures { IfSome result IsProper }
+fn interval(text: &str) -> Result<Interval, TableFault>
+    ensures { IfOk result IsProper }
 {
     let (low, high) = text.split_once('-').unwrap_or((text, text));
-    let low = u64::from_str_radix(low, 16).ok()?;
-    let high = u64::from_str_radix(high, 16).ok()?;
+    let (low, high) = (hexadecimal(low)?, hexadecimal(high)?);
     if low <= high {
-        Some(Interval { low, high })
+        Ok(Interval { low, high })
     } else {
-        None
+        Err(TableFault::Number)
     }
 }
 
-/// Reads two intervals; if there is only one, it's both of them.
-fn intervals(text: &str) -> Option<Narrowed>
-    ensures { IfSome result (λ both. IsProper both.left × IsProper both.right) }
+/// Reads two intervals.
+fn intervals(text: &str) -> Result<Narrowed, TableFault>
+    ensures { IfOk result (λ both. IsProper both.left × IsProper both.right) }
 {
-    let (left, right) = text.split_once(' ').unwrap_or((text, text));
+    let (left, right) = text.split_once(' ').ok_or(TableFault::Word)?;
     let (left, right) = (interval(left)?, interval(right)?);
-    Some(Narrowed { left, right })
+    Ok(Narrowed { left, right })
 }
 
-/// Returns the result of an instruction on its operands: two, the first alone, or none.
-fn result_of(instruction: Insn, x: Interval, y: Interval) -> Option<Interval>
-    requires x { IsProper x }
-    requires y { IsProper y }
-{
+/// Returns the only instruction of a text.
+fn instruction(alloc: Global, text: &str) -> Result<Insn, TableFault> {
+    let code = code_of(alloc, text)?;
+    match code.instructions() {
+        [instruction] => Ok(*instruction),
+        _ => Err(TableFault::Word),
+    }
+}
+
+/// Returns the result of an instruction on the operands in a cell: two, one, or none.
+fn result_of(instruction: Insn, operands: &str) -> Result<Interval, TableFault> {
     match instruction {
         Insn::Alu {
             operation,
             width,
             ..
-        } => Some(alu(operation, width, x, y)),
-        Insn::Negate { width, .. } => Some(negate(width, x)),
-        Insn::MoveSignExtended { extension, .. } => Some(extend(extension, x)),
-        Insn::ByteSwap { order, width, .. } => Some(byte_swap(order, width, x)),
-        Insn::Load { format, .. } => Some(load(format)),
-        _ => None,
+        } => {
+            let Narrowed { left, right } = intervals(operands)?;
+            Ok(alu(operation, width, left, right))
+        }
+        Insn::Negate { width, .. } => Ok(negate(width, interval(operands)?)),
+        Insn::MoveSignExtended { extension, .. } => Ok(extend(extension, interval(operands)?)),
+        Insn::ByteSwap { order, width, .. } => Ok(byte_swap(order, width, interval(operands)?)),
+        Insn::Load { format, .. } if operands.is_empty() => Ok(load(format)),
+        _ => Err(TableFault::Word),
     }
 }
 
-/// Returns whether these are a row's intervals for an edge.
-fn is_edge(given: Option<Narrowed>, same: Narrowed, text: &str) -> bool {
+/// Returns whether an instruction's result on a row's operands is the row's.
+fn is_result(alloc: Global, row: &str) -> Result<bool, TableFault> {
+    let (text, operands, result) = cells(row)?.three()?;
+    let instruction = instruction(alloc, text)?;
+    Ok(result_of(instruction, operands)? == interval(result)?)
+}
+
+/// Returns what a cell says that is known on an edge: `none`, `same` or two intervals.
+fn edge(text: &str, same: Narrowed) -> Result<Option<Narrowed>, TableFault> {
     match text {
-        "none" => given.is_none(),
-        "same" => given == Some(same),
-        _ => given.is_some() && given == intervals(text),
+        "none" => Ok(None),
+        "same" => Ok(Some(same)),
+        _ => Ok(Some(intervals(text)?)),
     }
 }
 
-/// Returns whether an instruction's result on a row's intervals is the row's.
-fn is_right(alloc: Global, row: &str) -> Option<bool> {
-    let instruction = code_of(alloc, cell(row, 0))?.at(0)?;
-    let both = intervals(cell(row, 1))?;
-    let Narrowed { left, right } = both;
-    if let Insn::JumpIf {
+/// Returns whether both edges of a row's jump narrow the row's intervals as the row says.
+fn is_narrowed(alloc: Global, row: &str) -> Result<bool, TableFault> {
+    let (text, operands, taken, other) = cells(row)?.four()?;
+    let both = intervals(operands)?;
+    let (taken, other) = (edge(taken, both)?, edge(other, both)?);
+    let Insn::JumpIf {
         condition,
         width,
         ..
-    } = instruction
-    {
-        let taken = refine(condition, width, left, right, true);
-        let other = refine(condition, width, left, right, false);
-        return Some(is_edge(taken, both, cell(row, 2)) && is_edge(other, both, cell(row, 3)));
-    }
-    Some(result_of(instruction, left, right)? == interval(cell(row, 2))?)
+    } = instruction(alloc, text)?
+    else {
+        return Err(TableFault::Word);
+    };
+    let Narrowed { left, right } = both;
+    Ok(
+        refine(condition, width, left, right, true) == taken
+            && refine(condition, width, left, right, false) == other,
+    )
 }
 
 #[test]
-fn instructions(rt: HostRuntime) {
-    for row in ROWS.lines() {
-        assert!(rt; is_right(rt.alloc(), row) == Some(true), "{row}");
+fn results(rt: HostRuntime) {
+    for row in RESULTS.joined(rt.alloc()).expect(&rt, "results").lines() {
+        assert_eq!(rt; is_result(rt.alloc(), row), Ok(true), "{row}");
+    }
+}
+
+#[test]
+fn edges(rt: HostRuntime) {
+    for row in EDGES.joined(rt.alloc()).expect(&rt, "edges").lines() {
+        assert_eq!(rt; is_narrowed(rt.alloc(), row), Ok(true), "{row}");
     }
 }
 

@@ -1,23 +1,20 @@
 //! Accepted programs: what the verifier found, and their answers when they are run, stepped and traced.
-use crate::meaning::{NAMED, comes_to, county_of, is_exit};
-use crate::sweep::verified;
+use crate::meaning::{NAMED, county_of, exit_in};
+use crate::sweep::{Heap, verified};
 use bpf_insn::{Area, Code, decode};
 use bpf_machine::{Answer, Bare, Registers, run, run_in, step};
-use bpf_meaning::{Outcome, State};
+use bpf_meaning::{Outcome, State, trace};
 use bpf_verify::Verified;
-use fixtures::{RT1, Refusing, cell, program};
+use fixtures::{RT1, Refusing, Table, TableFault, cells, program};
 use std::alloc::{Allocator, Global};
 use tl_segments::Segment;
 
-// Register 0 at the program's end, with the score if it isn't 0; the program; optionally the area of each instruction's base, R for the record, F
-// for the frame and - for none; and `joined` if the program reads more than the record.
-const PROGRAMS: &str = concat!(
-    // Operations and jumps.
-    "\
-1; mov r0, 1 | exit; --
-48; ldxb r0, [r1+227] | exit; R-
-0; ldxb r0, [r1+55] | add r0, -65 | exit; R--
-1; ldxb r2, [r1+55] | mov r0, 0 | jne r2, 65, +1 | mov r0, 1 | exit; R----
+// Register 0 at the program's end, with the score if it isn't 0, and the program, which reads the record alone.
+const ANSWERS: Table = Table {
+    rows: 44,
+    text: concat!(
+        // Operations and jumps.
+        "\
 0; mov r2, 0 | ldxb r3, [r1+55] | jeq r3, 65, +1 | mov r2, 1 | mov r0, r2 | exit
 0; mov r0, 7 | div r0, 0 | exit
 7; mov r0, 7 | mod r0, 0 | exit
@@ -36,20 +33,14 @@ const PROGRAMS: &str = concat!(
 4294967168; mov r1, 128 | movsx8_32 r0, r1 | exit
 2289526357; lddw r0, 0x1122334455667788 | swap32 r0 | exit
 4294967295; mov r0, 1 | neg32 r0 | exit
-1; mov r0, 1 | ja +1 | ldxb r0, [r9+0] | exit; ----
-1; mov r0, 1 | exit | ldxb r0, [r9+0] | exit; ----
 3; mov r0, 3 | ja +2 | lddw r0, 7 | exit
 7; mov r0, 3 | jset32 r0, 4, +2 | lddw r0, 7 | exit
 1; mov r2, 5 | mov r3, -1 | mov r0, 0 | jsgt r2, r3, +1 | exit | mov r0, 1 | exit
-1; mov r2, 5 | mov r0, 1 | jgt r2, 9, +1 | exit | ldxb r0, [r9+0] | exit; ------
 ",
-    // Memory.
-    "\
-18446744073709551615; stb [r10-1], -1 | ldxsb r0, [r10-1] | exit; FF-
+        // Memory.
+        "\
 255; stb [r10-1], -1 | ldxb r0, [r10-1] | exit
 18446744073709551615; stdw [r10-8], -1 | ldxdw r0, [r10-8] | exit
-0; mov r2, 1 | stxdw [r10-8], r2 | ldxw r3, [r10-8] | ldxw r0, [r10-4] | exit; -FFF-
-32; mov r6, r1 | mov r1, 0 | call 1 | and r0, 15 | add r6, r0 | ldxb r0, [r6+0] | exit; -----R-
 48; mov r2, 1 | add r2, -1 | add r1, r2 | ldxb r0, [r1+227] | exit
 48; mov r2, -1 | add r1, r2 | ldxb r0, [r1+228] | exit
 32; mov r0, 0 | ldxb r2, [r1+55] | jgt r2, 227, +2 | add r1, r2 | ldxb r0, [r1+0] | exit
@@ -57,41 +48,71 @@ const PROGRAMS: &str = concat!(
 49; add r1, -32768 | add r1, 32767 | ldxb r0, [r1+1] | exit
 32; mov r0, 1 | ldxb r2, [r1+55] | jeq r2, 0, +4 | add r2, -1 | and r2, 127 | add r1, r2 | ldxb r0, [r1+0] | exit
 32; ldxb r2, [r1+55] | div r2, 2 | add r1, r2 | ldxb r0, [r1+0] | exit
-65; stb [r10-1], 1 | lddw r2, 7 | ldxb r1, [r1+55] | mov r0, r1 | exit; F-R--
-48; mov r0, 0 | ldxb r2, [r1+55] | mov r3, r1 | jeq r2, 65, +1 | mov r3, r1 | ldxb r0, [r3+1] | exit; -R---R-
 ",
-    // Slots of the frame.
-    "\
-49; stxdw [r10-8], r1 | mov r1, 1 | call 2 | ldxdw r1, [r10-8] | ldxb r0, [r1+0] | exit; F--FR-
+        // Slots of the frame.
+        "\
 48; ldxb r2, [r1+55] | and r2, 15 | stxdw [r10-16], r2 | ldxdw r3, [r10-16] | add r1, r3 | ldxb r0, [r1+0] | exit
-48; stxdw [r10-8], r1 | ldxdw r3, [r10-8] | ldxb r0, [r3+1] | exit; FFR-
-1; stxdw [r10-8], r10 | ldxdw r3, [r10-8] | stb [r3-1], 1 | mov r0, 1 | exit; FFF--
 65; add r1, 32767 | stxdw [r10-8], r1 | ldxdw r2, [r10-8] | add r2, -32712 | ldxb r0, [r2+0] | exit
 65; add r1, -32768 | stxdw [r10-8], r1 | ldxdw r2, [r10-8] | add r2, 32767 | ldxb r0, [r2+56] | exit
 7; mov r2, r10 | add r2, -8 | stxdw [r2+0], r2 | ldxdw r3, [r10-8] | stdw [r3+0], 7 | ldxdw r0, [r10-8] | exit
-65; ldxb r2, [r1+55] | stxdw [r10-8], r1 | jeq r2, 65, +2 | add r1, 7 | stxdw [r10-8], r1 | ldxdw r3, [r10-8] | \
-ldxb r0, [r3+55] | exit
-65; ldxb r2, [r1+55] | mov r3, r1 | add r3, 7 | stxdw [r10-8], r3 | jne r2, 65, +1 | stxdw [r10-8], r1 | \
-ldxdw r3, [r10-8] | ldxb r0, [r3+55] | exit
+65; ldxb r2, [r1+55] | stxdw [r10-8], r1 | jeq r2, 65, +2 | add r1, 7 | stxdw [r10-8], r1 | ldxdw r3, [r10-8] |
+  ldxb r0, [r3+55] | exit
+65; ldxb r2, [r1+55] | mov r3, r1 | add r3, 7 | stxdw [r10-8], r3 | jne r2, 65, +1 | stxdw [r10-8], r1 |
+  ldxdw r3, [r10-8] | ldxb r0, [r3+55] | exit
 ",
-    // Calls.
-    "\
-34; call 3 | mov r6, r0 | lsh r6, 4 | call 4 | add r0, r6 | exit; ------; joined
-1; mov r1, 0 | mov r2, 151 | call 5 | exit; ----; joined
-1; stw [r10-4], 0x6e69616d | mov r1, 0 | mov r2, r10 | add r2, -4 | mov r3, 4 | call 7 | exit; F------; joined
-1852399949; mov r1, 0 | mov r2, r10 | add r2, -4 | mov r3, 4 | call 6 | ldxw r0, [r10-4] | exit; -----F-; joined
+        // Calls.
+        "\
 1 score 7; mov r1, 7 | call 8 | mov r0, 1 | exit
 18446744073709551615 score 18446744073709551615; mov r1, -13 | smod r1, 3 | mov r6, r1 | call 8 | mov r0, r6 | exit
 18446744073623051616 score 18446744073623051616; mov r1, 0 | call 9 | mov r1, r0 | mov r6, r0 | call 8 | mov r0, r6 | exit
 ",
-    // Long programs, most of them of the greatest length. In one of them ADD follows each of 32,766 jumps, which are JGT with 254.
-    "\
+        // Long programs, most of them of the greatest length. In one of them ADD follows each of 32,766 jumps, which are JGT with 254.
+        "\
 1; ldxb r2, [r1+55] | jne r2, 65, +0 *4000 | mov r0, 1 | exit
 1; ldxb r2, [r1+55] | jne r2, 65, +0 *65000 | mov r0, 1 | exit
 1; mov r0, 1 | ja32 +32768 | mov r0, 1 *32768 | exit
 533; mov r0, 0 | ja32 +65000 | lddw r2, 0x1 *32500 | add r0, 1 *533 | exit
 255; ldxb r0, [r1+55] | hex 25000100fe000000 0700000001000000 *32766 | jeq r0, 255, +1 | mov r0, r9 | exit"
-);
+    ),
+};
+
+// The same; the area of each instruction's base, R for the record, F for the frame and - for none; and `joined` if the program reads more than the
+// record, or else `alone`.
+const AREAS: Table = Table {
+    rows: 19,
+    text: concat!(
+        // Operations and jumps.
+        "\
+1; mov r0, 1 | exit; --; alone
+48; ldxb r0, [r1+227] | exit; R-; alone
+0; ldxb r0, [r1+55] | add r0, -65 | exit; R--; alone
+1; ldxb r2, [r1+55] | mov r0, 0 | jne r2, 65, +1 | mov r0, 1 | exit; R----; alone
+1; mov r0, 1 | ja +1 | ldxb r0, [r9+0] | exit; ----; alone
+1; mov r0, 1 | exit | ldxb r0, [r9+0] | exit; ----; alone
+1; mov r2, 5 | mov r0, 1 | jgt r2, 9, +1 | exit | ldxb r0, [r9+0] | exit; ------; alone
+",
+        // Memory.
+        "\
+18446744073709551615; stb [r10-1], -1 | ldxsb r0, [r10-1] | exit; FF-; alone
+0; mov r2, 1 | stxdw [r10-8], r2 | ldxw r3, [r10-8] | ldxw r0, [r10-4] | exit; -FFF-; alone
+32; mov r6, r1 | mov r1, 0 | call 1 | and r0, 15 | add r6, r0 | ldxb r0, [r6+0] | exit; -----R-; alone
+65; stb [r10-1], 1 | lddw r2, 7 | ldxb r1, [r1+55] | mov r0, r1 | exit; F-R--; alone
+48; mov r0, 0 | ldxb r2, [r1+55] | mov r3, r1 | jeq r2, 65, +1 | mov r3, r1 | ldxb r0, [r3+1] | exit; -R---R-; alone
+",
+        // Slots of the frame.
+        "\
+49; stxdw [r10-8], r1 | mov r1, 1 | call 2 | ldxdw r1, [r10-8] | ldxb r0, [r1+0] | exit; F--FR-; alone
+48; stxdw [r10-8], r1 | ldxdw r3, [r10-8] | ldxb r0, [r3+1] | exit; FFR-; alone
+1; stxdw [r10-8], r10 | ldxdw r3, [r10-8] | stb [r3-1], 1 | mov r0, 1 | exit; FFF--; alone
+",
+        // Calls.
+        "\
+34; call 3 | mov r6, r0 | lsh r6, 4 | call 4 | add r0, r6 | exit; ------; joined
+1; mov r1, 0 | mov r2, 151 | call 5 | exit; ----; joined
+1; stw [r10-4], 0x6e69616d | mov r1, 0 | mov r2, r10 | add r2, -4 | mov r3, 4 | call 7 | exit; F------; joined
+1852399949; mov r1, 0 | mov r2, r10 | add r2, -4 | mov r3, 4 | call 6 | ldxw r0, [r10-4] | exit; -----F-; joined"
+    ),
+};
 
 /// Returns the machine after at most `count` steps, and the answer if it's reached.
 fn stepped<A: Allocator, B: Allocator>(
@@ -108,34 +129,38 @@ fn stepped<A: Allocator, B: Allocator>(
     (bare, None)
 }
 
-/// Returns whether a program answers as a row says when it's run, when it's run in a reused machine, and when it's stepped.
+/// Returns whether a program has this exit when it's run, when it's run in a reused machine, and when it's stepped.
 fn runs_to<A: Allocator, B: Allocator>(
     verified: &Verified<A>,
     segment: &Segment<B>,
-    said: &str,
+    exit: Outcome,
 ) -> bool {
     let mut bare = Bare::start();
-    is_answer(Some(run(verified, segment)), said)
-        && is_answer(Some(run_in(&mut bare, verified, segment)), said)
-        && is_answer(Some(run_in(&mut bare, verified, segment)), said)
-        && is_answer(stepped(verified, segment, verified.entries().len()).1, said)
+    is_answer(Some(run(verified, segment)), exit)
+        && is_answer(Some(run_in(&mut bare, verified, segment)), exit)
+        && is_answer(Some(run_in(&mut bare, verified, segment)), exit)
+        && is_answer(stepped(verified, segment, verified.entries().len()).1, exit)
 }
 
-/// Returns whether there is an answer, and it's the one in a cell.
-fn is_answer(answer: Option<Answer>, said: &str) -> bool {
+/// Returns whether there is an answer, and it's the one of this exit.
+fn is_answer(answer: Option<Answer>, exit: Outcome) -> bool {
     match answer {
-        Some(Answer { r0, score }) => is_exit(said, r0, score),
+        Some(Answer { r0, score }) => exit == Outcome::Exit { answer: r0, score },
         None => false,
     }
 }
 
-/// Returns whether a code answers as a row says when it's traced and when it's stepped, in no more steps than the code has words.
-fn traces_to<A: Allocator, B: Allocator>(code: &Code<A>, segment: &Segment<B>, said: &str) -> bool {
+/// Returns whether a code has this exit when it's traced and when it's stepped, in no more steps than the code has words.
+fn traces_to<A: Allocator, B: Allocator>(
+    code: &Code<A>,
+    segment: &Segment<B>,
+    exit: Outcome,
+) -> bool {
     let mut state = State::start();
     for _steps in 0..code.words() {
-        if let Outcome::Exit { answer, score } = bpf_meaning::step(code, segment, &mut state) {
-            return is_exit(said, answer, score)
-                && comes_to(code, segment, code.words() as u64, said);
+        let outcome = bpf_meaning::step(code, segment, &mut state);
+        if outcome != Outcome::Running {
+            return outcome == exit && trace(code, segment, code.words() as u64) == exit;
         }
     }
     false
@@ -153,7 +178,10 @@ fn has_entries<A: Allocator, B: Allocator>(verified: &Verified<A>, code: &Code<B
 }
 
 /// Returns whether the bases of the instructions point into a row's areas, if the row has any.
-fn has_areas<A: Allocator>(verified: &Verified<A>, areas: &str) -> bool {
+fn has_areas<A: Allocator>(verified: &Verified<A>, areas: Option<&str>) -> bool {
+    let Some(areas) = areas else {
+        return true;
+    };
     for (entry, letter) in verified.entries().iter().zip(areas.bytes()) {
         let area = match entry.area {
             Some(Area::Record) => b'R',
@@ -164,37 +192,102 @@ fn has_areas<A: Allocator>(verified: &Verified<A>, areas: &str) -> bool {
             return false;
         }
     }
-    areas.is_empty() || areas.len() == verified.entries().len()
+    areas.len() == verified.entries().len()
+}
+
+/// What a row says about a program.
+#[derive(Clone, Copy)]
+struct Wanted<'a> {
+    exit: Outcome,
+    areas: Option<&'a str>,
+    reads_record_alone: bool,
+}
+
+impl<'a> Wanted<'a> {
+    /// Reads the cells that a row with areas has besides its program.
+    fn new(cells: [&'a str; 3]) -> Result<Self, TableFault> {
+        let [exit, areas, reads] = cells;
+        let reads_record_alone = match reads {
+            "alone" => true,
+            "joined" => false,
+            _ => return Err(TableFault::Word),
+        };
+        Ok(Wanted {
+            exit: exit_in(exit)?,
+            areas: Some(areas),
+            reads_record_alone,
+        })
+    }
 }
 
 /// Returns whether a program is accepted and agrees with a row, and nothing allocates after the verification.
 fn is_right(
-    heap: &Refusing<Global>,
-    segment: &Segment<&Refusing<Global>>,
+    heap: &Heap,
+    segment: &Segment<&Heap>,
     bytes: &[u8],
-    row: &str,
+    wanted: &Wanted<'_>,
 ) -> Option<bool> {
     heap.refuse(0);
     let code = decode(heap, bytes).ok()?;
     let verified = verified(heap, bytes, "").ok()?;
     heap.refuse(1);
     let is_found = has_entries(&verified, &code)
-        && has_areas(&verified, cell(row, 2))
-        && verified.reads_record_alone() == cell(row, 3).is_empty();
-    let is_answered = runs_to(&verified, segment, cell(row, 0))
-        && traces_to(&code, segment, cell(row, 0));
+        && has_areas(&verified, wanted.areas)
+        && verified.reads_record_alone() == wanted.reads_record_alone;
+    let is_answered = runs_to(&verified, segment, wanted.exit)
+        && traces_to(&code, segment, wanted.exit);
     Some(is_found && is_answered && heap.count() == 0)
+}
+
+/// Returns whether a row's program reads the record alone and has the row's answer.
+fn has_answer(
+    alloc: Global,
+    heap: &Heap,
+    segment: &Segment<&Heap>,
+    row: &str,
+) -> Result<bool, TableFault> {
+    let (exit, lines) = cells(row)?.two()?;
+    let wanted = Wanted {
+        exit: exit_in(exit)?,
+        areas: None,
+        reads_record_alone: true,
+    };
+    let bytes = program(alloc, lines)?;
+    Ok(is_right(heap, segment, &bytes, &wanted) == Some(true))
+}
+
+/// Returns whether a row's program has the row's answer and areas.
+fn has_bases(
+    alloc: Global,
+    heap: &Heap,
+    segment: &Segment<&Heap>,
+    row: &str,
+) -> Result<bool, TableFault> {
+    let (exit, lines, areas, reads) = cells(row)?.four()?;
+    let wanted = Wanted::new([exit, areas, reads])?;
+    let bytes = program(alloc, lines)?;
+    Ok(is_right(heap, segment, &bytes, &wanted) == Some(true))
 }
 
 #[test]
 fn programs(rt: HostRuntime) {
     let heap = Refusing::new(rt.alloc());
-    let county = county_of(&heap, rt.alloc(), NAMED, 0).expect(&rt, "a county");
+    let files = cells(NAMED)
+        .and_then(|row| row.four())
+        .expect(&rt, "four files");
+    let county = county_of(&heap, rt.alloc(), files).expect(&rt, "a county");
     let segment = county.segments().first().expect(&rt, "a segment");
-    for row in PROGRAMS.lines() {
-        let bytes = program(rt.alloc(), cell(row, 1)).expect(&rt, row);
-        assert!(rt;
-            is_right(&heap, segment, &bytes, row) == Some(true),
+    for row in ANSWERS.joined(rt.alloc()).expect(&rt, "answers").lines() {
+        assert_eq!(rt;
+            has_answer(rt.alloc(), &heap, segment, row),
+            Ok(true),
+            "{row}"
+        );
+    }
+    for row in AREAS.joined(rt.alloc()).expect(&rt, "areas").lines() {
+        assert_eq!(rt;
+            has_bases(rt.alloc(), &heap, segment, row),
+            Ok(true),
             "{row}"
         );
     }
@@ -203,7 +296,8 @@ fn programs(rt: HostRuntime) {
 /// Returns the machine after at most `count` steps of a program on the example record.
 fn machine_after(alloc: Global, text: &str, count: usize) -> Option<Bare> {
     let heap = Refusing::new(alloc);
-    let verified = verified(&heap, &program(alloc, text)?, "").ok()?;
+    let bytes = program(alloc, text).ok()?;
+    let verified = verified(&heap, &bytes, "").ok()?;
     Some(stepped(&verified, &Segment::of(alloc, RT1), count).0)
 }
 

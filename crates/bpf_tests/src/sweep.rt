@@ -4,21 +4,22 @@ use bpf_flow::Flow;
 use bpf_insn::{Area, Code, CodeBuilder, CodeFault, Insn, Register, decode, encode};
 use bpf_text::{SourceFault, assemble, assemble_source, disassemble, disassemble_program};
 use bpf_verify::{Verified, verify};
-use fixtures::{Refusing, bytes, cell, program, table};
+use fixtures::{Refusing, Table, TableFault, bytes, cells, program};
 use refusals::Fault;
 use std::alloc::{AllocError, Global};
-use std::test::Fail;
 
 // Calls, a text, a program, and the result of the calls: `accepted` if each is converted to the other, or the refusal.
-const ROWS: &str = concat!(
-    // Words: their number, a wide load without its second word, and an unused field that isn't 0.
-    r"decode disassemble verify;;; refused 10 Empty
+const ROWS: Table = Table {
+    rows: 68,
+    text: concat!(
+        // Words: their number, a wide load without its second word, and an unused field that isn't 0.
+        r"decode disassemble verify;;; refused 10 Empty
 decode disassemble verify;; hex b7000000010000; refused 11 NotWhole
 decode disassemble verify;; hex b710000001000000 | exit; refused 15 place 0 UnusedNotZero
 decode disassemble verify;; hex 1800000001000000; refused 17 place 0 CutWide
 ",
-    // Texts.
-    r"assemble source; ldxb r2, [r1+55]\nmov r0, 0\njne r2, 65, out\nmov r0, 1\nout:\nexit\n;
+        // Texts.
+        r"assemble source; ldxb r2, [r1+55]\nmov r0, 0\njne r2, 65, out\nmov r0, 1\nout:\nexit\n;
   hex 7112370000000000 b700000000000000 5502010041000000 b700000001000000 9500000000000000; accepted
 decode disassemble; ldxb r2, [r1+55]\nmov r0, 0\njne r2, 65, +1\nmov r0, 1\nexit\n;
   hex 7112370000000000 b700000000000000 5502010041000000 b700000001000000 9500000000000000; accepted
@@ -34,33 +35,33 @@ assemble source; mov r0, 2147483648;; refused 22 line 1 NumberRange
 assemble source; a:\na:\nexit;; refused 24 line 2 DoubleLabel
 assemble source; ja nowhere;; refused 23 line 1 UnknownLabel
 assemble source; mov r10, 1;; refused 26 line 1 CodeFault(18)
-assemble source; {ja end\n*60}end:\nmov r0;; refused 20 line 62 Syntax
+assemble source; {text ja end\n*60}end:\nmov r0;; refused 20 line 62 Syntax
 assemble source; a1:\na2:\na3:\na4:\na5:\na6:\na7:\na8:\na9:\na5:\n;; refused 24 line 10 DoubleLabel
-assemble source; {mov r0, 1\n*300}ja nowhere;; refused 23 line 301 UnknownLabel
-assemble source; {mov r0, 1\n*300}frob;; refused 21 line 301 UnknownMnemonic
+assemble source; {text mov r0, 1\n*300}ja nowhere;; refused 23 line 301 UnknownLabel
+assemble source; {text mov r0, 1\n*300}frob;; refused 21 line 301 UnknownMnemonic
 source; exit\n\xff\n;; not UTF-8
 ",
-    // Programs that allocate: straight ones, and ones with jumps to twenty places and to one.
-    r"assemble source decode disassemble verify flatten; mov r0, 1\nexit\n; mov r0, 1 | exit; accepted
-assemble source decode disassemble verify flatten; {mov r0, 1\n*300}{lddw r2, 0x0000000000000001\n*100}{stdw [r10-8],
+        // Programs that allocate: straight ones, and ones with jumps to twenty places and to one.
+        r"assemble source decode disassemble verify flatten; mov r0, 1\nexit\n; mov r0, 1 | exit; accepted
+assemble source decode disassemble verify flatten; {text mov r0, 1\n*300}{text lddw r2, 0x0000000000000001\n*100}{text stdw [r10-8],
   7\n*100}ldxdw r0, [r10-8]\nexit\n; mov r0, 1 *300 | lddw r2, 0x1 *100 | stdw [r10-8], 7 *100 | ldxdw r0, [r10-8] |
   exit; accepted
-assemble source decode disassemble verify flatten; ldxb r2, [r1+55]\nmov r0, 1\n{jeq r2, 65, +20\n*20}{mov r0, 1\n*20}exit\n;
+assemble source decode disassemble verify flatten; ldxb r2, [r1+55]\nmov r0, 1\n{text jeq r2, 65, +20\n*20}{text mov r0, 1\n*20}exit\n;
   ldxb r2, [r1+55] | mov r0, 1 | jeq r2, 65, +20 *20 | mov r0, 1 *20 | exit; accepted
 assemble source decode disassemble verify flatten; ldxb r2, [r1+55]\nmov r0, 1\njgt r2, 65, +2\njset r2, 3, +1\ncall 3\nexit\n;
   ldxb r2, [r1+55] | mov r0, 1 | jgt r2, 65, +2 | jset r2, 3, +1 | call 3 | exit; accepted
 verify;; mov r0, 1 *30 | ldxb r0, [r1+228] | exit; refused 44 place 30 OutOfBounds
 verify;; ldxb r2, [r1+55] | jeq r2, 65, +20 *20 | mov r3, 1 *20 | exit; refused 40 place 41 ReadsNothing(0)
 ",
-    // Jumps, and the last instruction.
-    r"verify;; ja +1 | lddw r0, 0x1 | exit; refused 32 place 0 IntoWide
+        // Jumps, and the last instruction.
+        r"verify;; ja +1 | lddw r0, 0x1 | exit; refused 32 place 0 IntoWide
 verify;; ja +1 | lddw r0, 0x1; refused 32 place 0 IntoWide
 verify;; mov r0, 1 | ja -1 | exit; refused 30 place 1 BackwardJump
 verify;; mov r0, 1; refused 33 place 0 LastNotExit
 verify;; ja +0; refused 31 place 0 OutOfProgram
 ",
-    // Refusals of the verifier.
-    r"verify;; exit; refused 40 place 0 ReadsNothing(0)
+        // Refusals of the verifier.
+        r"verify;; exit; refused 40 place 0 ReadsNothing(0)
 verify;; ldxb r0, [r1+228] | exit; refused 44 place 0 OutOfBounds
 verify;; ldxb r3, [r1+55] | jeq r3, 65, +1 | mov r2, 1 | mov r0, r2 | exit; refused 40 place 3 ReadsNothing(2)
 verify;; mov r6, r1 | mov r1, 0 | call 1 | add r6, r0 | ldxb r0, [r6+0] | exit; refused 41 place 3 PointerArithmetic
@@ -108,20 +109,23 @@ verify;; stxdw [r10-8], r1 | stb [r10-1], 0 | ldxdw r1, [r10-8] | exit; refused 
 verify;; ldxb r2, [r1+55] | stxdw [r10-8], r1 | jeq r2, 65, +1 | stxdw [r10-8], r10 | ldxdw r3, [r10-8] | mov r0, 1 |
   exit; refused 45 place 4 UnwrittenFrame
 "
-);
+    ),
+};
 
 // Long texts and programs. Most have the greatest length in words, or one word more.
-const LONG: &str = r"decode disassemble verify;; exit *65537; refused 12 TooLong
+const LONG: Table = Table {
+    rows: 17,
+    text: r"decode disassemble verify;; exit *65537; refused 12 TooLong
 decode disassemble verify;; lddw r0, 0x1 *32768 | exit; refused 12 TooLong
 decode disassemble verify;; exit *65535 | hex 1800000000000000; refused 17 place 65535 CutWide
-decode; {exit\n*65536}; exit *65536; accepted
-disassemble; {lddw r9, 0x1122334455667788\n*32768}; lddw r9, 0x1122334455667788 *32768; accepted
-assemble; mov r0, 1\nja far\n{mov r0, 1\n*32768}far:\nexit;; refused 25 line 2 LabelTooFar
-source; mov r0, 1\nja far\n{mov r0, 1\n*32767}far:\nexit; mov r0, 1 | hex 0500ff7f00000000 | mov r0, 1 *32767 | exit;
+decode; {text exit\n*65536}; exit *65536; accepted
+disassemble; {text lddw r9, 0x1122334455667788\n*32768}; lddw r9, 0x1122334455667788 *32768; accepted
+assemble; mov r0, 1\nja far\n{text mov r0, 1\n*32768}far:\nexit;; refused 25 line 2 LabelTooFar
+source; mov r0, 1\nja far\n{text mov r0, 1\n*32767}far:\nexit; mov r0, 1 | hex 0500ff7f00000000 | mov r0, 1 *32767 | exit;
   accepted
-assemble; mov r0, 1\nja32 far\n{mov r0, 1\n*32768}far:\nexit;
+assemble; mov r0, 1\nja32 far\n{text mov r0, 1\n*32768}far:\nexit;
   mov r0, 1 | hex 0600000000800000 | mov r0, 1 *32768 | exit; accepted
-source; {exit\n*65537};; refused 26 line 65537 CodeFault(12)
+source; {text exit\n*65537};; refused 26 line 65537 CodeFault(12)
 verify;; exit *65535 | ja -32768; refused 30 place 65535 BackwardJump
 verify;; ja32 +65535 | mov r0, 1 *65534 | exit; refused 31 place 0 OutOfProgram
 verify;; ja32 +65533 | mov r0, 1 *65532 | lddw r0, 0x1 | exit; refused 32 place 0 IntoWide
@@ -129,7 +133,8 @@ verify;; exit *65535 | mov r0, 1; refused 33 place 65535 LastNotExit
 verify;; mov r0, 1 *65534 | mov r0, r9 | exit; refused 40 place 65534 ReadsNothing(9)
 verify;; stdw [r10-8], 1 *65534 | ldxdw r0, [r10-8] | exit; accepted
 verify;; mov r0, 1 | lddw r2, 0x1122334455667788 *32767 | exit; accepted
-verify;; ldxb r0, [r1+55] | jne r0, 65, +32767 | jne r0, 65, +0 *65533 | exit; accepted";
+verify;; ldxb r0, [r1+55] | jne r0, 65, +32767 | jne r0, 65, +0 *65533 | exit; accepted",
+};
 
 /// A text and the words that it means.
 #[derive(Drop)]
@@ -139,15 +144,15 @@ struct Program {
 }
 
 impl Program {
-    fn of(alloc: Global, row: &str) -> Option<Self> {
-        let text = bytes(alloc, cell(row, 1)).ok()?;
-        let words = program(alloc, cell(row, 2))?;
-        Some(Program { text, words })
+    fn new(alloc: Global, text: &str, words: &str) -> Result<Self, TableFault> {
+        let text = bytes(alloc, text)?;
+        let words = program(alloc, words)?;
+        Ok(Program { text, words })
     }
 }
 
 /// The allocator that fails a chosen allocation.
-type Heap = Refusing<Global>;
+pub type Heap = Refusing<Global>;
 
 /// Returns the expected result of a call: the row's, or out of memory if an allocation was refused.
 fn due<'a>(heap: &Heap, said: &'a str) -> &'a str {
@@ -168,7 +173,9 @@ fn is_same(heap: &Heap, given: Result<Vec<u8, &Heap>, AllocError>, bytes: &[u8])
 
 /// Returns whether a text is assembled, and the code encoded, as a row says.
 fn is_assembled(heap: &Heap, program: &Program, said: &str) -> bool {
-    let text = str::from_utf8(&program.text).unwrap_or("");
+    let Ok(text) = str::from_utf8(&program.text) else {
+        return false;
+    };
     match assemble(heap, text) {
         Ok(code) => said == "accepted" && is_same(heap, encode(heap, &code), &program.words),
         Err(fault) => fault.line().as_str() == due(heap, said),
@@ -294,56 +301,62 @@ fn is_flat<'a>(heap: &'a Heap, flow: &Flow<&'a Heap>) -> bool {
 }
 
 /// Returns whether the call with a name has the expected result.
-fn is_given(heap: &Heap, call: &str, program: &Program, said: &str) -> bool {
+fn is_given(heap: &Heap, call: &str, program: &Program, said: &str) -> Result<bool, TableFault> {
     match call {
-        "assemble" => is_assembled(heap, program, said),
-        "source" => is_source(heap, program, said),
-        "decode" => is_decoded(heap, program, said),
-        "disassemble" => is_text(heap, program, said),
-        "verify" => is_verified(heap, &program.words, said),
-        _ => is_flattened(heap, &program.words),
+        "assemble" => Ok(is_assembled(heap, program, said)),
+        "source" => Ok(is_source(heap, program, said)),
+        "decode" => Ok(is_decoded(heap, program, said)),
+        "disassemble" => Ok(is_text(heap, program, said)),
+        "verify" => Ok(is_verified(heap, &program.words, said)),
+        "flatten" => Ok(said == "accepted" && is_flattened(heap, &program.words)),
+        _ => Err(TableFault::Word),
     }
 }
 
 /// Returns whether a call has the expected result with each allocation refused, from number `first` to the first that the call doesn't reach.
-fn is_swept(alloc: Global, call: &str, program: &Program, said: &str, first: u64) -> bool {
+fn is_swept(
+    alloc: Global,
+    call: &str,
+    program: &Program,
+    said: &str,
+    first: u64,
+) -> Result<bool, TableFault> {
     let heap = Refusing::new(alloc);
     for nth in first..=u64::MAX {
         heap.refuse(nth);
-        if !is_given(&heap, call, program, said) {
-            return false;
+        if !is_given(&heap, call, program, said)? {
+            return Ok(false);
         }
         if !heap.was_refused() {
-            return nth != 1 || said != "accepted";
+            return Ok(nth != 1 || said != "accepted");
         }
     }
-    false
+    Ok(false)
 }
 
 /// Returns whether each call of a row passes the sweep.
-fn are_swept(alloc: Global, row: &str, first: u64) -> Option<bool> {
-    let program = Program::of(alloc, row)?;
-    for call in cell(row, 0).split_whitespace() {
-        if !is_swept(alloc, call, &program, cell(row, 3), first) {
-            return Some(false);
+fn are_swept(alloc: Global, row: &str, first: u64) -> Result<bool, TableFault> {
+    let (calls, text, words, said) = cells(row)?.four()?;
+    let program = Program::new(alloc, text, words)?;
+    for call in calls.split(' ') {
+        if !is_swept(alloc, call, &program, said, first)? {
+            return Ok(false);
         }
     }
-    Some(true)
+    Ok(true)
 }
 
 #[test]
-fn calls(rt: HostRuntime) -> Result<(), Fail> {
-    for row in table(rt.alloc(), ROWS)?.lines() {
-        assert!(rt; are_swept(rt.alloc(), row, 1) == Some(true), "{row}");
+fn calls(rt: HostRuntime) {
+    for row in ROWS.joined(rt.alloc()).expect(&rt, "rows").lines() {
+        assert_eq!(rt; are_swept(rt.alloc(), row, 1), Ok(true), "{row}");
     }
-    Ok(())
 }
 
 /// Runs without refusing an allocation, since none has the number 0.
 #[test]
-fn long_programs(rt: HostRuntime) -> Result<(), Fail> {
-    for row in table(rt.alloc(), LONG)?.lines() {
-        assert!(rt; are_swept(rt.alloc(), row, 0) == Some(true), "{row}");
+fn long_programs(rt: HostRuntime) {
+    for row in LONG.joined(rt.alloc()).expect(&rt, "long programs").lines() {
+        assert_eq!(rt; are_swept(rt.alloc(), row, 0), Ok(true), "{row}");
     }
-    Ok(())
 }

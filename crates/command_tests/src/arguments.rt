@@ -1,13 +1,14 @@
 //! Arguments that don't form a request: usage errors and calls for help.
-use super::cases::Case;
-use command_line::{ArgumentsFault, Invocation, read_arguments};
-use fixtures::{Device, bytes, cell, table, taken, writer};
-use std::alloc::{AllocError, Global};
-use std::test::Fail;
+use super::cases::{Ending, Faults, ended, status_of};
+use super::files::failing;
+use command_line::{ArgumentsFault, Invocation, Serve, read_arguments};
+use fixtures::{Device, Table, TableFault, bytes, cells, number, size, taken, writer};
+use std::alloc::Global;
 
-// The command line, the start of the text for the user, and a part of that text: the program's name in a usage line, its version, or an example
-// of each command.
-const TEXTS: &str = r#"
+// A command line, and the start of the text for the user.
+const STARTS: Table = Table {
+    rows: 90,
+    text: r#"
 extractd; error: 'extractd' requires a subcommand
 extractd run; error:
 extractd run --data d 01001; error:
@@ -81,15 +82,12 @@ extractd geocode-batch --addresses a.csv --addresses a.csv --data d 01001; error
 extractd geocode-batch --addresses a.csv --data d 1001; error: CODE is five digits, and "1001" isn't
 extractd serve --data d --port 8080; error: the following required arguments were not provided:
 extractd serve --help; Answers requests
-extractd --help;; extractd serve --data tiger --port 8080 01001
-extractd serve;; Usage: extractd serve --data <DIR> --port <P> <CODE>...
 extractd help; error:
 extractd --help; Selects TIGER/Line street segments
 extractd run --help; Writes the rows
 extractd trace --help; Runs a program on one segment
 extractd geocode --help; Finds a house number
-extractd geocode-batch --help; Finds each address of a file; fedirp, fename, fetype, fedirs
-extractd geocode-batch --help;; extractd geocode-batch --addresses addresses.csv --data tiger 01001 > places.csv
+extractd geocode-batch --help; Finds each address of a file
 extractd select --help; Writes the rows of the street segments for which a filter is true
 extractd compile --help; Writes the BPF program of a filter
 extractd verify --help; Reports whether
@@ -108,102 +106,177 @@ extractd geocode --data d --number 151 --name main --zip 000000360670 01001;
   error: --zip is 1 to 11 digits, and "000000360670" isn't
 extractd geocode --data d --number 151 --name main --zip 3606x 01001; error: --zip is 1 to 11 digits, and "3606x" isn't
 extractd geocode --data d --number 151 --name main 010010; error: CODE is five digits, and "010010" isn't
-extractd run;; Usage: extractd run --program <FILE> --data <DIR> <CODE>
-extractd trace;; Usage: extractd trace --program <FILE> --data <DIR> --line <N> --limit <L> <CODE>
-extractd select;; Usage: extractd select --where <TEXT> --data <DIR> <CODE>...
-extractd compile;; Usage: extractd compile --filter <FILE>
-extractd verify;; Usage: extractd verify --program <FILE>
-extractd explain;; Usage: extractd explain --program <FILE>
-extractd geocode;; Usage: extractd geocode --data <DIR> --number <N> --name <TEXT> <CODE>...
-extractd geocode-batch;; Usage: extractd geocode-batch --addresses <FILE> --data <DIR> <CODE>...
-extractd asm;; Usage: extractd asm --source <FILE>
-extractd dis;; Usage: extractd dis --program <FILE>
-extractd frob;; Usage: extractd <COMMAND>
-extractd --help;; extractd run --program street.bpf --data tiger 01001 > rows.tsv
-extractd --help;; extractd trace --program street.bpf --data tiger --line 12 --limit 4096 01001
-extractd --help;; extractd geocode --data tiger --number 151 --name main --zip 36067 01001
-extractd --help;; extractd geocode-batch --addresses addresses.csv --data tiger 01001 > places.csv
-extractd --help;; extractd select --where "CFCC LIKE 'A4%' AND ZIPL = 36067" --data tiger 01001 > rows.tsv
-extractd --help;; extractd compile --filter street.cql2 > street.bpf
-extractd --help;; extractd verify --program street.bpf
-extractd --help;; extractd explain --program street.bpf
-extractd --help;; extractd asm --source street.s > street.bpf
-extractd --help;; extractd dis --program street.bpf
-extractd --help;; extractd 1.0.0
-extractd --help;; 4  out of memory
-extractd run --help;; extractd run --program street.bpf --data tiger 01001 > rows.tsv
-extractd trace --help;; stuck place P cause N
-extractd verify --help;; extractd verify --program street.bpf
-extractd asm --help;; extractd asm --source street.s > street.bpf
-extractd dis --help;; extractd dis --program street.bpf
-"#;
+"#,
+};
 
-/// Returns whether the text for the user is as the row says, and nothing is opened, since the arguments are read first.
-fn is_usage(alloc: Global, row: &str) -> Result<bool, AllocError> {
-    let case = Case::new(alloc, row)?;
-    let ending = case.ended(alloc, None, case.faults())?;
-    let said = ending.said();
-    let is_text = said.starts_with(cell(row, 1)) && said.contains(cell(row, 2));
-    Ok(is_text && ending.is_with("2", b"") && ending.opened.is_empty())
+// A command line, and a part of the text for the user: the program's name in a usage line, its version, or an example of each command.
+const PARTS: Table = Table {
+    rows: 32,
+    text: r#"
+extractd --help; extractd serve --data tiger --port 8080 01001
+extractd serve; Usage: extractd serve --data <DIR> --port <P> <CODE>...
+extractd geocode-batch --help; fedirp, fename, fetype, fedirs
+extractd geocode-batch --help; extractd geocode-batch --addresses addresses.csv --data tiger 01001 > places.csv
+extractd run; Usage: extractd run --program <FILE> --data <DIR> <CODE>
+extractd trace; Usage: extractd trace --program <FILE> --data <DIR> --line <N> --limit <L> <CODE>
+extractd select; Usage: extractd select --where <TEXT> --data <DIR> <CODE>...
+extractd compile; Usage: extractd compile --filter <FILE>
+extractd verify; Usage: extractd verify --program <FILE>
+extractd explain; Usage: extractd explain --program <FILE>
+extractd geocode; Usage: extractd geocode --data <DIR> --number <N> --name <TEXT> <CODE>...
+extractd geocode-batch; Usage: extractd geocode-batch --addresses <FILE> --data <DIR> <CODE>...
+extractd asm; Usage: extractd asm --source <FILE>
+extractd dis; Usage: extractd dis --program <FILE>
+extractd frob; Usage: extractd <COMMAND>
+extractd --help; extractd run --program street.bpf --data tiger 01001 > rows.tsv
+extractd --help; extractd trace --program street.bpf --data tiger --line 12 --limit 4096 01001
+extractd --help; extractd geocode --data tiger --number 151 --name main --zip 36067 01001
+extractd --help; extractd geocode-batch --addresses addresses.csv --data tiger 01001 > places.csv
+extractd --help; extractd select --where "CFCC LIKE 'A4%' AND ZIPL = 36067" --data tiger 01001 > rows.tsv
+extractd --help; extractd compile --filter street.cql2 > street.bpf
+extractd --help; extractd verify --program street.bpf
+extractd --help; extractd explain --program street.bpf
+extractd --help; extractd asm --source street.s > street.bpf
+extractd --help; extractd dis --program street.bpf
+extractd --help; extractd 1.0.0
+extractd --help; 4  out of memory
+extractd run --help; extractd run --program street.bpf --data tiger 01001 > rows.tsv
+extractd trace --help; stuck place P cause N
+extractd verify --help; extractd verify --program street.bpf
+extractd asm --help; extractd asm --source street.s > street.bpf
+extractd dis --help; extractd dis --program street.bpf
+"#,
+};
+
+/// Returns whether the text for the user starts as the row says.
+fn is_start(alloc: Global, row: &str) -> Result<bool, TableFault> {
+    let (line, start) = texts(row)?;
+    let ending = ended(alloc, None, line, &[], Faults::none())?;
+    Ok(is_usage(&ending) && ending.said().starts_with(start))
+}
+
+/// Returns whether the row's part is in the text for the user.
+fn is_part(alloc: Global, row: &str) -> Result<bool, TableFault> {
+    let (line, part) = texts(row)?;
+    let ending = ended(alloc, None, line, &[], Faults::none())?;
+    Ok(is_usage(&ending) && ending.said().contains(part))
+}
+
+/// Returns a row's command line and its text, which isn't empty.
+fn texts(row: &str) -> Result<(&str, &str), TableFault> {
+    let (line, text) = cells(row)?.two()?;
+    if text.is_empty() {
+        return Err(TableFault::Cells);
+    }
+    Ok((line, text))
+}
+
+/// Returns whether the status is 2, and nothing is written or opened, since the arguments are read first.
+fn is_usage(ending: &Ending) -> bool {
+    ending.is_with(2, b"") && ending.opened.is_empty()
 }
 
 #[test]
-fn usage(rt: HostRuntime) -> Result<(), Fail> {
-    for row in table(rt.alloc(), TEXTS.trim())?.lines() {
-        assert!(rt; is_usage(rt.alloc(), row)?, "{row}");
+fn usage(rt: HostRuntime) {
+    for row in STARTS.joined(rt.alloc()).expect(&rt, "starts").lines() {
+        assert_eq!(rt; is_start(rt.alloc(), row), Ok(true), "{row}");
     }
-    Ok(())
+    for row in PARTS.joined(rt.alloc()).expect(&rt, "parts").lines() {
+        assert_eq!(rt; is_part(rt.alloc(), row), Ok(true), "{row}");
+    }
 }
 
-// The arguments of `serve`; then the requested port and number of counties, or the status and text of the fault.
-const SERVES: &str = r#"
+// The arguments of `serve`, the requested port and the number of counties.
+const SERVES: Table = Table {
+    rows: 3,
+    text: "\
 serve --data d --port 8080 01001; 8080; 1
 serve --data d --port 1 01001 01003 01001; 1; 3
-serve --port 65535 01001 01003 --data d; 65535; 2
+serve --port 65535 01001 01003 --data d; 65535; 2",
+};
+
+// Other arguments of `serve`, and the status and text of the fault.
+const FAULTS: Table = Table {
+    rows: 5,
+    text: r#"
 serve --data d --port 0 01001; 2; error: --port is 1 to 65535, and "0" isn't\n
 serve --data d --port 65536 01001; 2; error: --port is 1 to 65535, and "65536" isn't\n
 serve --data d --port +80 01001; 2; error: --port is 1 to 65535, and "+80" isn't\n
 serve --data d --port http 01001; 2; error: --port is 1 to 65535, and "http" isn't\n
 serve --data d --port 8080 0100; 2; error: CODE is five digits, and "0100" isn't\n
-"#;
+"#,
+};
+
+// The ways in which standard error fails.
+const WAYS: Table = Table {
+    rows: 7,
+    text: "\
+pipe
+interrupted
+full
+nothing
+by 1 pipe
+by 1 interrupted
+by 1 nothing",
+};
 
 /// Returns whether the arguments of a row request what the row says.
-fn is_serve(alloc: Global, row: &str) -> Result<bool, AllocError> {
-    let words: Vec<&str> = cell(row, 0).split_whitespace().collect(alloc)?;
-    let text = bytes(alloc, cell(row, 2))?;
-    let number = cell(row, 1);
+fn is_serve(alloc: Global, row: &str) -> Result<bool, TableFault> {
+    let (line, port, counties) = cells(row)?.three()?;
+    let (port, counties) = (number(port)?, size(counties)?);
+    let words: Vec<&str> = line.split(' ').collect(alloc)?;
     Ok(match read_arguments(alloc, &words) {
+        Ok(Invocation::Serve(serve)) => is_asked(&serve, port, counties),
         Ok(Invocation::Request(_request)) => false,
-        Ok(Invocation::Serve(serve)) => {
-            serve.data == "d"
-                && number.parse() == Ok(serve.port)
-                && cell(row, 2).parse() == Ok(serve.codes.len())
-        }
-        Err(fault) => number.parse() == Ok(fault.status()) && is_said(alloc, &fault, &text),
+        Err(_fault) => false,
     })
 }
 
-// The ways in which standard error fails.
-const WAYS: &str = "pipe, interrupted, full, nothing, by 1 pipe, by 1 interrupted, by 1 nothing";
+fn is_asked(serve: &Serve<'_>, port: u64, counties: usize) -> bool {
+    serve.data == "d" && u64::from(serve.port) == port && serve.codes.len() == counties
+}
+
+/// Returns whether the arguments of a row have the fault that the row says.
+fn is_fault(alloc: Global, row: &str) -> Result<bool, TableFault> {
+    let (line, status, text) = cells(row)?.three()?;
+    let status = status_of(status)?;
+    let text = bytes(alloc, text)?;
+    let words: Vec<&str> = line.split(' ').collect(alloc)?;
+    match read_arguments(alloc, &words) {
+        Ok(_invocation) => Ok(false),
+        Err(fault) => Ok(fault.status() == status && is_said(alloc, &fault, &text)?),
+    }
+}
 
 /// Returns whether a fault's text is written up to the point at which standard error fails.
-fn is_said(alloc: Global, fault: &ArgumentsFault<'_>, text: &[u8]) -> bool {
-    for way in WAYS.split(", ") {
-        for count in 0..=text.len() {
-            let mut errors = writer(alloc, Device::new(way).after(count));
-            fault.report(&mut errors);
-            if text.get(..count) != Some(taken(&errors)) {
-                return false;
-            }
+fn is_said(alloc: Global, fault: &ArgumentsFault<'_>, text: &[u8]) -> Result<bool, TableFault> {
+    let ways = WAYS.joined(alloc)?;
+    for way in ways.lines() {
+        if !is_cut(alloc, fault, text, failing(way)?) {
+            return Ok(false);
+        }
+    }
+    Ok(true)
+}
+
+/// Returns whether a fault's text is written up to each point at which standard error fails in this way.
+fn is_cut(alloc: Global, fault: &ArgumentsFault<'_>, text: &[u8], way: Device) -> bool {
+    for count in 0..=text.len() {
+        let mut errors = writer(alloc, way.after(count));
+        fault.report(&mut errors);
+        if text.get(..count) != Some(taken(&errors)) {
+            return false;
         }
     }
     true
 }
 
 #[test]
-fn serves(rt: HostRuntime) -> Result<(), Fail> {
-    for row in SERVES.trim().lines() {
-        assert!(rt; is_serve(rt.alloc(), row)?, "{row}");
+fn serves(rt: HostRuntime) {
+    for row in SERVES.joined(rt.alloc()).expect(&rt, "serves").lines() {
+        assert_eq!(rt; is_serve(rt.alloc(), row), Ok(true), "{row}");
     }
-    Ok(())
+    for row in FAULTS.joined(rt.alloc()).expect(&rt, "faults").lines() {
+        assert_eq!(rt; is_fault(rt.alloc(), row), Ok(true), "{row}");
+    }
 }

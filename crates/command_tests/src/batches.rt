@@ -1,5 +1,6 @@
 //! Rows for the command `geocode-batch`. Places are those of `geocodes`, in decimal degrees: house 151 is 50/98 of the way along each street's
 //! line.
+use fixtures::Table;
 
 /// Abbreviations in rows: the first line of output, and the empty cells in the line of an address without a match.
 pub const WORDS: [(&str, &str); 2] = [
@@ -10,7 +11,9 @@ pub const WORDS: [(&str, &str); 2] = [
     ("EMPTY", ",,,,,,,,,,,"),
 ];
 
-pub const BATCHES: &str = r#"
+pub const BATCHES: Table = Table {
+    rows: 26,
+    text: r#"
 extractd geocode-batch --addresses a.csv --data d 01001 >
   a.csv d/TGR01001.RT1 d/TGR01001.RT4 d/TGR01001.RT5 d/TGR01001.RT6;
   HEADERm,match,,-86.494898,32.405102,123456789,L,,Main,,,36067,01001,101,199\n; 0;;
@@ -41,7 +44,7 @@ extractd geocode-batch --addresses a.csv --data d 01001;
   a.csv: number,name,id,zip\n151,elm,s,\n99,main,n,\n151,main,z,36066\n151a,main,d,\n; d/TGR01001.RT1: {rt1}\n
 extractd geocode-batch --addresses a.csv --data d 01001;
   HEADER2,no_match,name_too_long,EMPTY\n3,no_match,missing,EMPTY\n4,no_match,missing,EMPTY\n5,no_match,not_a_number,EMPTY\n; 0;;
-  a.csv: number,name,zip\n151,{x*31},\n,main,\n151,,\n151,main,x\n; d/TGR01001.RT1: {rt1}\n
+  a.csv: number,name,zip\n151,{text x*31},\n,main,\n151,,\n151,main,x\n; d/TGR01001.RT1: {rt1}\n
 extractd geocode-batch --addresses a.csv --data d 01001 01003;
   HEADERa,match,,-86.494898,32.405102,7,L,,Main,,,36067,01003,101,199\nb,no_match,no_such_street,EMPTY\n; 0;;
   a.csv: id,number,name\na,151,main\nb,151,elm\n; d/TGR01001.RT1: {rt1 FENAME=Oak}\n; d/TGR01003.RT1: {rt1 TLID=7}\n
@@ -59,9 +62,9 @@ extractd geocode-batch --addresses a.csv --data d 01001;; 1; refused 102 line 3 
 extractd geocode-batch --addresses a.csv --data d 01001;; 1; refused 103 line 2 OpenQuote;
   a.csv: number,name\n151,"main\n151,main\n; d/TGR01001.RT1: {rt1}\n
 extractd geocode-batch --addresses a.csv --data d 01001;; 1; refused 104 line 3 LineTooLong;
-  a.csv: number,name\n151,main\n151,{x*65532}\n; d/TGR01001.RT1: {rt1}\n
+  a.csv: number,name\n151,main\n151,{text x*65532}\n; d/TGR01001.RT1: {rt1}\n
 extractd geocode-batch --addresses a.csv --data d 01001; HEADER2,no_match,name_too_long,EMPTY\n; 0;;
-  a.csv: number,name\n151,{x*65531}\n; d/TGR01001.RT1: {rt1}\n
+  a.csv: number,name\n151,{text x*65531}\n; d/TGR01001.RT1: {rt1}\n
 extractd geocode-batch --addresses a.csv --data d 01001;; 1; refused 105 line 2 NotOneRecord;
   a.csv: number,name\n151,main\r151,main\n; d/TGR01001.RT1: {rt1}\n
 extractd geocode-batch --addresses a.csv --data d 01001 > a.csv;; 3; error: a.csv: not found; d/TGR01001.RT1: {rt1}\n
@@ -72,4 +75,5 @@ extractd geocode-batch --addresses a.csv --data d 01001;; 1; refused 1 rt1 line 
   d/TGR01001.RT1: {rt1}\n{rt1 ..227}\n
 extractd geocode-batch --addresses a.csv --data d 01001 01003;; 3; error: d/TGR01003.RT1: not found;
   a.csv: number,name\n151,"main\n; d/TGR01001.RT1: {rt1}\n
-"#;
+"#,
+};

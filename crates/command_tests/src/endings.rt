@@ -9,12 +9,12 @@ use super::filters::FILTERS;
 use super::geocodes::GEOCODES;
 use super::listings::LISTINGS;
 use super::runs::FILES;
-use fixtures::table;
-use std::alloc::{AllocError, Global};
+use fixtures::TableFault;
+use std::alloc::Global;
 use std::test::Fail;
 
 /// Returns whether the command of a row ends as the row says.
-pub fn is_right(alloc: Global, row: &str) -> Result<bool, AllocError> {
+pub fn is_right(alloc: Global, row: &str) -> Result<bool, TableFault> {
     let case = Case::new(alloc, row)?;
     let ending = case.ended(alloc, None, case.faults())?;
     Ok(case.is_ended(&ending))
@@ -22,12 +22,12 @@ pub fn is_right(alloc: Global, row: &str) -> Result<bool, AllocError> {
 
 #[test]
 fn endings(rt: HostRuntime) -> Result<(), Fail> {
-    for rows in [
+    for table in [
         SOURCES, DOCUMENTED, PROGRAMS, COUNTIES, OPENINGS, FILES, GEOCODES, FILTERS, CASES,
         LISTINGS, ECHOES,
     ] {
-        for row in table(rt.alloc(), rows.trim())?.lines() {
-            assert!(rt; is_right(rt.alloc(), row)?, "{row}");
+        for row in table.joined(rt.alloc())?.lines() {
+            assert_eq!(rt; is_right(rt.alloc(), row), Ok(true), "{row}");
         }
     }
     Ok(())
@@ -35,17 +35,17 @@ fn endings(rt: HostRuntime) -> Result<(), Fail> {
 
 #[test]
 fn batches(rt: HostRuntime) -> Result<(), Fail> {
-    let rows = table(rt.alloc(), BATCHES.trim())?;
+    let rows = BATCHES.joined(rt.alloc())?;
     for row in filled(rt.alloc(), &rows, &WORDS)?.lines() {
-        assert!(rt; is_right(rt.alloc(), row)?, "{row}");
+        assert_eq!(rt; is_right(rt.alloc(), row), Ok(true), "{row}");
     }
     Ok(())
 }
 
 #[test]
 fn long_programs(rt: HostRuntime) -> Result<(), Fail> {
-    for row in table(rt.alloc(), LONG.trim())?.lines() {
-        assert!(rt; is_right(rt.alloc(), row)?, "{row}");
+    for row in LONG.joined(rt.alloc())?.lines() {
+        assert_eq!(rt; is_right(rt.alloc(), row), Ok(true), "{row}");
     }
     Ok(())
 }

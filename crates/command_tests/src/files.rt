@@ -1,10 +1,10 @@
 //! Files in memory.
 use arrayvec::ArrayString;
 use commands::Files;
-use fixtures::{Device, Reader, reader};
+use fixtures::{Device, Reader, TableFault, error_kind, reader, size};
 use std::io;
 use std::io::ErrorKind;
-use tl_fields::{Burst, count_one};
+use tl_fields::count_one;
 
 /// A file in memory.
 #[derive(Drop)]
@@ -14,11 +14,47 @@ pub struct MemoryFile<'a> {
     pub access: Access,
 }
 
-/// How a file's reader fails, or its open if it is closed.
+/// How a file is opened and read.
 #[derive(Clone, Copy)]
-pub struct Access {
-    pub device: Device,
-    pub is_closed: bool,
+pub enum Access {
+    /// Nothing fails.
+    Sound,
+    /// Nothing fails, and this number of reads doesn't reach the end.
+    Partial(usize),
+    /// A read fails as the device says.
+    Failing(Device),
+    /// The open fails.
+    Closed(ErrorKind),
+}
+
+impl Access {
+    /// Parses what is special about a file: `closed denied` if it can't be opened, `call 3 pipe` if a read fails, or `reads 3` if it isn't read to
+    /// its end.
+    pub fn new(text: &str) -> Result<Self, TableFault> {
+        match text.split_once(' ') {
+            Some(("closed", kind)) => Ok(Access::Closed(error_kind(kind)?)),
+            Some(("reads", count)) => Ok(Access::Partial(size(count)?)),
+            _ => Ok(Access::Failing(failing_call(text)?)),
+        }
+    }
+}
+
+/// Parses which call of a reader or writer fails, and how: `call 3 pipe`.
+pub fn failing_call(text: &str) -> Result<Device, TableFault> {
+    if text.starts_with("call ") {
+        failing(text)
+    } else {
+        Err(TableFault::Word)
+    }
+}
+
+/// Parses how calls of a reader or writer fail: a `Device`'s text that ends with a kind of error or with `nothing`.
+pub fn failing(text: &str) -> Result<Device, TableFault> {
+    let kind = text.rsplit(' ').next().unwrap_or("");
+    if kind != "nothing" {
+        error_kind(kind)?;
+    }
+    Device::new(text)
 }
 
 /// Files in memory with distinct names, one of which may be given another access. No other file exists.
@@ -62,17 +98,16 @@ impl<'a> Files for MemoryFiles<'a> {
         } else {
             file.access
         };
-        if !access.is_closed {
-            return Ok(Some(reader(&file.bytes, access.device)));
+        match access {
+            Access::Sound | Access::Partial(_) => Ok(Some(reader(&file.bytes, Device::sound()))),
+            Access::Failing(device) => Ok(Some(reader(&file.bytes, device))),
+            Access::Closed(kind) => {
+                if kind != ErrorKind::OutOfMemory {
+                    count_one(&mut self.failed_opens);
+                }
+                Err(io::Error::from(kind))
+            }
         }
-        let kind = match access.device.burst {
-            Burst::Fails(kind) => kind,
-            Burst::TakesNothing => ErrorKind::WriteZero,
-        };
-        if kind != ErrorKind::OutOfMemory {
-            count_one(&mut self.failed_opens);
-        }
-        Err(io::Error::from(kind))
     }
 
     fn close(&mut self, reader: Reader<'a>) {
@@ -82,7 +117,8 @@ impl<'a> Files for MemoryFiles<'a> {
     }
 }
 
-fn file_named<'a>(files: &'a [MemoryFile<'a>], name: &str) -> Option<&'a MemoryFile<'a>> {
+/// Returns the file with this name, if there is one.
+pub fn file_named<'a>(files: &'a [MemoryFile<'a>], name: &str) -> Option<&'a MemoryFile<'a>> {
     for file in files {
         if file.name == name {
             return Some(file);

@@ -1,6 +1,9 @@
 //! Rows for the commands `compile` and `select`. The filters' programs are written by hand.
+use fixtures::Table;
 
-pub const FILTERS: &str = r"
+pub const FILTERS: Table = Table {
+    rows: 24,
+    text: r"
 extractd compile --filter f.cql > f.cql; {asm mov r6, r1 | ldxb r0, [r6+55] | jne r0, 65, +4 | ldxb r0, [r6+56] |
   jne r0, 52, +2 | mov r0, 1 | exit | mov r0, 0 | exit}; 0;; f.cql: CFCC LIKE 'A4%'\n
 extractd compile --score TLID --filter f.cql; {asm mov r6, r1 | mov r1, 0 | call 1 | mov r1, r0 | call 8 | mov r0, 1 |
@@ -10,16 +13,17 @@ extractd compile --filter f.cql;; 1; refused 91 line 2 column 1 UnknownColumn\nn
 extractd compile --filter f.cql;; 1; refused 90 line 1 column 7 Syntax\nexpected a number; f.cql: ZIPL =
 extractd compile --filter f.cql;; 1; refused 90 line 2 column 1 Syntax\nexpected UTF-8; f.cql: \n\xff
 extractd compile --filter f.cql;; 1; refused 96 line 1 column 1 TooLong\nthe program would have more than 65,536 words,
-  or a jump over more than 32,767; f.cql: {HAS_NUMBER(99999999999) OR *13}HAS_NUMBER(99999999999)
+  or a jump over more than 32,767; f.cql: {text HAS_NUMBER(99999999999) OR *13}HAS_NUMBER(99999999999)
 extractd compile --filter f.cql;; 1; refused 96 line 1 column 1048577 TooLong\nthe text has more than 1,048,576 bytes;
-  f.cql: {        *131072}TRUE
+  f.cql: {text         *131072}TRUE
 extractd compile --filter f.cql; {asm mov r6, r1 | mov r0, 1 | exit | mov r0, 0 | exit}; 0;;
-  f.cql: {        *131071}    TRUE
+  f.cql: {text         *131071}    TRUE
 extractd compile --filter f.cql;; 1; refused 96 line 2 column 1 TooLong\nthe text has more than 1,048,576 bytes;
-  f.cql: {        *131071}       \nTRUE
+  f.cql: {text         *131071}       \nTRUE
 extractd compile --filter f.cql;; 1; refused 96 line 1 column 1048577 TooLong\nthe text has more than 1,048,576 bytes;
-  f.cql: {        *140000}TRUE ! call 258 pipe
-extractd compile --filter f.cql;; 3; error: f.cql: broken pipe; f.cql: {        *140000}TRUE ! call 257 pipe
+  f.cql: {text         *140000}TRUE ! call 258 pipe
+extractd compile --filter f.cql;; 3; error: f.cql: broken pipe;
+  f.cql: {text         *140000}TRUE ! call 257 pipe
 extractd compile --filter f.cql;; 3; error: f.cql: not found
 extractd compile --filter - > /dev/stdin;; 3; error: /dev/stdin: not found
 extractd select --where ZIPL_=_36067 --data d 01001; 0\t{rt1}\n0\t{rt1 TLID=7}\n; 0;;
@@ -43,4 +47,5 @@ extractd select --where TRUE --data d 01001 01003; 0\t{rt1}\n; 4; refused memory
   d/TGR01001.RT1: {rt1}\n; d/TGR01003.RT1: ! closed memory
 extractd select --where ZIPL_=_'36067' --data d 01001;; 1; refused 92 line 1 column 8 WrongType\nthe column isn't of this
   type; d/TGR01001.RT1: {rt1}\n
-";
+",
+};

@@ -1,6 +1,9 @@
 //! Rows for the command `geocode`. Places are worked out by hand: house 151 is 50/98 of the way along Main Street's line.
+use fixtures::Table;
 
-pub const GEOCODES: &str = r"
+pub const GEOCODES: Table = Table {
+    rows: 29,
+    text: r"
 extractd geocode --data d --number 151 --name main --zip 36067 01001; 123456789\tL\t-86494898\t32405102\n; 0;;
   d/TGR01001.RT1: {rt1}\n
 extractd geocode --data d --number 150 --name main --zip 36067 01001; 123456789\tR\t-86494898\t32405102\n; 0;;
@@ -18,7 +21,7 @@ extractd geocode --data d --number 151 --name main --zip 0 01001; 7\tL\t-8649489
 extractd geocode --data d --number 151 --name main --zip 00000 01001; 7\tL\t-86494898\t32405102\n; 0;;
   d/TGR01001.RT1: {rt1}\n{rt1 TLID=7 ZIPL=00000}\n{rt1 TLID=8 ZIPL=00001}\n
 extractd geocode --data d --number 151 --name main 01001 01003;
-  {123456789\tL\t-86494898\t32405102\n*600}{7\tL\t-86494898\t32405102\n*600}; 0;;
+  {text 123456789\tL\t-86494898\t32405102\n*600}{text 7\tL\t-86494898\t32405102\n*600}; 0;;
   d/TGR01001.RT1: {rt1\n*600}; d/TGR01003.RT1: {rt1 TLID=7\n*600}
 extractd geocode --data d --number 151 --name mai 01001;; 0;; d/TGR01001.RT1: {rt1}\n
 extractd geocode --data d --number 151 --name Old_Main 01001; 123456789\tL\t-86494898\t32405102\n; 0;;
@@ -56,4 +59,5 @@ extractd geocode --data d --number 151 --name main 01001 01003;; 4; refused memo
   d/TGR01003.RT1: ! closed memory
 extractd geocode --data d --number 151 --name main 01001 01003;; 3; error: d/TGR01001.RT6: permission denied;
   d/TGR01001.RT1: {rt1}\n; d/TGR01003.RT1: {rt1}\n; d/TGR01001.RT6: ! closed denied
-";
+",
+};

@@ -1,6 +1,9 @@
-//! Tests of the command line, over files in memory. Expected rows, lines and statuses were worked out by hand.
+//! Tests of the command line, over files in memory, and of the crates that read addresses and filters. Expected rows, lines and statuses were worked
+//! out by hand.
 #![tactic(auto)]
 
+#[cfg(test)]
+mod address_files;
 #[cfg(test)]
 mod arguments;
 #[cfg(test)]
@@ -20,9 +23,12 @@ mod endings;
 #[cfg(test)]
 mod files;
 #[cfg(test)]
+mod filter_texts;
+#[cfg(test)]
 mod filters;
 #[cfg(test)]
 mod geocodes;
+#[cfg(test)]
 mod listings;
 #[cfg(test)]
 mod reads;

@@ -1,6 +1,9 @@
 //! Rows for the command `explain`. The listings are worked out by hand.
+use fixtures::Table;
 
-pub const LISTINGS: &str = r"
+pub const LISTINGS: Table = Table {
+    rows: 13,
+    text: r"
 extractd explain --program p.bpf; 0: mov r0, 0                            \x3b r1 = record + 0, r10 = frame + 512\n1:
   exit                                 \x3b r0 = 0\naccepted\n; 0;; p.bpf: {asm mov r0, 0 | exit}
 extractd explain --program p.bpf; 0: mov r0, 0                            \x3b r1 = record + 0, r10 = frame + 512\n1:
@@ -38,4 +41,5 @@ extractd explain --program p.bpf --lines l;; 1; refused 30 place 1 BackwardJump;
   l: int x\n
 extractd explain --program p.bpf;; 1; refused 10 Empty; p.bpf:
 extractd explain --program p.bpf --lines l;; 3; error: l: not found; p.bpf: {asm mov r0, 0 | exit}
-";
+",
+};

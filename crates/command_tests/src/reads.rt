@@ -1,13 +1,16 @@
 //! Injects a failure into each read and refuses each growth while a program or another file is read: no read is retried.
+use super::files::failing;
 use bpf_insn::CodeFault;
 use commands::{FileFault, ProgramInputFault, read_program, read_to_end};
-use fixtures::{Device, Refusing, bytes, cell, reader};
+use fixtures::{Device, Refusing, Table, TableFault, bytes, cells, number, reader, size};
 use std::alloc::Global;
 use std::test::Fail;
 
 // How a file is read, its size in bytes, the outcome, the number of reads, including the one that finds the end, and the number of growths, or
 // `+` for at least one. A program longer than 65,536 words is read to its end and refused.
-const FILES: &str = "\
+const FILES: Table = Table {
+    rows: 15,
+    text: "\
 program; 0; kept; 1; 1
 program; 7; kept; 2; 1
 program; 4096; kept; 2; 1
@@ -22,79 +25,135 @@ file; 0; kept; 1; 0
 file; 1; kept; 2; +
 file; 4096; kept; 2; +
 file; 4097; kept; 3; +
-file; 100001; kept; 26; +";
+file; 100001; kept; 26; +",
+};
 
 // More bytes than any of the files has, in lines that don't end at the end of a read.
-const BYTES: &str = r"{0123456789\n*60000}";
+const BYTES: &str = r"{text 0123456789\n*60000}";
 
-const WAYS: &str = "pipe, interrupted, blocked, late";
+// The ways in which a read fails.
+const WAYS: Table = Table {
+    rows: 4,
+    text: "\
+pipe
+interrupted
+blocked
+late",
+};
 
 // If there are more reads, only this number of the last ones fail.
 const MOST_READS: u64 = 10;
 
-/// Returns the outcome of reading a file from this device: `kept` if all of its bytes were kept, and otherwise the reason.
-fn outcome(heap: &Refusing<Global>, row: &str, bytes: &[u8], device: Device) -> &'static str {
-    let mut input = reader(bytes, device);
-    let read = match cell(row, 0) {
-        "program" => read_program(heap, &mut input),
-        _ => match read_to_end(heap, &mut input) {
-            Ok(kept) => Ok(kept),
-            Err(fault) => Err(ProgramInputFault::File(fault)),
-        },
-    };
-    match read {
-        Ok(kept) if kept.as_slice() == bytes => "kept",
-        Ok(_) => "altered",
-        Err(ProgramInputFault::File(FileFault::Memory)) => "memory",
-        Err(ProgramInputFault::File(FileFault::Unusable(_))) => "unusable",
-        Err(ProgramInputFault::Code(CodeFault::NotWhole)) => "not whole",
-        Err(ProgramInputFault::Code(CodeFault::TooLong)) => "too long",
-        Err(ProgramInputFault::Code(_)) => "another fault",
-    }
+/// A row of the table: the reading of a file, and how it ends.
+#[derive(Clone, Copy)]
+struct Reading<'a> {
+    is_program: bool,
+    bytes: &'a [u8],
+    outcome: &'a str,
+    reads: u64,
+    /// The number of growths, or `None` for at least one.
+    growths: Option<u64>,
 }
 
-/// Returns whether the reading ends as it should when any one read fails in any way, and as the row says when no read fails.
-fn are_reads(alloc: Global, row: &str, bytes: &[u8]) -> bool {
-    let heap = Refusing::new(alloc);
-    let reads: u64 = cell(row, 3).parse().unwrap_or(0);
-    for way in WAYS.split(", ") {
-        for call in reads.saturating_sub(MOST_READS)..=reads {
-            let device = Device::new(way).at_call(call.wrapping_add(1));
-            let expected = if call < reads {
+impl<'a> Reading<'a> {
+    /// Parses a row. The file has the first ones of these bytes.
+    fn new(row: &'a str, bytes: &'a [u8]) -> Result<Self, TableFault> {
+        let (name, length, outcome, reads, growths) = cells(row)?.five()?;
+        Ok(Reading {
+            is_program: is_program(name)?,
+            bytes: bytes.get(..size(length)?).ok_or(TableFault::Number)?,
+            outcome,
+            reads: number(reads)?,
+            growths: match growths {
+                "+" => None,
+                growths => Some(number(growths)?),
+            },
+        })
+    }
+
+    /// Returns the outcome of reading the file from this device: `kept` if all of its bytes were kept, and otherwise the reason.
+    fn outcome(&self, heap: &Refusing<Global>, device: Device) -> &'static str {
+        let mut input = reader(self.bytes, device);
+        let read = if self.is_program {
+            read_program(heap, &mut input)
+        } else {
+            match read_to_end(heap, &mut input) {
+                Ok(kept) => Ok(kept),
+                Err(fault) => Err(ProgramInputFault::File(fault)),
+            }
+        };
+        match read {
+            Ok(kept) if kept.as_slice() == self.bytes => "kept",
+            Ok(_) => "altered",
+            Err(ProgramInputFault::File(FileFault::Memory)) => "memory",
+            Err(ProgramInputFault::File(FileFault::Unusable(_))) => "unusable",
+            Err(ProgramInputFault::Code(CodeFault::NotWhole)) => "not whole",
+            Err(ProgramInputFault::Code(CodeFault::TooLong)) => "too long",
+            Err(ProgramInputFault::Code(_)) => "another fault",
+        }
+    }
+
+    /// Returns whether the reading ends as it should when any one read fails in this way, and as the row says when no read fails.
+    fn is_read(&self, alloc: Global, way: Device) -> bool {
+        let heap = Refusing::new(alloc);
+        for call in self.reads.saturating_sub(MOST_READS)..=self.reads {
+            let device = way.at_call(call.wrapping_add(1));
+            let expected = if call < self.reads {
                 "unusable"
             } else {
-                cell(row, 2)
+                self.outcome
             };
-            if outcome(&heap, row, bytes, device) != expected {
+            if self.outcome(&heap, device) != expected {
                 return false;
             }
         }
+        self.reads > 0
     }
-    reads > 0
+
+    /// Returns whether the row's number of growths is refused, one at a time.
+    fn is_grown(&self, alloc: Global) -> bool {
+        let (heap, sound) = (Refusing::new(alloc), Device::sound());
+        let is_right = self.outcome(&heap, sound) == self.outcome;
+        let growths = heap.count();
+        for nth in 1..=growths {
+            heap.refuse(nth);
+            if self.outcome(&heap, sound) != "memory" {
+                return false;
+            }
+        }
+        is_right && self.growths.map_or(growths > 0, |number| number == growths)
+    }
 }
 
-/// Returns whether the row's number of growths is refused, one at a time.
-fn are_growths(alloc: Global, row: &str, bytes: &[u8]) -> bool {
-    let (heap, sound) = (Refusing::new(alloc), Device::new(""));
-    let is_right = outcome(&heap, row, bytes, sound) == cell(row, 2);
-    let growths = heap.count();
-    for nth in 1..=growths {
-        heap.refuse(nth);
-        if outcome(&heap, row, bytes, sound) != "memory" {
-            return false;
+/// Returns whether a row is about reading a program. If not, it is about reading another file.
+fn is_program(name: &str) -> Result<bool, TableFault> {
+    match name {
+        "program" => Ok(true),
+        "file" => Ok(false),
+        _ => Err(TableFault::Word),
+    }
+}
+
+/// Returns whether the file of a row, which has the first ones of these bytes, is read as the row says.
+fn is_right(alloc: Global, row: &str, bytes: &[u8]) -> Result<bool, TableFault> {
+    let reading = Reading::new(row, bytes)?;
+    if !reading.is_grown(alloc) {
+        return Ok(false);
+    }
+    let ways = WAYS.joined(alloc)?;
+    for way in ways.lines() {
+        if !reading.is_read(alloc, failing(way)?) {
+            return Ok(false);
         }
     }
-    is_right && (cell(row, 4).parse() == Ok(growths) || cell(row, 4) == "+" && growths > 0)
+    Ok(true)
 }
 
 #[test]
 fn each_read_and_growth(rt: HostRuntime) -> Result<(), Fail> {
     let text = bytes(rt.alloc(), BYTES)?;
-    for row in FILES.lines() {
-        let length = cell(row, 1).parse().unwrap_or(0);
-        let file = text.get(..length).unwrap_or(b"");
-        assert!(rt; are_growths(rt.alloc(), row, file), "{row}");
-        assert!(rt; are_reads(rt.alloc(), row, file), "{row}");
+    for row in FILES.joined(rt.alloc())?.lines() {
+        assert_eq!(rt; is_right(rt.alloc(), row, &text), Ok(true), "{row}");
     }
     Ok(())
 }

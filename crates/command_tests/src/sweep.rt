@@ -1,14 +1,17 @@
 //! Refuses each growth of requests, and injects a failure into each open, read, write and flush of requests and of command lines.
 use super::batches::WORDS;
-use super::cases::{Case, Ending, Faults, filled, parts};
-use super::files::Access;
-use fixtures::{Device, Refusing, cell, table, taken};
+use super::cases::{Case, Ending, Faults, filled, status_of};
+use super::files::{Access, failing};
+use fixtures::{Device, Refusing, Table, TableFault, cells, error_kind, size, taken};
 use std::alloc::{AllocError, Global};
+use std::io::ErrorKind;
 use std::test::Fail;
 
-// Rows in the form of `Case`. After `reads` comes the number of reads of a file that isn't read to its end. Each type 1 line that `run` reads
+// Rows in the form of `Row`. After `reads` comes the number of reads of a file that isn't read to its end. Each type 1 line that `run` reads
 // yields a row.
-const REQUESTS: &str = r"
+const REQUESTS: Table = Table {
+    rows: 45,
+    text: r"
 extractd run --program p.bpf --data d 01001; 0\t{rt1}\n0\t{rt1}\n; 0;; p.bpf: {every}; d/TGR01001.RT1: {rt1\n*2}
 extractd run --program p.bpf --data d 01001;; 0;; p.bpf: {every}; d/TGR01001.RT1:
 extractd run --program p.bpf --data d 01001; 10002\t{rt1}\n; 0;; p.bpf: {counts}; d/TGR01001.RT1: {rt1}\n;
@@ -74,18 +77,21 @@ extractd explain --program p.bpf; 0: exit                                 \x3b r
   known\n; 1; refused 40 place 0 ReadsNothing(0); p.bpf: {stuck}
 extractd explain --program p.bpf --lines l;; 3; error: l: not found; p.bpf: {every}
 extractd asm --source p.s; {asm mov r0, 1 | ja +0 | exit}; 0;; p.s: mov r0, 1\nja out\nout:\nexit\n
-extractd asm --source p.s; {asm exit *2000}; 0;; p.s: {exit\n*2000}
+extractd asm --source p.s; {asm exit *2000}; 0;; p.s: {text exit\n*2000}
 extractd asm --source p.s;; 1; refused 21 line 1 UnknownMnemonic; p.s: frob r0\n
 extractd asm --source p.s;; 3; error: p.s: not UTF-8; p.s: exit\n\xff\n
 extractd dis --program p.bpf; mov r0, 1\nexit\n; 0;; p.bpf: {every}
-extractd dis --program p.bpf; {exit\n*600}; 0;; p.bpf: {asm exit *600}
+extractd dis --program p.bpf; {text exit\n*600}; 0;; p.bpf: {asm exit *600}
 extractd dis --program p.bpf;; 1; refused 13 place 0 UnknownOpcode; p.bpf: {unknown}
 extractd verify --program p.bpf; accepted\n ! call 2 full; 3; error: the output can't be written: no space left;
   p.bpf: {every}
-";
+",
+};
 
 // Command lines that don't form a request.
-const ARGUMENTS: &str = r#"
+const ARGUMENTS: Table = Table {
+    rows: 7,
+    text: r#"
 extractd run --program p.bpf --data d 0100;; 2; error: CODE is five digits, and "0100" isn't
 extractd trace --program p.bpf --data d --line 1a --limit 1 01001;; 2; error: --line is 1 to 19 digits, and "1a" isn't
 extractd trace --program p.bpf --data d --line \n1\t --limit 1 01001;; 2; error: --line is 1 to 19 digits, and
@@ -95,61 +101,138 @@ extractd serve --data d --port 8080 01001;; 2; error: serve needs a socket
 extractd run --program p.bpf 01001;; 2; error: the following required arguments were not provided:\n  --data
   <DIR>\n\nUsage: extractd run --program <FILE> --data <DIR> <CODE>\n\nFor more information, try '--help'.
 extractd --version;; 2; extractd 1.0.0
-"#;
+"#,
+};
 
-// How an open or a read of a file fails, the status, and the text on standard error. If not every call fails like this, the last cell is the
-// distance from one failing call to the next.
-const INPUTS: &str = "\
-open; closed denied; 3; error: FILE: permission denied
-open; closed other; 3; error: FILE: too many links
-open; closed memory; 4; refused memory
-read; interrupted; 3; error: FILE: operation interrupted
+// A call that fails, the kind of error and how many bytes a call moves, the status, the text on standard error, and the distance from one such call
+// to the next that fails. A failed write to standard error doesn't change the status.
+const INPUTS: Table = Table {
+    rows: 7,
+    text: "\
+open; denied; 3; error: FILE: permission denied; 1
+open; links; 3; error: FILE: too many links; 1
+open; memory; 4; refused memory; 1
+read; interrupted; 3; error: FILE: operation interrupted; 1
 read; pipe; 3; error: FILE: broken pipe; 10
 read; blocked; 3; error: FILE: operation would block; 10
-read; late; 3; error: FILE: timed out; 10";
-
-// How a refused growth ends.
-const GROWTH: &str = "growth;; 4; refused memory";
-
-// The text on standard error for a failed read of a county's file.
-const UNREAD: &str = "refused 5 rtTYPE line LINE Read";
+read; late; 3; error: FILE: timed out; 10",
+};
 
 // The same for a write that fails after some bytes, for a flush that fails after all of them, and for standard error.
-const OUTPUTS: &str = "\
-write; interrupted; 3; refused 60 Write
+const OUTPUTS: Table = Table {
+    rows: 21,
+    text: "\
+write; interrupted; 3; refused 60 Write; 1
 write; pipe; 3; refused 60 Write; 10
 write; blocked; 3; refused 60 Write; 10
 write; full; 3; refused 60 Write; 10
-write; nothing; 3; refused 61 WriteZero
-write; by 1 interrupted; 3; refused 60 Write
+write; nothing; 3; refused 61 WriteZero; 1
+write; by 1 interrupted; 3; refused 60 Write; 1
 write; by 1 pipe; 3; refused 60 Write; 10
 write; by 1 blocked; 3; refused 60 Write; 10
 write; by 1 full; 3; refused 60 Write; 10
 write; by 1 nothing; 3; refused 61 WriteZero; 10
-flush; by 1 interrupted; 3; error: the output can't be written: operation interrupted
-flush; by 1 pipe; 3; error: the output can't be written: broken pipe
-flush; by 1 blocked; 3; error: the output can't be written: operation would block
-flush; by 1 full; 3; error: the output can't be written: no space left
-word; interrupted
+flush; by 1 interrupted; 3; error: the output can't be written: operation interrupted; 1
+flush; by 1 pipe; 3; error: the output can't be written: broken pipe; 1
+flush; by 1 blocked; 3; error: the output can't be written: operation would block; 1
+flush; by 1 full; 3; error: the output can't be written: no space left; 1
+word; interrupted;;; 1
 word; pipe;;; 10
 word; full;;; 10
-word; nothing
+word; nothing;;; 1
 word; by 1 interrupted;;; 10
 word; by 1 full;;; 10
-word; by 1 nothing;;; 10";
+word; by 1 nothing;;; 10",
+};
 
 // The same for command lines, which make the same requests.
-const LINE_INPUTS: &str = "\
-open; closed denied; 3; error: FILE: permission denied
-read; interrupted; 3; error: FILE: operation interrupted";
+const LINE_INPUTS: Table = Table {
+    rows: 2,
+    text: "\
+open; denied; 3; error: FILE: permission denied; 1
+read; interrupted; 3; error: FILE: operation interrupted; 1",
+};
 
-const LINE_OUTPUTS: &str = "\
-write; by 1 interrupted; 3; refused 60 Write
-flush; by 1 interrupted; 3; error: the output can't be written: operation interrupted
-word; by 1 interrupted";
+const LINE_OUTPUTS: Table = Table {
+    rows: 3,
+    text: "\
+write; by 1 interrupted; 3; refused 60 Write; 1
+flush; by 1 interrupted; 3; error: the output can't be written: operation interrupted; 1
+word; by 1 interrupted;;; 1",
+};
+
+// The text on standard error for a failed read of a county's file.
+const UNREAD: &str = "refused 5 rtTYPE line LINE Read";
 
 // Writes of requests that write more bytes don't fail: those bytes are passed on in one write, as fewer bytes are.
 const MOST_WRITTEN: usize = 1000;
+
+// How a refused growth ends.
+const GROWTH: Way<'static> = Way {
+    call: Call::Growth,
+    status: Some(4),
+    said: "refused memory",
+    step: 1,
+};
+
+/// A call that fails, and how.
+#[derive(Clone, Copy)]
+enum Call {
+    Open(ErrorKind),
+    Read(Device),
+    Write(Device),
+    Flush(Device),
+    /// A write to standard error.
+    Word(Device),
+    Growth,
+}
+
+impl Call {
+    /// Parses the name of a call and the way in which it fails.
+    fn new(name: &str, fault: &str) -> Result<Self, TableFault> {
+        match name {
+            "open" => Ok(Call::Open(error_kind(fault)?)),
+            "read" => Ok(Call::Read(failing(fault)?)),
+            "write" => Ok(Call::Write(failing(fault)?)),
+            "flush" => Ok(Call::Flush(failing(fault)?)),
+            "word" => Ok(Call::Word(failing(fault)?)),
+            _ => Err(TableFault::Word),
+        }
+    }
+}
+
+/// How calls fail, and how the command ends then.
+#[derive(Clone, Copy)]
+struct Way<'a> {
+    call: Call,
+    /// The status, or `None` if it is that of the command without a failure.
+    status: Option<u8>,
+    said: &'a str,
+    /// The distance from one failing call to the next.
+    step: usize,
+}
+
+impl<'a> Way<'a> {
+    /// Parses a row of a table above.
+    fn new(row: &'a str) -> Result<Self, TableFault> {
+        let (call, fault, status, said, step) = cells(row)?.five()?;
+        let call = Call::new(call, fault)?;
+        let status = match call {
+            Call::Word(_) if status.is_empty() && said.is_empty() => None,
+            Call::Word(_) => return Err(TableFault::Cells),
+            _ => Some(status_of(status)?),
+        };
+        match size(step)? {
+            0 => Err(TableFault::Number),
+            step => Ok(Way {
+                call,
+                status,
+                said,
+                step,
+            }),
+        }
+    }
+}
 
 /// Calls of a row's request that fail one at a time, in one way.
 #[derive(Clone, Copy)]
@@ -157,8 +240,7 @@ struct Trial<'a, 'b, 'c> {
     case: &'a Case<'c>,
     /// The memory of the request, or `None` for the command line.
     heap: Option<&'b Refusing<Global>>,
-    /// A row of a table above.
-    way: &'static str,
+    way: Way<'b>,
     /// The index of the file that fails.
     file: usize,
 }
@@ -166,31 +248,31 @@ struct Trial<'a, 'b, 'c> {
 impl<'c> Trial<'_, '_, 'c> {
     /// Returns the faults with which the call at this index fails, counted from 0.
     fn faults(&self, place: usize) -> Faults<'c> {
-        let device = Device::new(cell(self.way, 1));
         let faults = self.case.faults();
-        match cell(self.way, 0) {
-            "open" => self.file_faults(device, place == 0),
-            "read" => self.file_faults(at_call(device, place), false),
-            "growth" => faults,
-            "write" => Faults {
+        match self.way.call {
+            Call::Open(kind) if place == 0 => self.file_faults(Access::Closed(kind)),
+            Call::Open(_) => self.file_faults(Access::Sound),
+            Call::Read(device) => self.file_faults(Access::Failing(at_call(device, place))),
+            Call::Write(device) => Faults {
                 out: device.after(place),
                 ..faults
             },
-            "word" => Faults {
-                errors: device.after(place),
-                ..faults
-            },
-            _ => Faults {
+            Call::Flush(device) => Faults {
                 out: at_call(device, self.case.written.len().saturating_add(place)),
                 ..faults
             },
+            Call::Word(device) => Faults {
+                errors: device.after(place),
+                ..faults
+            },
+            Call::Growth => faults,
         }
     }
 
-    fn file_faults(&self, device: Device, is_closed: bool) -> Faults<'c> {
+    fn file_faults(&self, access: Access) -> Faults<'c> {
         Faults {
             name: self.name(),
-            access: Access { device, is_closed },
+            access,
             ..self.case.faults()
         }
     }
@@ -205,16 +287,16 @@ impl<'c> Trial<'_, '_, 'c> {
 
     /// Returns the number of such calls, or `None` if they aren't made to fail.
     fn calls(&self) -> Option<usize> {
-        let row = self.case.row;
         let length = self.case.written.len();
-        match cell(self.way, 0) {
-            "open" => self.reads().and(Some(1)),
-            "read" => self.reads(),
+        match self.way.call {
+            Call::Open(_) => self.reads().and(Some(1)),
+            Call::Read(_) => self.reads(),
             _ if self.file > 0 => None,
-            "word" => Some(self.case.said.len()),
-            _ if cell(row, 1).contains("!") => None,
-            "flush" => Some(usize::from(cell(row, 2) != "2")),
-            _ => (length <= MOST_WRITTEN).then_some(length),
+            Call::Word(_) => Some(self.case.said.len()),
+            _ if self.case.row.out.is_some() => None,
+            Call::Write(_) => (length <= MOST_WRITTEN).then_some(length),
+            Call::Flush(_) => Some(usize::from(self.case.row.status != 2)),
+            Call::Growth => None,
         }
     }
 
@@ -223,30 +305,39 @@ impl<'c> Trial<'_, '_, 'c> {
     fn reads(&self) -> Option<usize> {
         let file = self.case.files.get(self.file)?;
         let length = file.bytes.len();
-        let (_, fault) = parts(cell(self.case.row, self.file.saturating_add(4)), '!');
-        match fault.strip_prefix("reads ") {
-            Some(number) => number.parse().ok(),
-            None if !fault.is_empty() => None,
-            None if file.name.starts_with("d/") => length.checked_add(1),
-            None => length.div_ceil(4096).checked_add(1),
+        match file.access {
+            Access::Sound if file.name.starts_with("d/") => length.checked_add(1),
+            Access::Sound => length.div_ceil(4096).checked_add(1),
+            Access::Partial(reads) => Some(reads),
+            Access::Failing(_) | Access::Closed(_) => None,
         }
     }
 
     /// Returns whether an ending is that of the failed call at this index.
-    fn is_failure(&self, alloc: Global, ending: &Ending, place: usize) -> bool {
-        let (row, written) = (self.case.row, self.case.written.as_slice());
-        let is_refused = self.is_said(ending, cell(self.way, 3));
-        match cell(self.way, 0) {
-            "open" | "read" => self.is_unusable(alloc, ending, place) == Ok(true),
-            "growth" => is_refused && self.is_with_rows(ending),
-            "write" => is_refused && ending.is_with("3", written.get(..place).unwrap_or(b"")),
-            "word" => {
-                ending.is_with(cell(row, 2), written)
+    fn is_failure(&self, alloc: Global, ending: &Ending, place: usize) -> Result<bool, TableFault> {
+        let written = self.case.written.as_slice();
+        let is_refused = self.is_said(ending, self.way.said);
+        let status = self.status();
+        Ok(match self.way.call {
+            Call::Open(_) | Call::Read(_) => self.is_unusable(alloc, ending, place)?,
+            Call::Growth => is_refused && self.is_with_rows(ending),
+            Call::Write(_) => {
+                is_refused && ending.is_with(status, written.get(..place).unwrap_or(b""))
+            }
+            Call::Word(_) => {
+                ending.is_with(status, written)
                     && Some(taken(&ending.errors)) == self.case.said.get(..place)
             }
-            _ if cell(row, 2) == "0" => is_refused && ending.is_with("3", written),
-            _ => self.case.is_ended(ending),
-        }
+            Call::Flush(_) if self.case.row.status == 0 => {
+                is_refused && ending.is_with(status, written)
+            }
+            Call::Flush(_) => self.case.is_ended(ending),
+        })
+    }
+
+    /// Returns the status with which the request ends if a call fails.
+    fn status(&self) -> u8 {
+        self.way.status.unwrap_or(self.case.row.status)
     }
 
     /// Returns whether an ending is that of a file that can't be used: nothing is written, except that an extract has the rows of the lines
@@ -276,7 +367,7 @@ impl<'c> Trial<'_, '_, 'c> {
     fn is_with_rows(&self, ending: &Ending) -> bool {
         let written = taken(&ending.out);
         let are_rows = self.case.written.starts_with(written) && written.ends_with(b"\n");
-        ending.is_with(cell(self.way, 2), written)
+        ending.is_with(self.status(), written)
             && (written.is_empty() || (self.is_extract() || self.is_batch()) && are_rows)
     }
 
@@ -287,17 +378,23 @@ impl<'c> Trial<'_, '_, 'c> {
         said == text || is_county
     }
 
+    /// Returns whether the row's command is this one.
+    fn is_command(&self, command: &str) -> bool {
+        let line = self.case.line();
+        line.split(' ').nth(1) == Some(command)
+    }
+
     fn is_select(&self) -> bool {
-        self.case.row.starts_with("extractd select ")
+        self.is_command("select")
     }
 
     /// Returns whether rows are written while the type 1 file is read.
     fn is_extract(&self) -> bool {
-        self.is_select() || self.case.row.starts_with("extractd run ")
+        self.is_select() || self.is_command("run")
     }
 
     fn is_batch(&self) -> bool {
-        self.case.row.starts_with("extractd geocode-batch ")
+        self.is_command("geocode-batch")
     }
 
     /// Returns the number of lines in a county's file before the read at this index.
@@ -311,8 +408,8 @@ impl<'c> Trial<'_, '_, 'c> {
     /// Returns the text on standard error when a read of the file fails after this number of lines.
     fn refusal(&self, alloc: Global, lines: usize) -> Result<String, AllocError> {
         let name = self.name();
-        if cell(self.way, 0) == "open" || !name.starts_with("d/") {
-            return filled(alloc, cell(self.way, 3), &[("FILE", name)]);
+        if matches!(self.way.call, Call::Open(_)) || !name.starts_with("d/") {
+            return filled(alloc, self.way.said, &[("FILE", name)]);
         }
         let kind = name.get(name.len().saturating_sub(1)..).unwrap_or("");
         let line = "1234".get(lines..=lines).unwrap_or("");
@@ -320,42 +417,42 @@ impl<'c> Trial<'_, '_, 'c> {
     }
 
     /// Returns whether the request ends as it should when the call at this index fails, or at `end`, when none does.
-    fn is_right(&self, alloc: Global, place: usize, end: usize) -> bool {
-        match self.case.ended(alloc, self.heap, self.faults(place)) {
-            Ok(ending) if place < end => self.is_failure(alloc, &ending, place),
-            Ok(ending) => self.case.is_ended(&ending),
-            Err(_) => false,
+    fn is_right(&self, alloc: Global, place: usize, end: usize) -> Result<bool, TableFault> {
+        let ending = self.case.ended(alloc, self.heap, self.faults(place))?;
+        if place < end {
+            self.is_failure(alloc, &ending, place)
+        } else {
+            Ok(self.case.is_ended(&ending))
         }
     }
 
-    /// Returns the number of the request's growths, each of which was refused once. Returns `None` if the request doesn't end as it should.
-    fn refused_growths(&self, alloc: Global, heap: &Refusing<Global>) -> Option<u64> {
-        if !self.is_right(alloc, 0, 0) {
-            return None;
+    /// Returns whether the request has growths, and ends as it should when any one of them is refused, and when none is.
+    fn is_grown(&self, alloc: Global, heap: &Refusing<Global>) -> Result<bool, TableFault> {
+        if !self.is_right(alloc, 0, 0)? {
+            return Ok(false);
         }
         let growths = heap.count();
         for nth in 1..=growths {
             heap.refuse(nth);
-            if !self.is_right(alloc, 0, 1) {
-                return None;
+            if !self.is_right(alloc, 0, 1)? {
+                return Ok(false);
             }
         }
-        Some(growths)
+        Ok(growths > 0)
     }
 
     /// Returns whether the request ends as it should for each of the way's failing calls, and without a failure.
-    fn is_swept(&self, alloc: Global) -> bool {
+    fn is_swept(&self, alloc: Global) -> Result<bool, TableFault> {
         let Some(end) = self.calls() else {
-            return true;
+            return Ok(true);
         };
-        let step = cell(self.way, 4).parse().unwrap_or(1);
         for place in 0..=end {
-            let is_due = place == end || place.checked_rem(step) == Some(0);
-            if is_due && !self.is_right(alloc, place, end) {
-                return false;
+            let is_due = place == end || place.checked_rem(self.way.step) == Some(0);
+            if is_due && !self.is_right(alloc, place, end)? {
+                return Ok(false);
             }
         }
-        true
+        Ok(true)
     }
 }
 
@@ -373,46 +470,49 @@ fn line_count(bytes: &[u8]) -> usize {
 }
 
 /// Returns whether a row's request, or its command line, ends as it should in each of these ways.
-fn is_swept(
-    alloc: Global,
-    row: &str,
-    ways: &'static str,
-    is_line: bool,
-) -> Result<bool, AllocError> {
+fn is_swept(alloc: Global, row: &str, ways: Table, is_line: bool) -> Result<bool, TableFault> {
     let case = Case::new(alloc, row)?;
     let heap = Refusing::new(alloc);
     let heap = if is_line { None } else { Some(&heap) };
-    Ok(is_case_swept(alloc, &case, heap, ways))
+    let ways = ways.joined(alloc)?;
+    for way in ways.lines() {
+        if !is_case_swept(alloc, &case, heap, Way::new(way)?)? {
+            return Ok(false);
+        }
+    }
+    Ok(true)
 }
 
-/// Returns whether a case ends as it should in each of these ways, for each of its files.
+/// Returns whether a case ends as it should in this way, for each of its files.
 fn is_case_swept(
     alloc: Global,
     case: &Case<'_>,
     heap: Option<&Refusing<Global>>,
-    ways: &'static str,
-) -> bool {
-    for way in ways.lines() {
-        for file in 0..case.files.len().max(1) {
-            let trial = Trial {
-                case,
-                heap,
-                way,
-                file,
-            };
-            if !trial.is_swept(alloc) {
-                return false;
-            }
+    way: Way<'_>,
+) -> Result<bool, TableFault> {
+    for file in 0..case.files.len().max(1) {
+        let trial = Trial {
+            case,
+            heap,
+            way,
+            file,
+        };
+        if !trial.is_swept(alloc)? {
+            return Ok(false);
         }
     }
-    true
+    Ok(true)
 }
 
 #[test]
 fn each_read(rt: HostRuntime) -> Result<(), Fail> {
     for row in requests(rt.alloc())?.lines() {
-        assert!(rt; is_swept(rt.alloc(), row, INPUTS, false)?, "{row}");
-        assert!(rt; is_swept(rt.alloc(), row, LINE_INPUTS, true)?, "{row}");
+        assert_eq!(rt; is_swept(rt.alloc(), row, INPUTS, false), Ok(true), "{row}");
+        assert_eq!(rt;
+            is_swept(rt.alloc(), row, LINE_INPUTS, true),
+            Ok(true),
+            "{row}"
+        );
     }
     Ok(())
 }
@@ -420,27 +520,40 @@ fn each_read(rt: HostRuntime) -> Result<(), Fail> {
 #[test]
 fn each_write(rt: HostRuntime) -> Result<(), Fail> {
     for row in requests(rt.alloc())?.lines() {
-        assert!(rt; is_swept(rt.alloc(), row, OUTPUTS, false)?, "{row}");
-        assert!(rt; is_swept(rt.alloc(), row, LINE_OUTPUTS, true)?, "{row}");
+        assert_eq!(rt;
+            is_swept(rt.alloc(), row, OUTPUTS, false),
+            Ok(true),
+            "{row}"
+        );
+        assert_eq!(rt;
+            is_swept(rt.alloc(), row, LINE_OUTPUTS, true),
+            Ok(true),
+            "{row}"
+        );
     }
     Ok(())
 }
 
 #[test]
 fn each_write_of_arguments(rt: HostRuntime) -> Result<(), Fail> {
-    for row in table(rt.alloc(), ARGUMENTS.trim())?.lines() {
-        assert!(rt; is_swept(rt.alloc(), row, LINE_OUTPUTS, true)?, "{row}");
+    for row in ARGUMENTS.joined(rt.alloc())?.lines() {
+        assert_eq!(rt;
+            is_swept(rt.alloc(), row, LINE_OUTPUTS, true),
+            Ok(true),
+            "{row}"
+        );
     }
     Ok(())
 }
 
 /// Returns the rows of requests.
-fn requests(alloc: Global) -> Result<String, AllocError> {
-    filled(alloc, &table(alloc, REQUESTS.trim())?, &WORDS)
+fn requests(alloc: Global) -> Result<String, TableFault> {
+    let rows = REQUESTS.joined(alloc)?;
+    Ok(filled(alloc, &rows, &WORDS)?)
 }
 
-/// Returns the number of growths of a row's request, each of which was refused once. Returns `None` if the request doesn't end as it should.
-fn refused_growths(alloc: Global, row: &str) -> Result<Option<u64>, AllocError> {
+/// Returns whether a row's request ends as it should when any one of its growths is refused, of which there is at least one.
+fn is_grown(alloc: Global, row: &str) -> Result<bool, TableFault> {
     let case = Case::new(alloc, row)?;
     let heap = Refusing::new(alloc);
     let trial = Trial {
@@ -449,14 +562,13 @@ fn refused_growths(alloc: Global, row: &str) -> Result<Option<u64>, AllocError> 
         way: GROWTH,
         file: 0,
     };
-    Ok(trial.refused_growths(alloc, &heap))
+    trial.is_grown(alloc, &heap)
 }
 
 #[test]
 fn each_growth(rt: HostRuntime) -> Result<(), Fail> {
     for row in requests(rt.alloc())?.lines() {
-        let refused = refused_growths(rt.alloc(), row)?.unwrap_or(0);
-        assert!(rt; refused > 0, "{row}");
+        assert_eq!(rt; is_grown(rt.alloc(), row), Ok(true), "{row}");
     }
     Ok(())
 }

@@ -19,6 +19,3 @@ mod token;
 pub use fault::{Expected, FilterFault, FilterFlaw};
 pub use name::column_named;
 pub use reader::{TEXT_LIMIT, read};
-
-#[cfg(test)]
-mod tests;

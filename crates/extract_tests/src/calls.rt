@@ -2,69 +2,95 @@
 use bpf_machine::Bare;
 use bpf_verify::Verified;
 use extract::{accept, row, row_text, score_if_chosen};
-use fixtures::{RT1, Refusing, bytes, cell, is_refusal, program};
+use fixtures::{RT1, Refusing, Table, TableFault, bytes, cells, is_refusal, program};
 use refusals::Fault;
 use std::alloc::Global;
 use std::io::ErrorKind;
 use tl_fields::{Burst, Counting, Fuse, WriteFault};
 use tl_segments::Segment;
 
-// Programs, the refusals of those that aren't accepted, and the rows of those that select the record.
-const PROGRAMS: &str = r"every;; 0\t{rt1}\n
+// A program, its refusal if it isn't accepted, and the row of the record if the program selects it.
+const PROGRAMS: Table = Table {
+    rows: 18,
+    text: r"
+every;; 0\t{rt1}\n
 two;; 0\t{rt1}\n
-never
+never;;
 roads;; 0\t{rt1}\n
-not_roads
+not_roads;;
 tlids;; 123456789\t{rt1}\n
 scored_roads;; 123456789\t{rt1}\n
 scored;; 18446744073709551615\t{rt1}\n
 counts;; 1\t{rt1}\n
-finds
+finds;;
 mov r1, 42 | call 8 | mov r0, 1 | exit;; 42\t{rt1}\n
 mov r0, 1 *99 | exit;; 0\t{rt1}\n
 ldxb r2, [r1+55] | jne r2, 65, +0 *50 | mov r0, 1 | exit;; 0\t{rt1}\n
-empty; refused 10 Empty
-unknown; refused 13 place 0 UnknownOpcode
-backward; refused 30 place 1 BackwardJump
-stuck; refused 40 place 0 ReadsNothing(0)
-argument; refused 50 place 5 BadArgument(3)";
+empty; refused 10 Empty;
+unknown; refused 13 place 0 UnknownOpcode;
+backward; refused 30 place 1 BackwardJump;
+stuck; refused 40 place 0 ReadsNothing(0);
+argument; refused 50 place 5 BadArgument(3);",
+};
 
 type Heap = Refusing<Global>;
 
-/// Returns whether a program is refused, or selects the record, as a row says.
-fn is_right(alloc: Global, row: &str) -> Option<bool> {
-    let program = program(alloc, cell(row, 0))?;
-    let heap = Refusing::new(alloc);
-    match accept(&heap, &program) {
-        Ok(verified) => Some(
-            cell(row, 1).is_empty() && is_chosen(alloc, &heap, &verified, cell(row, 2)),
-        ),
-        Err(fault) => Some(is_refusal(fault.line().as_str(), cell(row, 1))),
+/// A program, its refusal if it isn't accepted, and the row of the record if the program selects it.
+#[derive(Drop)]
+struct Case<'a> {
+    program: Vec<u8>,
+    refusal: &'a str,
+    row: Vec<u8>,
+}
+
+impl<'a> Case<'a> {
+    fn new(alloc: Global, row: &'a str) -> Result<Self, TableFault> {
+        let (name, refusal, text) = cells(row)?.three()?;
+        Ok(Case {
+            program: program(alloc, name)?,
+            refusal,
+            row: bytes(alloc, text)?,
+        })
+    }
+
+    /// Returns whether the program is refused, or selects the record, as it should.
+    fn is_right(&self, alloc: Global) -> bool {
+        let heap = Refusing::new(alloc);
+        match accept(&heap, &self.program) {
+            Ok(verified) => {
+                self.refusal.is_empty() && is_chosen(alloc, &heap, &verified, &self.row)
+            }
+            Err(fault) => self.row.is_empty() && is_refusal(fault.line().as_str(), self.refusal),
+        }
     }
 }
 
-/// Returns whether code gives the record the row of a cell, and gives the same score again in the same machine, without allocating.
-fn is_chosen(alloc: Global, heap: &Heap, verified: &Verified<&Heap>, text: &str) -> bool {
+fn is_right(alloc: Global, row: &str) -> Result<bool, TableFault> {
+    Ok(Case::new(alloc, row)?.is_right(alloc))
+}
+
+/// Returns whether code gives the record this row, or none if it is empty, and gives the same score again in the same machine, without allocating.
+fn is_chosen(alloc: Global, heap: &Heap, verified: &Verified<&Heap>, text: &[u8]) -> bool {
     heap.refuse(1);
     let segment = Segment::of(heap, RT1);
     let mut bare = Bare::start();
     let score = score_if_chosen(verified, &segment, &mut bare);
     let is_row = match score {
-        Some(score) => is_row(alloc, score, &segment, text) == Some(true),
+        Some(score) => is_row(alloc, score, &segment, text),
         None => text.is_empty(),
     };
     is_row && score == score_if_chosen(verified, &segment, &mut bare) && heap.count() == 0
 }
 
-/// Returns whether the row of a segment with a score is that of a cell.
-fn is_row(alloc: Global, score: u64, segment: &Segment<&Heap>, text: &str) -> Option<bool> {
-    let text = bytes(alloc, text).ok()?;
+/// Returns whether this is the row of a segment with a score, and a failed write of it is reported.
+fn is_row(alloc: Global, score: u64, segment: &Segment<&Heap>, text: &[u8]) -> bool {
     let mut out = Counting::new(Vec::new(alloc));
     let is_written = row(score, segment, &mut out).is_ok();
-    let is_text = row_text(score, segment).as_slice() == text.as_slice();
-    Some(
-        is_written && is_text && *out.get_ref() == text && is_write_reported(alloc, score, segment),
-    )
+    let is_text = row_text(score, segment).as_slice() == text;
+    is_written
+        && is_text
+        && out.get_ref().as_slice() == text
+        && is_write_reported(alloc, score, segment)
 }
 
 /// Returns whether a row reports that its write failed.
@@ -76,7 +102,7 @@ fn is_write_reported(alloc: Global, score: u64, segment: &Segment<&Heap>) -> boo
 
 #[test]
 fn programs(rt: HostRuntime) {
-    for row in PROGRAMS.lines() {
-        assert_eq!(rt; is_right(rt.alloc(), row), Some(true), "{row}");
+    for row in PROGRAMS.joined(rt.alloc()).expect(&rt, "programs").lines() {
+        assert_eq!(rt; is_right(rt.alloc(), row), Ok(true), "{row}");
     }
 }

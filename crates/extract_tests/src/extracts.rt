@@ -1,15 +1,16 @@
 //! Extracts for the rows of tables, with a given allocator, readers and writer.
 use extract::extract;
-use fixtures::{Device, Files, Readers, bytes, cell, is_outcome, program, taken, writer};
+use fixtures::{Device, Files, Readers, TableFault, bytes, is_outcome, program, taken, writer};
 use refusals::Fault;
 use std::alloc::{Allocator, Global};
 use tl_segments::CountyFile;
 
-/// A program, a county's files, and the rows that the program selects from them.
+/// A program, a county's files, the outcome of the extract, and the rows that the program selects.
 #[derive(Drop)]
-pub struct Case {
+pub struct Case<'a> {
     pub program: Vec<u8>,
     pub files: Files,
+    pub outcome: &'a str,
     pub rows: Vec<u8>,
 }
 
@@ -21,13 +22,36 @@ pub struct Devices {
     pub output: Device,
 }
 
-impl Case {
-    /// Reads a row: a program, the files of types 1, 4, 5 and 6, the outcome, and the rows.
-    pub fn new(alloc: Global, row: &str) -> Option<Case> {
-        Some(Case {
-            program: program(alloc, cell(row, 0))?,
-            files: Files::new(alloc, row, 1).ok()?,
-            rows: bytes(alloc, cell(row, 6)).ok()?,
+impl Devices {
+    /// Returns readers and a writer that never fail.
+    pub fn sound() -> Self {
+        Devices {
+            file: CountyFile::Rt1,
+            input: Device::sound(),
+            output: Device::sound(),
+        }
+    }
+}
+
+type SevenCells<'a> = (
+    &'a str,
+    &'a str,
+    &'a str,
+    &'a str,
+    &'a str,
+    &'a str,
+    &'a str,
+);
+
+impl<'a> Case<'a> {
+    /// Reads cells: a program, the files of types 1, 4, 5 and 6, the outcome, and the rows.
+    pub fn new(alloc: Global, cells: SevenCells<'a>) -> Result<Self, TableFault> {
+        let (name, rt1, rt4, rt5, rt6, outcome, rows) = cells;
+        Ok(Case {
+            program: program(alloc, name)?,
+            files: Files::new(alloc, (rt1, rt4, rt5, rt6))?,
+            outcome,
+            rows: bytes(alloc, rows)?,
         })
     }
 

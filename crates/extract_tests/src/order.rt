@@ -58,7 +58,7 @@ impl Write for Telling<'_> {
 
 #[test]
 fn rows_leave_before_the_next_line(rt: HostRuntime) -> Result<(), Fail> {
-    let program = program(rt.alloc(), "every").ok_or("program")?;
+    let program = program(rt.alloc(), "every")?;
     let file = bytes(rt.alloc(), r"{rt1\n*3}")?;
     let written = Cell::new(0);
     let mut rt1 = Asking::new(file.as_slice(), &written);

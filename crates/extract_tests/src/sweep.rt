@@ -1,9 +1,8 @@
 //! Failures of each allocation, each read and each write of an extract.
 use crate::extracts::{Case, Devices};
 use crate::rows::{COUNTIES, EXTRACTS};
-use fixtures::{Device, Refusing, cell, table};
+use fixtures::{Device, Refusing, Table, TableFault, cells, error_kind, number};
 use std::alloc::Global;
-use std::test::Fail;
 use tl_segments::CountyFile;
 
 // The extract of two lines of Main Street with failing readers and writers, without other files and with them.
@@ -15,7 +14,9 @@ const JOINED: &str =
 // What fails, a read of a file or a write, and in which ways; the first and last read, or the least and greatest number of bytes taken before; the
 // outcome; how many bytes are written, and how many reads and writes there are. `+3` is three more than the read or the bytes. A read or a byte after
 // the last one changes nothing.
-const FAILURES: &str = "\
+const FAILURES: Table = Table {
+    rows: 24,
+    text: "\
 rt4; pipe, interrupted, blocked, late; 1 1; refused 5 rt4 line 1 Read; 0; +0; 0
 rt5; pipe, interrupted, blocked, late; 1 1; refused 5 rt5 line 1 Read; 0; +1; 0
 rt6; pipe, interrupted, blocked, late; 1 1; refused 5 rt6 line 1 Read; 0; +2; 0
@@ -39,9 +40,12 @@ rows; nothing; 232 461; refused 61 WriteZero; +0; 461; 3
 rows; by 1 nothing; 0 230; refused 61 WriteZero; +0; 232; +1
 rows; by 1 nothing; 231 461; refused 61 WriteZero; +0; 461; +1
 rows; pipe, nothing; 462 463; ok 2; 462; 462; 2
-rows; by 1 pipe, by 1 nothing; 462 463; ok 2; 462; 462; 462";
+rows; by 1 pipe, by 1 nothing; 462 463; ok 2; 462; 462; 462",
+};
 
-const JOINED_FAILURES: &str = "\
+const JOINED_FAILURES: Table = Table {
+    rows: 16,
+    text: "\
 rt4; pipe, interrupted, blocked, late; 1 59; refused 5 rt4 line 1 Read; 0; +0; 0
 rt4; pipe, interrupted, blocked, late; 60 118; refused 5 rt4 line 2 Read; 0; +0; 0
 rt4; pipe, interrupted, blocked, late; 119 119; refused 5 rt4 line 3 Read; 0; +0; 0
@@ -57,109 +61,166 @@ rt1; pipe, interrupted, blocked, late; 459 459; refused 5 rt1 line 3 Read; 462; 
 rt4; pipe; 120 121; ok 2; 462; 848; 2
 rt5; pipe; 116 117; ok 2; 462; 848; 2
 rt6; pipe; 156 157; ok 2; 462; 848; 2
-rt1; pipe; 460 461; ok 2; 462; 848; 2";
+rt1; pipe; 460 461; ok 2; 462; 848; 2",
+};
 
-fn file_named(name: &str) -> CountyFile {
-    match name {
-        "rt4" => CountyFile::Rt4,
-        "rt5" => CountyFile::Rt5,
-        "rt6" => CountyFile::Rt6,
-        _ => CountyFile::Rt1,
+/// A number in a row, or one that is added to the read that fails or to the bytes that are taken before.
+#[derive(Clone, Copy)]
+struct Count {
+    number: u64,
+    is_added: bool,
+}
+
+impl Count {
+    fn new(cell: &str) -> Result<Self, TableFault> {
+        let digits = cell.strip_prefix("+");
+        Ok(Count {
+            number: number(digits.unwrap_or(cell))?,
+            is_added: digits.is_some(),
+        })
+    }
+
+    /// Returns the number for a failure at this read or after this number of bytes.
+    fn at(self, place: u64) -> u64 {
+        let from = if self.is_added { place } else { 0 };
+        self.number.wrapping_add(from)
     }
 }
 
-/// Returns the number in a cell, relative to `place` if it begins with `+`.
-fn number(cell: &str, place: u64) -> u64 {
-    let from = if cell.starts_with("+") { place } else { 0 };
-    let number: u64 = cell.trim_start_matches('+').parse().unwrap_or(0);
-    number.wrapping_add(from)
+/// A row of failures.
+#[derive(Clone, Copy)]
+struct Failure<'a> {
+    /// The file whose reads fail, or `None` if writes fail.
+    file: Option<CountyFile>,
+    ways: &'a str,
+    first: u64,
+    last: u64,
+    outcome: &'a str,
+    length: Count,
+    reads: Count,
+    writes: Count,
 }
 
-/// Returns whether an extract ends as a row says if the reader fails in this way at a read, or the writer after this many bytes.
-fn is_refused(alloc: Global, case: &Case, row: &str, way: &str, place: u64) -> bool {
-    let (sound, device) = (Device::new(""), Device::new(way));
-    let name = cell(row, 0);
-    let (input, output) = match name {
-        "rows" => (sound, device.after(place as usize)),
-        _ => (device.at_call(place), sound),
-    };
-    let file = file_named(name);
-    let devices = Devices {
-        file,
-        input,
-        output,
-    };
-    let length = number(cell(row, 4), place) as usize;
-    let calls = (number(cell(row, 5), place), number(cell(row, 6), place));
-    case.calls(alloc, alloc, devices, cell(row, 3), Some(length)) == Some(calls)
-}
+impl<'a> Failure<'a> {
+    fn new(row: &'a str) -> Result<Self, TableFault> {
+        let (name, ways, places, outcome, length, reads, writes) = cells(row)?.seven()?;
+        let (first, last) = places.split_once(' ').ok_or(TableFault::Word)?;
+        Ok(Failure {
+            file: file_named(name)?,
+            ways,
+            first: number(first)?,
+            last: number(last)?,
+            outcome,
+            length: Count::new(length)?,
+            reads: Count::new(reads)?,
+            writes: Count::new(writes)?,
+        })
+    }
 
-/// Returns the first place at which a row is wrong for this way of failing, if any.
-fn wrong_place(alloc: Global, case: &Case, row: &str, way: &str) -> Option<u64> {
-    let (first, last) = cell(row, 2).split_once(' ').unwrap_or(("", ""));
-    let (first, last) = (first.parse().unwrap_or(1), last.parse().unwrap_or(0));
-    for place in first..=last {
-        if !is_refused(alloc, case, row, way, place) {
-            return Some(place);
+    /// Returns the devices of an extract in which a read or a write fails like `device`, at this read or after this number of bytes.
+    fn devices(&self, device: Device, place: u64) -> Devices {
+        match self.file {
+            Some(file) => Devices {
+                file,
+                input: device.at_call(place),
+                output: Device::sound(),
+            },
+            None => Devices {
+                output: device.after(place as usize),
+                ..Devices::sound()
+            },
         }
     }
-    (first > last).then_some(first)
-}
 
-/// Returns the first row that is wrong for some way of failing, if any.
-fn wrong_row<'a>(alloc: Global, case: &Case, failures: &'a str) -> Option<&'a str> {
-    for row in failures.lines() {
-        for way in cell(row, 1).split(", ") {
-            if wrong_place(alloc, case, row, way).is_some() {
-                return Some(row);
+    /// Returns whether an extract ends as the row says if a read or a write fails like `device`, at this read or after this number of bytes.
+    fn is_right_at(&self, alloc: Global, case: &Case<'_>, device: Device, place: u64) -> bool {
+        let devices = self.devices(device, place);
+        let length = self.length.at(place) as usize;
+        let calls = (self.reads.at(place), self.writes.at(place));
+        case.calls(alloc, alloc, devices, self.outcome, Some(length)) == Some(calls)
+    }
+
+    /// Returns whether there are places from the first to the last, and the extract ends as the row says at each of them.
+    fn is_right_if(&self, alloc: Global, case: &Case<'_>, device: Device) -> bool {
+        for place in self.first..=self.last {
+            if !self.is_right_at(alloc, case, device, place) {
+                return false;
             }
         }
+        self.first <= self.last
     }
-    None
+}
+
+/// Reads a row: a program, the files of types 1, 4, 5 and 6, the outcome, and the rows.
+fn case_of(alloc: Global, row: &str) -> Result<Case<'_>, TableFault> {
+    Case::new(alloc, cells(row)?.seven()?)
+}
+
+/// Returns the file with a name, or `None` for `rows`, which are written.
+fn file_named(name: &str) -> Result<Option<CountyFile>, TableFault> {
+    match name {
+        "rt1" => Ok(Some(CountyFile::Rt1)),
+        "rt4" => Ok(Some(CountyFile::Rt4)),
+        "rt5" => Ok(Some(CountyFile::Rt5)),
+        "rt6" => Ok(Some(CountyFile::Rt6)),
+        "rows" => Ok(None),
+        _ => Err(TableFault::Word),
+    }
+}
+
+/// Returns how a device fails: `pipe`, or `by 1 pipe` if a call moves one byte.
+fn device_of(way: &str) -> Result<Device, TableFault> {
+    let kind = way.strip_prefix("by 1 ").unwrap_or(way);
+    if kind != "nothing" {
+        error_kind(kind)?;
+    }
+    Device::new(way)
+}
+
+/// Returns whether an extract ends as a row says for each way of failing.
+fn is_right(alloc: Global, case: &Case<'_>, row: &str) -> Result<bool, TableFault> {
+    let failure = Failure::new(row)?;
+    for way in failure.ways.split(", ") {
+        if !failure.is_right_if(alloc, case, device_of(way)?) {
+            return Ok(false);
+        }
+    }
+    Ok(true)
 }
 
 #[test]
-fn each_read_and_each_write(rt: HostRuntime) -> Result<(), Fail> {
-    for (row, failures) in [(ALONE, FAILURES), (JOINED, JOINED_FAILURES)] {
-        let case = Case::new(rt.alloc(), row).ok_or("case")?;
-        assert_eq!(rt; wrong_row(rt.alloc(), &case, failures), None);
+fn each_read_and_each_write(rt: HostRuntime) {
+    for (extract, failures) in [(ALONE, FAILURES), (JOINED, JOINED_FAILURES)] {
+        let case = case_of(rt.alloc(), extract).expect(&rt, "case");
+        for row in failures.joined(rt.alloc()).expect(&rt, "failures").lines() {
+            assert_eq!(rt; is_right(rt.alloc(), &case, row), Ok(true), "{row}");
+        }
     }
-    Ok(())
 }
 
-/// Counts the allocations of an extract after refusing each one once. Returns `None` if the extract has another outcome than expected, or if a
-/// refused allocation doesn't end it.
-fn refused_growths(alloc: Global, case: &Case, outcome: &str) -> Option<u64> {
+/// Returns whether an extract allocates, has its outcome and its rows, and ends if any of its allocations is refused.
+fn is_each_refused(alloc: Global, case: &Case<'_>) -> Option<bool> {
     let heap = Refusing::new(alloc);
-    let sound = Device::new("");
-    let devices = Devices {
-        file: CountyFile::Rt1,
-        input: sound,
-        output: sound,
-    };
-    case.calls(alloc, &heap, devices, outcome, Some(case.rows.len()))?;
+    let (sound, length) = (Devices::sound(), Some(case.rows.len()));
+    case.calls(alloc, &heap, sound, case.outcome, length)?;
     let growths = heap.count();
     for nth in 1..=growths {
         heap.refuse(nth);
-        case.calls(alloc, &heap, devices, "memory", None)?;
+        case.calls(alloc, &heap, sound, "memory", None)?;
     }
-    Some(growths)
+    Some(growths > 0)
 }
 
-/// Returns whether the extract of a row allocates, and each of its allocations was refused.
-fn is_each_refused(alloc: Global, row: &str) -> bool {
-    match Case::new(alloc, row) {
-        Some(case) => refused_growths(alloc, &case, cell(row, 5)) > Some(0),
-        None => false,
-    }
+fn is_swept(alloc: Global, row: &str) -> Result<bool, TableFault> {
+    let case = case_of(alloc, row)?;
+    Ok(is_each_refused(alloc, &case) == Some(true))
 }
 
 #[test]
-fn each_growth(rt: HostRuntime) -> Result<(), Fail> {
-    for rows in [EXTRACTS, COUNTIES] {
-        for row in table(rt.alloc(), rows)?.lines() {
-            assert!(rt; is_each_refused(rt.alloc(), row), "{row}");
+fn each_growth(rt: HostRuntime) {
+    for table in [EXTRACTS, COUNTIES] {
+        for row in table.joined(rt.alloc()).expect(&rt, "extracts").lines() {
+            assert_eq!(rt; is_swept(rt.alloc(), row), Ok(true), "{row}");
         }
     }
-    Ok(())
 }

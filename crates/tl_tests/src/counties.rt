@@ -2,13 +2,16 @@
 use crate::plain;
 use crate::seen::Seen;
 use crate::sweep::growths;
-use fixtures::{Files, cell, table};
+use fixtures::{FileTexts, Files, Table, TableFault, cells, is_refusal};
+use refusals::Fault;
 use std::alloc::{Allocator, Global};
 use tl_fields::{Buffered, CountedRead};
 use tl_segments::{County, Index, LoadFault};
 
 // The files of types 1, 4, 5 and 6, and what is seen of the segments.
-const SEGMENTS: &str = r"
+const SEGMENTS: Table = Table {
+    rows: 21,
+    text: r"
 {rt1}\n;;;; 123456789
 {rt1}\n; {rt4}\n; {rt5}\n; {rt6}\n; 123456789+Oak/201
 {rt1}\n;;; {rt6}\n{rt6 RTSQ=2 FRADDL=301}\n{rt6 TLID=5 FRADDL=401}\n; 123456789/201/301
@@ -39,11 +42,13 @@ const SEGMENTS: &str = r"
   123456789+Oak/201
 {rt1}\n; {rt4\n#1..9}{rt4\n*9};
   {rt5 FEAT=1}\n{rt5 FEAT=2}\n{rt5 FEAT=3}\n{rt5 FEAT=4}\n{rt5 FEAT=5}\n{rt5}\n; {rt6\n#1..9}{rt6\n*9};
-  123456789+Oak+Oak+Oak+Oak+Oak+Oak+Oak+Oak+Oak/201/201/201/201/201/201/201/201/201
-";
+  123456789+Oak+Oak+Oak+Oak+Oak+Oak+Oak+Oak+Oak/201/201/201/201/201/201/201/201/201",
+};
 
 // The same four files, and their first fault.
-const REFUSALS: &str = r"
+const REFUSALS: Table = Table {
+    rows: 44,
+    text: r"
 {rt1}\n{rt1 ..227}\n;;;; refused 1 rt1 line 2 WrongLength
 {rt1}x\n{rt1}\n; {rt4}\n; {rt5}\n; {rt6}\n; refused 1 rt1 line 1 WrongLength
 {rt1}\n\n{rt1}\n;;;; refused 1 rt1 line 2 WrongLength
@@ -56,14 +61,14 @@ const REFUSALS: &str = r"
 {rt1}\n{rt1 TLID=_-5}\n;;;; refused 3 rt1 line 2 BadTlid
 {rt1}\n{rt1 TLID=x__5}\n;;;; refused 3 rt1 line 2 BadTlid
 {rt1}\n{rt1 TLID=5__5}\n;;;; refused 3 rt1 line 2 BadTlid
-{rt1}\n{rt1 TLID=\t5}\n;;;; refused 3 rt1 line 2 BadTlid
+{rt1}\n{rt1 TLID=\x095}\n;;;; refused 3 rt1 line 2 BadTlid
 {rt1}\n{rt1 TLID=\xc3\xa9}\n;;;; refused 3 rt1 line 2 BadTlid
 {rt1 RT=4 TLID= ..227}\n;;;; refused 1 rt1 line 1 WrongLength
 {rt1 RT=4 TLID=}\n;;;; refused 2 rt1 line 1 WrongType
 {rt1}\n; {rt4}\n{rt4 ..57}\n; {rt5}\n; {rt6}\n; refused 1 rt4 line 2 WrongLength
 {rt1}\n; {rt4}\n\n;;; refused 1 rt4 line 2 WrongLength
 {rt1}\n; {rt4}x\n;;; refused 1 rt4 line 1 WrongLength
-{rt1}\n; {rt4}{x*173}\n;;; refused 1 rt4 line 1 WrongLength
+{rt1}\n; {rt4}{text x*173}\n;;; refused 1 rt4 line 1 WrongLength
 {rt1}\n; {rt4}\n{rt4 RT=5}\n;;; refused 2 rt4 line 2 WrongType
 {rt1}\n; {rt4}\n{rt4 TLID=}\n;;; refused 3 rt4 line 2 BadTlid
 {rt1}\n; {rt4}\n{rt4 TLID=+5}\n;;; refused 3 rt4 line 2 BadTlid
@@ -87,15 +92,26 @@ const REFUSALS: &str = r"
 {rt1}\n;;; {rt6\n*1000}{rt6 RT=7}\n; refused 2 rt6 line 1001 WrongType
 {rt1}\n; {rt4\n*1001}; {rt5 FEAT=}\n; {rt6\n*1001}; refused 6 rt4 line 1001 TooManyNames
 {rt1 RT=4}\n; {rt4\n*1000}; {rt5 FEAT=}\n; {rt6\n*1001}; refused 4 rt5 line 1 BadFeature
-{rt1 RT=4}\n; {rt4\n*1000}; {rt5\n*1001}; {rt6\n*1001}; refused 7 rt6 line 1001 TooManyRanges
-";
+{rt1 RT=4}\n; {rt4\n*1000}; {rt5\n*1001}; {rt6\n*1001}; refused 7 rt6 line 1001 TooManyRanges",
+};
+
+// Four empty files.
+const NOTHING: Table = Table {
+    rows: 1,
+    text: ";;;;",
+};
 
 // A segment that nothing is joined to, which doesn't allocate by itself.
-const ALONE: &str = r"{rt1}\n;;;; 123456789";
+const ALONE: Table = Table {
+    rows: 1,
+    text: r"{rt1}\n;;;; 123456789",
+};
 
 // Files with many lines or other line ends, what is seen of them, and the ways of loading them. The last one has 55,000 segments, of which 25,000
 // have an alternate name, and 25,000 a further range.
-const OTHERS: &str = r"
+const OTHERS: Table = Table {
+    rows: 6,
+    text: r"
 {rt1}\r\n{rt1}\n{rt1}; {rt4}\r\n{rt4}; {rt5}\r\n{rt5}; {rt6}\r\n{rt6};
   123456789+Oak+Oak/201/201 123456789+Oak+Oak/201/201 123456789+Oak+Oak/201/201; county index check
 {rt1}\n; {rt4 FEAT2=7 FEAT3=7 FEAT4=7 FEAT5=7\n*1000}; {rt5}\n; {rt6\n*1000}; counts 1 5000 1001;
@@ -104,13 +120,41 @@ const OTHERS: &str = r"
   counts 1 1000 1001; county index check plain
 {rt1 TLID=6}\n; {rt4\n*1000}; {rt5}\n; {rt6\n*1000}; counts 1 0 1; county index check plain
 {rt1\n*1001}{rt1 TLID=6\n*1001}; {rt4}\n; {rt5\n*1001}; {rt6}\n; counts 2002 1001 3003; county index check plain
-{rt1\n#1..55000}; {rt4\n#1..25000}; {rt5}\n; {rt6\n#30001..55000}; counts 55000 25000 80000; county index check
-";
+{rt1\n#1..55000}; {rt4\n#1..25000}; {rt5}\n; {rt6\n#30001..55000}; counts 55000 25000 80000; county index check",
+};
+
+/// A way to load a county: whole, line by line through an index, or line by line without the joined files, which are only checked.
+#[derive(Clone, Copy)]
+pub enum Way {
+    County,
+    Index,
+    Check,
+}
+
+impl Way {
+    /// Returns the way with this name.
+    pub fn named(name: &str) -> Result<Self, TableFault> {
+        match name {
+            "county" => Ok(Way::County),
+            "index" => Ok(Way::Index),
+            "check" => Ok(Way::Check),
+            _ => Err(TableFault::Word),
+        }
+    }
+
+    /// Returns the way with this name, or `None` for `plain`, the filters that load nothing.
+    pub fn or_plain(name: &str) -> Result<Option<Self>, TableFault> {
+        match name {
+            "plain" => Ok(None),
+            _ => Ok(Some(Way::named(name)?)),
+        }
+    }
+}
 
 /// Loads a county in one of the ways, and shows its segments.
 pub fn load<A: Allocator + Copy, R: CountedRead>(
     alloc: A,
-    way: &str,
+    way: Way,
     rt1: &mut R,
     rt4: &mut R,
     rt5: &mut R,
@@ -118,12 +162,12 @@ pub fn load<A: Allocator + Copy, R: CountedRead>(
     seen: &mut Seen<'_>,
 ) -> Result<(), LoadFault> {
     match way {
-        "county" => {
+        Way::County => {
             show_county(&County::load(alloc, rt1, rt4, rt5, rt6)?, seen);
             Ok(())
         }
-        "index" => show_lines(&Index::load(alloc, rt4, rt5, rt6)?, rt1, seen),
-        _ => {
+        Way::Index => show_lines(&Index::load(alloc, rt4, rt5, rt6)?, rt1, seen),
+        Way::Check => {
             Index::check(alloc, rt4, rt5, rt6)?;
             show_lines(&Index::new(alloc), rt1, seen)
         }
@@ -160,29 +204,54 @@ fn show_lines<A: Allocator + Copy, R: CountedRead>(
     Ok(())
 }
 
-/// Loads the files of a row in one of the ways, and returns whether the expected segments are seen.
-pub fn load_row<A: Allocator + Copy>(
-    alloc: Global,
-    heap: A,
-    way: &str,
-    row: &str,
-) -> Result<bool, LoadFault> {
-    let files = Files::new(alloc, row, 0)?;
-    let mut seen = Seen::new(cell(row, 4));
-    load_files(heap, way, &files, &mut seen)?;
-    let is_checked = way == "check" && !cell(row, 4).starts_with("refused");
-    Ok(is_checked || seen.is_all())
+/// The files of a row, and what the row says about them: what is seen of the segments, or the first fault.
+#[derive(Drop)]
+pub struct Loading<'a> {
+    files: Files,
+    said: &'a str,
+    seen: Seen<'a>,
 }
 
+impl<'a> Loading<'a> {
+    /// Reads the cells of the files and of what is said about them.
+    pub fn new(alloc: Global, texts: FileTexts<'_>, said: &'a str) -> Result<Self, TableFault> {
+        let seen = Seen::new(said)?;
+        Ok(Loading {
+            files: Files::new(alloc, texts)?,
+            said,
+            seen,
+        })
+    }
+
+    /// Loads the files in one of the ways, and returns whether the row is right. What is seen isn't compared if the joined files are only checked.
+    pub fn is_right<A: Allocator + Copy>(
+        &self,
+        alloc: A,
+        way: Option<Way>,
+    ) -> Result<bool, LoadFault> {
+        let mut seen = self.seen;
+        match load_files(alloc, way, &self.files, &mut seen) {
+            Ok(()) => Ok(seen.is_all() || self.is_checked(way)),
+            Err(LoadFault::Memory) => Err(LoadFault::Memory),
+            Err(fault) => Ok(is_refusal(fault.line().as_str(), self.said)),
+        }
+    }
+
+    fn is_checked(&self, way: Option<Way>) -> bool {
+        matches!(way, Some(Way::Check)) && !self.said.starts_with("refused")
+    }
+}
+
+/// Loads a county in one of the ways, or filters its lines if there is none, and shows its segments.
 fn load_files<A: Allocator + Copy>(
     alloc: A,
-    way: &str,
+    way: Option<Way>,
     files: &Files,
     seen: &mut Seen<'_>,
 ) -> Result<(), LoadFault> {
-    if way == "plain" {
+    let Some(way) = way else {
         return Ok(plain::show_segments(alloc, files, seen)?);
-    }
+    };
     load(
         alloc,
         way,
@@ -206,24 +275,25 @@ fn faults(rt: HostRuntime) {
 
 #[test]
 fn no_memory(rt: HostRuntime) {
-    assert!(rt; growths(&rt, rt.alloc(), ";;;;", "county") == 0);
+    assert!(rt; growths(&rt, rt.alloc(), NOTHING, "county") == 0);
     assert!(rt; growths(&rt, rt.alloc(), ALONE, "index check plain") == 0);
 }
 
-/// Returns whether the segments of a row are seen in each of its ways.
-fn is_loaded(alloc: Global, row: &str) -> bool {
-    for way in cell(row, 5).split(' ') {
-        if load_row(alloc, alloc, way, row) != Ok(true) {
-            return false;
+/// Returns whether a row is right in each of its ways.
+fn is_right(alloc: Global, row: &str) -> Result<bool, TableFault> {
+    let (rt1, rt4, rt5, rt6, said, ways) = cells(row)?.six()?;
+    let loading = Loading::new(alloc, (rt1, rt4, rt5, rt6), said)?;
+    for way in ways.split(' ') {
+        if loading.is_right(alloc, Way::or_plain(way)?) != Ok(true) {
+            return Ok(false);
         }
     }
-    true
+    Ok(true)
 }
 
 #[test]
 fn other_files(rt: HostRuntime) {
-    let rows = table(rt.alloc(), OTHERS).expect(&rt, "memory");
-    for row in rows.trim().lines() {
-        assert!(rt; is_loaded(rt.alloc(), row), "{row}");
+    for row in OTHERS.joined(rt.alloc()).expect(&rt, "others").lines() {
+        assert_eq!(rt; is_right(rt.alloc(), row), Ok(true), "{row}");
     }
 }

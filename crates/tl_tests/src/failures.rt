@@ -1,15 +1,18 @@
 //! Failures of each read of a county's files.
-use crate::counties::load;
+use crate::counties::{Way, load};
 use crate::seen::Seen;
-use fixtures::{Device, Files, Readers, cell, is_refusal};
+use fixtures::{Device, Files, Readers, Table, TableFault, cells, error_kind, is_refusal, number};
 use refusals::Fault;
 use std::alloc::Global;
+use tl_fields::Burst;
 use tl_segments::{CountyFile, LoadFault};
 
 const FILES: &str = r"{rt1\n*2}; {rt4\n*2}; {rt5\n*2}; {rt6\n*2}";
 
 // A file, the first and last of its reads that fail like this, the number of earlier reads of other files, and the refusal.
-const READS: &str = "\
+const READS: Table = Table {
+    rows: 12,
+    text: "\
 rt4; 1; 59; 0; refused 5 rt4 line 1 Read
 rt4; 60; 118; 0; refused 5 rt4 line 2 Read
 rt4; 119; 119; 0; refused 5 rt4 line 3 Read
@@ -21,46 +24,106 @@ rt6; 78; 154; 234; refused 5 rt6 line 2 Read
 rt6; 155; 155; 234; refused 5 rt6 line 3 Read
 rt1; 1; 229; 389; refused 5 rt1 line 1 Read
 rt1; 230; 458; 389; refused 5 rt1 line 2 Read
-rt1; 459; 459; 389; refused 5 rt1 line 3 Read";
+rt1; 459; 459; 389; refused 5 rt1 line 3 Read",
+};
 
-// The ways of loading, and how a read fails.
-const WAYS: &str =
-    "county interrupted, county blocked, county pipe, index late, index denied, check blocked";
+// A way of loading, and how a read fails.
+const WAYS: Table = Table {
+    rows: 6,
+    text: "\
+county; interrupted
+county; blocked
+county; pipe
+index; late
+index; denied
+check; blocked",
+};
 
-fn file_named(name: &str) -> CountyFile {
+/// A row of `READS`.
+#[derive(Clone, Copy)]
+struct Reads<'a> {
+    file: CountyFile,
+    first: u64,
+    last: u64,
+    before: u64,
+    refusal: &'a str,
+}
+
+impl<'a> Reads<'a> {
+    fn new(row: &'a str) -> Result<Self, TableFault> {
+        let (file, first, last, before, refusal) = cells(row)?.five()?;
+        let (first, last) = (number(first)?, number(last)?);
+        if first == 0 || first > last {
+            return Err(TableFault::Number);
+        }
+        Ok(Reads {
+            file: file_named(file)?,
+            first,
+            last,
+            before: number(before)?,
+            refusal,
+        })
+    }
+}
+
+fn file_named(name: &str) -> Result<CountyFile, TableFault> {
     match name {
-        "rt1" => CountyFile::Rt1,
-        "rt4" => CountyFile::Rt4,
-        "rt5" => CountyFile::Rt5,
-        _ => CountyFile::Rt6,
+        "rt1" => Ok(CountyFile::Rt1),
+        "rt4" => Ok(CountyFile::Rt4),
+        "rt5" => Ok(CountyFile::Rt5),
+        "rt6" => Ok(CountyFile::Rt6),
+        _ => Err(TableFault::Word),
+    }
+}
+
+/// A row of `WAYS`.
+#[derive(Clone, Copy)]
+struct Failure {
+    way: Way,
+    device: Device,
+}
+
+impl Failure {
+    fn new(row: &str) -> Result<Self, TableFault> {
+        let (way, kind) = cells(row)?.two()?;
+        Ok(Failure {
+            way: Way::named(way)?,
+            device: Device {
+                burst: Burst::Fails(error_kind(kind)?),
+                ..Device::sound()
+            },
+        })
     }
 }
 
 /// Returns the fault of a county loaded in one of the ways through these readers.
-fn fault_of(alloc: Global, way: &str, readers: &mut Readers<'_>) -> Option<LoadFault> {
+fn fault_of(alloc: Global, way: Way, readers: &mut Readers<'_>) -> Option<LoadFault> {
     let Readers { rt1, rt4, rt5, rt6 } = readers;
-    load(alloc, way, rt1, rt4, rt5, rt6, &mut Seen::new("")).err()
+    load(alloc, way, rt1, rt4, rt5, rt6, &mut Seen::nothing()).err()
 }
 
 /// Returns whether a county's files are refused as a row says when this read of one of them fails, and nothing more is read.
-fn is_stopped(alloc: Global, files: &Files, way: &str, row: &str, read: u64) -> bool {
-    let device = Device::new(way).at_call(read);
-    let mut readers = Readers::new(files, file_named(cell(row, 0)), device);
-    let fault = fault_of(alloc, way.split(' ').next().unwrap_or(""), &mut readers);
-    let before: u64 = cell(row, 3).parse().unwrap_or(0);
-    match fault {
-        Some(fault) => is_refusal(fault.line().as_str(), cell(row, 4))
-            && readers.calls() == before.wrapping_add(read),
+fn is_stopped(
+    alloc: Global,
+    files: &Files,
+    failure: Failure,
+    reads: &Reads<'_>,
+    read: u64,
+) -> bool {
+    let mut readers = Readers::new(files, reads.file, failure.device.at_call(read));
+    match fault_of(alloc, failure.way, &mut readers) {
+        Some(fault) => {
+            is_refusal(fault.line().as_str(), reads.refusal)
+                && readers.calls() == reads.before.wrapping_add(read)
+        }
         None => false,
     }
 }
 
 /// Returns whether this holds for each of a row's reads, failing in this way.
-fn are_stopped(alloc: Global, files: &Files, way: &str, row: &str) -> bool {
-    let first: u64 = cell(row, 1).parse().unwrap_or(1);
-    let last: u64 = cell(row, 2).parse().unwrap_or(0);
-    for read in first..=last {
-        if !is_stopped(alloc, files, way, row, read) {
+fn are_stopped(alloc: Global, files: &Files, failure: Failure, reads: &Reads<'_>) -> bool {
+    for read in reads.first..=reads.last {
+        if !is_stopped(alloc, files, failure, reads, read) {
             return false;
         }
     }
@@ -68,21 +131,34 @@ fn are_stopped(alloc: Global, files: &Files, way: &str, row: &str) -> bool {
 }
 
 /// Returns whether this holds for each of the ways.
-fn are_all_stopped(alloc: Global, row: &str) -> bool {
-    let Ok(files) = Files::new(alloc, FILES, 0) else {
-        return false;
-    };
-    for way in WAYS.split(", ") {
-        if !are_stopped(alloc, &files, way, row) {
-            return false;
+fn are_all_stopped(
+    alloc: Global,
+    files: &Files,
+    ways: &str,
+    row: &str,
+) -> Result<bool, TableFault> {
+    let reads = Reads::new(row)?;
+    for way in ways.lines() {
+        if !are_stopped(alloc, files, Failure::new(way)?, &reads) {
+            return Ok(false);
         }
     }
-    true
+    Ok(true)
+}
+
+fn files(alloc: Global) -> Result<Files, TableFault> {
+    Files::new(alloc, cells(FILES)?.four()?)
 }
 
 #[test]
 fn each_read(rt: HostRuntime) {
-    for row in READS.lines() {
-        assert!(rt; are_all_stopped(rt.alloc(), row), "{row}");
+    let files = files(rt.alloc()).expect(&rt, "files");
+    let ways = WAYS.joined(rt.alloc()).expect(&rt, "ways");
+    for row in READS.joined(rt.alloc()).expect(&rt, "reads").lines() {
+        assert_eq!(rt;
+            are_all_stopped(rt.alloc(), &files, &ways, row),
+            Ok(true),
+            "{row}"
+        );
     }
 }

@@ -1,13 +1,15 @@
 //! Hits of house numbers on streets, worked out by hand.
 use crate::sweep::growths;
-use fixtures::{Files, bytes, cell, county};
+use fixtures::{Files, Table, TableFault, bytes, cells, county};
 use geocode::{Gazetteer, Hit, Query, QueryFault, hit_lines};
 use std::alloc::{AllocError, Allocator, Global};
 use tl_segments::{County, LoadFault};
 
-// The house number, the name, and the ZIP code or `-` for none; the lines of the hits, or which of these texts is invalid; and the files of types 1,
-// 4, 5 and 6 of one county, and of a second one.
-const HITS: &str = r"
+// The house number, the name, and the ZIP code or `-` for none; the lines of the hits, or which of these texts is invalid; and the lines of all files
+// of one county, or of two, separated by `/`.
+const HITS: Table = Table {
+    rows: 75,
+    text: r"
 151; main; 36067; 123456789\tL\t-86494898\t32405102\n; {rt1}\n
 150; main; 36067; 123456789\tR\t-86494898\t32405102\n; {rt1}\n
 00000000150; MAIN; 00000036067; 123456789\tR\t-86494898\t32405102\n; {rt1}\n
@@ -15,8 +17,8 @@ const HITS: &str = r"
 101; MAIN; -; 123456789\tL\t-86500000\t32400000\n; {rt1}\n
 199; MAIN; -; 123456789\tL\t-86490000\t32410000\n; {rt1}\n
 151; mai; -;; {rt1}\n
-151; main{\x20*26}; -; 123456789\tL\t-86494898\t32405102\n; {rt1}\n
-151; mainX{\x20*25}; -;; {rt1}\n
+151; main{text \x20*26}; -; 123456789\tL\t-86494898\t32405102\n; {rt1}\n
+151; mainX{text \x20*25}; -;; {rt1}\n
 151; \x20; -;; {rt1}\n
 151; \x20; -; 123456789\tL\t-86494898\t32405102\n; {rt1 FENAME=}\n
 151; cAFé; -; 123456789\tL\t-86494898\t32405102\n; {rt1 FENAME=Caf\xc3\xa9}\n
@@ -56,29 +58,29 @@ const HITS: &str = r"
   {rt1 FRADDL=00000000000 TOADDL=99999999999 FRLONG=-999999999 FRLAT=-99999999 TOLONG=+999999999 TOLAT=+99999999}\n
 1; main; -; 123456789\tL\t999999998\t99999998\n;
   {rt1 FRADDL=99999999999 TOADDL=00000000000 FRLONG=-999999999 FRLAT=-99999999 TOLONG=+999999999 TOLAT=+99999999}\n
-151; main; -; 123456789\tL\t-86494898\t32405102\n123456789\tL\t-86494898\t32405102\n; {rt1}\n;;;
-  {rt6 FRADDL=101 TOADDL=199 ZIPL=}\n
-151; main; 36067; 123456789\tL\t-86494898\t32405102\n; {rt1}\n;;; {rt6 FRADDL=101 TOADDL=199 ZIPL=}\n
-151; main; 36068; 123456789\tL\t-86494898\t32405102\n123456789\tR\t-86500000\t32400000\n; {rt1}\n;;;
-  {rt6 FRADDL=101 TOADDL=199 ZIPL=36068}\n{rt6 FRADDL= TOADDL= ZIPL= FRADDR=151 TOADDR=151 ZIPR=36068}\n
-151; main; -; 123456789\tL\t-86494898\t32405102\n; {rt1}\n;;; {rt6 TLID=5 FRADDL=101 TOADDL=199}\n
-151; OAK; -; 123456789\tL\t-86494898\t32405102\n; {rt1}\n; {rt4}\n; {rt5}\n
-151; elm; -;; {rt1}\n; {rt4}\n; {rt5}\n
-151; main; -; 123456789\tL\t-86494898\t32405102\n; {rt1}\n; {rt4}\n; {rt5 FENAME=main}\n
+151; main; -; 123456789\tL\t-86494898\t32405102\n123456789\tL\t-86494898\t32405102\n;
+  {rt1}\n{rt6 FRADDL=101 TOADDL=199 ZIPL=}\n
+151; main; 36067; 123456789\tL\t-86494898\t32405102\n; {rt1}\n{rt6 FRADDL=101 TOADDL=199 ZIPL=}\n
+151; main; 36068; 123456789\tL\t-86494898\t32405102\n123456789\tR\t-86500000\t32400000\n;
+  {rt1}\n{rt6 FRADDL=101 TOADDL=199 ZIPL=36068}\n{rt6 FRADDL= TOADDL= ZIPL= FRADDR=151 TOADDR=151 ZIPR=36068}\n
+151; main; -; 123456789\tL\t-86494898\t32405102\n; {rt1}\n{rt6 TLID=5 FRADDL=101 TOADDL=199}\n
+151; OAK; -; 123456789\tL\t-86494898\t32405102\n; {rt1}\n{rt4}\n{rt5}\n
+151; elm; -;; {rt1}\n{rt4}\n{rt5}\n
+151; main; -; 123456789\tL\t-86494898\t32405102\n; {rt1}\n{rt4}\n{rt5 FENAME=main}\n
 151; main; -; 9\tL\t-86494898\t32405102\n7\tL\t-86494898\t32405102\n5\tL\t-86494898\t32405102\n;
   {rt1 TLID=9}\n{rt1 TLID=7}\n{rt1 FENAME=Oak}\n{rt1 TLID=0000000005}\n
-151; main; -; 9\tL\t-86494898\t32405102\n7\tL\t-86494898\t32405102\n; {rt1 TLID=9}\n;;;; {rt1 TLID=7}\n
-151; main; -;;;;;; {rt1 FENAME=Elm}\n
-151; elm; -; 123456789\tL\t-86494898\t32405102\n; {rt1}\n;;;; {rt1 FENAME=Elm}\n
-151; main; -; {7\tL\t-86494898\t32405102\n*800}{5\tL\t-86494898\t32405102\n*800}; {rt1 TLID=7\n*800};;;;
-  {rt1 TLID=5\n*800}
+151; main; -; 9\tL\t-86494898\t32405102\n7\tL\t-86494898\t32405102\n; {rt1 TLID=9}\n / {rt1 TLID=7}\n
+151; main; -;; / {rt1 FENAME=Elm}\n
+151; elm; -; 123456789\tL\t-86494898\t32405102\n; {rt1}\n / {rt1 FENAME=Elm}\n
+151; main; -; {text 7\tL\t-86494898\t32405102\n*800}{text 5\tL\t-86494898\t32405102\n*800};
+  {rt1 TLID=7\n*800} / {rt1 TLID=5\n*800}
 151; ma in; -;; {rt1}\n
-151; main; -; 7\tL\t-86494898\t32405102\n; {rt1 FENAME=Ma in}\n;;;; {rt1 FENAME=Ma in}\n{rt1 TLID=7}\n{rt1 FENAME=Elm}\n
+151; main; -; 7\tL\t-86494898\t32405102\n; {rt1 FENAME=Ma_in}\n / {rt1 FENAME=Ma_in}\n{rt1 TLID=7}\n{rt1 FENAME=Elm}\n
 151; \x20; -; 7\tL\t-86494898\t32405102\n8\tL\t-86494898\t32405102\n;
-  {rt1}\n{rt1 TLID=7 FENAME=}\n{rt1 FENAME=Elm}\n;;;; {rt1 TLID=8 FENAME=}\n
-151; oak; -; 123456789\tL\t-86494898\t32405102\n7\tL\t-86494898\t32405102\n; {rt1}\n{rt1 TLID=7 FENAME=OAK}\n{rt1 TLID=8}\n;
-  {rt4}\n; {rt5}\n
-151; main; -; 123456789\tL\t-86494898\t32405102\n; {rt1}\n; {rt4}\n; {rt5 FENAME=MAIN}\n
+  {rt1}\n{rt1 TLID=7 FENAME=}\n{rt1 FENAME=Elm}\n / {rt1 TLID=8 FENAME=}\n
+151; oak; -; 123456789\tL\t-86494898\t32405102\n7\tL\t-86494898\t32405102\n;
+  {rt1}\n{rt1 TLID=7 FENAME=OAK}\n{rt1 TLID=8}\n{rt4}\n{rt5}\n
+151; main; -; 123456789\tL\t-86494898\t32405102\n; {rt1}\n{rt4}\n{rt5 FENAME=MAIN}\n
 ; main; -; number; {rt1}\n
 +151; main; -; number; {rt1}\n
 \x20151; main; -; number; {rt1}\n
@@ -92,60 +94,122 @@ const HITS: &str = r"
 151; main; 36067\x20; zip; {rt1}\n
 151; main; 000000036067; zip; {rt1}\n
 ;; x; number; {rt1}\n
-151;; x; name; {rt1}\n
-";
+151;; x; name; {rt1}\n",
+};
 
-/// Returns whether the query of a row has the answer that the row says.
-pub fn is_found<A: Allocator + Copy>(alloc: Global, heap: A, row: &str) -> Result<bool, LoadFault> {
-    let counties = counties_of(alloc, heap, row)?;
-    is_found_in(alloc, heap, &counties, row)
+/// The lines of all files of one county, or of two.
+#[derive(Drop)]
+pub struct TwoCounties {
+    alloc: Global,
+    first: Files,
+    second: Files,
 }
 
-/// Loads the two counties of a row.
-pub fn counties_of<A: Allocator + Copy>(
-    alloc: Global,
-    heap: A,
-    row: &str,
-) -> Result<Vec<County<A>>, LoadFault> {
-    let mut counties = Vec::new(alloc);
-    for first in [4, 8] {
-        let files = Files::new(alloc, row, first)?;
-        counties.push(county(heap, &files)?)?;
+impl TwoCounties {
+    /// Reads a cell that isn't empty, such as `{rt1}\n{rt6}\n / {rt1}\n`. The second county is empty if there is one, and the first if it begins with
+    /// the `/`.
+    pub fn new(alloc: Global, cell: &str) -> Result<Self, TableFault> {
+        let (first, second) = match cell.split_once('/') {
+            None if cell.is_empty() => return Err(TableFault::Word),
+            None => (cell, ""),
+            Some((_, "")) => return Err(TableFault::Word),
+            Some(counties) => counties,
+        };
+        Ok(TwoCounties {
+            alloc,
+            first: files(alloc, first.trim())?,
+            second: files(alloc, second.trim())?,
+        })
     }
-    Ok(counties)
+
+    /// Loads both counties.
+    pub fn load<A: Allocator + Copy>(&self, heap: A) -> Result<Vec<County<A>>, LoadFault> {
+        let mut counties = Vec::new(self.alloc);
+        counties.push(county(heap, &self.first)?)?;
+        counties.push(county(heap, &self.second)?)?;
+        Ok(counties)
+    }
 }
 
-fn is_found_in<A: Allocator + Copy>(
-    alloc: Global,
-    heap: A,
-    counties: &[County<A>],
-    row: &str,
-) -> Result<bool, LoadFault> {
-    let (number, name) = (bytes(alloc, cell(row, 0))?, bytes(alloc, cell(row, 1))?);
-    let zip = bytes(alloc, cell(row, 2))?;
-    let zip = (cell(row, 2) != "-").then_some(zip.as_slice());
-    let answer = cell(row, 3);
-    match Query::of(&number, &name, zip) {
-        Ok(query) => has_hits(alloc, heap, counties, query, answer),
-        Err(QueryFault::Number) => Ok(answer == "number"),
-        Err(QueryFault::Name) => Ok(answer == "name"),
-        Err(QueryFault::Zip) => Ok(answer == "zip"),
+/// Distributes lines among a county's files, by their record types.
+fn files(alloc: Global, text: &str) -> Result<Files, TableFault> {
+    let lines = bytes(alloc, text)?;
+    let mut files = Files::new(alloc, ("", "", "", ""))?;
+    for line in lines.split_inclusive(|byte| *byte == b'\n') {
+        push_line(&mut files, line)?;
+    }
+    Ok(files)
+}
+
+fn push_line(files: &mut Files, line: &[u8]) -> Result<(), TableFault> {
+    let file = match line.first() {
+        Some(b'1') => &mut files.rt1,
+        Some(b'4') => &mut files.rt4,
+        Some(b'5') => &mut files.rt5,
+        Some(b'6') => &mut files.rt6,
+        _ => return Err(TableFault::Word),
+    };
+    Ok(file.extend_from_slice(line)?)
+}
+
+/// The texts of a query, its answer, and the counties.
+#[derive(Drop)]
+pub struct Search {
+    number: Vec<u8>,
+    name: Vec<u8>,
+    zip: Option<Vec<u8>>,
+    answer: Vec<u8>,
+    counties: TwoCounties,
+}
+
+impl Search {
+    /// Reads a row.
+    pub fn new(alloc: Global, row: &str) -> Result<Self, TableFault> {
+        let (number, name, zip, answer, counties) = cells(row)?.five()?;
+        Ok(Search {
+            number: bytes(alloc, number)?,
+            name: bytes(alloc, name)?,
+            zip: if zip == "-" {
+                None
+            } else {
+                Some(bytes(alloc, zip)?)
+            },
+            answer: bytes(alloc, answer)?,
+            counties: TwoCounties::new(alloc, counties)?,
+        })
+    }
+
+    /// Returns whether the query has the answer that the row says.
+    pub fn is_right<A: Allocator + Copy>(&self, heap: A) -> Result<bool, LoadFault> {
+        let counties = self.counties.load(heap)?;
+        let zip = self.zip.as_ref().map(|zip| zip.as_slice());
+        match Query::of(&self.number, &self.name, zip) {
+            Ok(query) => has_hits(heap, &counties, query, &self.answer),
+            Err(fault) => Ok(self.answer.as_slice() == name_of(fault)),
+        }
+    }
+}
+
+/// Returns which text of a query is invalid.
+fn name_of(fault: QueryFault) -> &'static [u8] {
+    match fault {
+        QueryFault::Number => b"number",
+        QueryFault::Name => b"name",
+        QueryFault::Zip => b"zip",
     }
 }
 
 /// Returns whether the hits in counties, found by a walk and through a gazetteer, have these lines.
 fn has_hits<A: Allocator + Copy>(
-    alloc: Global,
     heap: A,
     counties: &[County<A>],
     query: Query<'_>,
-    lines: &str,
+    lines: &[u8],
 ) -> Result<bool, LoadFault> {
-    let lines = bytes(alloc, lines)?;
     let walked = query.find(heap, counties)?;
     let gazetteer = Gazetteer::of(heap, counties)?;
     let looked_up = query.find_in(heap, &gazetteer, counties)?;
-    Ok(has_lines(heap, &walked, &lines)? && has_lines(heap, &looked_up, &lines)?)
+    Ok(has_lines(heap, &walked, lines)? && has_lines(heap, &looked_up, lines)?)
 }
 
 fn has_lines<A: Allocator>(heap: A, hits: &[Hit], lines: &[u8]) -> Result<bool, AllocError> {

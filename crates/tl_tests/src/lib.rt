@@ -23,4 +23,6 @@ mod seen;
 #[cfg(test)]
 mod sweep;
 #[cfg(test)]
+mod tables;
+#[cfg(test)]
 mod writers;

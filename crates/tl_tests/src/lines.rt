@@ -1,12 +1,14 @@
 //! The lines of files, worked out by hand.
-use fixtures::{bytes, cell};
+use fixtures::{Table, TableFault, bytes, cells};
 use std::alloc::Global;
 use std::io::BufReader;
 use tl_fields::{Buffered, CountedRead, Counting};
 use tl_records::{Line, read_line};
 
 // A file, and the results of reading it, each followed by LF: a line, or a fault, after which reading continues where it stopped.
-const FILES: &str = r"
+const FILES: Table = Table {
+    rows: 19,
+    text: r"
 ;
 ab\ncd\n; ab\ncd\n
 ab\r\ncd\r\n; ab\ncd\n
@@ -19,16 +21,17 @@ a\rb\r\r\nc\r\n; a\rb\r\nc\n
 \xe9\xff\x80\x00\n; \xe9\xff\x80\x00\n
 \x0b\x0c\x85\n\x20; \x0b\x0c\x85\n\x20\n
 {rt1}\r\n{rt1}\n{rt1}; {rt1}\n{rt1}\n{rt1}\n
-{x*228}\r\n{y*229}\r\n{x*230}\n{y*230}; {x*228}\n{y*229}\n{x*230}\n{y*230}\n
-{x*229}\r; {x*229}\r\n
-{x*230}\r\nab; WrongLength\n\nab\n
-{x*231}\nab; WrongLength\n\nab\n
-{x*231}; WrongLength\n
-a\n{x*233}\nab\n; a\nWrongLength\nxx\nab\n
-{x*462}ab\n{x*231}; WrongLength\nWrongLength\nab\nWrongLength\n";
+{text x*228}\r\n{text y*229}\r\n{text x*230}\n{text y*230}; {text x*228}\n{text y*229}\n{text x*230}\n{text y*230}\n
+{text x*229}\r; {text x*229}\r\n
+{text x*230}\r\nab; WrongLength\n\nab\n
+{text x*231}\nab; WrongLength\n\nab\n
+{text x*231}; WrongLength\n
+a\n{text x*233}\nab\n; a\nWrongLength\nxx\nab\n
+{text x*462}ab\n{text x*231}; WrongLength\nWrongLength\nab\nWrongLength\n",
+};
 
 // The buffer sizes, with 0 for none: from one byte to more than a line has.
-const SIZES: &str = "0 1 3 100 230 231 232 8192";
+const SIZES: [usize; 8] = [0, 1, 3, 100, 230, 231, 232, 8192];
 
 /// Returns the name in a refusal's line that has no position.
 fn name_of(line: &str) -> &str {
@@ -70,21 +73,20 @@ fn are_lines_through(alloc: Global, file: &[u8], lines: &[u8], size: usize) -> b
 }
 
 /// Returns whether the file of a row has its lines through a buffer of each size.
-fn is_file(alloc: Global, row: &str) -> bool {
-    let (Ok(file), Ok(lines)) = (bytes(alloc, cell(row, 0)), bytes(alloc, cell(row, 1))) else {
-        return false;
-    };
-    for size in SIZES.split(' ') {
-        if !are_lines_through(alloc, &file, &lines, size.parse().unwrap_or(1)) {
-            return false;
+fn is_file(alloc: Global, row: &str) -> Result<bool, TableFault> {
+    let (file, lines) = cells(row)?.two()?;
+    let (file, lines) = (bytes(alloc, file)?, bytes(alloc, lines)?);
+    for size in SIZES {
+        if !are_lines_through(alloc, &file, &lines, size) {
+            return Ok(false);
         }
     }
-    true
+    Ok(true)
 }
 
 #[test]
 fn files(rt: HostRuntime) {
-    for row in FILES.trim().lines() {
-        assert!(rt; is_file(rt.alloc(), row), "{row}");
+    for row in FILES.joined(rt.alloc()).expect(&rt, "files").lines() {
+        assert_eq!(rt; is_file(rt.alloc(), row), Ok(true), "{row}");
     }
 }

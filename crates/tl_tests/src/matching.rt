@@ -1,69 +1,107 @@
 //! Matches of house numbers on streets, worked out by hand.
-use crate::hits::counties_of;
+use crate::hits::TwoCounties;
 use crate::sweep::growths;
-use fixtures::{bytes, cell};
+use fixtures::{Table, TableFault, bytes, cells};
 use geocode::{Gazetteer, Match, Query, Street, StreetName, has_street, hit_lines, matches};
 use std::alloc::{AllocError, Allocator, Global};
 use tl_segments::{County, LoadFault};
 
-// The house number and the street's name; the directions before and after the name with the type between them, each `-` if it may be any, and whether
-// there is such a street; for each match the county's index, the fields of the name that matched, the side's FR and TO addresses and ZIP code, and
-// the line of its hit; and the files of types 1, 4, 5 and 6 of one county, and of a second one.
-const MATCHES: &str = r"
-151; main; - - - yes; 0,,Main,,,101,199,36067,123456789\tL\t-86494898\t32405102\n; {rt1}\n
-150; MAIN; - - - yes; 0,,Main,,,100,198,36067,123456789\tR\t-86494898\t32405102\n; {rt1}\n
-1510; main; - - - yes;; {rt1}\n
-151; mai; - - - no;; {rt1}\n
-151; main; - st - yes; 0,,Main,St,,101,199,36067,123456789\tL\t-86494898\t32405102\n; {rt1 FETYPE=St}\n
-151; main; - S - no;; {rt1 FETYPE=St}\n
-151; main; - Ave - no;; {rt1 FETYPE=St}\n
-151; main; - Ave - no;; {rt1}\n
-151; main; n - - yes; 0,N,Main,,,101,199,36067,123456789\tL\t-86494898\t32405102\n; {rt1 FEDIRP=N}\n
-151; main; NE - - no;; {rt1 FEDIRP=N}\n
-151; main; - - SW yes; 0,,Main,,SW,101,199,36067,123456789\tL\t-86494898\t32405102\n; {rt1 FEDIRS=SW}\n
-151; main; - - SW no;; {rt1 FEDIRP=SW}\n
-151; oak; - - - yes; 0,,Oak,,,101,199,36067,123456789\tL\t-86494898\t32405102\n; {rt1}\n; {rt4}\n; {rt5}\n
-151; main; - Ave - yes; 0,,Main,Ave,,101,199,36067,123456789\tL\t-86494898\t32405102\n;
-  {rt1 FETYPE=St}\n; {rt4}\n; {rt5 FENAME=Main FETYPE=Ave}\n
-151; main; - - - yes; 0,,Main,St,,101,199,36067,123456789\tL\t-86494898\t32405102\n;
-  {rt1 FETYPE=St}\n; {rt4}\n; {rt5 FENAME=Main FETYPE=Ave}\n
-151; main; E - - yes; 1,E,Main,,,101,199,36067,7\tL\t-86494898\t32405102\n; {rt1}\n;;;; {rt1 TLID=7 FEDIRP=E}\n
-";
+// The house number and the street's name; the direction before the name, the type, and the direction after the name, each `-` if it may be any;
+// whether there is such a street; for each match the county's index, the fields of the name that matched, the side's FR and TO addresses and ZIP
+// code, and the line of its hit; and the lines of all files of one county, or of two, separated by `/`.
+const MATCHES: Table = Table {
+    rows: 16,
+    text: r"
+151; main; -; -; -; yes; 0,,Main,,,101,199,36067,123456789\tL\t-86494898\t32405102\n; {rt1}\n
+150; MAIN; -; -; -; yes; 0,,Main,,,100,198,36067,123456789\tR\t-86494898\t32405102\n; {rt1}\n
+1510; main; -; -; -; yes;; {rt1}\n
+151; mai; -; -; -; no;; {rt1}\n
+151; main; -; st; -; yes; 0,,Main,St,,101,199,36067,123456789\tL\t-86494898\t32405102\n; {rt1 FETYPE=St}\n
+151; main; -; S; -; no;; {rt1 FETYPE=St}\n
+151; main; -; Ave; -; no;; {rt1 FETYPE=St}\n
+151; main; -; Ave; -; no;; {rt1}\n
+151; main; n; -; -; yes; 0,N,Main,,,101,199,36067,123456789\tL\t-86494898\t32405102\n; {rt1 FEDIRP=N}\n
+151; main; NE; -; -; no;; {rt1 FEDIRP=N}\n
+151; main; -; -; SW; yes; 0,,Main,,SW,101,199,36067,123456789\tL\t-86494898\t32405102\n; {rt1 FEDIRS=SW}\n
+151; main; -; -; SW; no;; {rt1 FEDIRP=SW}\n
+151; oak; -; -; -; yes; 0,,Oak,,,101,199,36067,123456789\tL\t-86494898\t32405102\n; {rt1}\n{rt4}\n{rt5}\n
+151; main; -; Ave; -; yes; 0,,Main,Ave,,101,199,36067,123456789\tL\t-86494898\t32405102\n;
+  {rt1 FETYPE=St}\n{rt4}\n{rt5 FENAME=Main FETYPE=Ave}\n
+151; main; -; -; -; yes; 0,,Main,St,,101,199,36067,123456789\tL\t-86494898\t32405102\n;
+  {rt1 FETYPE=St}\n{rt4}\n{rt5 FENAME=Main FETYPE=Ave}\n
+151; main; E; -; -; yes; 1,E,Main,,,101,199,36067,7\tL\t-86494898\t32405102\n; {rt1}\n / {rt1 TLID=7 FEDIRP=E}\n",
+};
 
-/// Returns whether the matches of a row, found by a walk and through a gazetteer, are what the row says.
-pub fn is_matched<A: Allocator + Copy>(
-    alloc: Global,
-    heap: A,
-    row: &str,
-) -> Result<bool, LoadFault> {
-    let counties = counties_of(alloc, heap, row)?;
-    let (number, name) = (bytes(alloc, cell(row, 0))?, bytes(alloc, cell(row, 1))?);
-    let Ok(query) = Query::of(&number, &name, None) else {
-        return Ok(false);
-    };
-    let street = street(query.name, cell(row, 2));
-    let is_there = cell(row, 2).ends_with("yes");
-    let lines = bytes(alloc, cell(row, 3))?;
-    has_matches(heap, &counties, query.number, street, is_there, &lines)
+/// The texts of a query, what else is asked of the street, the answers, and the counties.
+#[derive(Drop)]
+pub struct StreetSearch<'a> {
+    number: Vec<u8>,
+    name: Vec<u8>,
+    predir: &'a [u8],
+    kind: &'a [u8],
+    sufdir: &'a [u8],
+    is_there: bool,
+    lines: Vec<u8>,
+    counties: TwoCounties,
 }
 
-fn street<'a>(name: StreetName<'a>, words: &'a str) -> Street<'a> {
-    let mut words = words.split(' ');
-    let predir = affix(words.next());
-    let kind = affix(words.next());
-    let sufdir = affix(words.next());
-    Street {
-        name,
-        predir,
-        kind,
-        sufdir,
+impl<'a> StreetSearch<'a> {
+    /// Reads a row.
+    pub fn new(alloc: Global, row: &'a str) -> Result<Self, TableFault> {
+        let (number, name, predir, kind, sufdir, is_there, lines, counties) = cells(row)?.eight()?;
+        Ok(StreetSearch {
+            predir: affix(predir)?,
+            kind: affix(kind)?,
+            sufdir: affix(sufdir)?,
+            is_there: truth(is_there)?,
+            number: bytes(alloc, number)?,
+            name: bytes(alloc, name)?,
+            lines: bytes(alloc, lines)?,
+            counties: TwoCounties::new(alloc, counties)?,
+        })
+    }
+
+    /// Returns whether the matches, found by a walk and through a gazetteer, are what the row says.
+    pub fn is_right<A: Allocator + Copy>(&self, heap: A) -> Result<bool, LoadFault> {
+        let counties = self.counties.load(heap)?;
+        let Ok(query) = Query::of(&self.number, &self.name, None) else {
+            return Ok(false);
+        };
+        let street = self.street(query.name);
+        has_matches(
+            heap,
+            &counties,
+            query.number,
+            street,
+            self.is_there,
+            &self.lines,
+        )
+    }
+
+    fn street<'b>(&'b self, name: StreetName<'b>) -> Street<'b> {
+        Street {
+            name,
+            predir: self.predir,
+            kind: self.kind,
+            sufdir: self.sufdir,
+        }
     }
 }
 
-fn affix(word: Option<&str>) -> &[u8] {
-    match word {
-        Some("-") | None => &[],
-        Some(word) => word.as_bytes(),
+/// Returns a direction or a type, or nothing for `-`.
+fn affix(cell: &str) -> Result<&[u8], TableFault> {
+    match cell {
+        "" => Err(TableFault::Word),
+        "-" => Ok(&[]),
+        _ => Ok(cell.as_bytes()),
+    }
+}
+
+fn truth(cell: &str) -> Result<bool, TableFault> {
+    match cell {
+        "yes" => Ok(true),
+        "no" => Ok(false),
+        _ => Err(TableFault::Word),
     }
 }
 

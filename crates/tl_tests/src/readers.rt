@@ -1,6 +1,6 @@
 //! How often a reader is called, with and without a buffer: not after the end that it reported, and not again after a failure.
 use arrayvec::ArrayVec;
-use fixtures::{Device, cell, reader};
+use fixtures::{Device, Table, TableFault, cells, number, reader, size};
 use std::alloc::Global;
 use std::io::{BufReader, Read};
 use tl_fields::{Buffered, CountedRead, Counting, Stop};
@@ -9,11 +9,13 @@ use tl_records::{Line, read_line, read_line_into};
 // Two lines, the last one without a terminator, and the number of bytes read for each, and at the end.
 const FILE: &[u8] = b"ab\ncde";
 
-const LENGTHS: &str = "2 3 0";
+const LENGTHS: [usize; 3] = [2, 3, 0];
 
 // How a line is read; the size of the buffer, 0 for none; how the reader fails; and how many lines are read if its first read fails, its second, and
 // so on up to the first that isn't made. In that last case both lines are read, and the end.
-const READS: &str = "\
+const READS: Table = Table {
+    rows: 25,
+    text: "\
 content; 0; interrupted; 0 0 0 1 1 1 1 2 3
 content; 1; blocked; 0 0 0 1 1 1 1 2 3
 content; 2; late; 0 0 1 1 2 3
@@ -38,36 +40,70 @@ counted; 2; by 1 memory; 0 0 0 1 1 1 1 2 3
 read; 0; interrupted; 0 0 0 1 1 1 1 2 3
 read; 2; blocked; 0 0 1 1 2 3
 read; 6; pipe; 0 1 2 3
-read; 300; by 2 interrupted; 0 0 1 1 2 3";
+read; 300; by 2 interrupted; 0 0 1 1 2 3",
+};
+
+/// A way to read a line: three calls that read it whole, and two that read it byte by byte.
+#[derive(Clone, Copy)]
+enum Way {
+    Content,
+    Line,
+    LineInto,
+    Counted,
+    Read,
+}
+
+impl Way {
+    fn named(name: &str) -> Result<Self, TableFault> {
+        match name {
+            "content" => Ok(Way::Content),
+            "line" => Ok(Way::Line),
+            "line into" => Ok(Way::LineInto),
+            "counted" => Ok(Way::Counted),
+            "read" => Ok(Way::Read),
+            _ => Err(TableFault::Word),
+        }
+    }
+}
+
+/// The first three cells of a row.
+#[derive(Clone, Copy)]
+struct Reading {
+    way: Way,
+    size: usize,
+    device: Device,
+}
 
 /// Returns the length of the next line, read in one of the ways, or `None` if a read fails.
-fn length_read<R: CountedRead>(reader: &mut R, way: &str) -> Option<usize> {
+fn length_read<R: CountedRead>(reader: &mut R, way: Way) -> Option<usize> {
     let mut content = ArrayVec::new();
     match way {
-        "content" => {
+        Way::Content => {
             let stop = reader.read_content(&mut content);
             (stop != Stop::ReadFailed).then_some(content.len())
         }
-        "line" => {
+        Way::Line => {
             let mut line = Line::new();
             read_line(reader, &mut line).ok()?;
             Some(line.bytes().len())
         }
-        "line into" => {
+        Way::LineInto => {
             read_line_into(reader, &mut 0, &mut content).ok()?;
             Some(content.len())
         }
-        _ => byte_count(reader, way),
+        Way::Counted => byte_count(reader, true),
+        Way::Read => byte_count(reader, false),
     }
 }
 
 /// Returns the same for bytes read one by one, up to a line feed or the end.
-fn byte_count<R: CountedRead>(reader: &mut R, way: &str) -> Option<usize> {
+fn byte_count<R: CountedRead>(reader: &mut R, is_counted: bool) -> Option<usize> {
     for count in 0..=FILE.len() {
         let mut byte = [0];
-        let read = match way {
-            "counted" => reader.read_counted(&mut byte),
-            _ => reader.read(&mut byte),
+        let read = if is_counted {
+            reader.read_counted(&mut byte)
+        } else {
+            reader.read(&mut byte)
         };
         if read.ok()? == 0 || byte == *b"\n" {
             return Some(count);
@@ -77,10 +113,10 @@ fn byte_count<R: CountedRead>(reader: &mut R, way: &str) -> Option<usize> {
 }
 
 /// Counts the lines that are read in one of the ways, and the end as one more.
-fn lines_read<R: CountedRead>(reader: &mut R, way: &str) -> u64 {
+fn lines_read<R: CountedRead>(reader: &mut R, way: Way) -> u64 {
     let mut count = 0;
-    for length in LENGTHS.split(' ') {
-        if length_read(reader, way) != length.parse().ok() {
+    for length in LENGTHS {
+        if length_read(reader, way) != Some(length) {
             return count;
         }
         count = count.wrapping_add(1);
@@ -89,7 +125,7 @@ fn lines_read<R: CountedRead>(reader: &mut R, way: &str) -> u64 {
 }
 
 /// Counts the same through a buffer of this size, or without one if it is 0.
-fn lines_through<R: Read>(alloc: Global, size: usize, device: &mut R, way: &str) -> Option<u64> {
+fn lines_through<R: Read>(alloc: Global, size: usize, device: &mut R, way: Way) -> Option<u64> {
     if size == 0 {
         return Some(lines_read(&mut Counting::new(device), way));
     }
@@ -97,31 +133,44 @@ fn lines_through<R: Read>(alloc: Global, size: usize, device: &mut R, way: &str)
     Some(lines_read(&mut Buffered::new(buffer), way))
 }
 
-/// Returns whether this many lines are read if this call of a row's reader fails, and whether it is then the last call.
-fn is_read(alloc: Global, row: &str, failing: u64, lines: u64) -> bool {
-    let size = cell(row, 1).parse().unwrap_or(0);
-    let mut device = reader(FILE, Device::new(cell(row, 2)).at_call(failing));
-    let read = lines_through(alloc, size, &mut device, cell(row, 0));
+/// Returns whether this many lines are read if this call of the reader fails, and whether it is then the last call.
+fn is_read(alloc: Global, reading: Reading, failing: u64, lines: u64) -> bool {
+    let mut device = reader(FILE, reading.device.at_call(failing));
+    let read = lines_through(alloc, reading.size, &mut device, reading.way);
     let unmade = u64::from(lines == 3);
     let calls = device.get_ref().calls.wrapping_add(unmade);
     read == Some(lines) && calls == failing && device.failed_reads().wrapping_add(unmade) == 1
 }
 
 /// Returns whether a row's lines are read as expected for each failing call.
-fn are_read(alloc: Global, row: &str) -> bool {
+fn are_read(alloc: Global, row: &str) -> Result<bool, TableFault> {
+    let (way, buffer, device, counts) = cells(row)?.four()?;
+    let reading = Reading {
+        way: Way::named(way)?,
+        size: size(buffer)?,
+        device: Device::new(device)?,
+    };
+    if !counts.ends_with(" 3") {
+        return Err(TableFault::Cells);
+    }
+    are_lines_read(alloc, reading, counts)
+}
+
+/// Returns whether this many lines are read if the first call fails, the second, and so on.
+fn are_lines_read(alloc: Global, reading: Reading, counts: &str) -> Result<bool, TableFault> {
     let mut failing: u64 = 0;
-    for lines in cell(row, 3).split(' ') {
+    for lines in counts.split(' ') {
         failing = failing.wrapping_add(1);
-        if !is_read(alloc, row, failing, lines.parse().unwrap_or(9)) {
-            return false;
+        if !is_read(alloc, reading, failing, number(lines)?) {
+            return Ok(false);
         }
     }
-    true
+    Ok(true)
 }
 
 #[test]
 fn each_read(rt: HostRuntime) {
-    for row in READS.lines() {
-        assert!(rt; are_read(rt.alloc(), row), "{row}");
+    for row in READS.joined(rt.alloc()).expect(&rt, "reads").lines() {
+        assert_eq!(rt; are_read(rt.alloc(), row), Ok(true), "{row}");
     }
 }

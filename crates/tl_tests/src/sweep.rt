@@ -1,33 +1,56 @@
 //! Refusing each allocation of a call, one at a time.
-use crate::counties::load_row;
-use crate::hits::is_found;
-use crate::matching::is_matched;
-use fixtures::{Refusing, cell, is_refusal, table};
-use refusals::Fault;
+use crate::counties::{Loading, Way};
+use crate::hits::Search;
+use crate::matching::StreetSearch;
+use fixtures::{Refusing, Table, TableFault, cells};
 use std::alloc::Global;
 use std::process::Abort;
 use tl_segments::LoadFault;
 
-/// Returns whether a call's answer is what a row says, or out of memory exactly if an allocation was refused.
-fn is_answered(alloc: Global, heap: &Refusing<Global>, call: &str, row: &str) -> bool {
-    let answer = match call {
-        "hits" => is_found(alloc, heap, row),
-        "matches" => is_matched(alloc, heap, row),
-        way => load_row(alloc, heap, way, row),
-    };
-    match answer {
-        Ok(is_right) => is_right && !heap.was_refused(),
-        Err(LoadFault::Memory) => heap.was_refused(),
-        Err(fault) => !heap.was_refused() && is_refusal(fault.line().as_str(), cell(row, 4)),
+/// A call, with the arguments and the answer of a row.
+#[derive(Drop)]
+enum Call<'a> {
+    Hits(Search),
+    Matches(StreetSearch<'a>),
+    Load(Option<Way>, Loading<'a>),
+}
+
+impl<'a> Call<'a> {
+    /// Reads a row for the call with this name.
+    fn new(alloc: Global, name: &str, row: &'a str) -> Result<Self, TableFault> {
+        match name {
+            "hits" => Ok(Call::Hits(Search::new(alloc, row)?)),
+            "matches" => Ok(Call::Matches(StreetSearch::new(alloc, row)?)),
+            way => {
+                let way = Way::or_plain(way)?;
+                let (rt1, rt4, rt5, rt6, said) = cells(row)?.five()?;
+                let loading = Loading::new(alloc, (rt1, rt4, rt5, rt6), said)?;
+                Ok(Call::Load(way, loading))
+            }
+        }
+    }
+
+    /// Returns whether the call's answer is what the row says, or out of memory exactly if an allocation was refused.
+    fn is_answered(&self, heap: &Refusing<Global>) -> bool {
+        let answer = match self {
+            Call::Hits(search) => search.is_right(heap),
+            Call::Matches(search) => search.is_right(heap),
+            Call::Load(way, loading) => loading.is_right(heap, *way),
+        };
+        match answer {
+            Ok(is_right) => is_right && !heap.was_refused(),
+            Err(LoadFault::Memory) => heap.was_refused(),
+            Err(_) => false,
+        }
     }
 }
 
 /// Counts the allocations of a call, refusing one at a time until none is left to refuse. Returns `None` if an answer is wrong.
-fn refusals(alloc: Global, call: &str, row: &str) -> Option<u64> {
+fn refusals(alloc: Global, call: &Call<'_>) -> Option<u64> {
     let heap = Refusing::new(alloc);
     for nth in 1..=u64::MAX {
         heap.refuse(nth);
-        if !is_answered(alloc, &heap, call, row) {
+        if !call.is_answered(&heap) {
             return None;
         }
         if !heap.was_refused() {
@@ -38,12 +61,13 @@ fn refusals(alloc: Global, call: &str, row: &str) -> Option<u64> {
 }
 
 /// Counts the allocations that are refused, for each of these calls and each row of a table.
-pub fn growths(rt: &impl Abort, alloc: Global, rows: &str, calls: &str) -> u64 {
-    let rows = table(alloc, rows).expect(rt, "memory");
+pub fn growths(rt: &impl Abort, alloc: Global, table: Table, calls: &str) -> u64 {
+    let rows = table.joined(alloc).expect(rt, "rows");
     let mut count: u64 = 0;
-    for row in rows.trim().lines() {
-        for call in calls.split(' ') {
-            let refused = refusals(alloc, call, row).expect(rt, row);
+    for row in rows.lines() {
+        for name in calls.split(' ') {
+            let call = Call::new(alloc, name, row).expect(rt, row);
+            let refused = refusals(alloc, &call).expect(rt, row);
             count = count.wrapping_add(refused);
         }
     }

@@ -1,37 +1,43 @@
 //! Invalid heads, and the replies to methods and targets.
+use fixtures::Table;
 
 // Each table begins with a job, and its rows assign no id, as the next job shows.
 //
 // Long heads, and bytes before a head.
-pub const LIMITS: &str = r"{rt1}\n
+pub const LIMITS: Table = Table {
+    rows: 26,
+    text: r"{rt1}\n
 jobs => 1
 turn => 1 1
-{\r\n*4096} => 400
-{\n*9000} => 400
-{\n*8147}POST /verify HTTP/1.1 >> {every} => 200 text accepted\n
-{\n*8148}POST /verify HTTP/1.1 >> {every} => 400
-{\r\n*4073}\nPOST /verify HTTP/1.1 >> {every} => 200 text accepted\n
-{\r\n*4074}POST /verify HTTP/1.1 >> {every} => 400
-POST /verify HTTP/1.1\r\nX: {a*8142}\r\nContent-Length: 16\r\n\r\n{every} => 200 text accepted\n
-POST /verify HTTP/1.1\r\nX: {a*8143}\r\nContent-Length: 16\r\n\r\n{every} => 400
-POST /verify HTTP/1.1\r\nContent-Length: 16\r\nX: {a*8142}\r\n\r\n{every} => 200 text accepted\n
-POST /verify HTTP/1.1\r\nContent-Length: 16\r\nX: {a*8143}\r\n\r\n{every} => 400
-POST /verify HTTP/1.1\r\nContent-Length: 16\r\nX: {a*9000} => 400
-GET /{a*8174}{end} => 404
-GET /{a*8175}{end} => 400
-GET /{a*9000}{end} => 400
-{A*9000} => 400
-{A*8172} /verify{end} => 400
-{A*8171} /verify{end} => 405 POST
-GET /jobs/1 HTTP/1.1\r\n{A:\r\n*1000}\r\n => 400
-{A*1000} /verify{end} => 405 POST
-POST /verify?{x*8000} HTTP/1.1 >> {every} => 200 text accepted\n
-GET /jobs/1 HTTP/1.1\r\n\r\n{\xff*20000} => 200 octets 1 1\n0\t{rt1}\n
+{text \r\n*4096} => 400
+{text \n*9000} => 400
+{text \n*8147}POST /verify HTTP/1.1 >> {every} => 200 text accepted\n
+{text \n*8148}POST /verify HTTP/1.1 >> {every} => 400
+{text \r\n*4073}\nPOST /verify HTTP/1.1 >> {every} => 200 text accepted\n
+{text \r\n*4074}POST /verify HTTP/1.1 >> {every} => 400
+POST /verify HTTP/1.1\r\nX: {text a*8142}\r\nContent-Length: 16\r\n\r\n{every} => 200 text accepted\n
+POST /verify HTTP/1.1\r\nX: {text a*8143}\r\nContent-Length: 16\r\n\r\n{every} => 400
+POST /verify HTTP/1.1\r\nContent-Length: 16\r\nX: {text a*8142}\r\n\r\n{every} => 200 text accepted\n
+POST /verify HTTP/1.1\r\nContent-Length: 16\r\nX: {text a*8143}\r\n\r\n{every} => 400
+POST /verify HTTP/1.1\r\nContent-Length: 16\r\nX: {text a*9000} => 400
+GET /{text a*8174}{end} => 404
+GET /{text a*8175}{end} => 400
+GET /{text a*9000}{end} => 400
+{text A*9000} => 400
+{text A*8172} /verify{end} => 400
+{text A*8171} /verify{end} => 405 POST
+GET /jobs/1 HTTP/1.1\r\n{text A:\r\n*1000}\r\n => 400
+{text A*1000} /verify{end} => 405 POST
+POST /verify?{text x*8000} HTTP/1.1 >> {every} => 200 text accepted\n
+GET /jobs/1 HTTP/1.1\r\n\r\n{text \xff*20000} => 200 octets 1 1\n0\t{rt1}\n
 turn => none
-job => 2";
+job => 2",
+};
 
 // Bytes before a head; its lines; methods; targets; versions; and headers.
-pub const HEADS: &str = r"{rt1}\n
+pub const HEADS: Table = Table {
+    rows: 193,
+    text: r"{rt1}\n
 jobs => 1
 turn => 1 1
 \r => 400
@@ -45,13 +51,13 @@ x => 400
 \n\n\r\n\nPOST /verify HTTP/1.1 >> {every} => 200 text accepted\n
 \rPOST /verify HTTP/1.1 >> {every} => 400
 \n POST /verify HTTP/1.1 >> {every} => 400
-POST /verify HTTP/1.1\r\n{A: b\r\n*63}Content-Length: 16\r\n\r\n{every} => 200 text accepted\n
-POST /verify HTTP/1.1\r\nContent-Length: 16\r\n{A: b\r\n*63}\r\n{every} => 200 text accepted\n
-POST /verify HTTP/1.1\r\n{A: b\r\n*64}Content-Length: 16\r\n\r\n{every} => 400
-POST /verify HTTP/1.1\r\nContent-Length: 16\r\n{A: b\r\n*64}\r\n{every} => 400
-GET /jobs/1 HTTP/1.1\r\n{A:\r\n*64}\r\n => 200 octets 1 1\n0\t{rt1}\n
-GET /jobs/1 HTTP/1.1\r\n{A:\r\n*65}\r\n => 400
-GET /nothing HTTP/1.1\r\n{A:\r\n*65}\r\n => 400
+POST /verify HTTP/1.1\r\n{text A: b\r\n*63}Content-Length: 16\r\n\r\n{every} => 200 text accepted\n
+POST /verify HTTP/1.1\r\nContent-Length: 16\r\n{text A: b\r\n*63}\r\n{every} => 200 text accepted\n
+POST /verify HTTP/1.1\r\n{text A: b\r\n*64}Content-Length: 16\r\n\r\n{every} => 400
+POST /verify HTTP/1.1\r\nContent-Length: 16\r\n{text A: b\r\n*64}\r\n{every} => 400
+GET /jobs/1 HTTP/1.1\r\n{text A:\r\n*64}\r\n => 200 octets 1 1\n0\t{rt1}\n
+GET /jobs/1 HTTP/1.1\r\n{text A:\r\n*65}\r\n => 400
+GET /nothing HTTP/1.1\r\n{text A:\r\n*65}\r\n => 400
 POST /verify HTTP/1.1\nContent-Length: 16\n\n{every} => 200 text accepted\n
 POST /verify HTTP/1.1\nContent-Length: 16\r\n\n{every} => 200 text accepted\n
 POST /verify HTTP/1.1\r\nContent-Length: 16\n\r\n{every} => 200 text accepted\n
@@ -75,7 +81,7 @@ DELETE /jobs{end} => 405 POST
 POST /jobs/1 HTTP/1.1 >> {every} => 405 GET, DELETE
 HEAD /jobs/1{end} => 405 GET, DELETE
 PATCH /jobs/none{end} => 405 GET, DELETE
-PUT /jobs/{0*30}{end} => 405 GET, DELETE
+PUT /jobs/{text 0*30}{end} => 405 GET, DELETE
 DELETE /geocode?number=151&name=main{end} => 405 GET
 OPTIONS /verify{end} => 405 POST
 CONNECT /verify{end} => 405 POST
@@ -226,4 +232,5 @@ POST /verify HTTP/1.1\r\nExpect: x\r\nContent-Type: image/png\r\nContent-Encodin
   8\r\n\r\n{stuck} => 422 refused 40 place 0 ReadsNothing(0)
 GET /jobs/1 HTTP/1.1\r\n\r\nGET /jobs/2 HTTP/1.1\r\n\r\n => 200 octets 1 1\n0\t{rt1}\n
 turn => none
-job => 2";
+job => 2",
+};

@@ -1,10 +1,13 @@
 //! The lengths of bodies, and the order in which faults are reported.
+use fixtures::Table;
 
 // Each table begins with a job, and its rows assign no id, as the next job shows.
 //
 // Lengths that are numbers, then other values; two lengths; the names of headers; transfer codings; bodies; other methods; and requests with more
 // than one fault.
-pub const LENGTHS: &str = r"{rt1}\n
+pub const LENGTHS: Table = Table {
+    rows: 113,
+    text: r"{rt1}\n
 jobs => 1
 turn => 1 1
 POST /verify HTTP/1.1\r\nContent-Length: 16\r\n\r\n{every}
@@ -21,7 +24,7 @@ POST /verify HTTP/1.1\r\nContent-Length: 4294967312\r\n\r\n{every} => 413
 POST /verify HTTP/1.1\r\nContent-Length: 18446744073709551616\r\n\r\n{every} => 413
 POST /verify HTTP/1.1\r\nContent-Length: 18446744073709551632\r\n\r\n{every} => 413
 POST /verify HTTP/1.1\r\nContent-Length: 340282366920938463463374607431768211472\r\n\r\n{every} => 413
-POST /verify HTTP/1.1\r\nContent-Length: {9*30}\r\n\r\n{every} => 413
+POST /verify HTTP/1.1\r\nContent-Length: {text 9*30}\r\n\r\n{every} => 413
 POST /verify HTTP/1.1\r\nContent-Length:\r\n\r\n{every} => 400
 POST /verify HTTP/1.1\r\nContent-Length: \t \r\n\r\n{every} => 400
 POST /verify HTTP/1.1\r\nContent-Length: +16\r\n\r\n{every} => 400
@@ -44,7 +47,7 @@ POST /verify HTTP/1.1\r\nContent-Length: 16:\r\n\r\n{every} => 400
 POST /verify HTTP/1.1\r\nContent-Length: \xb9\r\n\r\n{every} => 400
 POST /verify HTTP/1.1\r\nContent-Length: \xd9\xa1\r\n\r\n{every} => 400
 POST /verify HTTP/1.1\r\nContent-Length: 99999999999999999999x\r\n\r\n{every} => 400
-POST /verify HTTP/1.1\r\nContent-Length: {9*30} 1\r\n\r\n{every} => 400
+POST /verify HTTP/1.1\r\nContent-Length: {text 9*30} 1\r\n\r\n{every} => 400
 POST /verify HTTP/1.1\r\n\r\n{every} => 411
 POST /verify HTTP/1.1\r\nHost: x\r\n\r\n => =411 Length Required; text/plain; 16; length required\n
 POST /verify HTTP/1.0\r\n\r\n{every} => 411
@@ -57,7 +60,7 @@ POST /verify HTTP/1.1\r\nContent-Length: 16\r\nContent-Length: 8\r\n\r\n{every} 
 POST /verify HTTP/1.1\r\nContent-Length: 16\r\nHost: x\r\nCONTENT-LENGTH: 16\r\n\r\n{every} => 400
 POST /verify HTTP/1.1\r\nContent-Length: 16\r\ncontent-length:\r\n\r\n{every} => 400
 POST /verify HTTP/1.1\r\nContent-Length:\r\nContent-Length: 16\r\n\r\n{every} => 400
-POST /verify HTTP/1.1\r\n{Content-Length: 16\r\n*64}\r\n{every} => 400
+POST /verify HTTP/1.1\r\n{text Content-Length: 16\r\n*64}\r\n{every} => 400
 POST /verify HTTP/1.1\r\ncontent-length: 16\r\n\r\n{every} => 200 text accepted\n
 POST /verify HTTP/1.1\r\nCONTENT-LENGTH: 16\r\n\r\n{every} => 200 text accepted\n
 POST /verify HTTP/1.1\r\ncOnTeNt-LeNgTh: 16\r\n\r\n{every} => 200 text accepted\n
@@ -79,7 +82,7 @@ POST /verify HTTP/1.1\r\ntransfer-encoding: gzip, chunked\r\nContent-Length: 16\
 POST /verify HTTP/1.1\r\nTRANSFER-ENCODING: x\r\nContent-Length: 16\r\n\r\n{every} => 411
 POST /verify HTTP/1.1\r\ntRaNsFeR-eNcOdInG: \xff\r\nContent-Length: 16\r\n\r\n{every} => 411
 POST /verify HTTP/1.0\r\nTransfer-Encoding: chunked\r\nContent-Length: 16\r\n\r\n{every} => 411
-POST /verify HTTP/1.1\r\n{Transfer-Encoding: chunked\r\n*2}Content-Length: 16\r\n\r\n{every} => 411
+POST /verify HTTP/1.1\r\n{text Transfer-Encoding: chunked\r\n*2}Content-Length: 16\r\n\r\n{every} => 411
 POST /verify HTTP/1.1\r\nTransfer-Encodin: chunked\r\nContent-Length: 16\r\n\r\n{every} => 200 text accepted\n
 POST /verify HTTP/1.1\r\nX-Transfer-Encoding: chunked\r\nContent-Length: 16\r\n\r\n{every} => 200 text accepted\n
 POST /verify HTTP/1.1\r\nTE: chunked\r\nTrailer: x\r\nContent-Length: 16\r\n\r\n{every} => 200 text accepted\n
@@ -96,7 +99,7 @@ POST /assemble HTTP/1.1\r\nContent-Length: 4\r\n\r\nexit 1 => 200 octets {stuck}
 GET /jobs/1 HTTP/1.1\r\nContent-Length: 5\r\n\r\n => 200 octets 1 1\n0\t{rt1}\n
 GET /jobs/1 HTTP/1.1\r\nContent-Length: x\r\nContent-Length:\r\nTransfer-Encoding: chunked\r\n\r\n
   => 200 octets 1 1\n0\t{rt1}\n
-GET /jobs/1 HTTP/1.1\r\nContent-Length: {9*30}\r\n\r\n => 200 octets 1 1\n0\t{rt1}\n
+GET /jobs/1 HTTP/1.1\r\nContent-Length: {text 9*30}\r\n\r\n => 200 octets 1 1\n0\t{rt1}\n
 GET /geocode?number=151&name=main HTTP/1.1\r\nTransfer-Encoding:\r\nContent-Length: -1\r\n\r\n
   => 200 text 123456789\tL\t-86494898\t32405102\n
 GET /geocode HTTP/1.1\r\nContent-Length: 1048577\r\n\r\n => 400
@@ -121,14 +124,18 @@ POST /jobs HTTP/1.1\r\nContent-Length: 1048577\r\n\r\n{every} => 413
 POST /jobs HTTP/1.1\r\nContent-Length: 9\r\n\r\n{stuck} => 400
 POST /assemble HTTP/1.1\r\nContent-Length: 2\r\n\r\n\xff => 400
 turn => none
-job => 2";
+job => 2",
+};
 
 // Long bodies, and lengths of many digits.
-pub const LARGE: &str = r"{rt1}\n
-POST /verify HTTP/1.1\r\nContent-Length: {0*4000}16\r\n\r\n{every} => 200 text accepted\n
+pub const LARGE: Table = Table {
+    rows: 8,
+    text: r"{rt1}\n
+POST /verify HTTP/1.1\r\nContent-Length: {text 0*4000}16\r\n\r\n{every} => 200 text accepted\n
 POST /verify HTTP/1.1\r\nContent-Length: 1048576\r\n\r\n{every*65536} => 422 refused 12 TooLong
 POST /verify HTTP/1.1\r\nContent-Length: 1048575\r\n\r\n{every*65536} => 422 refused 11 NotWhole
-POST /verify HTTP/1.1\r\nContent-Length: {9*8000}\r\n\r\n{every} => 413
+POST /verify HTTP/1.1\r\nContent-Length: {text 9*8000}\r\n\r\n{every} => 413
 POST /verify HTTP/1.1\r\nContent-Length: 1048576\r\n\r\n{every*65535}{stuck}\x00\x00\x00\x00\x00\x00\x00 => 400
 POST /verify HTTP/1.1\r\nContent-Length: 16\r\n\r\n{every*4000} => 200 text accepted\n
-POST /verify HTTP/1.1\r\nContent-Length: 524288\r\n\r\n{every*32768}{stuck} => 200 text accepted\n";
+POST /verify HTTP/1.1\r\nContent-Length: 524288\r\n\r\n{every*32768}{stuck} => 200 text accepted\n",
+};

@@ -1,5 +1,5 @@
-//! Tests of the crate `wire` through its public calls. They have a crate of their own because a crate with tests is proved twice, once without
-//! them and once with them.
+//! Tests of the crates `wire` and `server` through their public calls: requests and replies over memory, then connections over loopback sockets.
+//! They have a crate of their own because a crate with tests is proved twice, once without them and once with them.
 #![tactic(auto)]
 
 #[cfg(test)]
@@ -21,6 +21,8 @@ mod rows;
 #[cfg(test)]
 mod scripts;
 #[cfg(test)]
-mod server;
+mod sockets;
 #[cfg(test)]
 mod tables;
+#[cfg(test)]
+mod trials;

@@ -1,6 +1,6 @@
 //! The names that the tables use in addition to the common notation, and counties.
-use fixtures::{Files, bytes, county};
-use std::alloc::{AllocError, Allocator, Global};
+use fixtures::{FileTexts, Files, TableFault, bytes, cells, county};
+use std::alloc::{Allocator, Global};
 use tl_segments::County;
 
 // The end of a head without headers, and of one with curl's headers, whose version doesn't matter.
@@ -10,13 +10,13 @@ const CURL: &str = r" HTTP/1.1\r\nHost: 127.0.0.1:8080\r\nUser-Agent: curl/8.5.0
 
 // The segment of examples/one, and its county.
 const LANTERN: &str =
-    "10006 107000725 A  Lantern{ *23}Ct    A61{ *8}201{ *8}299{ *22}00  36067{ *19}\
-    01010010019010190101{ *10}505055050502070002070015951123-086629875+32411825-086629750+32412484";
+    "10006 107000725 A  Lantern{text  *23}Ct    A61{text  *8}201{text  *8}299{text  *22}00  36067{text  *19}\
+    01010010019010190101{text  *10}505055050502070002070015951123-086629875+32411825-086629750+32412484";
 
 const ONE: &str = "{lantern}\\r\\n; \
-    40006 107000725  1     130     133{ *24}\\r\\n; \
-    5000601001     130  Old Lantern{ *19}Ct    \\r\\n5000601001     133  County Road 67{ *22}\\r\\n; \
-    60006 107000725  1       3901       3999{ *22}01  36067     \\r\\n";
+    40006 107000725  1     130     133{text  *24}\\r\\n; \
+    5000601001     130  Old Lantern{text  *19}Ct    \\r\\n5000601001     133  County Road 67{text  *22}\\r\\n; \
+    60006 107000725  1       3901       3999{text  *22}01  36067     \\r\\n";
 
 // The program examples/not_water.s and its text.
 const NOT_WATER: &str = "{asm ldxb r0, [r1+55] | add r0, -72 | exit}";
@@ -38,7 +38,7 @@ const NAMES: [(&str, &str); 6] = [
 ];
 
 /// Returns a text in the common notation, with these names replaced.
-fn spelled_out(alloc: Global, text: &str) -> Result<String, AllocError> {
+fn spelled_out(alloc: Global, text: &str) -> Result<String, TableFault> {
     let mut spelled = String::from_str(alloc, text)?;
     for (name, meant) in NAMES {
         spelled = spelled.replace(alloc, name, meant)?;
@@ -47,24 +47,37 @@ fn spelled_out(alloc: Global, text: &str) -> Result<String, AllocError> {
 }
 
 /// Returns the bytes of a text.
-pub fn bytes_of(alloc: Global, text: &str) -> Result<Vec<u8>, AllocError> {
+pub fn bytes_of(alloc: Global, text: &str) -> Result<Vec<u8>, TableFault> {
     bytes(alloc, &spelled_out(alloc, text)?)
 }
 
-/// Loads counties from files of types 1, 4, 5 and 6, with `;` between files and `|` between counties; that of examples/one; or none, for `-`.
-pub fn counties_of<A: Allocator + Copy>(
-    alloc: A,
-    global: Global,
-    text: &str,
-) -> Option<Vec<County<A>, A>> {
-    let text = if text == "one" { ONE } else { text };
-    let text = spelled_out(global, text).ok()?;
+/// Returns the files of counties, with `|` between counties; those of examples/one; or none, for `-`.
+pub fn files_of(alloc: Global, text: &str) -> Result<Vec<Files>, TableFault> {
     let mut counties = Vec::new(alloc);
-    for cells in text.split('|') {
-        if cells != "-" {
-            let files = Files::new(global, cells, 0).ok()?;
-            counties.push(county(alloc, &files).ok()?).ok()?;
-        }
+    if text == "-" {
+        return Ok(counties);
+    }
+    let text = if text == "one" { ONE } else { text };
+    for county in spelled_out(alloc, text)?.split('|') {
+        counties.push(Files::new(alloc, file_cells(county.trim())?)?)?;
+    }
+    Ok(counties)
+}
+
+/// Returns the cells of a county's files: those of types 1, 4, 5 and 6, or that of type 1 alone.
+fn file_cells(county: &str) -> Result<FileTexts<'_>, TableFault> {
+    match county {
+        "" => Err(TableFault::Cells),
+        _ if county.contains(';') => cells(county)?.four(),
+        _ => Ok((county, "", "", "")),
+    }
+}
+
+/// Loads the counties with these files.
+pub fn counties_of<A: Allocator + Copy>(alloc: A, files: &[Files]) -> Option<Vec<County<A>, A>> {
+    let mut counties = Vec::new(alloc);
+    for files in files {
+        counties.push(county(alloc, files).ok()?).ok()?;
     }
     Some(counties)
 }

@@ -1,7 +1,10 @@
 //! The answers of the geocoder's route.
+use fixtures::Table;
 
 // Queries over Main Street, which has 101 to 199 on its left and 100 to 198 on its right.
-pub const QUERIES: &str = r"{rt1}\n
+pub const QUERIES: Table = Table {
+    rows: 106,
+    text: r"{rt1}\n
 GET /geocode?number=151&name=main&zip=36067{end}
   => 200 text 123456789\tL\t-86494898\t32405102\n
 GET /geocode?number=151&name=main{end} => 200 text 123456789\tL\t-86494898\t32405102\n
@@ -73,25 +76,25 @@ GET /geocode?number=15%zz&name=main{end} => 400
 GET /geocode?number=151&name=main&zip=3606%3{end} => 400
 GET /geocode?number=000000000151&name=main{end} => 400
 GET /geocode?number=151&name=main&zip=000000036067{end} => 400
-GET /geocode?number=151&name={x*30}{end} => 200 text
-GET /geocode?number=151&name={x*31}{end} => 400
-GET /geocode?number=151&name=main{+*26}{end} => 200 text 123456789\tL\t-86494898\t32405102\n
-GET /geocode?number=151&name=main{+*27}{end} => 400
-GET /geocode?number=151&name={%61*30}{end} => 200 text
-GET /geocode?number=151&name={%61*31}{end} => 400
-GET /geocode?number=151&name={%c3%a9*15}{end} => 200 text
-GET /geocode?number=151&name={%c3%a9*15}x{end} => 400
-GET /geocode?number=151&name={%ff*10}{end} => 200 text
-GET /geocode?number=151&name={%ff*11}{end} => 400
-GET /geocode?number=151&name={%*30}{end} => 200 text
-GET /geocode?number=151&name={%*31}{end} => 400
-GET /geocode?number=151&name={x*7000}{end} => 400
+GET /geocode?number=151&name={text x*30}{end} => 200 text
+GET /geocode?number=151&name={text x*31}{end} => 400
+GET /geocode?number=151&name=main{text +*26}{end} => 200 text 123456789\tL\t-86494898\t32405102\n
+GET /geocode?number=151&name=main{text +*27}{end} => 400
+GET /geocode?number=151&name={text %61*30}{end} => 200 text
+GET /geocode?number=151&name={text %61*31}{end} => 400
+GET /geocode?number=151&name={text %c3%a9*15}{end} => 200 text
+GET /geocode?number=151&name={text %c3%a9*15}x{end} => 400
+GET /geocode?number=151&name={text %ff*10}{end} => 200 text
+GET /geocode?number=151&name={text %ff*11}{end} => 400
+GET /geocode?number=151&name={text %*30}{end} => 200 text
+GET /geocode?number=151&name={text %*31}{end} => 400
+GET /geocode?number=151&name={text x*7000}{end} => 400
 GET /geocode?number=151&name=m\xc3\xa4in{end} => 200 text
-GET /geocode?number=151&name={\xc3\xa4*15}{end} => 200 text
-GET /geocode?number=151&name={\xc3\xa4*16}{end} => 400
+GET /geocode?number=151&name={text \xc3\xa4*15}{end} => 200 text
+GET /geocode?number=151&name={text \xc3\xa4*16}{end} => 400
 GET /geocode?x=1&number=151&y&=z&name=main&{end} => 200 text 123456789\tL\t-86494898\t32405102\n
 GET /geocode?&&number=151&&&name=main&&{end} => 200 text 123456789\tL\t-86494898\t32405102\n
-GET /geocode?{x&*500}number=151&name=main{end} => 200 text 123456789\tL\t-86494898\t32405102\n
+GET /geocode?{text x&*500}number=151&name=main{end} => 200 text 123456789\tL\t-86494898\t32405102\n
 GET /geocode?Number=151&name=main{end} => 400
 GET /geocode?number=151&NAME=main{end} => 400
 GET /geocode?number=151&name=main&ZIP=x{end} => 200 text 123456789\tL\t-86494898\t32405102\n
@@ -107,11 +110,14 @@ GET /geocode/?number=151&name=main{end} => 404
 GET /geocode%3fnumber=151&name=main{end} => 404
 GET /geocode?number=151&name=main HTTP/1.0\r\n\r\n => 200 text 123456789\tL\t-86494898\t32405102\n
 POST /geocode?number=151&name=main HTTP/1.1 >> number=151&name=main => 405 GET
-HEAD /geocode?number=151&name=main{end} => 405 GET";
+HEAD /geocode?number=151&name=main{end} => 405 GET",
+};
 
 // Counties, and the results of queries over them: addresses that descend; ends exchanged; an end without a latitude; a second range on the left,
 // without a ZIP code; an alternate name; three counties; more than a thousand hits; no county.
-pub const COUNTIES: &str = r"{rt1 FRADDL=________199 TOADDL=________101}\n
+pub const COUNTIES: Table = Table {
+    rows: 26,
+    text: r"{rt1 FRADDL=________199 TOADDL=________101}\n
 GET /geocode?number=151&name=main{end} => 200 text 123456789\tL\t-86495103\t32404897\n
 GET /geocode?number=152&name=main{end} => 200 text 123456789\tR\t-86494694\t32405306\n
 
@@ -127,7 +133,7 @@ GET /geocode?number=151&name=main{end}
 GET /geocode?number=151&name=main&zip=36067{end} => 200 text 123456789\tL\t-86494898\t32405102\n
 GET /geocode?number=150&name=main{end} => 200 text 123456789\tR\t-86494898\t32405102\n
 
-{rt1}\n; {rt4}\n; {rt5 FENAME=Old_Mill}\n
+{rt1}\n; {rt4}\n; {rt5 FENAME=Old_Mill}\n;
 GET /geocode?number=151&name=old+mill{end} => 200 text 123456789\tL\t-86494898\t32405102\n
 GET /geocode?number=151&name=OLD%20MILL&zip=36067{end} => 200 text 123456789\tL\t-86494898\t32405102\n
 GET /geocode?number=151&name=main{end} => 200 text 123456789\tL\t-86494898\t32405102\n
@@ -143,8 +149,9 @@ GET /geocode?number=150&name=main&zip=36067{end}
   => 200 text 42\tR\t-86494898\t32405102\n123456789\tR\t-86494898\t32405102\n7\tR\t-86494898\t32405102\n
 
 {rt1\n*600} | {rt1\n*500}
-GET /geocode?number=151&name=main{end} => 200 text {123456789\tL\t-86494898\t32405102\n*1100}
+GET /geocode?number=151&name=main{end} => 200 text {text 123456789\tL\t-86494898\t32405102\n*1100}
 
 -
 GET /geocode?number=151&name=main{end} => 200 text
-GET /geocode?number=151{end} => 400";
+GET /geocode?number=151{end} => 400",
+};

@@ -1,7 +1,7 @@
 //! Rows of requests, each with its result.
 use crate::notation::bytes_of;
-use fixtures::cell;
-use std::alloc::{AllocError, Global};
+use fixtures::{Table, TableFault, cells, number, size};
+use std::alloc::Global;
 
 /// A request with its reply, or a turn with its result as text.
 #[derive(Drop)]
@@ -14,46 +14,90 @@ pub struct Row<'a> {
     pub is_turn: bool,
     /// Whether the request is sent only once, and not cut.
     pub is_once: bool,
+    /// Whether it allocates, if the table says so of its rows.
+    pub takes_memory: bool,
 }
 
-// The short and the full form of replies, with `@` for what follows the short form: the status and its phrase, the media type, the length unless
-// it's that of the body, the body, and the methods that are allowed.
-const REPLIES: &str = r"=| @
-80| none
-200 text| 200 OK; text/plain; ; @
-200 octets| 200 OK; application/octet-stream; ; @
-400| 400 Bad Request; text/plain; ; bad request\n
-404| 404 Not Found; text/plain; ; not found\n
-405| 405 Method Not Allowed; text/plain; ; method not allowed\n; @
-411| 411 Length Required; text/plain; ; length required\n
-413| 413 Payload Too Large; text/plain; ; too large\n
-422| 422 Unprocessable Entity; text/plain; ; @\n
-503| 503 Service Unavailable; text/plain; ; @\n";
+// The short forms of replies, with `@` for what follows, and what they stand for: the status and its phrase, the media type, the body, and the
+// methods that are allowed.
+const REPLIES: Table = Table {
+    rows: 9,
+    text: r"200 text @; 200 OK; text/plain; @;
+200 octets @; 200 OK; application/octet-stream; @;
+400; 400 Bad Request; text/plain; bad request\n;
+404; 404 Not Found; text/plain; not found\n;
+405 @; 405 Method Not Allowed; text/plain; method not allowed\n; @
+411; 411 Length Required; text/plain; length required\n;
+413; 413 Payload Too Large; text/plain; too large\n;
+422 @; 422 Unprocessable Entity; text/plain; @\n;
+503 @; 503 Service Unavailable; text/plain; @\n;",
+};
 
-/// Returns the reply for a text in short form, or in full form after `=`.
-pub fn reply_of(alloc: Global, said: &str) -> Result<Vec<u8>, AllocError> {
-    for line in REPLIES.lines() {
-        let (short, cells) = line.split_once('|').unwrap_or((line, ""));
-        if let Some(what) = said.strip_prefix(short) {
-            return reply_with(alloc, &cells.replace(alloc, "@", what.trim())?);
-        }
-    }
-    Ok(Vec::new(alloc))
-}
-
-/// Returns the reply with these cells.
-fn reply_with(alloc: Global, cells: &str) -> Result<Vec<u8>, AllocError> {
-    let (status, media, body) = (cell(cells, 0), cell(cells, 1), cell(cells, 3));
-    if status == "none" {
+/// Returns the reply for a text in short form, or in full form after `=`. There is none for `80`.
+pub fn reply_of(alloc: Global, said: &str) -> Result<Vec<u8>, TableFault> {
+    if said == "80" {
         return Ok(Vec::new(alloc));
     }
-    let length = match cell(cells, 2).parse() {
-        Ok(length) => length,
-        Err(_) => bytes_of(alloc, body)?.len(),
+    match said.strip_prefix("=") {
+        Some(said) => full_reply(alloc, said),
+        None => short_reply(alloc, said),
+    }
+}
+
+/// Returns the reply for a text in full form: as in the table of short forms, and with the length before the body. Only a reply with status 405
+/// has methods.
+fn full_reply(alloc: Global, said: &str) -> Result<Vec<u8>, TableFault> {
+    if said.starts_with("405 ") {
+        let (status, media, length, body, allow) = cells(said)?.five()?;
+        return reply_with(alloc, (status, media, body, allow), size(length)?);
+    }
+    let (status, media, length, body) = cells(said)?.four()?;
+    reply_with(alloc, (status, media, body, ""), size(length)?)
+}
+
+fn short_reply(alloc: Global, said: &str) -> Result<Vec<u8>, TableFault> {
+    let replies = REPLIES.joined(alloc)?;
+    let ((status, media, body, allow), rest) = cells_for(&replies, said)?;
+    let body = body.replace(alloc, "@", rest)?;
+    let allow = allow.replace(alloc, "@", rest)?;
+    let length = bytes_of(alloc, &body)?.len();
+    reply_with(alloc, (status, media, &body, &allow), length)
+}
+
+/// The status of a reply, its media type, its body and the methods that it allows.
+type Cells<'a> = (&'a str, &'a str, &'a str, &'a str);
+
+/// Returns what the short form of a text stands for, and the text that follows it.
+fn cells_for<'a>(replies: &'a str, said: &'a str) -> Result<(Cells<'a>, &'a str), TableFault> {
+    for row in replies.lines() {
+        let (form, status, media, body, allow) = cells(row)?.five()?;
+        if let Some(rest) = after_form(said, form) {
+            return Ok(((status, media, body, allow), rest));
+        }
+    }
+    Err(TableFault::Word)
+}
+
+/// Returns the text that follows a short form, if a text is in that form. Without `@` there is none.
+fn after_form<'a>(said: &'a str, form: &str) -> Option<&'a str> {
+    let Some(form) = form.strip_suffix(" @") else {
+        return (said == form).then_some("");
     };
-    let (name, allow, end) = match cell(cells, 4) {
-        "" => ("", "", ""),
-        allow => ("Allow: ", allow, r"\r\n"),
+    let rest = said.strip_prefix(form)?;
+    if rest.is_empty() {
+        Some(rest)
+    } else {
+        rest.strip_prefix(" ")
+    }
+}
+
+/// Returns the reply with this status, media type, body, allowed methods and length.
+fn reply_with(alloc: Global, cells: Cells<'_>, length: usize) -> Result<Vec<u8>, TableFault> {
+    let (status, media, body, allow) = cells;
+    let (name, end) = if allow.is_empty() {
+        ("", "")
+    } else {
+        ("Allow: ", r"\r\n")
     };
     let text = format!(in alloc;
         r"HTTP/1.1 {status}\r\nContent-Type: {media}\r\nContent-Length: {length}\r\nConnection: close\r\n{name}{allow}{end}\r\n{body}"
@@ -61,12 +105,26 @@ fn reply_with(alloc: Global, cells: &str) -> Result<Vec<u8>, AllocError> {
     bytes_of(alloc, &text)
 }
 
+/// Splits a text at a separator, which it must contain exactly once.
+fn halves<'a>(text: &'a str, separator: &str) -> Result<(&'a str, &'a str), TableFault> {
+    let (left, right) = text.split_once(separator).ok_or(TableFault::Cells)?;
+    if right.contains(separator) {
+        return Err(TableFault::Cells);
+    }
+    Ok((left, right))
+}
+
 /// Returns the bytes of a request. If it contains `>>`, the last line of the head announces the length of the body that follows.
-fn request_of(alloc: Global, asked: &str) -> Result<Vec<u8>, AllocError> {
-    let Some((line, body)) = asked.split_once(" >>") else {
+fn request_of(alloc: Global, asked: &str) -> Result<Vec<u8>, TableFault> {
+    if !asked.contains(">>") {
         return bytes_of(alloc, asked);
+    }
+    let (line, body) = halves(asked, " >>")?;
+    let body = if body.is_empty() {
+        body
+    } else {
+        body.strip_prefix(" ").ok_or(TableFault::Cells)?
     };
-    let body = body.strip_prefix(" ").unwrap_or(body);
     let length = bytes_of(alloc, body)?.len();
     let (line, headers) = match line.strip_suffix("{curl}") {
         Some(line) => (line, "{head of curl}"),
@@ -76,61 +134,101 @@ fn request_of(alloc: Global, asked: &str) -> Result<Vec<u8>, AllocError> {
     bytes_of(alloc, &text)
 }
 
-/// Reads a row: `turn` or a request, then `=>` and its result. A mark before the row, `+` or `-`, says whether it allocates.
-fn row_of<'a>(alloc: Global, text: &'a str) -> Result<Row<'a>, AllocError> {
-    let (asked, said) = text.split_once(" => ").unwrap_or((text, ""));
-    let asked = asked.strip_prefix("+ ").unwrap_or(asked);
-    let asked = asked.strip_prefix("- ").unwrap_or(asked);
-    if asked == "turn" {
-        return turn_of(alloc, text, said);
+/// A line of a table: a request or another word, and its result.
+#[derive(Clone, Copy)]
+struct Line<'a> {
+    text: &'a str,
+    asked: &'a str,
+    said: &'a str,
+    takes_memory: bool,
+}
+
+impl<'a> Line<'a> {
+    /// Splits a line at `=>`. If its table says which rows allocate, the line begins with `+` or `-`.
+    fn new(text: &'a str, is_marked: bool) -> Result<Self, TableFault> {
+        let (takes_memory, line) = match text.split_once(' ') {
+            Some(("+", line)) if is_marked => (true, line),
+            Some(("-", line)) if is_marked => (false, line),
+            _ if is_marked => return Err(TableFault::Word),
+            _ => (false, text),
+        };
+        let (asked, said) = halves(line, " => ")?;
+        Ok(Line {
+            text,
+            asked,
+            said,
+            takes_memory,
+        })
     }
-    let request = request_of(alloc, asked)?;
-    Ok(Row {
-        text,
-        request,
-        reply: reply_of(alloc, said)?,
-        is_turn: false,
-        is_once: false,
-    })
+
+    fn request(self, alloc: Global) -> Result<Row<'a>, TableFault> {
+        Ok(Row {
+            text: self.text,
+            request: request_of(alloc, self.asked)?,
+            reply: reply_of(alloc, self.said)?,
+            is_turn: false,
+            is_once: false,
+            takes_memory: self.takes_memory,
+        })
+    }
+
+    fn turn(self, alloc: Global) -> Result<Row<'a>, TableFault> {
+        Ok(Row {
+            text: self.text,
+            request: Vec::new(alloc),
+            reply: self.said.as_bytes().to_vec(alloc)?,
+            is_turn: true,
+            is_once: true,
+            takes_memory: self.takes_memory,
+        })
+    }
+
+    /// Returns the row for the submission of a job that gets this id.
+    fn job(self, alloc: Global, id: u64) -> Result<Row<'a>, TableFault> {
+        let reply = format!(in alloc; r"200 text {id}\n")?;
+        Ok(Row {
+            text: self.text,
+            request: request_of(alloc, "POST /jobs HTTP/1.1 >> {every}")?,
+            reply: reply_of(alloc, &reply)?,
+            is_turn: false,
+            is_once: true,
+            takes_memory: self.takes_memory,
+        })
+    }
 }
 
-fn turn_of<'a>(alloc: Global, text: &'a str, said: &str) -> Result<Row<'a>, AllocError> {
-    Ok(Row {
-        text,
-        request: Vec::new(alloc),
-        reply: said.as_bytes().to_vec(alloc)?,
-        is_turn: true,
-        is_once: true,
-    })
+/// Appends the rows that a line stands for. `jobs => 64` stands for the submissions of the first 64 jobs, and `job => 2` for that of the second.
+pub fn push_rows<'a>(
+    alloc: Global,
+    rows: &mut Vec<Row<'a>>,
+    text: &'a str,
+    is_marked: bool,
+) -> Result<(), TableFault> {
+    let line = Line::new(text, is_marked)?;
+    let (first, last) = match line.asked {
+        "turn" => return Ok(rows.push(line.turn(alloc)?)?),
+        "jobs" => (1, number(line.said)?),
+        "job" => (number(line.said)?, number(line.said)?),
+        _ => return Ok(rows.push(line.request(alloc)?)?),
+    };
+    if last == 0 {
+        return Err(TableFault::Number);
+    }
+    for id in first..=last {
+        rows.push(line.job(alloc, id)?)?;
+    }
+    Ok(())
 }
 
-/// Reads the row for the submission of a job that gets this id.
-fn job_of<'a>(alloc: Global, text: &'a str, id: u64) -> Result<Row<'a>, AllocError> {
-    let request = request_of(alloc, "POST /jobs HTTP/1.1 >> {every}")?;
-    Ok(Row {
-        text,
-        request,
-        reply: reply_of(alloc, &format!(in alloc; r"200 text {id}\n")?)?,
-        is_turn: false,
-        is_once: true,
-    })
-}
-
-/// Reads the rows of a table. `jobs => 64` stands for the submissions of the first 64 jobs, and `job => 2` for that of the second.
-pub fn rows_of<'a>(alloc: Global, table: &'a str) -> Result<Vec<Row<'a>>, AllocError> {
+/// Reads the rows of a table, or returns the first that is malformed. In a marked table, each row says whether it allocates.
+pub fn rows_of<'a>(
+    alloc: Global,
+    table: &'a str,
+    is_marked: bool,
+) -> Result<Vec<Row<'a>>, (&'a str, TableFault)> {
     let mut rows = Vec::new(alloc);
     for text in table.lines() {
-        let (first, last) = match text.split_once(" => ") {
-            Some(("jobs", last)) => (1, last.parse().unwrap_or(0)),
-            Some(("job", id)) => (id.parse().unwrap_or(0), id.parse().unwrap_or(0)),
-            _ => (1, 0),
-        };
-        for id in first..=last {
-            rows.push(job_of(alloc, text, id)?)?;
-        }
-        if last == 0 {
-            rows.push(row_of(alloc, text)?)?;
-        }
+        push_rows(alloc, &mut rows, text, is_marked).map_err(|fault| (text, fault))?;
     }
     Ok(rows)
 }

@@ -1,0 +1,370 @@
+//! Filters read from texts, with results worked out by hand.
+use cql2::{Column, Comparison, Filter, NumericColumn, Pattern, PatternByte};
+use cql2_text::{Expected, FilterFault, FilterFlaw, column_named, read};
+use fixtures::{Table, TableFault, bytes, cells};
+use refusals::Fault;
+use std::alloc::{AllocError, Global};
+use std::test::Fail;
+
+// A text and the filter it is read as, in prefix notation. A coordinate is in millionths, and a text in Latin-1. In a pattern, `?` is any byte,
+// `~x` an x in either case, and `*` anything that follows.
+const READ: Table = Table {
+    rows: 119,
+    text: r#"
+ZIPL = 36067; (= ZIPL 36067)
+zipl=+36067; (= ZIPL 36067)
+"Fename" = 'Main'; (= FENAME Main)
+TLID<>-5; (<> TLID -5)
+a; 1 1 UnknownColumn
+FRADDL < 1 OR FRADDL >= 2 AND FRADDL <= 3; (or (< FRADDL 1) (and (>= FRADDL 2) (<= FRADDL 3)))
+(FRADDL < 1 OR FRADDL >= 2) AND FRADDL > 3; (and (or (< FRADDL 1) (>= FRADDL 2)) (> FRADDL 3))
+TRUE AND FALSE AND TRUE; (and (and (true) (false)) (true))
+TRUE OR FALSE OR TRUE; (or (or (true) (false)) (true))
+NOT TRUE AND FALSE; (and (not (true)) (false))
+NOT (TRUE AND FALSE); (not (and (true) (false)))
+NOT NOT TRUE; 1 5 Syntax
+Not(Not(True)); (not (not (true)))
+FENAME = 'O''Hara  '; (= FENAME O'Hara)
+FENAME >= '  A B'; (>= FENAME   A B)
+FENAME = '¡¿À÷ÿ~'; (= FENAME ¡¿À÷ÿ~)
+FENAME = 'é€'; 1 12 Syntax
+FENAME = '123456789012345678901234567890  '; (= FENAME 123456789012345678901234567890)
+FENAME = '1234567890123456789012345678901'; 1 10 LongText
+FENAME = '   '; 1 10 LongText
+CFCC <> 'A41'; (<> CFCC A41)
+CFCC = 'A410'; 1 8 LongText
+RT = '1' AND VERSION = '1006' AND SIDE1 = '1' AND SOURCE = 'A';
+  (and (and (and (= RT 1) (= VERSION 1006)) (= SIDE1 1)) (= SOURCE A))
+COUSUBL = '92000' OR COUSUBR < '9'; (or (= COUSUBL 92000) (< COUSUBR 9))
+CFCC = 5; 1 8 WrongType
+ZIPL = '5'; 1 8 WrongType
+ZIPL = ZIPR; 1 8 Syntax
+5 = ZIPL; 1 1 Syntax
+ZIPL = 5.0; 1 8 WrongType
+ZIPL = 123456789012345678; (= ZIPL 123456789012345678)
+ZIPL = 1234567890123456789; 1 8 NumberRange
+ZIPL = 1e5; 1 9 Syntax
+FRLONG < -86.5; (< FRLONG -86500000)
+FRLAT >= 32.000001; (>= FRLAT 32000001)
+TOLONG = 7 OR TOLAT = 0.25; (or (= TOLONG 7000000) (= TOLAT 250000))
+TOLAT = 999.999999; (= TOLAT 999999999)
+TOLAT = 1000; 1 9 NumberRange
+TOLAT = 1.0000001; 1 9 NumberRange
+TOLAT = .5; 1 9 Syntax
+TOLAT = 5.; 1 10 Syntax
+TOLAT = - 5; 1 9 Syntax
+CASEI(FENAME) = CASEI('Main 5é'); (like FENAME ~m~a~i~n 5é)
+casei(fename) <> casei('A '); (not (like FENAME ~a))
+CASEI(FENAME) < CASEI('A'); 1 15 WrongType
+CASEI(FENAME) = 'A'; 1 17 WrongType
+FENAME = CASEI('A'); 1 10 WrongType
+CASEI(ZIPL) = CASEI('A'); 1 7 WrongType
+CASEI(FOO) = CASEI('A'); 1 7 UnknownColumn
+CASEI(FENAME) IS NULL; 1 18 WrongType
+CASEI(CFCC) = CASEI('A410'); 1 21 LongText
+FENAME LIKE 'Ma_n%'; (like FENAME Ma?n*)
+FENAME NOT LIKE 'Main'; (not (like FENAME Main))
+FENAME LIKE '%n'; 1 14 Syntax
+FENAME LIKE 'ab%%'; 1 16 Syntax
+FENAME LIKE '10\x5c%\x5c_\x5c\x5c''s%'; (like FENAME 10%_\x5c's*)
+FENAME LIKE 'a\x5c'; 1 16 Syntax
+FENAME LIKE ''; (like FENAME )
+FENAME LIKE '%'; (like FENAME *)
+CFCC LIKE 'A4_%'; (like CFCC A4?*)
+CFCC LIKE 'A4__'; 1 11 LongText
+CASEI(FENAME) LIKE CASEI('mA_5%'); (like FENAME ~m~a?5*)
+CASEI(FENAME) NOT LIKE CASEI('\x5cx%'); (not (like FENAME ~x*))
+ZIPL LIKE '3%'; 1 6 WrongType
+FRADDL BETWEEN 1 AND 9; (and (>= FRADDL 1) (<= FRADDL 9))
+FRADDL NOT BETWEEN 1 AND 9 OR TRUE; (or (not (and (>= FRADDL 1) (<= FRADDL 9))) (true))
+FRLAT BETWEEN -1.5 AND 9 AND TRUE; (and (and (>= FRLAT -1500000) (<= FRLAT 9000000)) (true))
+FRADDL BETWEEN 1 OR 9; 1 18 Syntax
+FENAME BETWEEN 'a' AND 'b'; 1 8 WrongType
+ZIPL IN (1); (= ZIPL 1)
+ZIPL IN (1, 2,3); (or (or (= ZIPL 1) (= ZIPL 2)) (= ZIPL 3))
+CFCC NOT IN ('A41', 'A31'); (not (or (= CFCC A41) (= CFCC A31)))
+CASEI(FETYPE) IN (CASEI('st'), CASEI('AVE')); (or (like FETYPE ~s~t) (like FETYPE ~a~v~e))
+ZIPL IN (); 1 10 Syntax
+ZIPL IN (1 2); 1 12 Syntax
+ZIPL IN 1; 1 9 Syntax
+ZIPL IS NULL; (null ZIPL)
+FEDIRP is not null; (not (null FEDIRP))
+ZIPL IS TRUE; 1 9 Syntax
+ZIPL NOT = 5; 1 10 Syntax
+HAS_NUMBER(12345678901); (number 12345678901)
+has_number ( 0 ); (number 0)
+HAS_NUMBER(123456789012); 1 12 NumberRange
+HAS_NUMBER(-1); 1 12 NumberRange
+HAS_NUMBER(1.5); 1 12 WrongType
+HAS_NUMBER('1'); 1 12 WrongType
+HAS_NUMBER(); 1 12 Syntax
+HAS_NAME('Main'); (name 63 Main)
+HAS_NAME('County Road 67 ', 0); (name 0 County Road 67)
+HAS_NAME('x', 5000); (name 5000 x)
+HAS_NAME('x', 5001); 1 15 NumberRange
+HAS_NAME('1234567890123456789012345678901'); 1 10 LongText
+HAS_NAME(5); 1 10 WrongType
+STARTS_IN(BBOX(-87, 32, -86.25, 33));
+  (and (and (>= FRLONG -87000000) (<= FRLONG -86250000)) (and (>= FRLAT 32000000) (<= FRLAT 33000000)))
+STARTS_IN(-87, 32, -86, 33); 1 11 Syntax
+STARTS_IN(BBOX(-87, 32, -86)); 1 28 Syntax
+AND = 5; 1 1 Syntax
+"AND" = 5; 1 1 UnknownColumn
+"ZIPL = 5; 1 1 Syntax
+ZIPL = 5 ZIPR; 1 10 Syntax
+ZIPL = 5); 1 9 Syntax
+(ZIPL = 5; 1 10 Syntax
+ZIPL = 5 \x3b; 1 10 Syntax
+FOO = 5 \x3b; 1 1 UnknownColumn
+ZIPL == 5; 1 7 Syntax
+ZIPL < > 5; 1 8 Syntax
+FENAME = 'Main; 1 10 Syntax
+FENAME = 'é' AND \n  FENAMES = 'x'; 2 3 UnknownColumn
+FENAME = 'é' AND ZIPL = 'x'; 1 25 WrongType
+FENAME = 'a\nb'; 1 12 Syntax
+\n\n  ZIPL\n= 5\n\x3b; 5 1 Syntax
+; 1 1 Syntax
+\n; 2 1 Syntax
+ZIPL5 = 5; 1 1 UnknownColumn
+_ZIPL = 5; 1 1 UnknownColumn
+ZIPL=5AND ZIPR=6; (and (= ZIPL 5) (= ZIPR 6))
+{text (*64}TRUE{text )*64}; (true)
+{text (*65}TRUE{text )*65}; 1 65 TooDeep
+{text  *524286}TRUE{text  *524286}; (true)
+{text  *524287}TRUE{text  *524287}; 1 1048577 TooLong
+"#,
+};
+
+// The columns of these filters.
+const COLUMNS: [&str; 18] = [
+    "TLID", "FRADDL", "ZIPL", "ZIPR", "FRLONG", "FRLAT", "TOLONG", "TOLAT", "RT", "VERSION",
+    "SIDE1", "SOURCE", "FEDIRP", "FENAME", "FETYPE", "CFCC", "COUSUBL", "COUSUBR",
+];
+
+/// Returns the column's name.
+fn column_name(column: Column) -> &'static str {
+    for name in COLUMNS {
+        if column_named(name.as_bytes()).map(place_of) == Some(place_of(column)) {
+            return name;
+        }
+    }
+    "another column"
+}
+
+/// Returns the kind of a column, and its place among those of its kind.
+fn place_of(column: Column) -> (u8, u8) {
+    match column {
+        Column::Numeric(NumericColumn::Number(number)) => (0, number as u8),
+        Column::Numeric(NumericColumn::Coordinate(coordinate)) => (1, coordinate as u8),
+        Column::Text(text) => (2, text as u8),
+    }
+}
+
+/// Appends bytes in Latin-1.
+fn push_bytes(text: &mut String, bytes: &[u8]) -> Result<(), AllocError> {
+    for byte in bytes {
+        text.push(*byte as char)?;
+    }
+    Ok(())
+}
+
+/// Appends a pattern.
+fn push_pattern(text: &mut String, pattern: &Pattern<Global>) -> Result<(), AllocError> {
+    for wanted in &pattern.wanted {
+        match *wanted {
+            PatternByte::Exactly(byte) => text.push(byte as char)?,
+            PatternByte::EitherCase(byte) => {
+                text.push('~')?;
+                text.push(byte as char)?;
+            }
+            PatternByte::Any => text.push('?')?,
+        }
+    }
+    if pattern.is_open {
+        text.push('*')?;
+    }
+    Ok(())
+}
+
+/// Returns the sign of a comparison.
+fn sign(comparison: Comparison) -> &'static str {
+    match comparison {
+        Comparison::Equal => "=",
+        Comparison::NotEqual => "<>",
+        Comparison::Less => "<",
+        Comparison::LessOrEqual => "<=",
+        Comparison::Greater => ">",
+        Comparison::GreaterOrEqual => ">=",
+    }
+}
+
+/// Appends the operator and the column.
+fn push_subject(text: &mut String, operator: &str, column: Column) -> Result<(), AllocError> {
+    text.push_str(operator)?;
+    text.push(' ')?;
+    text.push_str(column_name(column))
+}
+
+/// Appends a filter that has no others in it, without parentheses.
+fn push_leaf(alloc: Global, text: &mut String, filter: &Filter<Global>) -> Result<(), AllocError> {
+    match filter {
+        Filter::Constant(value) => text.push_str(if *value { "true" } else { "false" }),
+        Filter::IsNull(column) => push_subject(text, "null", *column),
+        Filter::CompareNumber(column, comparison, literal) => {
+            push_subject(text, sign(*comparison), Column::Numeric(*column))?;
+            let number = literal.number;
+            text.push_str(format!(in alloc; " {number}")?.as_str())
+        }
+        Filter::CompareText(column, comparison, wanted) => {
+            push_subject(text, sign(*comparison), Column::Text(*column))?;
+            text.push(' ')?;
+            push_bytes(text, &wanted.bytes)
+        }
+        Filter::Like(column, pattern) => {
+            push_subject(text, "like", Column::Text(*column))?;
+            text.push(' ')?;
+            push_pattern(text, pattern)
+        }
+        Filter::HasNumber(house) => {
+            let number = house.number;
+            text.push_str(format!(in alloc; "number {number}")?.as_str())
+        }
+        Filter::HasName(name, limit) => {
+            let number = limit.number;
+            text.push_str(format!(in alloc; "name {number} ")?.as_str())?;
+            push_bytes(text, &name.bytes)
+        }
+        _ => text.push_str("no leaf"),
+    }
+}
+
+/// Appends a filter in parentheses.
+fn push_filter(
+    alloc: Global,
+    text: &mut String,
+    filter: &Filter<Global>,
+) -> Result<(), AllocError> {
+    text.push('(')?;
+    match filter {
+        Filter::And(first, second) => {
+            text.push_str("and ")?;
+            push_filter(alloc, text, first)?;
+            text.push(' ')?;
+            push_filter(alloc, text, second)?;
+        }
+        Filter::Or(first, second) => {
+            text.push_str("or ")?;
+            push_filter(alloc, text, first)?;
+            text.push(' ')?;
+            push_filter(alloc, text, second)?;
+        }
+        Filter::Not(inner) => {
+            text.push_str("not ")?;
+            push_filter(alloc, text, inner)?;
+        }
+        _ => push_leaf(alloc, text, filter)?,
+    }
+    text.push(')')
+}
+
+/// Returns the flaw's name in a row.
+fn flaw_name(flaw: FilterFlaw) -> &'static str {
+    match flaw {
+        FilterFlaw::Syntax(_expected) => "Syntax",
+        FilterFlaw::UnknownColumn => "UnknownColumn",
+        FilterFlaw::WrongType => "WrongType",
+        FilterFlaw::NumberRange => "NumberRange",
+        FilterFlaw::LongText => "LongText",
+        FilterFlaw::TooDeep => "TooDeep",
+        FilterFlaw::TooLong => "TooLong",
+    }
+}
+
+/// Returns what a text is read as, or why it is refused.
+fn outcome(alloc: Global, text: &[u8]) -> Result<String, AllocError> {
+    match read(alloc, text) {
+        Ok(filter) => {
+            let mut written = String::new(alloc);
+            push_filter(alloc, &mut written, &filter)?;
+            Ok(written)
+        }
+        Err(FilterFault::At { line, column, flaw }) => {
+            let name = flaw_name(flaw);
+            format!(in alloc; "{line} {column} {name}")
+        }
+        Err(FilterFault::Memory) => String::from_str(alloc, "memory"),
+    }
+}
+
+/// Returns whether a text is read as its row says.
+fn is_read(alloc: Global, row: &str) -> Result<bool, TableFault> {
+    let (text, wanted) = cells(row)?.two()?;
+    let (text, wanted) = (bytes(alloc, text)?, bytes(alloc, wanted)?);
+    Ok(outcome(alloc, &text)?.as_bytes() == wanted.as_slice())
+}
+
+#[test]
+fn reads(rt: HostRuntime) {
+    for row in READ.joined(rt.alloc()).expect(&rt, "read").lines() {
+        assert_eq!(rt; is_read(rt.alloc(), row), Ok(true), "{row}");
+    }
+}
+
+// A chain of 20,000 operators.
+const CHAIN: &str = "{text FALSE AND *10000}TRUE{text  OR TRUE*10000}";
+
+#[test]
+fn chains(rt: HostRuntime) -> Result<(), Fail> {
+    let chain = bytes(rt.alloc(), CHAIN)?;
+    assert!(rt; read(rt.alloc(), &chain).is_ok());
+    Ok(())
+}
+
+#[test]
+fn bad_bytes(rt: HostRuntime) {
+    let fault = FilterFault::At {
+        line: 2,
+        column: 3,
+        flaw: FilterFlaw::Syntax(Expected::Utf8),
+    };
+    let given = read(rt.alloc(), b"\n'\xc3\xa9\xff'").err();
+    assert!(rt; given == Some(fault));
+    assert!(rt; fault.line().as_str() == "refused 90 line 2 column 3 Syntax");
+}
+
+// A text, and the column name nearest to the unknown one in it.
+const NEAREST: Table = Table {
+    rows: 8,
+    text: r#"
+fenam = 1; FENAME
+NAME = 1; FENAME
+é = 1; none
+ZIPL = 1 AND \n FENAME = 'é' OR "zip" = 2; ZIPL
+TLIDD=1; TLID
+TRUE AND (frlon > 2); FRLONG
+CFC; CFCC
+ZIPL = 'x'; none
+"#,
+};
+
+/// Returns the column name nearest to the unknown one in a text.
+fn nearest_in(alloc: Global, text: &[u8]) -> &'static str {
+    let fault = read(alloc, text).err();
+    fault
+        .and_then(|fault| fault.nearest_column(text))
+        .unwrap_or("none")
+}
+
+/// Returns whether the nearest column name is the one in the row.
+fn is_nearest(alloc: Global, row: &str) -> Result<bool, TableFault> {
+    let (text, wanted) = cells(row)?.two()?;
+    let text = bytes(alloc, text)?;
+    Ok(nearest_in(alloc, &text) == wanted)
+}
+
+#[test]
+fn nearest_names(rt: HostRuntime) {
+    for row in NEAREST.joined(rt.alloc()).expect(&rt, "nearest").lines() {
+        assert_eq!(rt; is_nearest(rt.alloc(), row), Ok(true), "{row}");
+    }
+}

@@ -1,0 +1,11 @@
+//! Connections over loopback sockets, with a client and the server on one thread.
+
+mod accepts;
+mod clients;
+mod clocks;
+mod closes;
+mod exchange;
+mod faults;
+mod http;
+mod submissions;
+mod waits;

@@ -1,0 +1,122 @@
+//! The program's service over sockets: requests over HTTP, and the turns of its jobs.
+use crate::notation::{counties_of, files_of};
+use crate::sockets::exchange::{Then, client_that, short_limits};
+use fixtures::{Table, TableFault, bytes, cells, size};
+use jobs::COUNTY_LIMIT;
+use server::{Acceptor, serve_next};
+use std::alloc::{AllocError, Global};
+use std::io;
+use std::io::{Read, Write};
+use std::net::{TcpListener, TcpStream};
+use std::test::Fail;
+use std::time::Clock;
+use tl_fields::Counting;
+use wire::{State, serve_one};
+
+// What a client does after its request, or `asks` if there is no connection; the request; the number of bytes of the reply, and its start. The
+// 20,000 bytes are more than the reads of a head take, so unread input is left when the connection is closed.
+const REQUESTS: Table = Table {
+    rows: 11,
+    text: r"ends; POST /jobs HTTP/1.1\r\nContent-Length: 16\r\n\r\n{every}; 85; HTTP/1.1 200
+  OK\r\nContent-Type: text/plain\r\nContent-Length: 2\r\nConnection: close\r\n\r\n1\n
+asks; GET /jobs/1 HTTP/1.1\r\n\r\n; 59245; HTTP/1.1 200
+  OK\r\nContent-Type: application/octet-stream\r\nContent-Length: 59144\r\nConnection: close\r\n\r\n256 600\n
+leaves; ; 0;
+asks; GET /jobs/1 HTTP/1.1\r\n\r\n; 118382; HTTP/1.1 200
+  OK\r\nContent-Type: application/octet-stream\r\nContent-Length: 118280\r\nConnection: close\r\n\r\n512 600\n
+stays; POST /verify HTTP/1.1\r\nContent-Length: 16\r\n\r\n{every}; 92; HTTP/1.1 200
+  OK\r\nContent-Type: text/plain\r\nContent-Length: 9\r\nConnection: close\r\n\r\naccepted\n
+asks; GET /jobs/1 HTTP/1.1\r\n\r\n; 138710; HTTP/1.1 200
+  OK\r\nContent-Type: application/octet-stream\r\nContent-Length: 138608\r\nConnection: close\r\n\r\n600 600\n
+stays; POST /verify HTTP/1.1\r\nContent-Length: 1048577\r\n\r\n{text q*20000}; 109; HTTP/1.1 413
+  Payload Too Large\r\nContent-Type: text/plain\r\nContent-Length: 10\r\nConnection: close\r\n\r\ntoo large\n
+stays; POST /verify HTTP/1.1\r\nContent-Length: 16\r\n\r\n{every}; 92; HTTP/1.1 200
+  OK\r\nContent-Type: text/plain\r\nContent-Length: 9\r\nConnection: close\r\n\r\naccepted\n
+stays; ; 0;
+stays; POST /verify HTTP/1.1\r\nContent-Length: 16\r\n\r\n; 0;
+ends; POST /verify HTTP/1.1\r\nContent-Length: 16\r\n\r\n{every}; 92; HTTP/1.1 200
+  OK\r\nContent-Type: text/plain\r\nContent-Length: 9\r\nConnection: close\r\n\r\naccepted\n",
+};
+
+/// A request, and what its reply begins with.
+#[derive(Drop)]
+struct Asked {
+    /// What the client does after its request, if there is a connection.
+    then: Option<Then>,
+    request: Vec<u8>,
+    length: usize,
+    start: Vec<u8>,
+}
+
+impl Asked {
+    fn new(alloc: Global, row: &str) -> Result<Self, TableFault> {
+        let (word, request, length, start) = cells(row)?.four()?;
+        let then = match word {
+            "asks" => None,
+            _ => Some(Then::new(word)?),
+        };
+        if start.is_empty() && length != "0" {
+            return Err(TableFault::Word);
+        }
+        Ok(Asked {
+            then,
+            request: bytes(alloc, request)?,
+            length: size(length)?,
+            start: bytes(alloc, start)?,
+        })
+    }
+}
+
+/// Returns a state over the county with this file of type 1.
+pub fn state_of(alloc: Global, county: &str) -> Option<State<Global>> {
+    let files = files_of(alloc, county).ok()?;
+    let counties = counties_of(alloc, &files)?;
+    if counties.len() > COUNTY_LIMIT {
+        return None;
+    }
+    State::new(alloc, alloc, counties).ok()
+}
+
+/// Returns the reply that a client gets over a connection of its own.
+pub fn serve<C: Clock>(
+    rt: &HostRuntime,
+    listener: &TcpListener,
+    clock: &C,
+    state: &mut State<Global>,
+    then: Then,
+    request: &[u8],
+) -> io::Result<Vec<u8>> {
+    let mut client = TcpStream::connect(rt, listener.local_addr()?)?;
+    client.write_all(request)?;
+    let client = client_that(client, 0, then)?;
+    serve_next(&mut Acceptor::new(listener), clock, &short_limits(), state)?;
+    let mut reply = Vec::new(rt.alloc());
+    if let Some(mut client) = client {
+        client.read_to_end(&mut reply)?;
+    }
+    Ok(reply)
+}
+
+/// Returns the reply of the state, without a connection.
+fn ask(alloc: Global, state: &mut State<Global>, request: &[u8]) -> Vec<u8> {
+    let mut out = Counting::new(Vec::new(alloc));
+    let _fault = serve_one(state, &mut Counting::new(request), &mut out);
+    out.into_inner()
+}
+
+/// Checks the rows in order, with one server and one state: a row's reply shows the turns after the connections before it.
+#[test]
+fn requests(rt: HostRuntime) -> Result<(), Fail> {
+    let listener = TcpListener::bind(&rt, "127.0.0.1:0")?;
+    let mut state = state_of(rt.alloc(), r"{rt1\n*600}").ok_or(AllocError)?;
+    for row in REQUESTS.joined(rt.alloc())?.lines() {
+        let asked = Asked::new(rt.alloc(), row).expect(&rt, row);
+        let reply = match asked.then {
+            None => ask(rt.alloc(), &mut state, &asked.request),
+            Some(then) => serve(&rt, &listener, &rt, &mut state, then, &asked.request)?,
+        };
+        assert_eq!(rt; reply.len(), asked.length, "{row}");
+        assert!(rt; reply.as_slice().starts_with(&asked.start), "{row}");
+    }
+    Ok(())
+}

@@ -1,0 +1,62 @@
+//! The times that calls may wait, with the program's limits.
+use fixtures::{Table, TableFault, cells, number};
+use server::{Limits, wait_left};
+use std::time::Duration;
+
+// The call; the milliseconds that have passed; for a write, the number of bytes of the reply including this write; and the milliseconds that it may
+// wait.
+const WAITS: Table = Table {
+    rows: 20,
+    text: "\
+read; 0; 0; 10000
+read; 19999; 0; 10000
+read; 20000; 0; 10000
+read; 20001; 0; 9999
+read; 29999; 0; 1
+read; 30000; 0; none
+read; 30001; 0; none
+read; 86400000; 0; none
+write; 0; 0; 30000
+write; 0; 1048575; 30000
+write; 0; 1048576; 31000
+write; 0; 2097151; 31000
+write; 0; 104857600; 130000
+write; 29999; 1048575; 1
+write; 30000; 1048575; none
+write; 30000; 1048576; 1000
+write; 31000; 1048576; none
+linger; 0; 0; 5000
+linger; 4999; 0; 1
+linger; 5000; 0; none",
+};
+
+/// Returns the time that a call may wait after this time. A write's reply has this number of bytes, including this write.
+fn wait_of(call: &str, passed: Duration, bytes: u64) -> Result<Option<Duration>, TableFault> {
+    let limits = Limits::standard();
+    match call {
+        "read" => Ok(wait_left(limits.silence, limits.request, passed)),
+        "write" => {
+            let limit = limits.reply_limit(bytes);
+            Ok(wait_left(limit, limit, passed))
+        }
+        "linger" => Ok(wait_left(limits.linger, limits.linger, passed)),
+        _ => Err(TableFault::Word),
+    }
+}
+
+fn is_right(row: &str) -> Result<bool, TableFault> {
+    let (call, passed, bytes, wait) = cells(row)?.four()?;
+    let wait = match wait {
+        "none" => None,
+        _ => Some(Duration::from_millis(number(wait)?)),
+    };
+    let passed = Duration::from_millis(number(passed)?);
+    Ok(wait_of(call, passed, number(bytes)?)? == wait)
+}
+
+#[test]
+fn waits(rt: HostRuntime) {
+    for row in WAITS.joined(rt.alloc()).expect(&rt, "waits").lines() {
+        assert_eq!(rt; is_right(row), Ok(true), "{row}");
+    }
+}
