@@ -9,64 +9,39 @@
 # 4. install.sh is tested in the same way below /usr/local.
 #
 # Steps 3 and 4 need root on Debian 12 and a mirror: debootstrap's own, or MIRROR. Without them the root contains only the package, installed
-# by dpkg --root, and the server isn't tested. With REQUIRE_ALL set, missing commands are installed by apt-get, and anything left out is a
-# failure. The parts that need systemd as the first process aren't tested: starting and stopping the unit, and its namespaces.
+# by dpkg --root, and the server isn't tested. With REQUIRE_ALL set, missing commands are installed, and anything left out is a failure. The
+# parts that need systemd as the first process aren't tested: starting and stopping the unit, and its namespaces.
 #
-# Prints what failed, then the number of tests and their time. Exit status 0 means that nothing failed. It takes two to three minutes.
+# Prints what failed, then the counts. Exit status 0 means that nothing failed. It takes two to three minutes.
 
 set -u
 export LC_ALL=C.UTF-8
+here=$(realpath "$(dirname "$0")")
+top=$(dirname "$here")
+# shellcheck source=tools/testing.sh
+. "$top/tools/testing.sh"
 
-if [ $# -ne 1 ] || [ ! -x "$1" ] || [ -d "$1" ]; then
+if [ $# -ne 1 ] || ! is_program "$1"; then
     echo "usage: ${0##*/} PATH_TO_extractd" >&2
     exit 1
 fi
 program=$(realpath "$1")
-here=$(realpath "$(dirname "$0")")
-top=$(dirname "$here")
-tried=0 failed=0
+make_scratch
+install_missing debootstrap dpkg-shlibdeps groff lintian nsenter strace strip zsh
 
-fail() {
-    tried=$((tried + 1)) failed=$((failed + 1))
-    printf 'FAILED: %s\n' "$@"
-}
 # same NAME EXPECTED ACTUAL
 same() {
-    if [ "$2" = "$3" ]; then tried=$((tried + 1)); else fail "$1" "should be: ${2:0:500}" "and is: ${3:0:500}"; fi
+    if [ "$2" = "$3" ]; then pass; else fail "$1" "should be: ${2:0:500}" "and is: ${3:0:500}"; fi
 }
 # does NAME COMMAND..: checks that a command exits with 0 and writes no error.
 does() {
     local name=$1
     shift
-    if "$@" > "$scratch/said" 2> "$scratch/error" && [ ! -s "$scratch/error" ]; then
-        tried=$((tried + 1))
-    else
+    if "$@" > "$scratch/said" 2> "$scratch/error" && [ ! -s "$scratch/error" ]; then pass; else
         fail "$name" "$(tail -n 5 "$scratch/error" "$scratch/said")"
     fi
 }
-leave_out() {
-    if [ -n "${REQUIRE_ALL-}" ]; then fail "left out: $1"; else echo "left out: $1"; fi
-}
-# has COMMAND PACKAGE: whether the command exists. With REQUIRE_ALL set it is installed from the package.
-has() {
-    command -v "$1" > /dev/null && return
-    [ -n "${REQUIRE_ALL-}" ] || return
-    { apt-get update && DEBIAN_FRONTEND=noninteractive apt-get -o DPkg::Lock::Timeout=300 install -y --no-install-recommends "$2"; } \
-        > "$scratch/apt" 2>&1 || tail -n 3 "$scratch/apt"
-    command -v "$1" > /dev/null
-}
 
-scratch=$(mktemp -d) || exit 1
-chmod 755 "$scratch"
-started=()
-# end: stops the process that was started last.
-end() {
-    kill "${started[-1]}" 2> /dev/null
-    wait "${started[-1]}" 2> /dev/null
-    unset 'started[-1]'
-}
-trap 'while [ ${#started[@]} -gt 0 ]; do end; done; rm -rf "$scratch"' EXIT
-trap 'exit 1' INT TERM HUP
 package=$scratch/extractd.deb root=$scratch/root
 documents=usr/share/doc/extractd
 
@@ -81,12 +56,9 @@ try_building() {
     same 'no package of another program' 'deb.sh: /bin/true: --version isn'\''t that of extractd' "$("$here/deb.sh" /bin/true "$scratch/no.deb" 2>&1)"
     same 'nothing is left of it' '' "$(find "$scratch" -name 'no.deb' -o -name '.extractd*')"
     same 'it depends on the C library' libc6 "$(dpkg-deb -f "$package" Depends | tr -d ' ' | tr ',' '\n' | sed -n 's/^\(libc6\)(.*/\1/p')"
-    if has lintian lintian; then
-        # The package isn't for Debian's archive, so it closes no request for packaging.
-        does 'lintian' lintian --allow-root --fail-on error,warning --suppress-tags initial-upload-closes-no-bugs "$package"
-    else
-        leave_out 'lintian (it is missing)'
-    fi
+    needs 'what lintian reports' lintian || return
+    # The package isn't for Debian's archive, so it closes no request for packaging.
+    does 'lintian' lintian --allow-root --fail-on error,warning --suppress-tags initial-upload-closes-no-bugs "$package"
 }
 
 # snapshot: prints each file of the root, except dpkg's own and those of /run, with its mode, its owner and its checksum.
@@ -110,7 +82,7 @@ inside() { nsenter --net="/proc/$holder/ns/net" chroot "$root" "$@"; }
 # make_root: makes a clean Debian in `root` and a network of its own, which a process keeps open.
 make_root() {
     local waited
-    [ "$(id -u)" = 0 ] && has debootstrap debootstrap && has nsenter util-linux || return
+    [ "$(id -u)" = 0 ] && has debootstrap && has nsenter || return
     if ! debootstrap --variant=minbase --include=nginx-light,openssl,curl,systemd,iproute2 bookworm "$root" ${MIRROR:+"$MIRROR"} \
         > "$scratch/debootstrap" 2>&1; then
         tail -n 3 "$scratch/debootstrap"
@@ -138,7 +110,7 @@ start_server() {
     limits=(--nofile="$(setting LimitNOFILE)" --core="$(setting LimitCORE)" --nproc="$(setting TasksMax)")
     limits+=(--as="$(setting LimitAS | numfmt --from=iec)")
     rights=(--reuid 61234 --regid 61234 --clear-groups --no-new-privs --bounding-set=-all --inh-caps=-all)
-    has strace strace && trace=(strace -D -f -qq -o "$scratch/trace")
+    has strace && trace=(strace -D -f -qq -o "$scratch/trace")
     : > "$scratch/serving"
     # shellcheck disable=SC2016 # The inner shell expands them.
     nsenter --net="/proc/$holder/ns/net" unshare --mount --ipc --uts \
@@ -224,7 +196,7 @@ try_server() {
     same "$url: no route" 'not found' "$(ask "$url/none")"
     end
     end
-    if [ -s "$scratch/trace" ]; then try_calls; else leave_out 'the system calls of the server (strace is missing)'; fi
+    if [ -s "$scratch/trace" ]; then try_calls; else skip 'the system calls of the server (strace is missing, or refused)'; fi
 }
 
 # try_package: tests the package in the clean root.
@@ -273,11 +245,7 @@ try_install() {
     unchanged 'a refused install.sh leaves something'
 }
 
-if ! has dpkg-shlibdeps dpkg-dev || ! has strip binutils; then
-    leave_out 'all of it (there is no dpkg-dev here)'
-else
-    has zsh zsh
-    has groff groff-base
+if needs 'the package' dpkg-shlibdeps strip; then
     does 'manual pages and completions' "$here/tests/options.sh" "$program"
     cat "$scratch/said"
     try_building
@@ -290,7 +258,7 @@ if [ -e "$package" ] && make_root; then
     unchanged 'the package leaves something'
     try_install inside /usr/local/bin/extractd select --where "CFCC = 'A41'" --data /usr/local/share/doc/extractd/examples 01001
 elif [ -e "$package" ]; then
-    leave_out 'a clean Debian, and the server in it (there is no debootstrap, no mirror, or no root here)'
+    skip 'a clean Debian, and the server in it (there is no debootstrap, no mirror, or no root here)'
     rm -rf "$root"
     mkdir -p "$root/var/lib/dpkg"/{info,updates,triggers} "$root/usr/local"
     # dpkg looks for its helpers in these folders.
@@ -306,5 +274,4 @@ elif [ -e "$package" ]; then
     try_install "$root/usr/local/bin/extractd" select --where "CFCC = 'A41'" --data "$root/usr/local/share/doc/extractd/examples" 01001
 fi
 
-echo "$((tried - failed)) passed, $failed failed, in $SECONDS seconds"
-[ $failed -eq 0 ]
+finish

@@ -5,7 +5,8 @@
 # parallel, and are skipped if these are missing. As root it installs what is missing by apt-get: on a bare Debian 12 that is a download
 # of 300 MB, and 1.1 GB on the disk. With REQUIRE_ALL=1, as in CI, a skipped test is a failure.
 #
-# Prints the failures. The last line says how many tests passed, failed and were skipped, and why. Exit status 0 means that no test failed.
+# Prints the failures, what was skipped and why, and in the last line how many tests passed and failed. Exit status 0 means that no test
+# failed.
 
 set -u
 python=${PYTHON:-/usr/bin/python3}
@@ -36,5 +37,9 @@ if [ -n "$missing" ] && [ "$(id -u)" = 0 ] && command -v apt-get > /dev/null; th
     rm -f "$log"
 fi
 
+if ! has_module pytest; then
+    printf '%s\n' "FAILED: there is no pytest for $python here" '0 passed, 1 failed'
+    exit 1
+fi
 cd "$here" || exit
 PYTHONDONTWRITEBYTECODE=1 exec "$python" -m pytest -q -rs

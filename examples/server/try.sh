@@ -1,11 +1,12 @@
 #!/usr/bin/env bash
 # Tests the files next to it with a built program: examples/server/try.sh PATH_TO_extractd
 #
-# It needs bash, coreutils and curl. Other tests are left out if a command is missing:
-# - site.conf, through nginx.conf: nginx (1.19.5 or later) and openssl, which makes a certificate that is valid for a day;
-# - extractd.service: systemd-analyze, of systemd 249 or later;
-# - ../job.py: python3 (3.8 or later).
-# With REQUIRE_ALL set, as .ci/run sets it, missing commands are installed by apt-get, and anything left out is a failure.
+# It needs bash, coreutils and curl. Other tests need
+# - nginx (1.19.5 or later) and openssl, which makes a certificate that is valid for a day: site.conf, through nginx.conf;
+# - systemd-analyze, of systemd 249 or later: extractd.service;
+# - python3 (3.8 or later): ../job.py.
+# What needs a command that is missing is left out. With REQUIRE_ALL set, as .ci/run sets it, missing commands are installed, as root on Debian 12, and
+# anything left out is a failure.
 #
 # It serves the example county at a free port and requests each route, directly and through nginx, comparing status and body. The server must listen at
 # 127.0.0.1 only. A client whose request is refused early may go on sending for a while, and still gets its reply.
@@ -17,56 +18,25 @@
 
 set -u
 export LC_ALL=C
+here=$(realpath "$(dirname "$0")")
+examples=$(dirname "$here")
+# shellcheck source=tools/testing.sh
+. "$examples/../tools/testing.sh"
 
-if [ $# -ne 1 ] || [ ! -x "$1" ] || [ -d "$1" ]; then
+if [ $# -ne 1 ] || ! is_program "$1"; then
     echo "usage: ${0##*/} PATH_TO_extractd" >&2
     exit 1
 fi
 program=$(realpath "$1")
-here=$(realpath "$(dirname "$0")")
-examples=$(dirname "$here")
-tried=0 failed=0
-
-pass() { tried=$((tried + 1)); }
-fail() { failed=$((failed + 1)); printf 'FAILED: '; printf '%s\n' "$@"; }
-skip() {
-    if [ -n "${REQUIRE_ALL-}" ]; then fail "left out: $1"; else printf 'left out: %s\n' "$1"; fi
-}
-
-# has COMMAND PACKAGE: whether the command exists. With REQUIRE_ALL set it is installed from the package.
-has() {
-    command -v "$1" > /dev/null && return
-    [ -n "${REQUIRE_ALL-}" ] || return
-    { apt-get update && DEBIAN_FRONTEND=noninteractive apt-get install -y --no-install-recommends "$2"; } > "$scratch/apt" 2>&1 || tail -n 3 "$scratch/apt"
-    command -v "$1" > /dev/null
-}
-
-finish() {
-    echo "$tried passed, $failed failed"
-    [ $failed -eq 0 ]
-    exit
-}
-
-scratch=$(mktemp -d) || exit 1
-started=()
-# end: stops the process that was started last.
-end() {
-    kill "${started[-1]}" 2> /dev/null
-    wait "${started[-1]}" 2> /dev/null
-    unset 'started[-1]'
-}
-trap 'while [ ${#started[@]} -gt 0 ]; do end; done; rm -rf "$scratch"' EXIT
-trap 'exit 1' INT TERM HUP
-# nginx's worker isn't root, even if this script is.
-chmod 755 "$scratch"
+# nginx's worker isn't root, even if this script is; it can read this folder.
+make_scratch
+install_missing curl hostname nginx openssl python3 systemd-analyze
+make_commands "$program"
 cd "$scratch" || exit 1
 # Ignores the user's settings.
 export HOME=$scratch
 
-if ! has curl curl; then
-    fail 'there is no curl here'
-    finish
-fi
+needs 'the server' curl || { finish; exit; }
 
 # start FOLDER: serves its county at a free port, and sets `port`.
 start() {
@@ -174,12 +144,14 @@ try_job() {
 }
 
 # connects ADDRESS: whether something listens at the server's port there.
+# shellcheck disable=SC2016 # The inner shell expands them.
 connects() { timeout 5 bash -c 'exec 3<> "/dev/tcp/$1/$2"' - "$1" "$port" 2> /dev/null; }
 
 # try_address: the server listens at 127.0.0.1, and at none of this machine's other addresses.
 try_address() {
     local address
     if connects 127.0.0.1; then pass; else fail 'nothing listens at 127.0.0.1'; fi
+    needs "the server's other addresses" hostname
     for address in 127.0.0.2 $(hostname -I 2> /dev/null); do
         [[ $address == *:* ]] && continue
         if connects "$address"; then fail "the server listens at $address, too"; else pass; fi
@@ -189,6 +161,7 @@ try_address() {
 # try_refused_client: a body that is too long is refused after its head. The client goes on sending for a second, and then reads the reply.
 try_refused_client() {
     local reply
+    # shellcheck disable=SC2016 # The inner shell expands them.
     reply=$(timeout 30 bash -c '
         exec 3<> "/dev/tcp/127.0.0.1/$1"
         printf "POST /verify HTTP/1.1\r\nContent-Length: 2000000\r\n\r\n" >&3
@@ -230,19 +203,20 @@ costly() {
 
 # try_slow_extracts: the hostile client sends 12 requests with endless bodies. nginx accepts 8 per client, and none of them blocks /extract.
 try_slow_extracts() {
-    local client sent=()
+    local client pipe sent=()
     for client in {1..12}; do
         mkfifo "stuck.$client"
         "${hostile[@]}" -m 60 -o "stuck.reply.$client" -X POST -T - "$url/extract" < "stuck.$client" > "stuck.status.$client" &
         started+=("$!")
-        exec {sent[client]}> "stuck.$client"
-        head -c 8 all.bpf >&"${sent[client]}"
+        exec {pipe}> "stuck.$client"
+        head -c 8 all.bpf >&"$pipe"
+        sent+=("$pipe")
     done
     sleep 1
     ask 'an extract while another client sends 12 slowly' 200 large.rows -m 20 --data-binary @all.bpf "$url/extract"
     if [ "$(cat stuck.status.* | grep -o 503 | wc -l)" = 4 ]; then pass; else fail '8 requests of one client at once' "$(cat stuck.status.*)"; fi
     for client in {1..12}; do end; done
-    for client in {1..12}; do exec {sent[client]}>&-; done
+    for pipe in "${sent[@]}"; do exec {pipe}>&-; done
 }
 
 # try_left_extracts: the hostile client requests costly extracts and leaves at once. The server still makes them, so another client may have to wait for
@@ -347,6 +321,7 @@ start_nginx() {
     done
     fail "nginx doesn't start: $(cat nginx.err proxy/error.log 2> /dev/null)"
     finish
+    exit
 }
 
 # try_proxy: tests nginx's part.
@@ -390,23 +365,21 @@ head -c 1048576 /dev/zero > longest
 "$program" run --program all.bpf --data "$examples" 01001 > rows
 "$program" geocode --data "$examples" --number 751 --name main 01001 > hits
 "$program" geocode --data "$examples" --number 751 --name main --zip 36067 01001 > hits.zip
-if [ "$(wc -c < rows)" != 92400 ]; then fail "$program doesn't write the example county's rows"; finish; fi
+if [ "$(wc -c < rows)" != 92400 ]; then fail "$program doesn't write the example county's rows"; finish; exit; fi
 
 if ! start "$examples"; then
     fail "$program doesn't serve the example county: $(cat said.err)"
     finish
+    exit
 fi
 url=http://127.0.0.1:$port
 try_address
 try_routes "$url"
 try_refused_client
-if has python3 python3; then try_job "$url" --server "$url"; else skip 'job.py (there is no python3 here)'; fi
+if needs 'job.py' python3; then try_job "$url" --server "$url"; fi
 
-if ! has nginx nginx-light; then
-    skip 'nginx.conf (there is no nginx here); the server was tried without it'
-elif ! has openssl openssl; then
-    skip 'nginx.conf (there is no openssl here, for a certificate); the server was tried without it'
-else
+# openssl makes the certificate.
+if needs 'nginx.conf' nginx openssl; then
     mkdir proxy
     chmod 755 proxy
     openssl req -x509 -newkey ec -pkeyopt ec_paramgen_curve:prime256v1 -nodes -keyout proxy/extractd.key -out proxy/extractd.crt \
@@ -414,7 +387,7 @@ else
     start_nginx
     try_routes "$url"
     try_proxy
-    if has python3 python3; then
+    if needs 'job.py through nginx' python3; then
         try_job "$url" --server "$url" --insecure
         try_job "$url" --server "$url" --ca proxy/extractd.crt
         python3 "$examples/job.py" --server "$url" all.bpf > job.rows 2> job.err
@@ -428,9 +401,7 @@ else
     try_down
 fi
 
-if ! has systemd-analyze systemd; then
-    skip 'extractd.service (there is no systemd-analyze here)'
-else
+if needs 'extractd.service' systemd-analyze; then
     mkdir unit
     # A unit's command line can't name a program with a blank in its path, so this is a link.
     ln -s "$program" unit/extractd

@@ -4,37 +4,32 @@
 # Each command and each option of its --help must be in its manual page and in both completions, and no other may be there. Each page must render
 # without a warning and name the program's version. Each offered column must be accepted, and docs/filters.md must have all numeric columns.
 #
-# Needs bash and coreutils. Without zsh or groff the tests that need them are left out; with REQUIRE_ALL set that is a failure.
-# Prints what failed, then the number of tests. Exit status 0 means that nothing failed.
+# Needs bash and coreutils, and for some tests zsh and groff. Without these the tests are left out. With REQUIRE_ALL set, as .ci/run sets it, they are
+# installed, as root on Debian 12, and anything left out is a failure.
+# Prints what failed, then the counts. Exit status 0 means that nothing failed.
 
 set -u
 export LC_ALL=C.UTF-8
+here=$(realpath "$(dirname "$0")")
+packaging=$(dirname "$here")
+examples=$(dirname "$packaging")/examples
+# shellcheck source=tools/testing.sh
+. "$packaging/../tools/testing.sh"
 
-if [ $# -ne 1 ] || [ ! -x "$1" ] || [ -d "$1" ]; then
+if [ $# -ne 1 ] || ! is_program "$1"; then
     echo "usage: ${0##*/} PATH_TO_extractd" >&2
     exit 1
 fi
 program=$(realpath "$1")
-here=$(realpath "$(dirname "$0")")
-packaging=$(dirname "$here")
-examples=$(dirname "$packaging")/examples
-tried=0 failed=0
-scratch=$(mktemp -d) || exit 1
-trap 'rm -rf "$scratch"' EXIT
-trap 'exit 1' INT TERM HUP
+make_scratch
+install_missing groff zsh
 
 # same NAME EXPECTED ACTUAL: checks that two lists of words are equal, in any order.
 same() {
     local expected actual
     # shellcheck disable=SC2086 # They are words.
     expected=$(printf '%s\n' $2 | sort) actual=$(printf '%s\n' $3 | sort)
-    tried=$((tried + 1))
-    [ "$expected" = "$actual" ] && return
-    failed=$((failed + 1))
-    printf 'FAILED: %s\n' "$1" "should be: ${expected//$'\n'/ }" "and is: ${actual//$'\n'/ }"
-}
-leave_out() {
-    if [ -n "${REQUIRE_ALL-}" ]; then same "left out: $1" '' missing; else echo "left out: $1"; fi
+    if [ "$expected" = "$actual" ]; then pass; else fail "$1" "should be: ${expected//$'\n'/ }" "and is: ${actual//$'\n'/ }"; fi
 }
 
 help_of() { "$program" "$@" --help 2>&1; }
@@ -56,11 +51,9 @@ cd "$examples" || exit
     for command in $commands; do echo "extractd $command --"; done
 } > "$scratch/lines"
 zsh=
-if command -v zsh > /dev/null; then
+if needs 'completions in zsh' zsh; then
     zsh=yes
     zsh -f "$here/complete.zsh" "$packaging/completions" "$scratch/zdot" < "$scratch/lines" > "$scratch/zsh"
-else
-    leave_out 'completions in zsh (there is no zsh here)'
 fi
 # offers NAME EXPECTED WORD..: checks the completions of a command line in both shells.
 offers() {
@@ -94,7 +87,8 @@ for column in $columns; do
 done
 
 version=$("$program" --version 2>&1)
-groff=$(command -v groff) || leave_out 'how the pages render (there is no groff here)'
+groff=
+if needs 'how the pages render' groff; then groff=yes; fi
 for page in "$packaging"/man/*.1; do
     same "the version in ${page##*/}" "$version" "$(sed -n 's/^\.Os "\(.*\)"$/\1/p' "$page")"
     [ "${page##*/}" != extractd.1 ] || continue
@@ -104,5 +98,4 @@ for page in "$packaging"/man/*.1; do
     [ -z "$groff" ] || same "the warnings of ${page##*/}" '' "$(groff -mdoc -Tutf8 -ww -z "$page" 2>&1)"
 done
 
-echo "$((tried - failed)) passed, $failed failed"
-[ $failed -eq 0 ]
+finish

@@ -1,4 +1,4 @@
-"""Finds the built program and the tools, and prints how many tests passed and why others were skipped."""
+"""Finds the built program and the tools, and prints how many tests passed and failed and why others were skipped."""
 
 import contextlib
 import os
@@ -76,6 +76,8 @@ def pytest_runtest_logreport(report: pytest.TestReport) -> None:
 
 
 def pytest_collectreport(report: pytest.CollectReport) -> None:
+    if report.failed:
+        _outcomes["failed"] += 1
     _note_skip(report)
 
 
@@ -84,14 +86,21 @@ def _note_skip(report: pytest.TestReport | pytest.CollectReport) -> None:
         _skipped[report.longrepr[2].removeprefix("Skipped: ")] += 1
 
 
+def _is_all_required() -> bool:
+    """Returns whether everything must be installed, as in CI. Then a skipped test is a failure."""
+    return bool(os.environ.get("REQUIRE_ALL"))
+
+
 @pytest.hookimpl(trylast=True)
 def pytest_sessionfinish(session: pytest.Session) -> None:
-    """Makes a skipped test a failure if everything must be installed, as in CI."""
-    if _skipped and os.environ.get("REQUIRE_ALL") == "1":
+    if _skipped and _is_all_required():
         session.exitstatus = pytest.ExitCode.TESTS_FAILED
 
 
 def pytest_unconfigure() -> None:
-    reasons = ", ".join(sorted(_skipped))
-    counts = f"{_outcomes['passed']} passed, {_outcomes['failed']} failed, {_skipped.total()} skipped"
-    print(f"python: {counts}" + (f": {reasons}" if reasons else ""))
+    """Prints the counts in the last line, which .ci/run reads."""
+    left_out = "FAILED: left out" if _is_all_required() else "left out"
+    for reason, count in sorted(_skipped.items()):
+        print(f"{left_out}: {count} of the tests ({reason})")
+    failed = _outcomes["failed"] + (_skipped.total() if _is_all_required() else 0)
+    print(f"{_outcomes['passed']} passed, {failed} failed")

@@ -1,0 +1,69 @@
+# shellcheck shell=bash
+# Batches of addresses: invalid files, invalid arguments of `geocode-batch`, and its progress.
+# shellcheck disable=SC2016 # try_case expands them.
+# shellcheck disable=SC2154 # ../cases.sh sets `county`.
+
+make_batches() {
+    mkdir batch
+    printf 'id,number\n1,751\n' > batch/no_name.csv
+    printf 'number,name\n751,Pe\361a\n' > batch/latin.csv
+    printf 'number,name\n751,Main\n751,"Main\n751,Oak\n' > batch/open.csv
+    { printf 'number,name,note\n751,Main,'; head -c 1048576 /dev/zero | tr '\0' x; printf '\n'; } > batch/long.csv
+    printf 'number,name\r751,Main\r' > batch/returns.csv
+    printf 'number,name\n751,Ma\0in\n123456789012,Main\n751,%s\n' abcdefghijklmnopqrstuvwxyzabcde > batch/odd.csv
+    printf '\357\273\277Name ,NUMBER\r\nmain,751\r\n\r\n' > batch/marked.csv
+    printf 'number,name\n751,"Main\nStreet"\n751,Main\n' > batch/lines.csv
+    { printf 'number,name\n'; yes 751,Main | head -n 100000; } > batch/many.csv
+}
+
+# try_lines COMMAND: the command gets the header of a batch and then the lines of standard input.
+try_lines() {
+    local lines
+    lines=$(cat)
+    try_case 0 '*' '' "$1"
+    if [ "$(tail -n +2 out)" = "$lines" ]; then pass; else fail "$1" "gives $(cat out)"; fi
+}
+
+# Progress of a batch is shown only on a terminal.
+try_progress() {
+    try_case 0 '*' '' 'extractd geocode-batch --addresses batch/many.csv --data "$county" 01001'
+    needs 'the progress of a batch' script || return
+    script -qec "extractd geocode-batch --addresses batch/many.csv --data '$county' 01001 > out" said < /dev/null > /dev/null
+    if [ "$(wc -l < out)" = 200001 ] && grep -q '[0-9] lines' said; then pass; else
+        fail "geocode-batch tells a terminal how far it is" "$(head -c 400 said)"
+    fi
+}
+
+make_batches
+while IFS='|' read -r arguments status size text; do
+    try_case "$status" "$size" "$text" "extractd geocode-batch $arguments"
+done <<END
+--addresses $county/addresses.csv --data $county 01001|0|641|
+--addresses $county/addresses.csv --data empty 01001|0|426|
+--addresses - --data $county 01001|1|0|refused 100 NoHeader
+--addresses batch/no_name.csv --data $county 01001|1|0|refused 101 line 1 NoColumn
+--addresses batch/latin.csv --data $county 01001|1|0|refused 102 line 2 NotUtf8
+--addresses batch/open.csv --data $county 01001|1|0|refused 103 line 3 OpenQuote
+--addresses batch/long.csv --data $county 01001|1|0|refused 104 line 2 LineTooLong
+--addresses batch/returns.csv --data $county 01001|1|0|refused 105 line 1 NotOneRecord
+--addresses batch/missing.csv --data $county 01001|3|0|error: batch/missing.csv: not found
+--addresses folder --data $county 01001|3|0|error: folder: is a directory
+--addresses batch/open.csv --data faulty 01003|1|0|refused 1 rt1 line 1 WrongLength
+--addresses batch/open.csv --data faulty 01005|3|0|error: faulty/TGR01005.RT1: not found
+--addresses batch/open.csv --data $county|2|0|error: the following required arguments were not provided:*<CODE>...*Usage: extractd geocode-batch *
+END
+try_lines 'extractd geocode-batch --addresses batch/odd.csv --data "$county" 01001' <<'END'
+2,no_match,no_such_street,,,,,,,,,,,,
+3,no_match,not_a_number,,,,,,,,,,,,
+4,no_match,name_too_long,,,,,,,,,,,,
+END
+try_lines 'extractd geocode-batch --addresses batch/marked.csv --data "$county" 01001' <<'END'
+2,tie,,-86.852619,32.484638,107001116,L,,Main,Blvd,S,36003,01001,701,799
+2,tie,,-86.685761,32.610428,107001350,L,,Main,St,,36067,01001,701,799
+END
+try_lines 'extractd geocode-batch --addresses batch/lines.csv --data "$county" 01001' <<'END'
+2,no_match,no_such_street,,,,,,,,,,,,
+4,tie,,-86.852619,32.484638,107001116,L,,Main,Blvd,S,36003,01001,701,799
+4,tie,,-86.685761,32.610428,107001350,L,,Main,St,,36067,01001,701,799
+END
+try_progress

@@ -1,0 +1,49 @@
+# shellcheck shell=bash
+# The parts of ../try.sh, and their units. A unit is named by its file, from the top of the clone. ../try.sh sources this.
+
+# all_parts: prints the parts in the order in which they begin, those with the longest units first.
+all_parts() { echo exhaustion listings addresses filters sources c rows commands verdicts documents; }
+
+# describe_parts: prints a line for each part.
+describe_parts() {
+    cat <<'END'
+  documents    what README.md, docs/*.md and examples/README.md show
+  verdicts     the programs of examples/verdicts, by `verify` and by the server
+  rows         the tables of examples/rows
+  filters      300 filters, against SQLite
+  addresses    1,000 addresses, against a second reading of the files
+  listings     listings of `explain`, against a second reading of the rules
+  c            programs in C, against native code
+  commands     arguments, missing and faulty files, outcomes
+  exhaustion   too little memory, space or descriptors
+  sources      files of the clone that have to agree: links, calls, examples
+END
+}
+
+# units_of PART: prints its units, one per line.
+units_of() {
+    case $1 in
+    documents) printf '%s\n' docs/*.md README.md examples/README.md ;;
+    verdicts) printf '%s\n' examples/verdicts/*.txt ;;
+    rows) printf '%s\n' examples/rows/*.txt ;;
+    filters | addresses | listings) echo "examples/$1.py" ;;
+    c) printf '%s\n' examples/c/random_programs.py examples/c/test_forward.py ;;
+    commands) printf '%s\n' examples/try/commands/*.sh ;;
+    exhaustion) echo examples/exhaustion.sh ;;
+    sources) printf '%s\n' examples/annotations.py examples/mktown.py examples/calls.py examples/links.py ;;
+    esac
+}
+
+# commands_of UNIT: prints the commands that it needs in addition to bash, coreutils and util-linux.
+commands_of() {
+    # shellcheck disable=SC2016 # Nothing in a pattern is expanded.
+    case $1 in
+    *.md) sed -n -E '/tigerline/d; s/^```(console|bash) //p; s/^```http [^ ]+/curl/p' "$1" ;;
+    examples/verdicts/* | examples/try/commands/long_program.sh) echo curl ;;
+    examples/try/commands/batches.sh) echo script ;;
+    examples/rows/* | examples/annotations.py | examples/calls.py | examples/links.py) echo python3 ;;
+    examples/exhaustion.sh) echo curl python3 ;;
+    examples/c/random_programs.py) echo python3.11 clang llvm-objcopy cc ;;
+    *.py) echo python3.11 ;;
+    esac
+}
