@@ -130,7 +130,8 @@ def test_routes(row: str) -> None:
     text, name, kind = cells(row)
     street = take_apart(f"5 {text} N")
     assert isinstance(street, Street)
-    assert Reading(name, sufdir="N", is_other_route=kind == "other") in street.readings
+    changes = (Reason.ROUTE,) if kind == "other" else ()
+    assert Reading(name, sufdir="N", changes=changes) in street.readings
 
 
 @pytest.mark.parametrize("row", REASONS)

@@ -24,7 +24,7 @@ from tigerline import geocoding
 pytestmark = pytest.mark.usefixtures("extractd", "scratch")
 
 EXACT = "1,751 Main Blvd S,Town,AL,36003"
-ROW = ["1", "751 Main Blvd S, Town, AL, 36003", "Match", "Exact", "751 MAIN BLVD S, TOWN, AL, 36003"]
+ROW = ["1", "751 Main Blvd S, Town, AL, 36003", "Match", "Exact", "751 MAIN BLVD S, , AL, 36003"]
 ROW += ["-86.852619,32.484638", "107001116", "L"]
 
 
@@ -81,7 +81,7 @@ class TestColumns:
         (tmp_path / "in.csv").write_text(f"Zip, STREET ,note,id\n36003,751 Main Blvd S,x,1\n")
         done = geocode(tmp_path / "in.csv", "--header", "--reasons")
         assert rows_of(done.stdout)[0] == [*geocoding.OUTPUT_COLUMNS, "reason"]
-        assert rows_of(done.stdout)[1][2:] == ["Match", "Exact", "751 MAIN BLVD S, , , 36003", *ROW[5:], ""]
+        assert rows_of(done.stdout)[1][2:] == ["Match", "Exact", "751 MAIN BLVD S, , AL, 36003", *ROW[5:], ""]
         (tmp_path / "in.csv").write_text("id,street,city,state,zip\n" + EXACT)
         assert geocode(tmp_path / "in.csv").stderr.endswith(
             "line 1 was taken for an address; is it a head line (--header)?\n"
@@ -256,7 +256,7 @@ class TestFunction:
             ("36003", ["Match"]),
             ("36003-1234", ["Match"]),
             ("36003 1234", ["Match"]),
-            ("36009", ["Match", "other_zip"]),
+            ("36009", ["No_Match", "other_zip"]),
             ("", ["Match", "no_zip"]),
             ("AL", ["Match", "no_zip"]),
         ],
@@ -273,7 +273,7 @@ class TestFunction:
         for record_type in "456":
             (tmp_path / f"TGR01001.RT{record_type}").touch()
         (match,) = tigerline.geocode([("1", "5901 Yarrow Blvd", "", "", "7001")], tmp_path)
-        assert match.is_exact and match.matched == "5901 YARROW BLVD, , , 07001"
+        assert match.is_exact and match.matched == "5901 YARROW BLVD, , AL, 07001"
         line[190:200] = b" " * 10
         (tmp_path / "TGR01001.RT1").write_bytes(line)
         (match,) = tigerline.geocode([("1", "5901 Yarrow Blvd", "", "", "7001")], tmp_path)
@@ -400,7 +400,7 @@ CHOICES = """
 5 Elm                  | 36067 |    | tie
 105 Elm St             | 36067 |    | no_such_number_on_street
 5 Pine St              | 36001 | 6  |
-5 Pine St              | 36009 | 7  | no_zip
+5 Pine St              | 36009 |    | other_zip
 5 Pine St              |       |    | tie
 5 Main Ave             | 36067 | 8  |
 5 N Main St            | 36067 | 8  |
@@ -449,7 +449,7 @@ def test_choices(tmp_path: Path, step: int) -> None:
 def test_order_of_readings(tmp_path: Path) -> None:
     """Two readings match one segment. An earlier address with the second reading changes nothing."""
     write_segments(tmp_path)
-    expected = {"5 CR 8": "5 COUNTY ROAD 8, , , 36067", "5 County Rd 8": "5 COUNTY RD 8, , , 36067"}
+    expected = {"5 CR 8": "5 COUNTY ROAD 8, , AL, 36067", "5 County Rd 8": "5 COUNTY RD 8, , AL, 36067"}
     for streets in (list(expected), list(expected)[::-1]):
         matches = tigerline.geocode([("", street, "", "", "36067") for street in streets], tmp_path)
         assert {match.address.street: match.matched for match in matches} == expected

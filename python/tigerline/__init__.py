@@ -14,17 +14,22 @@ if TYPE_CHECKING:
     from ._frames import read_county, select
     from ._program import Refused
     from ._rows import Row, rows
-    from .geocoding import Address, Match, geocode
+    from .geocoding import Address, Candidate, Match, Reason, Status, geocode
 
-__all__ = ["Address", "Match", "Refused", "Row", "geocode", "read_county", "rows", "select"]
+__all__ = [
+    "Address", "Candidate", "Match", "Reason", "Refused", "Row", "Status", "geocode", "read_county", "rows", "select",
+]  # fmt: skip
 __version__ = "1.0.0"
 
 # Each name is imported on its first use, so that `rows` works without pandas and commands start quickly.
 _MODULES = {
     "Address": "geocoding",
+    "Candidate": "geocoding",
     "Match": "geocoding",
+    "Reason": "geocoding",
     "Refused": "_program",
     "Row": "_rows",
+    "Status": "geocoding",
     "geocode": "geocoding",
     "read_county": "_frames",
     "rows": "_rows",

@@ -26,7 +26,9 @@ class Reason(StrEnum):
     NO_SUCH_NUMBER_ON_STREET = "no_such_number_on_street"
     NO_COORDINATES = "no_coordinates"
     TIE = "tie"
+    OTHER_STATE = "other_state"
     OTHER_ZIP = "other_zip"
+    OTHER_CITY = "other_city"
     NO_ZIP = "no_zip"
     DIRECTION = "direction"
     TYPE = "type"
@@ -36,14 +38,16 @@ class Reason(StrEnum):
 class Reading(NamedTuple):
     """A street as the fields FENAME, FEDIRP, FETYPE and FEDIRS would have it. Missing parts are empty.
 
-    `is_other_route` means that the name uses another word than the address: `State Hwy 17` for `SR 17`.
+    `changes` says what the address has differently: a route for `State Hwy 17` if `SR 17` is written. Readings of a
+    lower `stage` come first.
     """
 
     name: str
     predir: str = ""
     type: str = ""
     sufdir: str = ""
-    is_other_route: bool = False
+    changes: tuple[Reason, ...] = ()
+    stage: int = 0
 
 
 class Street(NamedTuple):
@@ -156,7 +160,7 @@ def _readings(words: list[str]) -> list[Reading]:
         for sufdir, after in _directions_at_end(keys):
             for type_, last in _type_at_end(keys[:after]):
                 found += [
-                    Reading(name, predir, type_, sufdir, is_other)
+                    Reading(name, predir, type_, sufdir, (Reason.ROUTE,) if is_other else ())
                     for name, is_other in _names(words[first:last])
                     if len(name.encode("utf-8", "replace")) <= LONGEST_NAME
                 ]

@@ -1,122 +1,30 @@
-"""Runs `extractd geocode-batch` with all readings of addresses, and chooses among its hits."""
+"""Runs `extractd geocode-batch` with all readings of addresses, and gives its hits to the answers."""
 
 import csv
 import io
 import warnings
 from collections.abc import Iterator, Sequence
-from contextlib import ExitStack
+from contextlib import ExitStack, contextmanager
 from dataclasses import dataclass, field
-from enum import IntEnum
+from pathlib import Path
 from typing import NamedTuple
 
 from . import _program
-from ._addresses import Reading, Reason, Street
+from ._addresses import Reading, Street
 from ._extract import with_own_paths
-from ._geocode_words import same_type
+from ._geocode_choice import Answer, Hit
+from ._geocode_towns import Cities
 from ._interrupts import Interrupts
 from ._sources import County, opened_county
 
+RECORD_TYPES = "1456C"
 NO_PARTS = ("", "", "")
 QUESTION_COLUMNS = ("id", "number", "name", "predir", "type", "sufdir")
 HIT_COLUMNS = (
     "id", "status", "reason", "longitude", "latitude", "tlid", "side", "fedirp", "fename", "fetype", "fedirs", "zip",
     "county", "from", "to",
 )  # fmt: skip
-
-
-class Hit(NamedTuple):
-    """A line of `geocode-batch`: a range with the house number, and the name of its segment that matches."""
-
-    longitude: str
-    latitude: str
-    tlid: str
-    side: str
-    fedirp: str
-    fename: str
-    fetype: str
-    fedirs: str
-    zip: str
-    county: str
-    first: str
-    last: str
-
-    @property
-    def place(self) -> tuple[str, str] | None:
-        """The longitude and the latitude, or None if the segment has no coordinates."""
-        return (self.longitude, self.latitude) if self.longitude else None
-
-
-class ZipCode(IntEnum):
-    """How the ZIP Code of a hit agrees with that of an address, best first."""
-
-    SAME = 0
-    MISSING = 1
-    OTHER = 2
-
-
-@dataclass(slots=True)
-class Answer:
-    """The best hits of one address, as they are found.
-
-    Of several hits with the least rank, `best` is the first in the order of counties, readings and the program.
-    `street_exists` says that a segment has the name, the directions and the type of a reading.
-    """
-
-    zip_code: str
-    best: Hit | None = None
-    lacks: tuple[Reason, ...] = ()
-    rank: tuple[int, int] = (len(ZipCode), 0)
-    order: tuple[int, int] = (0, 0)
-    places: set[tuple[str, str] | None] = field(default_factory=set)
-    street_exists: bool = False
-
-    def add(self, reading: Reading, hit: Hit, order: tuple[int, int]) -> None:
-        """Adds a hit that agrees with the reading, and drops those that agree less. `order`: county and reading."""
-        difference = compare_street(reading, hit)
-        if difference is None:
-            return
-        lacks, unconfirmed = difference
-        zip_code = compare_zip(self.zip_code, hit.zip)
-        rank = (zip_code, 1 + unconfirmed if lacks else 0)
-        if rank < self.rank:
-            self.places.clear()
-        if (rank, order) < (self.rank, self.order) or self.best is None:
-            of_zip = {ZipCode.MISSING: (Reason.NO_ZIP,), ZipCode.OTHER: (Reason.OTHER_ZIP,)}.get(zip_code, ())
-            self.best, self.lacks, self.rank, self.order = hit, of_zip + lacks, rank, order
-        if rank == self.rank:
-            self.places.add(hit.place)
-
-
-def compare_street(reading: Reading, hit: Hit) -> tuple[tuple[Reason, ...], int] | None:
-    """Returns the parts that only one of the two states, and how many are the reading's, or None if they contradict.
-
-    A direction on the other side of the name is the same direction: `Main St W` may be `W Main St`, but not `E Main St`.
-    """
-    lacks = []
-    stated, found = (reading.predir, reading.sufdir), (hit.fedirp.upper(), hit.fedirs.upper())
-    if any(one and other and one != other for one, other in zip(stated, found)):
-        return None
-    if any(stated) and any(found) and not {*stated} & {*found} - {""}:
-        return None
-    if stated != found:
-        lacks.append(Reason.DIRECTION)
-    unconfirmed = sum(1 for direction in stated if direction and direction not in found)
-    if bool(reading.type) != bool(hit.fetype):
-        lacks.append(Reason.TYPE)
-        unconfirmed += bool(reading.type)
-    elif not same_type(reading.type, hit.fetype):
-        return None
-    if reading.is_other_route:
-        lacks.append(Reason.ROUTE)
-        unconfirmed += 1
-    return tuple(lacks), unconfirmed
-
-
-def compare_zip(wanted: str, found: str) -> ZipCode:
-    """Compares the ZIP Codes of an address and of a hit; either may be empty."""
-    if not wanted or not found:
-        return ZipCode.MISSING
-    return ZipCode.SAME if wanted == found else ZipCode.OTHER
+Asked = tuple[Street, Answer]
 
 
 class Asker(NamedTuple):
@@ -131,40 +39,83 @@ class Asker(NamedTuple):
     is_full: bool
 
 
-def ask(
-    addresses: Sequence[tuple[Street, Answer]],
-    program: str,
-    counties: Sequence[County],
-    interrupts: Interrupts,
-    *,
-    warns: bool = True,
-) -> None:
-    """Adds the hits of `geocode-batch` to the answers. Runs it once per county."""
-    askers, given = _questions(addresses)
-    if not askers:
-        return
-    for county_order, county in enumerate(counties):
+class OpenCounty(NamedTuple):
+    """The files of a county in a temporary folder, its cities, and its place in the order of the counties."""
+
+    county: County
+    order: int
+    files: dict[str, Path]
+    cities: Cities
+
+
+@dataclass
+class Lookup:
+    """Looks addresses up in some counties. It warns once of missing files."""
+
+    program: str
+    counties: Sequence[County]
+    has_warned_of_files: bool = False
+    has_warned_of_cities: bool = False
+    _without_cities: set[str] = field(default_factory=set)
+
+    def answer(self, addresses: Sequence[Asked], interrupts: Interrupts) -> None:
+        """Adds the hits of the addresses to their answers."""
+        askers, questions = _questions(addresses)
+        if not askers:
+            return
+        for order, county in enumerate(self.counties):
+            with self._opened(county, order, interrupts) as opened:
+                self._ask(opened, askers, questions, interrupts)
+            interrupts.check()
+        self.has_warned_of_files = True
+        self._warn_of_cities(addresses)
+
+    @contextmanager
+    def _opened(self, county: County, order: int, interrupts: Interrupts) -> Iterator[OpenCounty]:
         with ExitStack() as stack:
             with warnings.catch_warnings():
-                if not warns:
+                if self.has_warned_of_files:
                     warnings.simplefilter("ignore", UserWarning)
-                files = stack.enter_context(opened_county(county, "1456", interrupts))
-            folder = str(files["1"].parent)
-            command = [program, "geocode-batch", "--addresses", "-", "--data", folder, county.code]
-            try:
-                output = _program.run(command, interrupts, standard_input=given, county=county.code)
-            except OSError as error:
-                raise with_own_paths(error, county, files) from None
-        for at, status, reason, hit in read_hits(output):
+                files = stack.enter_context(opened_county(county, RECORD_TYPES, interrupts))
+            name = str(county.files.get("C") or county.archive)
+            if "C" not in files:
+                self._without_cities.add(county.code)
+            yield OpenCounty(county, order, files, Cities(files.get("C"), name))
+
+    def _warn_of_cities(self, addresses: Sequence[Asked]) -> None:
+        """Warns once if an address has no match since the cities of a county aren't known."""
+        if self.has_warned_of_cities:
+            return
+        for _, answer in addresses:
+            for found in answer.refused if answer.wanted.city and not answer.found else ():
+                if found.hit.county in self._without_cities:
+                    self.has_warned_of_cities = True
+                    warnings.warn(f"TGR{found.hit.county}.RTC is missing: cities can't be compared", stacklevel=2)
+                    return
+
+    def _ask(self, opened: OpenCounty, askers: list[list[Asker]], questions: bytes, interrupts: Interrupts) -> None:
+        """Runs the program for a county."""
+        county, files = opened.county, opened.files
+        folder = str(files["1"].parent)
+        command = [self.program, "geocode-batch", "--addresses", "-", "--data", folder, county.code]
+        try:
+            output = _program.run(command, interrupts, standard_input=questions, county=county.code)
+        except OSError as error:
+            raise with_own_paths(error, county, files) from None
+        lines = list(read_hits(output))
+        cities = opened.cities.of_segments(
+            files["1"], {hit.tlid for _, status, _, hit in lines if status != "no_match"}
+        )
+        for at, status, reason, hit in lines:
+            placed = hit._replace(cities=cities.get((hit.tlid, hit.side), ()))
             for asker in askers[at]:
                 if status != "no_match":
-                    asker.answer.add(asker.reading, hit, (county_order, asker.order))
-                elif asker.is_full and reason == "no_such_number":
+                    asker.answer.add(asker.reading, placed, (opened.order, asker.order))
+                elif asker.is_full and reason == "no_such_number" and asker.answer.may_be_in(county.code):
                     asker.answer.street_exists = True
-        interrupts.check()
 
 
-def _questions(addresses: Sequence[tuple[Street, Answer]]) -> tuple[list[list[Asker]], bytes]:
+def _questions(addresses: Sequence[Asked]) -> tuple[list[list[Asker]], bytes]:
     """Returns the askers of each question, and a CSV file with each question once.
 
     The program compares the first name of a segment that matches the given parts, and a segment may be called both
@@ -191,4 +142,4 @@ def read_hits(output: bytes) -> Iterator[tuple[int, str, str, Hit]]:
     if tuple(head) != HIT_COLUMNS:
         raise OSError(f"extractd geocode-batch wrote other columns than expected: {','.join(head)[:200]!r}")
     for line in lines:
-        yield int(line[0]), line[1], line[2], Hit._make(line[3:])
+        yield int(line[0]), line[1], line[2], Hit._make((*line[3:], ()))

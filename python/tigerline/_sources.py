@@ -28,7 +28,7 @@ STATES = {
 }  # fmt: skip
 UNPACKED_LIMIT = 1 << 30
 CHUNK = 1 << 20
-_FILE = re.compile(r"TGR([0-9]{5})\.(?:RT([12456])|(ZIP))", re.IGNORECASE)
+_FILE = re.compile(r"TGR([0-9]{5})\.(?:RT([12456C])|(ZIP))", re.IGNORECASE)
 
 
 @dataclass(frozen=True)
@@ -73,7 +73,7 @@ def _counties_of_folder(folder: Path, names: list[str]) -> Iterator[County]:
             continue
         code, record_type, archive = found.groups()
         place = archives if archive else files.setdefault(code, {})
-        key = code if archive else record_type
+        key = code if archive else record_type.upper()
         if key in place:
             raise OSError(f"{folder} has {place[key].name} and {name}, which are the same file of a county")
         place[key] = folder / name
@@ -201,9 +201,10 @@ def _members(archive: zipfile.ZipFile, path: Path) -> dict[tuple[str, str], zipf
             raise OSError(f"{path} has the zip file {member.filename!r} in it: unpack it, and name the folder")
         if stat.S_ISLNK(member.external_attr >> 16):
             raise OSError(f"{path} has a link in place of a file: {member.filename!r}")
-        if (name[1], name[2]) in found:
+        key = name[1], name[2].upper()
+        if key in found:
             raise OSError(f"{path} has {inside.name} twice")
-        found[name[1], name[2]] = member
+        found[key] = member
     codes = sorted({code for code, _ in found})
     if len(codes) > 1:
         raise OSError(f"{path} has more than one county, {' and '.join(codes[:2])}: unpack it, and name the folder")

@@ -18,20 +18,23 @@ from enum import StrEnum
 from itertools import islice
 from pathlib import Path
 from select import PIPE_BUF, select
+from typing import NamedTuple
 
 from . import _program
 from ._addresses import Reason, Street, take_apart
 from ._commands import exit_status
 from ._extract import active_interrupts
-from ._geocode import Answer, Hit, ask
+from ._geocode import Lookup
+from ._geocode_choice import Answer, Found
 from ._geocode_input import COLUMNS, POLL, STANDARD_INPUT, Address, AddressFile, opened_input
+from ._geocode_towns import Wanted, city_key, state_of, state_of_county
 from ._interrupts import Interrupts
 from ._output import pending_file
 from ._program import PathLike
 from ._scratch import naming, scratch_folder
 from ._sources import choose_counties, find_counties
 
-__all__ = ["Address", "Match", "Reason", "Status", "geocode"]
+__all__ = ["Address", "Candidate", "Match", "Reason", "Status", "geocode"]
 
 COMMAND = "geocode"
 # The number of addresses whose readings and hits are in memory. The counties are loaded again for each such part.
@@ -48,12 +51,28 @@ class Status(StrEnum):
     NO_MATCH = "No_Match"
 
 
+class Candidate(NamedTuple):
+    """A place that an address may mean: one of several, or one in a town that doesn't agree with the address.
+
+    `reasons` says what the address lacks for an exact match there. The rest is as in a match.
+    """
+
+    reasons: tuple[Reason, ...]
+    matched: str
+    longitude: float
+    latitude: float
+    tlid: int
+    side: str
+    county: str
+
+
 @dataclass(frozen=True, slots=True)
 class Match:
     """The result for an address.
 
     For a match, `matched` is the address in the data's spelling, and the place is in degrees (NAD 83). `reasons` says
-    why there is no match, or what is missing for an exact one.
+    why there is no match, or what is missing for an exact one. `candidates` are the places of a tie, or those that were
+    found in another town.
     """
 
     address: Address
@@ -65,6 +84,7 @@ class Match:
     tlid: int | None = None
     side: str | None = None
     county: str | None = None
+    candidates: tuple[Candidate, ...] = ()
 
     @property
     def is_exact(self) -> bool:
@@ -106,16 +126,27 @@ def _geocode(
     with active_interrupts(interrupts) as held:
         program = _program.find_program(extractd, held)
         chosen = choose_counties(find_counties(folder), counties, folder)
+    states = {state_of_county(county.code) for county in chosen}
     remaining = iter(addresses)
-    is_first = True
+    lookup = Lookup(program, chosen)
     while part := list(islice(remaining, ADDRESSES_AT_ONCE)):
-        taken = [(take_apart(address.street), Answer(zip_of(address.zip))) for address in part]
+        taken = [(_street_of(address, states), Answer(_wanted(address))) for address in part]
         asked = [(street, answer) for street, answer in taken if isinstance(street, Street)]
         with active_interrupts(interrupts) as held:
             held.check()
-            ask(asked, program, chosen, held, warns=is_first)
-        is_first = False
+            lookup.answer(asked, held)
         yield from map(_match, part, *zip(*taken))
+
+
+def _street_of(address: Address, states: set[str]) -> Street | Reason:
+    """Returns the number and the readings of an address, or the reason for which it isn't looked up."""
+    street = take_apart(address.street)
+    state = state_of(address.state)
+    return Reason.OTHER_STATE if isinstance(street, Street) and state and state not in states else street
+
+
+def _wanted(address: Address) -> Wanted:
+    return Wanted(zip_of(address.zip), city_key(address.city), state_of(address.state))
 
 
 def zip_of(cell: str) -> str:
@@ -128,30 +159,36 @@ def _match(address: Address, street: Street | Reason, answer: Answer) -> Match:
     """Returns the result for an address."""
     if isinstance(street, Reason):
         return Match(address, Status.NO_MATCH, (street,))
-    if answer.best is None:
-        reason = Reason.NO_SUCH_NUMBER_ON_STREET if answer.street_exists else Reason.NO_SUCH_STREET
-        return Match(address, Status.NO_MATCH, (reason,))
+    if not answer.found:
+        return Match(address, Status.NO_MATCH, (answer.reason,), candidates=_candidates(street, answer.refused))
     if len(answer.places) > 1:
-        return Match(address, Status.TIE, (Reason.TIE,))
-    if answer.best.place is None:
+        return Match(address, Status.TIE, (Reason.TIE,), candidates=_candidates(street, answer.found))
+    if answer.best.hit.place is None:
         return Match(address, Status.NO_MATCH, (Reason.NO_COORDINATES,))
-    hit = answer.best
-    return Match(
-        address,
-        Status.MATCH,
-        answer.lacks,
-        _matched(address, street.number, hit),
+    found = answer.best
+    return Match(address, Status.MATCH, found.lacks, *_candidate(street, found)[1:])
+
+
+def _candidates(street: Street, found: Iterable[Found]) -> tuple[Candidate, ...]:
+    """Returns the places of hits, each once."""
+    first: dict[tuple[str, str], Found] = {}
+    for one in sorted(found, key=lambda one: one.order):
+        if one.hit.place:
+            first.setdefault(one.hit.place, one)
+    return tuple(_candidate(street, one) for one in first.values())
+
+
+def _candidate(street: Street, found: Found) -> Candidate:
+    hit = found.hit
+    return Candidate(
+        found.lacks,
+        f"{street.number} {hit.street}, {hit.town}".upper(),
         float(hit.longitude),
         float(hit.latitude),
         int(hit.tlid),
         hit.side,
         hit.county,
     )
-
-
-def _matched(address: Address, number: int, hit: Hit) -> str:
-    street = " ".join(part for part in (str(number), hit.fedirp, hit.fename, hit.fetype, hit.fedirs) if part)
-    return ", ".join((street, address.city.strip(), address.state.strip(), hit.zip)).upper()
 
 
 def parsed(words: Sequence[str]) -> argparse.Namespace:

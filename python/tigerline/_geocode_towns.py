@@ -1,0 +1,148 @@
+"""Tells whether an address and a segment are in the same town, by their states, ZIP Codes and cities.
+
+Nothing here is proved. `extractd` reads no record of type C, which has the names of cities.
+"""
+
+import re
+from collections.abc import Collection, Iterator
+from enum import IntEnum
+from pathlib import Path
+from typing import NamedTuple
+
+from ._layout import FIELDS, number
+from ._sources import STATES
+
+NAME_LENGTH = 122
+_FIPS, _NAME = slice(14, 19), slice(62, 122)
+_PLACES = {field.name: field.bytes for field in FIELDS}
+_TLID = _PLACES["TLID"]
+_CITY_CODES = {side: (_PLACES[f"PLACE{side}"], _PLACES[f"COUSUB{side}"]) for side in "LR"}
+
+_STATE_NAMES = """
+    AL Alabama Ala | AK Alaska | AZ Arizona Ariz | AR Arkansas Ark | CA California Calif Cal | CO Colorado Colo
+    CT Connecticut Conn | DE Delaware Del | DC District_of_Columbia Washington_DC | FL Florida Fla | GA Georgia
+    HI Hawaii | ID Idaho | IL Illinois Ill | IN Indiana Ind | IA Iowa | KS Kansas Kans Kan | KY Kentucky
+    LA Louisiana | ME Maine | MD Maryland | MA Massachusetts Mass | MI Michigan Mich | MN Minnesota Minn
+    MS Mississippi Miss | MO Missouri | MT Montana Mont | NE Nebraska Nebr Neb | NV Nevada Nev
+    NH New_Hampshire | NJ New_Jersey | NM New_Mexico | NY New_York | NC North_Carolina | ND North_Dakota
+    OH Ohio | OK Oklahoma Okla | OR Oregon Ore | PA Pennsylvania Penn Penna | RI Rhode_Island | SC South_Carolina
+    SD South_Dakota | TN Tennessee Tenn | TX Texas Tex | UT Utah | VT Vermont | VA Virginia | WA Washington Wash
+    WV West_Virginia | WI Wisconsin Wis Wisc | WY Wyoming Wyo | AS American_Samoa | GU Guam
+    MP Northern_Mariana_Islands | PR Puerto_Rico | UM US_Minor_Outlying_Islands | VI Virgin_Islands US_Virgin_Islands
+"""
+# What may be written for a state, in capitals and without dots, and its postal abbreviation.
+STATE_NAMES = {
+    word.replace("_", " ").upper(): words[0]
+    for line in re.split(r"[|\n]", _STATE_NAMES)
+    for words in (re.findall(r"\S+", line),)
+    for word in words
+}
+_POSTAL = {code: postal for postal, code in STATES.items()}
+_SHORT_WORDS = {"SAINT": "ST", "FORT": "FT", "MOUNT": "MT"}
+
+
+class Town(IntEnum):
+    """How the town of a segment's side agrees with that of an address, best first."""
+
+    SAME_ZIP = 0
+    SAME_CITY = 1
+    NOT_STATED = 2
+    OTHER_ZIP = 3
+    OTHER_CITY = 4
+    NOT_KNOWN = 5
+
+    @property
+    def agrees(self) -> bool:
+        """Whether a place in this town may be that of the address."""
+        return self <= Town.NOT_STATED
+
+
+class Wanted(NamedTuple):
+    """The town of an address: five digits, the key of its city, and its state's postal abbreviation. May be empty."""
+
+    zip: str = ""
+    city: str = ""
+    state: str = ""
+
+
+def city_key(text: str) -> str:
+    """Returns what two spellings of a city have in common: `City of Saint Paul` and `St. Paul` become `ST PAUL`."""
+    words = re.sub(r"[.'’]", "", text).upper().replace("-", " ").split()
+    if words[:2] == ["CITY", "OF"] or words[:2] == ["TOWN", "OF"]:
+        words = words[2:]
+    return " ".join(_SHORT_WORDS.get(word, word) for word in words)
+
+
+def state_of(text: str) -> str:
+    """Returns the postal abbreviation of a state, or what is written if it is none that is known."""
+    written = " ".join(text.replace(".", "").upper().split())
+    return STATE_NAMES.get(written, STATE_NAMES.get(written.replace(" ", ""), written))
+
+
+def state_of_county(code: str) -> str:
+    """Returns the postal abbreviation of the state in a county's code."""
+    return _POSTAL.get(code[:2], "")
+
+
+def compare_towns(wanted: Wanted, zip_code: str, cities: Collection[str]) -> Town:
+    """Compares the town of an address with the ZIP Code and the cities of a segment's side.
+
+    An address that states a ZIP Code or a city has to agree in one of them. The ZIP Code comes first, since post
+    offices serve places outside of their city.
+    """
+    if wanted.zip and wanted.zip == zip_code:
+        return Town.SAME_ZIP
+    if wanted.city and wanted.city in map(city_key, cities):
+        return Town.SAME_CITY
+    if not wanted.zip and not wanted.city:
+        return Town.NOT_STATED
+    if wanted.zip and zip_code:
+        return Town.OTHER_ZIP
+    return Town.OTHER_CITY if wanted.city and cities else Town.NOT_KNOWN
+
+
+class Cities:
+    """The names of the cities of a county: record type C, which may be missing.
+
+    The codes of places and of county subdivisions are of one list, so the kind of entity needs no look.
+    """
+
+    def __init__(self, path: Path | None, name: str) -> None:
+        self.is_missing = path is None
+        self._names: dict[bytes, str] = {}
+        if path is not None:
+            self._names.update(_names(path, name))
+
+    def of(self, codes: tuple[bytes, ...]) -> tuple[str, ...]:
+        """Returns the names that belong to the codes of a place and a county subdivision, the place's first."""
+        return tuple(dict.fromkeys(self._names[code] for code in codes if code in self._names))
+
+    def of_segments(self, path: Path, segments: Collection[str]) -> dict[tuple[str, str], tuple[str, ...]]:
+        """Returns the cities of both sides of these segments of a type 1 file, by TLID and side."""
+        if not self._names:
+            return {}
+        wanted = {segment.rjust(10).encode("ascii", "replace"): segment for segment in segments}
+        with open(path, "rb") as records:
+            return {
+                (segment, side): self.of((record[place], record[subdivision]))
+                for record in records
+                if (segment := wanted.get(_plain(record[_TLID])))
+                for side, (place, subdivision) in _CITY_CODES.items()
+            }
+
+
+def _plain(tlid: bytes) -> bytes:
+    """Returns a TLID as the Bureau writes it, without zeros in front."""
+    return tlid if tlid[:1] != b"0" else str(number(tlid.decode("latin-1")) or 0).rjust(10).encode()
+
+
+def _names(path: Path, name: str) -> Iterator[tuple[bytes, str]]:
+    """Yields the codes and names in a file of type C. Raises OSError for a line that isn't such a record."""
+    with open(path, "rb") as lines:
+        for at, line in enumerate(lines, start=1):
+            record = line.rstrip(b"\r\n")
+            if len(record) != NAME_LENGTH or not record.startswith(b"C"):
+                raise OSError(f"{name}: line {at} isn't a record of type C, which has {NAME_LENGTH} bytes")
+            code, text = record[_FIPS], record[_NAME].decode("latin-1").strip()
+            if code.strip() and text:
+                yield code, text
