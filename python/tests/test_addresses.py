@@ -1,7 +1,7 @@
 """Parsing street strings: all readings of a string, the fullest first, or the reason for none."""
 
 import pytest
-from tigerline._addresses import LONGEST_NAME, Reading, Reason, Street, take_apart
+from tigerline._addresses import LONGEST_NAME, Crossing, Reading, Reason, Street, take_apart
 from tigerline._geocode_words import _TYPES, DIRECTIONS, TYPES, same_type
 
 # A street string, and its readings in order: direction, name, type, direction.
@@ -22,7 +22,6 @@ READINGS = """
 0012 Main                  | - Main - -
 12B Main                   | - Main - -
 5 FM 1960                  | - FM_1960 - -; - F_M_1960 - -; - FM_Road_1960 - -; - Farm_to_Market_Road_1960 - -; - Farm-to-Market_Road_1960 - -
-5 Highway 9                | - Highway_9 - -; - Hwy_9 - -
 5 Main Apt 4               | - Main - -; - Main_Apt_4 - -
 5 Main, Ste. 200           | - Main - -; - Main_Ste._200 - -; - Main_Ste_200 - -
 5 Main Bldg C Unit 12-B    | - Main - -; - Main_Bldg_C_Unit_12-B - -
@@ -65,6 +64,24 @@ US Highway 31           | US Hwy 31           | same
 US-31                   | US Hwy 31           | same
 US 31A                  | US Hwy 31A          | same
 I-65                    | Interstate 65       | same
+Hwy 31                  | US Hwy 31           | other
+Highway 31              | State Hwy 31        | other
+Route 31                | County Road 31      | other
+Rt 31                   | Highway 31          | same
+US Rt 31                | US Hwy 31           | same
+United States Hwy 31    | US Hwy 31           | same
+AL 25                   | State Hwy 25        | other
+AL-25                   | State Route 25      | other
+AL Hwy 25               | State Hwy 25        | other
+Ala. 25                 | State Hwy 25        | other
+Alabama Highway 25      | State Road 25       | other
+St Rt 25                | State Rte 25        | same
+S.H. 25                 | State Hwy 25        | same
+C R 12                  | County Road 12      | same
+Cty Rd 12               | County Road 12      | same
+County 12               | County Road 12      | other
+Co 12                   | County Hwy 12       | other
+Road 12                 | County Road 12      | other
 Interstate 65           | I-65                | same
 """.strip().splitlines()
 
@@ -88,10 +105,7 @@ Poblano Rd              | no_house_number
 N6W23001 Bluemound      | grid_address
 12S345 Main St          | grid_address
 123N Main St            | grid_address
-Main St & Oak Ave       | intersection
 5 Main St & Oak Ave     | intersection
-Main St and Oak Ave     | intersection
-Main @ Oak              | intersection
 PO Box 12               | po_box_or_rural_route
 P.O. Box 12             | po_box_or_rural_route
 P O Box 12              | po_box_or_rural_route
@@ -101,6 +115,7 @@ Box 12                  | po_box_or_rural_route
 RR 2 Box 7              | po_box_or_rural_route
 R.R. 2                  | po_box_or_rural_route
 HC 5 Box 7              | po_box_or_rural_route
+A & B & C               | intersection
 General Delivery        | po_box_or_rural_route
 """.strip(
     "\n"
@@ -128,7 +143,7 @@ def test_readings(row: str) -> None:
 @pytest.mark.parametrize("row", ROUTES)
 def test_routes(row: str) -> None:
     text, name, kind = cells(row)
-    street = take_apart(f"5 {text} N")
+    street = take_apart(f"5 {text} N", "AL")
     assert isinstance(street, Street)
     changes = (Reason.ROUTE,) if kind == "other" else ()
     assert Reading(name, sufdir="N", changes=changes) in street.readings
@@ -172,7 +187,7 @@ class TestAnything:
         @hypothesis.given(strategies.one_of(strategies.text(), streets, streets.map(lambda street: f"7 {street}")))
         def check(text: str) -> None:
             street = take_apart(text)
-            assert isinstance(street, (Street, Reason))
+            assert isinstance(street, (Street, Crossing, Reason))
             if isinstance(street, Street):
                 assert len(set(street.readings)) == len(street.readings)
                 assert all(

@@ -124,9 +124,8 @@ def draw_town(
         return tuple(pool[-count:])
 
     maker.NORTH_STREETS, maker.WEST_AVENUES, maker.EAST_AVENUES = names(8), names(11), names(11)
-    maker.FARM_ROADS, maker.COURTS = names(40), tuple(
-        f"{name} {random.choice(('Run', 'Hollow'))}" if random.random() < 0.2 else name for name in names(40)
-    )
+    maker.FARM_ROADS = names(56)
+    maker.COURTS = tuple(f"{name} {random.choice(('Run', 'Glen', 'View', 'Hollow'))}" for name in names(52))
     maker.WEST, maker.SOUTH = -87_400_000 + at % 5 * 95_000, 32_600_000 + at // 5 * 58_000
     maker.FIRST_TLID = 207_000_000 + at * 100_000
     maker.zip_code = lambda point: town.zips[

@@ -2,7 +2,7 @@
 
 import re
 from collections.abc import Iterator
-from enum import StrEnum
+from enum import IntEnum, StrEnum
 from typing import NamedTuple
 
 from ._geocode_words import DIRECTIONS, PARTS_OF_HOUSES, TYPES, UNITS, route_names
@@ -33,6 +33,17 @@ class Reason(StrEnum):
     DIRECTION = "direction"
     TYPE = "type"
     ROUTE = "route"
+    SPELLING = "spelling"
+    OTHER_TYPE = "other_type"
+    OTHER_DIRECTION = "other_direction"
+
+
+class Stage(IntEnum):
+    """When a reading is tried: those of a later stage only count if none of an earlier one has a hit."""
+
+    AS_WRITTEN = 0
+    SPELLING = 1
+    OTHER_PART = 2
 
 
 class Reading(NamedTuple):
@@ -47,7 +58,11 @@ class Reading(NamedTuple):
     type: str = ""
     sufdir: str = ""
     changes: tuple[Reason, ...] = ()
-    stage: int = 0
+    stage: Stage = Stage.AS_WRITTEN
+
+    def changed(self, reason: Reason, stage: Stage) -> "Reading":
+        """Returns the reading for a later stage, with a further reason why it isn't what is written."""
+        return self._replace(changes=(*self.changes, reason), stage=stage)
 
 
 class Street(NamedTuple):
@@ -57,12 +72,19 @@ class Street(NamedTuple):
     readings: tuple[Reading, ...]
 
 
+class Crossing(NamedTuple):
+    """The readings of two streets that cross."""
+
+    streets: tuple[tuple[Reading, ...], tuple[Reading, ...]]
+
+
 _BOX = re.compile(
     r"(?:(?:P ?O|POST OFFICE) ?BOX\b|GENERAL DELIVERY\b"
     r"|(?:P ?O ?B|BOX|R ?R|RURAL ROUTE|HC|HIGHWAY CONTRACT|STAR ROUTE) ?#?[0-9]).*",
     re.DOTALL,
 )
-_CROSSING = re.compile(r".*(?:[&@]| AND | AT ).*", re.DOTALL)
+_CROSSING = re.compile(r".*(?:[&@]|(?<=[A-Z0-9]) ?/ ?(?=[0-9]*[A-Z])| AND | AT ).*", re.DOTALL)
+_BETWEEN = re.compile(r"\s*[&@/]\s*|\s+(?:and|at)\s+", re.IGNORECASE)
 _FRACTION = re.compile(r"[0-9]+/[0-9]+|[¼½¾⅓⅔⅛⅜⅝⅞]")
 # Kinds of first words; the first match counts. A letter after the number is removed like a unit, except N, S, E and W.
 _FIRST_WORDS = (
@@ -76,8 +98,11 @@ _JOINED_UNIT = re.compile(rf"(?:{'|'.join(sorted(UNITS - {'FL', 'BOX'}))})#?[0-9
 _UNIT_VALUE = re.compile(r"#?[0-9A-Z]+(?:[-/][0-9A-Z]+)*")
 
 
-def take_apart(text: str) -> Street | Reason:
-    """Returns the house number and the readings of a street string, or the reason why it has none."""
+def take_apart(text: str, state: str = "") -> Street | Crossing | Reason:
+    """Returns the house number and the readings of a street string, or a crossing, or the reason why it is neither.
+
+    `state` is a postal abbreviation, for roads such as `AL 25`.
+    """
     words = re.sub(r"#\s+", "#", re.sub(r"(?<=\w)#", " #", text)).replace(",", ", ").split()
     words = [word for word in words if _key(word)]
     keys = [_key(word) for word in words]
@@ -86,10 +111,21 @@ def take_apart(text: str) -> Street | Reason:
     if not keys:
         return Reason.NO_HOUSE_NUMBER
     number = _number(keys)
+    if number is Reason.INTERSECTION:
+        return _crossing(text, state) or number
     if isinstance(number, Reason):
         return number
-    readings = dict.fromkeys(reading for way in _ways(words[1:]) for reading in _readings(way))
+    readings = dict.fromkeys(reading for way in _ways(words[1:]) for reading in _readings(way, state))
     return Street(number, tuple(readings))
+
+
+def _crossing(text: str, state: str) -> Crossing | None:
+    """Returns the streets of a crossing, or None if the string has a house number or isn't two streets."""
+    parts = [part.replace(",", ", ").split() for part in _BETWEEN.split(text)]
+    if len(parts) != 2 or not all(parts) or parts[0][0].isdigit():
+        return None
+    first, second = (tuple(_readings(part, state)) for part in parts)
+    return Crossing((first, second)) if first and second else None
 
 
 def _key(word: str) -> str:
@@ -152,7 +188,7 @@ def _is_unit_value(key: str) -> bool:
     return any(character.isdigit() for character in key) or key in PARTS_OF_HOUSES or (len(key) <= 2 and not is_word)
 
 
-def _readings(words: list[str]) -> list[Reading]:
+def _readings(words: list[str], state: str) -> list[Reading]:
     """Returns the readings of a street without number and unit, starting with those that state the most parts."""
     keys = [_key(word) for word in words]
     found = []
@@ -161,7 +197,7 @@ def _readings(words: list[str]) -> list[Reading]:
             for type_, last in _type_at_end(keys[:after]):
                 found += [
                     Reading(name, predir, type_, sufdir, (Reason.ROUTE,) if is_other else ())
-                    for name, is_other in _names(words[first:last])
+                    for name, is_other in _names(words[first:last], state)
                     if len(name.encode("utf-8", "replace")) <= LONGEST_NAME
                 ]
     return sorted(found, key=lambda reading: -_parts(reading))
@@ -194,7 +230,7 @@ def _type_at_end(keys: list[str]) -> Iterator[tuple[str, int]]:
     yield "", len(keys)
 
 
-def _names(words: list[str]) -> Iterator[tuple[str, bool]]:
+def _names(words: list[str], state: str) -> Iterator[tuple[str, bool]]:
     """Yields possible contents of FENAME, and whether each is another word for a numbered road."""
     if not words:
         return
@@ -202,7 +238,7 @@ def _names(words: list[str]) -> Iterator[tuple[str, bool]]:
     yield name, False
     if "." in name:
         yield name.replace(".", ""), False
-    same, other = route_names(" ".join(_key(word) for word in words))
+    same, other = route_names(" ".join(_key(word) for word in words), state)
     for text in same:
         yield text, False
     for text in other:

@@ -10,9 +10,11 @@ from pathlib import Path
 from typing import NamedTuple
 
 from . import _program
-from ._addresses import Reading, Street
+from ._addresses import Crossing, Reading, Street
 from ._extract import with_own_paths
 from ._geocode_choice import Answer, Hit
+from ._geocode_crossings import add_crossings, read_ends
+from ._geocode_streets import Streets
 from ._geocode_towns import Cities
 from ._interrupts import Interrupts
 from ._sources import County, opened_county
@@ -58,17 +60,25 @@ class Lookup:
     has_warned_of_cities: bool = False
     _without_cities: set[str] = field(default_factory=set)
 
-    def answer(self, addresses: Sequence[Asked], interrupts: Interrupts) -> None:
-        """Adds the hits of the addresses to their answers."""
-        askers, questions = _questions(addresses)
-        if not askers:
-            return
-        for order, county in enumerate(self.counties):
+    def answer(
+        self, addresses: Sequence[Asked], crossings: Sequence[tuple[Crossing, Answer]], interrupts: Interrupts
+    ) -> None:
+        """Adds the hits of the addresses to their answers, and the places of crossings."""
+        asked = _questions(addresses)
+        names = {reading.name.upper() for crossing, _ in crossings for street in crossing.streets for reading in street}
+        for order, county in enumerate(self.counties if addresses or crossings else ()):
             with self._opened(county, order, interrupts) as opened:
-                self._ask(opened, askers, questions, interrupts)
+                self._ask(opened, *asked, interrupts)
+                if crossings:
+                    add_crossings(crossings, read_ends(opened.files, opened.cities, names), county.code, order)
             interrupts.check()
         self.has_warned_of_files = True
-        self._warn_of_cities(addresses)
+        remaining = [(street, answer) for street, answer in addresses if not answer.found]
+        for order, county in enumerate(self.counties if remaining else ()):
+            with self._opened(county, order, interrupts) as opened:
+                self._ask(opened, *_questions(_further(opened, remaining)), interrupts)
+            interrupts.check()
+        self._warn_of_cities(remaining)
 
     @contextmanager
     def _opened(self, county: County, order: int, interrupts: Interrupts) -> Iterator[OpenCounty]:
@@ -94,7 +104,9 @@ class Lookup:
                     return
 
     def _ask(self, opened: OpenCounty, askers: list[list[Asker]], questions: bytes, interrupts: Interrupts) -> None:
-        """Runs the program for a county."""
+        """Runs the program for a county, unless there is nothing to ask."""
+        if not askers:
+            return
         county, files = opened.county, opened.files
         folder = str(files["1"].parent)
         command = [self.program, "geocode-batch", "--addresses", "-", "--data", folder, county.code]
@@ -113,6 +125,16 @@ class Lookup:
                     asker.answer.add(asker.reading, placed, (opened.order, asker.order))
                 elif asker.is_full and reason == "no_such_number" and asker.answer.may_be_in(county.code):
                     asker.answer.street_exists = True
+
+
+def _further(opened: OpenCounty, addresses: Sequence[Asked]) -> list[Asked]:
+    """Returns the addresses with further readings, for those without a hit."""
+    streets = Streets(opened.files, opened.cities)
+    return [
+        (street._replace(readings=tuple(dict.fromkeys(streets.further(street.readings, answer)))), answer)
+        for street, answer in addresses
+        if answer.may_be_in(opened.county.code)
+    ]
 
 
 def _questions(addresses: Sequence[Asked]) -> tuple[list[list[Asker]], bytes]:

@@ -90,18 +90,23 @@ class Answer:
 
     def add(self, reading: Reading, hit: Hit, order: tuple[int, int]) -> None:
         """Adds a hit that agrees with the reading, and drops those that agree less. `order`: county and reading."""
-        difference = compare_street(reading, hit)
+        difference = compare_street(reading, hit.fedirp, hit.fetype, hit.fedirs)
         if difference is None:
             return
         lacks, unconfirmed = difference
-        town = compare_towns(self.wanted, hit.zip, hit.cities)
+        self.include(Found(order, hit, lacks), reading.stage, 1 + unconfirmed if lacks else 0)
+
+    def include(self, found: Found, stage: int, missing: int) -> None:
+        """Adds what is found if its town agrees. `missing` says how much the address lacks for an exact match."""
+        hit = found.hit
         if not self.may_be_in(hit.county):
-            self._refuse((_IN_OTHER_STATE, 0, 0), Found(order, hit, (Reason.OTHER_STATE,)))
+            self._refuse((_IN_OTHER_STATE, 0, 0), found._replace(lacks=(Reason.OTHER_STATE,)))
             return
-        rank = (reading.stage, town, 1 + unconfirmed if lacks else 0)
-        found = Found(order, hit, self._of_town(town, hit) + lacks)
+        town = compare_towns(self.wanted, hit.zip, hit.cities)
+        found = found._replace(lacks=self._of_town(town, hit) + found.lacks)
+        rank = (stage, town.rank, missing)
         if not town.agrees:
-            self._refuse((town, *rank[::2]), found)
+            self._refuse((town, stage, missing), found)
         elif rank <= self.rank:
             self.found = [*self.found, found] if rank == self.rank else [found]
             self.rank = rank
@@ -113,7 +118,7 @@ class Answer:
 
     def _of_town(self, town: Town, hit: Hit) -> tuple[Reason, ...]:
         """Returns what an address lacks if its town agrees so far."""
-        if town is Town.SAME_ZIP:
+        if town <= Town.SAME_ZIP:
             return ()
         if town is Town.OTHER_CITY:
             return (Reason.OTHER_CITY,)
@@ -129,13 +134,13 @@ class Answer:
         return Reason.NO_SUCH_NUMBER_ON_STREET if self.street_exists else Reason.NO_SUCH_STREET
 
 
-def compare_street(reading: Reading, hit: Hit) -> tuple[tuple[Reason, ...], int] | None:
+def compare_street(reading: Reading, fedirp: str, fetype: str, fedirs: str) -> tuple[tuple[Reason, ...], int] | None:
     """Returns the parts that only one of the two states, and how many are the reading's, or None if they contradict.
 
     A direction on the other side of the name is the same direction: `Main St W` may be `W Main St`, but not `E Main St`.
     """
     lacks = []
-    stated, found = (reading.predir, reading.sufdir), (hit.fedirp.upper(), hit.fedirs.upper())
+    stated, found = (reading.predir, reading.sufdir), (fedirp.upper(), fedirs.upper())
     if any(one and other and one != other for one, other in zip(stated, found)):
         return None
     if any(stated) and any(found) and not {*stated} & {*found} - {""}:
@@ -143,9 +148,9 @@ def compare_street(reading: Reading, hit: Hit) -> tuple[tuple[Reason, ...], int]
     if stated != found:
         lacks.append(Reason.DIRECTION)
     unconfirmed = sum(1 for direction in stated if direction and direction not in found)
-    if bool(reading.type) != bool(hit.fetype):
+    if bool(reading.type) != bool(fetype):
         lacks.append(Reason.TYPE)
         unconfirmed += bool(reading.type)
-    elif not same_type(reading.type, hit.fetype):
+    elif not same_type(reading.type, fetype):
         return None
     return tuple(dict.fromkeys((*lacks, *reading.changes))), unconfirmed + len(reading.changes)

@@ -9,6 +9,7 @@ from enum import IntEnum
 from pathlib import Path
 from typing import NamedTuple
 
+from ._geocode_words import STATE_NAMES
 from ._layout import FIELDS, number
 from ._sources import STATES
 
@@ -18,25 +19,6 @@ _PLACES = {field.name: field.bytes for field in FIELDS}
 _TLID = _PLACES["TLID"]
 _CITY_CODES = {side: (_PLACES[f"PLACE{side}"], _PLACES[f"COUSUB{side}"]) for side in "LR"}
 
-_STATE_NAMES = """
-    AL Alabama Ala | AK Alaska | AZ Arizona Ariz | AR Arkansas Ark | CA California Calif Cal | CO Colorado Colo
-    CT Connecticut Conn | DE Delaware Del | DC District_of_Columbia Washington_DC | FL Florida Fla | GA Georgia
-    HI Hawaii | ID Idaho | IL Illinois Ill | IN Indiana Ind | IA Iowa | KS Kansas Kans Kan | KY Kentucky
-    LA Louisiana | ME Maine | MD Maryland | MA Massachusetts Mass | MI Michigan Mich | MN Minnesota Minn
-    MS Mississippi Miss | MO Missouri | MT Montana Mont | NE Nebraska Nebr Neb | NV Nevada Nev
-    NH New_Hampshire | NJ New_Jersey | NM New_Mexico | NY New_York | NC North_Carolina | ND North_Dakota
-    OH Ohio | OK Oklahoma Okla | OR Oregon Ore | PA Pennsylvania Penn Penna | RI Rhode_Island | SC South_Carolina
-    SD South_Dakota | TN Tennessee Tenn | TX Texas Tex | UT Utah | VT Vermont | VA Virginia | WA Washington Wash
-    WV West_Virginia | WI Wisconsin Wis Wisc | WY Wyoming Wyo | AS American_Samoa | GU Guam
-    MP Northern_Mariana_Islands | PR Puerto_Rico | UM US_Minor_Outlying_Islands | VI Virgin_Islands US_Virgin_Islands
-"""
-# What may be written for a state, in capitals and without dots, and its postal abbreviation.
-STATE_NAMES = {
-    word.replace("_", " ").upper(): words[0]
-    for line in re.split(r"[|\n]", _STATE_NAMES)
-    for words in (re.findall(r"\S+", line),)
-    for word in words
-}
 _POSTAL = {code: postal for postal, code in STATES.items()}
 _SHORT_WORDS = {"SAINT": "ST", "FORT": "FT", "MOUNT": "MT"}
 
@@ -44,17 +26,23 @@ _SHORT_WORDS = {"SAINT": "ST", "FORT": "FT", "MOUNT": "MT"}
 class Town(IntEnum):
     """How the town of a segment's side agrees with that of an address, best first."""
 
-    SAME_ZIP = 0
-    SAME_CITY = 1
-    NOT_STATED = 2
-    OTHER_ZIP = 3
-    OTHER_CITY = 4
-    NOT_KNOWN = 5
+    SAME = 0
+    SAME_ZIP = 1
+    SAME_CITY = 2
+    NOT_STATED = 3
+    OTHER_ZIP = 4
+    OTHER_CITY = 5
+    NOT_KNOWN = 6
 
     @property
     def agrees(self) -> bool:
         """Whether a place in this town may be that of the address."""
         return self <= Town.NOT_STATED
+
+    @property
+    def rank(self) -> int:
+        """The order of towns. A ZIP Code of one city and the name of another one count the same."""
+        return Town.SAME_ZIP if self is Town.SAME_CITY else self
 
 
 class Wanted(NamedTuple):
@@ -87,12 +75,13 @@ def state_of_county(code: str) -> str:
 def compare_towns(wanted: Wanted, zip_code: str, cities: Collection[str]) -> Town:
     """Compares the town of an address with the ZIP Code and the cities of a segment's side.
 
-    An address that states a ZIP Code or a city has to agree in one of them. The ZIP Code comes first, since post
-    offices serve places outside of their city.
+    An address that states a ZIP Code or a city has to agree in one of them, since post offices also serve places outside
+    of their city.
     """
+    is_in_city = bool(wanted.city) and wanted.city in map(city_key, cities)
     if wanted.zip and wanted.zip == zip_code:
-        return Town.SAME_ZIP
-    if wanted.city and wanted.city in map(city_key, cities):
+        return Town.SAME if is_in_city or not wanted.city or not cities else Town.SAME_ZIP
+    if is_in_city:
         return Town.SAME_CITY
     if not wanted.zip and not wanted.city:
         return Town.NOT_STATED

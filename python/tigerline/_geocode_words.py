@@ -54,6 +54,26 @@ _UNITS = "APARTMENT APT BLDG BOX BUILDING DEPT DEPARTMENT FL FLOOR HANGAR HNGR L
 UNITS = frozenset(f"{_UNITS} TRAILER TRLR UNIT".split())
 PARTS_OF_HOUSES = frozenset("BASEMENT BSMT FRNT FRONT LOWER LOWR PENTHOUSE PH REAR UPPER UPPR".split())
 
+_STATE_NAMES = """
+    AL Alabama Ala | AK Alaska | AZ Arizona Ariz | AR Arkansas Ark | CA California Calif Cal | CO Colorado Colo
+    CT Connecticut Conn | DE Delaware Del | DC District_of_Columbia Washington_DC | FL Florida Fla | GA Georgia
+    HI Hawaii | ID Idaho | IL Illinois Ill | IN Indiana Ind | IA Iowa | KS Kansas Kans Kan | KY Kentucky
+    LA Louisiana | ME Maine | MD Maryland | MA Massachusetts Mass | MI Michigan Mich | MN Minnesota Minn
+    MS Mississippi Miss | MO Missouri | MT Montana Mont | NE Nebraska Nebr Neb | NV Nevada Nev
+    NH New_Hampshire | NJ New_Jersey | NM New_Mexico | NY New_York | NC North_Carolina | ND North_Dakota
+    OH Ohio | OK Oklahoma Okla | OR Oregon Ore | PA Pennsylvania Penn Penna | RI Rhode_Island | SC South_Carolina
+    SD South_Dakota | TN Tennessee Tenn | TX Texas Tex | UT Utah | VT Vermont | VA Virginia | WA Washington Wash
+    WV West_Virginia | WI Wisconsin Wis Wisc | WY Wyoming Wyo | AS American_Samoa | GU Guam
+    MP Northern_Mariana_Islands | PR Puerto_Rico | UM US_Minor_Outlying_Islands | VI Virgin_Islands US_Virgin_Islands
+"""
+# What may be written for a state, in capitals and without dots, and its postal abbreviation.
+STATE_NAMES = {
+    word.replace("_", " ").upper(): words[0]
+    for line in re.split(r"[|\n]", _STATE_NAMES)
+    for words in (re.findall(r"\S+", line),)
+    for word in words
+}
+
 _COUNTY_ROAD = ("County Road {}", "County Rd {}", "Co Road {}", "Co Rd {}", "CR {}")
 _COUNTY_ROUTE = ("County Route {}", "County Rte {}", "Co Route {}", "Co Rte {}")
 _COUNTY_HIGHWAY = ("County Highway {}", "County Hwy {}", "Co Highway {}", "Co Hwy {}")
@@ -64,36 +84,53 @@ _US_HIGHWAY = ("US Hwy {}", "US Highway {}", "US Route {}", "US Rte {}", "U S Hw
 _INTERSTATE = ("I-{}", "I- {}", "I {}", "Interstate {}", "Interstate Hwy {}", "Interstate Highway {}")
 _FARM_ROAD = ("FM {}", "F M {}", "FM Road {}", "Farm to Market Road {}", "Farm-to-Market Road {}")
 
-_COUNTY, _STATE, _US = "(?:CO|CNTY|COUNTY)", "(?:ST|STATE)", "(?:US|U S|UNITED STATES)"
+_HIGHWAYS = ("Highway {}", "Hwy {}", "Route {}")
+_STATE_SYSTEM = _STATE_HIGHWAY + _STATE_ROUTE + _STATE_ROAD
+_COUNTY_SYSTEM = _COUNTY_ROAD + _COUNTY_ROUTE + _COUNTY_HIGHWAY
+
+_COUNTY, _STATE, _US = "(?:CO|CNTY|CTY|COUNTY)", "(?:ST|STATE)", "(?:US|U S|UNITED STATES)"
 _ROAD, _ROUTE, _HIGHWAY = "(?:RD|ROAD)", "(?:RT|RTE|ROUTE)", "(?:HWY|HIGHWAY|HIWAY)"
-# Spellings of numbered roads, names with the same meaning, and names of the same system with another word.
+# Spellings of numbered roads, names with the same meaning, and names of the same system with another word. Whether `Hwy 31`
+# is a highway of the US, the state or the county isn't said.
 _ROUTES = [
     (re.compile(rf"(?:{written})[ -]{{0,2}}([0-9]{{1,5}}[A-Z]?)"), same, other)
     for written, same, other in (
-        (f"CR|{_COUNTY} {_ROAD}", _COUNTY_ROAD, _COUNTY_ROUTE + _COUNTY_HIGHWAY),
+        (f"CR|C R|{_COUNTY} {_ROAD}", _COUNTY_ROAD, _COUNTY_ROUTE + _COUNTY_HIGHWAY),
         (f"{_COUNTY} {_ROUTE}", _COUNTY_ROUTE, _COUNTY_ROAD + _COUNTY_HIGHWAY),
-        (f"CH|{_COUNTY} {_HIGHWAY}", _COUNTY_HIGHWAY, _COUNTY_ROAD + _COUNTY_ROUTE),
+        (f"CH|C H|{_COUNTY} {_HIGHWAY}", _COUNTY_HIGHWAY, _COUNTY_ROAD + _COUNTY_ROUTE),
+        (f"{_COUNTY}|{_ROAD}", (), _COUNTY_SYSTEM),
         ("SR|S R", _STATE_ROUTE + _STATE_ROAD, _STATE_HIGHWAY),
         (f"{_STATE} {_ROUTE}", _STATE_ROUTE, _STATE_ROAD + _STATE_HIGHWAY),
         (f"{_STATE} {_ROAD}", _STATE_ROAD, _STATE_ROUTE + _STATE_HIGHWAY),
-        (f"SH|{_STATE} {_HIGHWAY}", _STATE_HIGHWAY, _STATE_ROUTE + _STATE_ROAD),
-        (rf"{_US}(?: {_HIGHWAY}| {_ROUTE})?", _US_HIGHWAY, ()),
+        (f"SH|S H|{_STATE} {_HIGHWAY}", _STATE_HIGHWAY, _STATE_ROUTE + _STATE_ROAD),
+        (rf"{_US}(?:[ -]{_HIGHWAY}|[ -]{_ROUTE})?", _US_HIGHWAY, ()),
         (f"(?:I|INTERSTATE)(?: {_HIGHWAY})?", _INTERSTATE, ()),
         (f"(?:FM|F M)(?: {_ROAD})?|FARM[ -]TO[ -]MARKET {_ROAD}", _FARM_ROAD, ()),
-        (_HIGHWAY, ("Highway {}", "Hwy {}"), ()),
+        (f"{_HIGHWAY}|{_ROUTE}", _HIGHWAYS, _US_HIGHWAY + _STATE_SYSTEM + _COUNTY_SYSTEM),
     )
 ]
+_OF_STATE = re.compile(
+    rf"(?P<state>[A-Z]+(?: [A-Z]+)*?)(?:[ -](?:{_HIGHWAY}|{_ROUTE}|{_ROAD}))?[ -]{{1,2}}(?P<number>[0-9]{{1,5}}[A-Z]?)"
+)
 
 
-def route_names(name: str) -> tuple[list[str], list[str]]:
+def route_names(name: str, state: str = "") -> tuple[list[str], list[str]]:
     """Returns the other names of a numbered road: those with the same meaning, and those with another word.
 
-    `CR 46` means `County Road 46`; `County Highway 46` has another word. The name is in capitals, without dots.
+    `CR 46` means `County Road 46`; `County Highway 46` has another word. In Alabama, `AL 25` and `Alabama Highway 25` mean a
+    road of the state. The name is in capitals, without dots. `state` is a postal abbreviation, or empty for any.
     """
-    for pattern, same, other in _ROUTES:
+    same: list[str] = []
+    other: list[str] = []
+    found = _OF_STATE.fullmatch(name)
+    if found and (written := STATE_NAMES.get(found["state"])) and state in ("", written):
+        other += [text.format(found["number"]) for text in _STATE_SYSTEM]
+    for pattern, meant, related in _ROUTES:
         if found := pattern.fullmatch(name):
-            return [text.format(found[1]) for text in same], [text.format(found[1]) for text in other]
-    return [], []
+            same += [text.format(found[1]) for text in meant]
+            other += [text.format(found[1]) for text in related]
+            break
+    return same, list(dict.fromkeys(other))
 
 
 def same_type(one: str, other: str) -> bool:

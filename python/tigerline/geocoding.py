@@ -21,7 +21,7 @@ from select import PIPE_BUF, select
 from typing import NamedTuple
 
 from . import _program
-from ._addresses import Reason, Street, take_apart
+from ._addresses import Crossing, Reason, Street, take_apart
 from ._commands import exit_status
 from ._extract import active_interrupts
 from ._geocode import Lookup
@@ -72,7 +72,7 @@ class Match:
 
     For a match, `matched` is the address in the data's spelling, and the place is in degrees (NAD 83). `reasons` says
     why there is no match, or what is missing for an exact one. `candidates` are the places of a tie, or those that were
-    found in another town.
+    found in another town. `hint` is the name in the town that is nearest to that of a street that isn't there.
     """
 
     address: Address
@@ -85,6 +85,7 @@ class Match:
     side: str | None = None
     county: str | None = None
     candidates: tuple[Candidate, ...] = ()
+    hint: str | None = None
 
     @property
     def is_exact(self) -> bool:
@@ -132,17 +133,18 @@ def _geocode(
     while part := list(islice(remaining, ADDRESSES_AT_ONCE)):
         taken = [(_street_of(address, states), Answer(_wanted(address))) for address in part]
         asked = [(street, answer) for street, answer in taken if isinstance(street, Street)]
+        crossings = [(street, answer) for street, answer in taken if isinstance(street, Crossing)]
         with active_interrupts(interrupts) as held:
             held.check()
-            lookup.answer(asked, held)
+            lookup.answer(asked, crossings, held)
         yield from map(_match, part, *zip(*taken))
 
 
-def _street_of(address: Address, states: set[str]) -> Street | Reason:
+def _street_of(address: Address, states: set[str]) -> Street | Crossing | Reason:
     """Returns the number and the readings of an address, or the reason for which it isn't looked up."""
-    street = take_apart(address.street)
     state = state_of(address.state)
-    return Reason.OTHER_STATE if isinstance(street, Street) and state and state not in states else street
+    street = take_apart(address.street, state)
+    return Reason.OTHER_STATE if not isinstance(street, Reason) and state and state not in states else street
 
 
 def _wanted(address: Address) -> Wanted:
@@ -155,12 +157,14 @@ def zip_of(cell: str) -> str:
     return found[1].zfill(5) if found and found[1].isascii() else ""
 
 
-def _match(address: Address, street: Street | Reason, answer: Answer) -> Match:
+def _match(address: Address, street: Street | Crossing | Reason, answer: Answer) -> Match:
     """Returns the result for an address."""
     if isinstance(street, Reason):
         return Match(address, Status.NO_MATCH, (street,))
     if not answer.found:
-        return Match(address, Status.NO_MATCH, (answer.reason,), candidates=_candidates(street, answer.refused))
+        hint = answer.hint if answer.reason is Reason.NO_SUCH_STREET else None
+        candidates = _candidates(street, answer.refused)
+        return Match(address, Status.NO_MATCH, (answer.reason,), candidates=candidates, hint=hint or None)
     if len(answer.places) > 1:
         return Match(address, Status.TIE, (Reason.TIE,), candidates=_candidates(street, answer.found))
     if answer.best.hit.place is None:
@@ -169,7 +173,7 @@ def _match(address: Address, street: Street | Reason, answer: Answer) -> Match:
     return Match(address, Status.MATCH, found.lacks, *_candidate(street, found)[1:])
 
 
-def _candidates(street: Street, found: Iterable[Found]) -> tuple[Candidate, ...]:
+def _candidates(street: Street | Crossing, found: Iterable[Found]) -> tuple[Candidate, ...]:
     """Returns the places of hits, each once."""
     first: dict[tuple[str, str], Found] = {}
     for one in sorted(found, key=lambda one: one.order):
@@ -178,11 +182,12 @@ def _candidates(street: Street, found: Iterable[Found]) -> tuple[Candidate, ...]
     return tuple(_candidate(street, one) for one in first.values())
 
 
-def _candidate(street: Street, found: Found) -> Candidate:
+def _candidate(street: Street | Crossing, found: Found) -> Candidate:
     hit = found.hit
+    number = f"{street.number} " if isinstance(street, Street) else ""
     return Candidate(
         found.lacks,
-        f"{street.number} {hit.street}, {hit.town}".upper(),
+        f"{number}{hit.street}, {hit.town}".upper(),
         float(hit.longitude),
         float(hit.latitude),
         int(hit.tlid),
