@@ -12,13 +12,13 @@ READINGS = """
 5 Oak Hill                 | - Oak Hl -; - Oak_Hill - -
 5 Deer Trail Rd            | - Deer_Trail Rd -; - Deer_Trail_Rd - -
 5 west main avenue         | W main Ave -; W main_avenue - -; - west_main Ave -; - west_main_avenue - -
-5 N. E. 7th                | NE 7th - -; N E._7th - -; N E_7th - -; - N._E._7th - -; - N_E_7th - -
-5 North East 7th           | NE 7th - -; N East_7th - -; - North_East_7th - -
+5 N. E. 7th                | NE 7th - -; NE Seventh - -; N E._7th - -; N E_7th - -; N E_Seventh - -; - N._E._7th - -; - N_E_7th - -; - N_E_Seventh - -
+5 North East 7th           | NE 7th - -; NE Seventh - -; N East_7th - -; N East_Seventh - -; - North_East_7th - -; - North_East_Seventh - -
 5 North                    | - North - -
 5 Street                   | - Street - -
-5 Avenue N                 | - Avenue - N; - Avenue_N - -
+5 Avenue N                 | - Avenue - N; - Avenue_N - -; - Ave_N - -
 300 W 400 S                | W 400 - S; W 400_S - -; - W_400 - S; - W_400_S - -
-5 St. John's               | - St._John's - -; - St_John's - -
+5 St. John's               | - St._John's - -; - St_John's - -; - St_Johns - -; - St_John_s - -; - Saint_John's - -
 0012 Main                  | - Main - -
 12B Main                   | - Main - -
 5 FM 1960                  | - FM_1960 - -; - F_M_1960 - -; - FM_Road_1960 - -; - Farm_to_Market_Road_1960 - -; - Farm-to-Market_Road_1960 - -
@@ -32,7 +32,7 @@ READINGS = """
 5 Main Apt4                | - Main - -; - Main_Apt4 - -
 5 Main Rear                | - Main - -; - Main_Rear - -
 5 Main Apt Rear            | - Main - -; - Main_Apt_Rear - -
-5 Main 2nd Floor           | - Main - -; - Main_2nd_Floor - -
+5 Main 2nd Floor           | - Main - -; - Main_2nd_Floor - -; - Main_Second_Floor - -
 5 Main P.O. Box 9          | - Main - -; - Main_P.O._Box_9 - -; - Main_PO_Box_9 - -
 5 Lot Rd                   | - Lot Rd -; - Lot_Rd - -
 5 Old Lot Rd               | - Old_Lot Rd -; - Old_Lot_Rd - -
@@ -85,6 +85,47 @@ Road 12                 | County Road 12      | other
 Interstate 65           | I-65                | same
 """.strip().splitlines()
 
+# What is written, a reading of the street that it must have, and the reasons why a match isn't exact.
+NOISE = """
+12B Main St                          | - Main St -              | number_suffix
+12 B Main St                         | - Main St -              | number_suffix
+12-B Main St                         | - Main St -              | number_suffix
+12 1/2 Main St                       | - Main St -              | number_suffix
+12-1/2 Main St                       | - Main St -              | number_suffix
+12½ Main St                          | - Main St -              | number_suffix
+12 ½ Main St                         | - Main St -              | number_suffix
+12-14 Main St                        | - Main St -              | number_suffix
+12 N Main St                         | N Main St -              |
+12 B St                              | - B St -                 |
+Apt 4, 12 Main St                    | - Main St -              | extra_words
+Ste. 200 12 Main St                  | - Main St -              | extra_words
+#4, 12 Main St                       | - Main St -              | extra_words
+#12 N Main St                        | N Main St -              | extra_words
+12 Main St No. 4                     | - Main St -              | extra_words
+12 County Road No. 4                 | - County_Road_No_4 - -   |
+12 Main St (rear)                    | - Main St -              | extra_words
+12 Main St c/o J. Smith              | - Main St -              | extra_words
+c/o J. Smith, 12 Main St             | - Main St -              | extra_words
+12 Main St, Attn: Payroll            | - Main St -              | extra_words
+City Hall, 12 Main St                | - Main St -              | extra_words
+County Courthouse 12 Main St         | - Main St -              | extra_words
+12 Main St, Milford                  | - Main St -              | extra_words
+12 Main St Apt 4, Milford, AL 35042  | - Main St -              | extra_words
+12 First Ave                         | - 1st Ave -              |
+12 1st Ave                           | - First Ave -            |
+12 Twelfth St                        | - 12th St -              |
+12 Mt Vernon Rd                      | - Mount_Vernon Rd -      |
+12 Fort Payne Rd                     | - Ft_Payne Rd -          |
+12 St John Rd                        | - Saint_John Rd -        |
+12 Avenue B                          | - Ave_B - -              |
+12 Ave. B                            | - Avenue_B - -           |
+12 MLK Dr                            | - Martin_Luther_King_Jr Dr - |
+12 M.L. King Jr. Dr                  | - Martin_Luther_King_Jr Dr - |
+12 Dr. Martin Luther King Blvd       | - Martin_Luther_King_Jr Blvd - |
+12 O’Neal Rd                         | - ONeal Rd -             |
+12 Shopping Centre Dr                | - Shopping_Center Dr -   |
+""".strip().splitlines()
+
 REASONS = """
                         | no_house_number
    ...                  | no_house_number
@@ -96,11 +137,7 @@ Poblano Rd              | no_house_number
 5 #4                    | no_street
 5B                      | no_street
 164-20 Main St          | hyphenated_number
-12-B Main St            | hyphenated_number
-12 1/2 Main St          | fractional_number
-12-1/2 Main St          | fractional_number
-12½ Main St             | fractional_number
-12 ½ Main St            | fractional_number
+1/2 Main St             | fractional_number
 1234567890123 Main      | number_too_long
 N6W23001 Bluemound      | grid_address
 12S345 Main St          | grid_address
@@ -147,6 +184,14 @@ def test_routes(row: str) -> None:
     assert isinstance(street, Street)
     changes = (Reason.ROUTE,) if kind == "other" else ()
     assert Reading(name, sufdir="N", changes=changes) in street.readings
+
+
+@pytest.mark.parametrize("row", NOISE)
+def test_noise(row: str) -> None:
+    text, expected, reasons = cells(row)
+    street = take_apart(text, "AL", ("Milford", "AL", "35042"))
+    assert isinstance(street, Street) and street.number == 12
+    assert (expected, reasons) in [(written(reading), " ".join(reading.changes)) for reading in street.readings]
 
 
 @pytest.mark.parametrize("row", REASONS)

@@ -5,7 +5,8 @@ from collections.abc import Iterator
 from enum import IntEnum, StrEnum
 from typing import NamedTuple
 
-from ._geocode_words import DIRECTIONS, PARTS_OF_HOUSES, TYPES, UNITS, route_names
+from ._geocode_clean import cleaned, without_town
+from ._geocode_words import DIRECTIONS, PARTS_OF_HOUSES, TYPES, UNITS, other_spellings, route_names
 
 LONGEST_NAME = 30  # bytes of the field FENAME
 LONGEST_NUMBER = 11  # digits
@@ -34,6 +35,8 @@ class Reason(StrEnum):
     TYPE = "type"
     ROUTE = "route"
     SPELLING = "spelling"
+    NUMBER_SUFFIX = "number_suffix"
+    EXTRA_WORDS = "extra_words"
     OTHER_TYPE = "other_type"
     OTHER_DIRECTION = "other_direction"
 
@@ -98,12 +101,14 @@ _JOINED_UNIT = re.compile(rf"(?:{'|'.join(sorted(UNITS - {'FL', 'BOX'}))})#?[0-9
 _UNIT_VALUE = re.compile(r"#?[0-9A-Z]+(?:[-/][0-9A-Z]+)*")
 
 
-def take_apart(text: str, state: str = "") -> Street | Crossing | Reason:
+def take_apart(text: str, state: str = "", town: tuple[str, ...] = ()) -> Street | Crossing | Reason:
     """Returns the house number and the readings of a street string, or a crossing, or the reason why it is neither.
 
-    `state` is a postal abbreviation, for roads such as `AL 25`.
+    `state` is a postal abbreviation, for roads such as `AL 25`. `town` has the city, the state and the ZIP Code, which may be
+    repeated in the string.
     """
-    words = re.sub(r"#\s+", "#", re.sub(r"(?<=\w)#", " #", text)).replace(",", ", ").split()
+    clean = cleaned(text)
+    words = re.sub(r"#\s+", "#", re.sub(r"(?<=\w)#", " #", clean.text)).replace(",", ", ").split()
     words = [word for word in words if _key(word)]
     keys = [_key(word) for word in words]
     if _BOX.fullmatch(" ".join(keys)):
@@ -112,11 +117,28 @@ def take_apart(text: str, state: str = "") -> Street | Crossing | Reason:
         return Reason.NO_HOUSE_NUMBER
     number = _number(keys)
     if number is Reason.INTERSECTION:
-        return _crossing(text, state) or number
+        return _crossing(" ".join(without_town(words, town)), state) or number
     if isinstance(number, Reason):
         return number
-    readings = dict.fromkeys(reading for way in _ways(words[1:]) for reading in _readings(way, state))
+    dropped = ((Reason.EXTRA_WORDS,) if clean.has_extra_words else ()) + (
+        (Reason.NUMBER_SUFFIX,) if clean.has_number_suffix or not keys[0].isdigit() else ()
+    )
+    readings = dict.fromkeys(
+        reading._replace(changes=(*dropped, *further, *reading.changes))
+        for way, further in _streets(words[1:], town)
+        for reading in _readings(way, state)
+    )
     return Street(number, tuple(readings))
+
+
+def _streets(words: list[str], town: tuple[str, ...]) -> Iterator[tuple[list[str], tuple[Reason, ...]]]:
+    """Yields the words that may be the street, and what is dropped: a letter behind the number, or the town."""
+    yield from ((way, ()) for way in _ways(words))
+    alone = without_town(words, town)
+    if len(alone) < len(words):
+        yield from ((way, (Reason.EXTRA_WORDS,)) for way in _ways(alone))
+    if len(words) > 1 and re.fullmatch(r"[A-Z](?<![NSEW])", _key(words[0])):
+        yield from ((way, (Reason.NUMBER_SUFFIX,)) for way in _ways(words[1:]))
 
 
 def _crossing(text: str, state: str) -> Crossing | None:
@@ -232,12 +254,14 @@ def _type_at_end(keys: list[str]) -> Iterator[tuple[str, int]]:
 
 def _names(words: list[str], state: str) -> Iterator[tuple[str, bool]]:
     """Yields possible contents of FENAME, and whether each is another word for a numbered road."""
-    if not words:
+    if not words or len(words) > LONGEST_NAME:
         return
     name = " ".join(word.strip(",;") for word in words)
     yield name, False
     if "." in name:
         yield name.replace(".", ""), False
+    for text in other_spellings([word.strip(",;.") for word in words]):
+        yield text, False
     same, other = route_names(" ".join(_key(word) for word in words), state)
     for text in same:
         yield text, False

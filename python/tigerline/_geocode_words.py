@@ -1,7 +1,7 @@
 """The abbreviations of the fields FEDIRP, FETYPE and FEDIRS, and what people write for them."""
 
 import re
-from itertools import product
+from itertools import permutations, product
 
 _WORDS_OF_DIRECTIONS = {
     "N": ("N", "NORTH"),
@@ -131,6 +131,39 @@ def route_names(name: str, state: str = "") -> tuple[list[str], list[str]]:
             other += [text.format(found[1]) for text in related]
             break
     return same, list(dict.fromkeys(other))
+
+
+# Words of names that are written in two ways, and forms of one name.
+_PAIRS = """
+    First 1st | Second 2nd | Third 3rd | Fourth 4th | Fifth 5th | Sixth 6th | Seventh 7th | Eighth 8th | Ninth 9th | Tenth 10th
+    Eleventh 11th | Twelfth 12th | Mount Mt | Fort Ft | Saint St | Avenue Ave | Center Centre
+"""
+_OTHER_WORDS = {
+    one.upper(): other
+    for pair in re.split(r"[|\n]", _PAIRS)
+    if pair.strip()
+    for one, other in permutations(pair.split())
+}
+_KING = re.compile(r"(?:DR )?(?:MARTIN L(?:UTHER)?|M ?L) ?K(?:ING)?(?: J(?:UNIO)?R)?")
+_KING_NAMES = (
+    "Martin Luther King Jr", "Martin Luther King", "M L King Jr", "M L King", "MLK Jr", "MLK", "ML King Jr", "ML King",
+    "Dr Martin Luther King Jr", "Dr Martin Luther King", "Dr M L King Jr", "Dr ML King Jr", "Martin L King Jr",
+    "Martin L King",
+)  # fmt: skip
+
+
+def other_spellings(words: list[str]) -> list[str]:
+    """Returns names with the same meaning: `First` for `1st`, `Mount` for `Mt`, without apostrophes, and so on."""
+    name = " ".join(words)
+    found = [name.replace("'", ""), name.replace("'", " ")] if "'" in name else []
+    for at, word in enumerate(words):
+        other = _OTHER_WORDS.get(word.upper())
+        # Elsewhere, `St` and `Ave` are types.
+        if other and (word.upper() not in ("ST", "SAINT", "AVE", "AVENUE") or (at == 0 and len(words) > 1)):
+            found.append(" ".join((*words[:at], other, *words[at + 1 :])))
+    if _KING.fullmatch(name.replace(".", "").replace(",", "").upper()):
+        found += _KING_NAMES
+    return found
 
 
 def same_type(one: str, other: str) -> bool:

@@ -143,7 +143,7 @@ def _geocode(
 def _street_of(address: Address, states: set[str]) -> Street | Crossing | Reason:
     """Returns the number and the readings of an address, or the reason for which it isn't looked up."""
     state = state_of(address.state)
-    street = take_apart(address.street, state)
+    street = take_apart(address.street, state, (address.city, address.state, address.zip))
     return Reason.OTHER_STATE if not isinstance(street, Reason) and state and state not in states else street
 
 
