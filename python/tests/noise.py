@@ -187,6 +187,13 @@ def of_unit(random: Random, drawn: Drawn) -> Drawn:
     return replace(drawn, written=drawn.street + unit)
 
 
+def more_words(random: Random, drawn: Drawn) -> Drawn:
+    street = drawn.street.removeprefix(drawn.number).strip()
+    forms = ("{0}B {1}", "{0}-B {1}", "{0} 1/2 {1}", "Apt 4, {0} {1}", "#{0} {1}", "{0} {1} c/o Smith", "{0} {1} (rear)",
+        "{0} {1} No. 4", "City Hall, {0} {1}", "{0} {1}, {2}")  # fmt: skip
+    return replace(drawn, written=random.choice(forms).format(drawn.number, street, drawn.city))
+
+
 def noisy(source: Source, kind: str) -> Drawn:
     """Draws an address and spoils it."""
     random = source.random
@@ -210,6 +217,7 @@ SPOILERS: dict[str, tuple[Callable[[tuple[str, ...]], bool], Spoiler]] = {
     "other ZIP Code": (lambda n: True, lambda s, d: replace(d, zip=other_zip(s, d))),
     "no ZIP Code": (lambda n: True, lambda s, d: replace(d, zip="")),
     "highway": (is_route, lambda s, d: replace(d, name=spoken(s.random, d.name))),
+    "more words": (lambda n: True, lambda s, d: more_words(s.random, d)),
     "unit": (lambda n: True, lambda s, d: of_unit(s.random, d)),
     "box": (lambda n: True, lambda s, d: replace(d, written=f"PO Box {d.number}", places=frozenset())),
     "number beyond": (lambda n: True, beyond),
@@ -217,7 +225,7 @@ SPOILERS: dict[str, tuple[Callable[[tuple[str, ...]], bool], Spoiler]] = {
 SHARES = {
     "one edit": 150, "transposed": 80, "two edits": 80, "one edit, no type": 20, "no type": 80, "type spelled": 60,
     "other type": 60, "no direction": 60, "direction spelled": 60, "other ZIP Code": 80, "no ZIP Code": 60, "highway": 60,
-    "unit": 50, "box": 20, "number beyond": 40, "crossing": 40,
+    "unit": 50, "box": 20, "more words": 20, "number beyond": 20, "crossing": 40,
 }  # fmt: skip
 
 

@@ -382,14 +382,22 @@ S Holly - -                    | 1-99    | 36067
 - State_Road_9 - -             | 1-99    | 36067
 - State_Hwy_9 - -              | 1-99    | 36067
 - County_Rd_8 - -; - County_Road_8 - - | 1-99 | 36067
+- Magnolia Ct -                | 1-99    | 36067
+- Hickory Ave -                | 1-99    | 36067
+- Hickory Rd -                 | 1-99    | 36067
+- Magnolio Ct -                | 1-99    | 36001
+E Cedar Rd -                   | 1-99    | 36067
+W Cedar Rd -                   | 1-99    | 36067
+- 12th St -                    | 1-99    | 36067
+- Elk Rd -                     | 1-99    | 36067
 """.strip().splitlines()
 
 # An address and its ZIP Code, the segment that matches or none, and the reasons.
 CHOICES = """
 5 E Jefferson St       | 36067 | 1  |
 5 Jefferson St E       | 36067 | 1  | direction
-5 Jefferson St W       | 36067 |    | no_such_street
-5 W Jefferson St       | 36067 |    | no_such_street
+5 Jefferson St W       | 36067 | 1  | direction
+5 W Jefferson St       | 36067 | 1  | direction
 5 Jefferson            | 36067 | 1  | direction type
 105 Oak Hill           | 36067 | 3  | type
 105 Oak                | 36067 | 2  |
@@ -404,7 +412,7 @@ CHOICES = """
 5 Pine St              |       |    | tie
 5 Main Ave             | 36067 | 8  |
 5 N Main St            | 36067 | 8  |
-5 Main Blvd            | 36067 |    | no_such_street
+5 Main Blvd            | 36067 |    | other_type
 5 Lake                 | 36067 | 9  | type
 5 Lake St              | 36067 |    | no_such_street
 5 Holly St             | 36067 |    | tie
@@ -413,6 +421,25 @@ CHOICES = """
 5 SR 7                 | 36067 | 12 | route
 105 SR 7               | 36067 | 13 |
 5 N SR 9               | 36067 | 15 | direction
+5 Magnolia Ct          | 36067 | 18 |
+5 Magnola Ct           | 36067 | 18 | spelling
+5 Magnnolia Ct         | 36067 | 18 | spelling
+5 Magmolia Ct          | 36067 | 18 | spelling
+5 Mangolia             | 36067 | 18 | type spelling
+5 Mangoli Ct           | 36067 |    | no_such_street
+5 Magnolio Ct          | 36001 | 21 |
+5 Magnolia Ct          | 36001 | 21 | spelling
+105 Magnolia Ct        | 36067 |    | no_such_number_on_street
+5 Magnola Ave          | 36067 |    | no_such_street
+5 Magnolia Ave         | 36067 | 18 | type
+5 Hickory Ct           | 36067 |    | other_type
+5 N Cedar Rd           | 36067 |    | other_direction
+5 11th St              | 36067 |    | no_such_street
+5 Twelfth St           | 36067 | 24 |
+5 Ekl Rd               | 36067 |    | no_such_street
+5B Magnolia Ct         | 36067 | 18 | number_suffix
+5 Magnolia Ct (rear)   | 36067 | 18 | extra_words
+5 Hwy 7                | 36067 | 12 | route
 """.strip().splitlines()
 
 

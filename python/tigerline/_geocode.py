@@ -119,7 +119,7 @@ class Lookup:
             files["1"], {hit.tlid for _, status, _, hit in lines if status != "no_match"}
         )
         for at, status, reason, hit in lines:
-            placed = hit._replace(cities=cities.get((hit.tlid, hit.side), ()))
+            placed = hit._replace(cities=cities.get((hit.tlid, hit.side), ())) if cities else hit
             for asker in askers[at]:
                 if status != "no_match":
                     asker.answer.add(asker.reading, placed, (opened.order, asker.order))

@@ -86,7 +86,8 @@ class Streets:
                     for name in town.near.of(reading.name.upper()):
                         yield reading.changed(Reason.SPELLING, Stage.SPELLING)._replace(name=name)
                     answer.hint = answer.hint or town.near.hint(reading.name.upper())
-        for reading in readings:
+        # What is in another town exactly as it is written has a wrong ZIP Code rather than a wrong type.
+        for reading in readings if not answer.refused else ():
             streets = self.town(answer.wanted.zip).streets.get(reading.name.upper(), set())
             if answer.wanted.zip and streets:
                 yield from _of_other_parts(reading, sorted(streets), answer)

@@ -6,6 +6,7 @@ Nothing here is proved. `extractd` reads no record of type C, which has the name
 import re
 from collections.abc import Collection, Iterator
 from enum import IntEnum
+from functools import lru_cache
 from pathlib import Path
 from typing import NamedTuple
 
@@ -53,6 +54,7 @@ class Wanted(NamedTuple):
     state: str = ""
 
 
+@lru_cache(maxsize=100_000)
 def city_key(text: str) -> str:
     """Returns what two spellings of a city have in common: `City of Saint Paul` and `St. Paul` become `ST PAUL`."""
     words = re.sub(r"[.'’]", "", text).upper().replace("-", " ").split()
