@@ -15,9 +15,11 @@ if TYPE_CHECKING:
     from ._program import Refused
     from ._rows import Row, rows
     from .geocoding import Address, Candidate, Match, Reason, Status, geocode
+    from .reversing import Nearest, reverse
 
 __all__ = [
-    "Address", "Candidate", "Match", "Reason", "Refused", "Row", "Status", "geocode", "read_county", "rows", "select",
+    "Address", "Candidate", "Match", "Nearest", "Reason", "Refused", "Row", "Status", "geocode", "read_county",
+    "reverse", "rows", "select",
 ]  # fmt: skip
 __version__ = "1.0.0"
 
@@ -26,12 +28,14 @@ _MODULES = {
     "Address": "geocoding",
     "Candidate": "geocoding",
     "Match": "geocoding",
+    "Nearest": "reversing",
     "Reason": "geocoding",
     "Refused": "_program",
     "Row": "_rows",
     "Status": "geocoding",
     "geocode": "geocoding",
     "read_county": "_frames",
+    "reverse": "reversing",
     "rows": "_rows",
     "select": "_frames",
 }

@@ -15,7 +15,7 @@ from dataclasses import replace
 from functools import partial
 from pathlib import Path
 
-from . import __version__, geocoding
+from . import __version__, geocoding, reversing
 from ._commands import exit_status
 from ._extract import Request, extract
 from ._interrupts import Interrupts
@@ -198,6 +198,8 @@ def main(arguments: Sequence[str] | None = None) -> int:
     words = list(sys.argv[1:] if arguments is None else arguments)
     if words[:1] == [geocoding.COMMAND]:
         return geocoding.main(words[1:])
+    if words[:1] == [reversing.COMMAND]:
+        return reversing.main(words[1:])
     options = parser().parse_args(words)
     return exit_status(lambda: os.fsencode(f"{options.out}: {counted(write(options))}\n"))
 

@@ -131,6 +131,14 @@ def _depth(county: County) -> int:
     return len(county.folder.parts)
 
 
+def has_shapes(county: County) -> bool:
+    """Returns whether a county has a file of record type 2."""
+    if county.archive is None:
+        return "2" in county.files
+    with _opened_archive(county.archive) as archive:
+        return (county.code, "2") in _members(archive, county.archive)
+
+
 @contextmanager
 def opened_county(county: County, types: str, interrupts: Interrupts) -> Iterator[dict[str, Path]]:
     """Makes a temporary folder with the files of a county, named in capitals, and yields their paths by record type.

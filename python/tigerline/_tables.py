@@ -4,7 +4,7 @@ import csv
 import os
 import re
 import shutil
-from collections.abc import Callable, Iterable, Iterator
+from collections.abc import Callable, Iterable, Iterator, Sequence
 from dataclasses import dataclass, replace
 from operator import itemgetter
 from pathlib import Path
@@ -106,7 +106,7 @@ def write_by_gdal(
     suffix = file.path.suffix
     if suffix == ".fgb" and not selection.has_lines:
         raise ValueError("FlatGeobuf has no segments without geometry: use .gpkg, .geojson or .csv")
-    ogr2ogr, ogrinfo = _tool("ogr2ogr"), _tool("ogrinfo")
+    ogr2ogr, ogrinfo = gdal_tool("ogr2ogr"), gdal_tool("ogrinfo")
     with scratch_folder() as scratch:
         source = scratch / "segments.csv"
         with naming(source):
@@ -117,10 +117,10 @@ def write_by_gdal(
                 f"FlatGeobuf has no segments without geometry, and {without_line} have no coordinates: "
                 "use .gpkg, .geojson or .csv"
             )
-        _convert(ogr2ogr, source, file, selection.has_lines, interrupts)
+        convert(ogr2ogr, source, file, _options(selection.has_lines), interrupts)
     written = _features_of_geojson(file.path) if suffix == ".geojson" else None
     if written != count:
-        written = _count(ogrinfo, file.path, interrupts)
+        written = count_features(ogrinfo, file.path, "segments", "score", interrupts)
     if written != count:
         raise OSError(f"{file.final}: ogr2ogr wrote {written or 'none'} of {count} segments; the disk may be full")
     return count
@@ -134,20 +134,25 @@ def _types(selection: Selection) -> list[str]:
     return ["String", *columns] if selection.has_lines else columns
 
 
-def _tool(name: str) -> str:
+def gdal_tool(name: str) -> str:
     found = shutil.which(name)
     if found is None:
         raise FileNotFoundError(f"there is no program {name}: install gdal-bin, or write a .csv file")
     return found
 
 
-def _convert(ogr2ogr: str, source: Path, file: PendingFile, has_lines: bool, interrupts: Interrupts) -> None:
+def _options(has_lines: bool) -> list[str]:
     options = "-nln segments -oo EMPTY_STRING_AS_NULL=YES"
     if has_lines:
         options += f" -nlt LINESTRING -a_srs {CRS} -oo GEOM_POSSIBLE_NAMES=geom -oo KEEP_GEOM_COLUMNS=NO"
     else:
         options += " -nlt NONE"
-    command = [ogr2ogr, "-f", DRIVERS[file.path.suffix], str(file.path), str(source), *options.split()]
+    return options.split()
+
+
+def convert(ogr2ogr: str, source: Path, file: PendingFile, options: Sequence[str], interrupts: Interrupts) -> None:
+    """Has ogr2ogr write a file in the format of its suffix. Raises OSError with what it says if it fails."""
+    command = [ogr2ogr, "-f", DRIVERS[file.path.suffix], str(file.path), str(source), *options]
     status, _, said = run_process(command, interrupts)
     error = re.search(r"^ERROR [0-9]+: (.*)", said, re.MULTILINE)
     if status != 0 or error:
@@ -162,9 +167,12 @@ def _features_of_geojson(path: Path) -> int | None:
         return features if file.read() == GEOJSON_END else None
 
 
-def _count(ogrinfo: str, path: Path, interrupts: Interrupts) -> int | None:
-    """Returns the number of segments in a file by reading it: ogr2ogr may exit with status 0 on a full disk."""
-    query = "SELECT COUNT(score) AS segments FROM segments"
+def count_features(ogrinfo: str, path: Path, layer: str, column: str, interrupts: Interrupts) -> int | None:
+    """Returns the number of features in a file by reading it: ogr2ogr may exit with status 0 on a full disk.
+
+    Each feature has to have a value in the column.
+    """
+    query = f'SELECT COUNT("{column}") AS features FROM "{layer}"'
     status, output, _ = run_process([ogrinfo, "-ro", "-q", "-sql", query, str(path)], interrupts)
-    found = re.search(rb"^  segments \(Integer(?:64)?\) = ([0-9]+)$", output, re.MULTILINE)
+    found = re.search(rb"^  features \(Integer(?:64)?\) = ([0-9]+)$", output, re.MULTILINE)
     return int(found[1]) if status == 0 and found else None

@@ -1,0 +1,183 @@
+"""`tigerline reverse` and the function: the nearest street, its side and the house number there."""
+
+import csv
+import io
+import json
+import math
+import time
+from collections import defaultdict
+from collections.abc import Iterator, Sequence
+from itertools import pairwise
+from pathlib import Path
+from random import Random
+from typing import NamedTuple
+
+import pytest
+import tigerline
+from counties import CODE, EXAMPLES, copy_county, zip_folder
+from test_main import layer, run
+
+pytest.importorskip("shapely", reason="no shapely")
+pytestmark = pytest.mark.usefixtures("extractd", "scratch")
+
+# A degree of latitude has about 111,000 m, so 0.0001 degrees are 11 m; of longitude it has about 93,600 m here.
+# Each segment: TLID, CFCC, name, type, the ends, left numbers, right numbers, ZIP Codes, and the points between the ends.
+# Longitudes and latitudes are in millionths of a degree east of -87 and north of 33. Main goes to the east and Oak to the
+# north; they meet at 0 0, and there the point lies beside the one that it is further from if both went on. Bend goes to the east and turns back on itself.
+SEGMENTS = """
+1 | A41 | Main  | St  | -2000 0 0 0     | 101 199 | 100 198 | 35001 35002 |
+2 | A41 | Oak   | Ave | 0 0 0 2000      | 250 200 | 251 201 | 35001 35001 |
+3 | A41 | Bend  | Rd  | 6000 0 6000 200 | 1 99    | -       | 35003 35003 | 8000 100
+4 | B11 | Rails | -   | 0 -100 900 -100 | -       | -       | -           |
+5 | A41 | -     | -   | 0 -200 900 -200 | 1 99    | 2 98    | 35001 35001 |
+6 | A31 | Both  | Rd  | 9000 0 9000 999 | 10 20   | 1 8     | 35004 35004 |
+7 | A41 | Queen | St  | 9999 0 9999 999 | 1-1 1-9 | 2 2     | 35005 35005 |
+""".strip().splitlines()
+# The ranges of record type 6: the TLID, left numbers, right numbers, and ZIP Codes.
+FURTHER = """
+3 | -     | 40 20 | - 35009
+1 | 1 9   | -     | 35009 -
+""".strip().splitlines()
+
+# A point, and the street, the house number, the ZIP Code and the side, or nothing.
+POINTS = """
+-990 100    | Main St 151  35001 L
+-990 -100   | Main St 150  35002 R
+-2000 100   | Main St 101  35001 L
+-2500 -50   | Main St 100  35002 R
+-490 100    | Main St 175  35001 L
+-20 990     | Oak Ave 226  35001 L
+20 990      | Oak Ave 227  35001 R
+-100 50     | Main St 195  35001 L
+-50 190     | Oak Ave 246  35001 L
+300 -10     | Oak Ave 251  35001 R
+10 -300     | Main St 198  35002 R
+7000 130    | Bend Rd 75   35003 L
+6900 30     | Bend Rd 36   35009 R
+8020 100    | Bend Rd 30   35009 R
+500 -100    | Oak Ave 251  35001 R
+500 -1200   |
+8990 500    | Both Rd 16   35004 L
+9010 500    | Both Rd 5    35004 R
+9990 500    | Queen St -   35005 L
+10009 500   | Queen St 2   35005 R
+""".strip().splitlines()
+
+
+def numbers(text: str) -> str:
+    first, last = text.split() if text != "-" else ("", "")
+    return f"{first:>11}{last:>11}"
+
+
+def zips(text: str) -> str:
+    return "".join(f"{'' if code == '-' else code:5}" for code in (text.split() * 2)[:2])
+
+
+def place(words: Sequence[str]) -> str:
+    return f"{-87_000_000 + int(words[0]):+010}{33_000_000 + int(words[1]):+09}"
+
+
+def write_streets(folder: Path) -> Path:
+    lines: dict[str, list[str]] = {record_type: [] for record_type in "12456"}
+    for tlid, cfcc, name, kind, ends, left, right, codes, shape in (
+        [*map(str.strip, row.split("|"))] for row in SEGMENTS
+    ):
+        street = f"  {name.strip('-'):30}{kind.strip('-'):4}  {cfcc}"
+        addresses = f"{numbers(left)}{numbers(right)}0000{zips(codes)}"
+        start, end = ends.split()[:2], ends.split()[2:]
+        lines["1"].append(f"10006{tlid:>10}  {street}{addresses}".ljust(190) + place(start) + place(end))
+        if shape:
+            lines["2"].append(f"20006{tlid:>10}  1{place(shape.split())}" + f"{0:+010}{0:+09}" * 9)
+    for tlid, left, right, codes in ([*map(str.strip, row.split("|"))] for row in FURTHER):
+        lines["6"].append(f"60006{tlid:>10}  1{numbers(left)}{numbers(right)}0000{zips(codes)}")
+    folder.mkdir(exist_ok=True)
+    for record_type, records in lines.items():
+        (folder / f"TGR{CODE}.RT{record_type}").write_text("".join(line + "\n" for line in records))
+    return folder
+
+
+def degrees(text: str) -> tuple[float, float]:
+    east, north = text.split()
+    return -87 + int(east) / 1e6, 33 + int(north) / 1e6
+
+
+def test_points(tmp_path: Path) -> None:
+    """The nearest street with a name, its side and the number there."""
+    write_streets(tmp_path)
+    rows = [row.partition("|") for row in POINTS]
+    found = tigerline.reverse([degrees(row[0]) for row in rows], tmp_path)
+    texts = [
+        f"{street.street} {'-' if street.number is None else street.number} {street.zip} {street.side}"
+        if street
+        else ""
+        for street in found
+    ]
+    assert texts == [" ".join(row[2].split()) for row in rows]
+
+
+class House(NamedTuple):
+    """A house of the made-up county: all names of its street, its number, and its place beside the street."""
+
+    names: set[str]
+    number: int
+    place: tuple[float, float]
+
+
+METERS = (math.cos(math.radians(33)) * 111_320, 110_920.0)  # per degree, near enough for a county
+
+
+def in_meters(record: str, first: int = 190) -> tuple[float, float]:
+    return int(record[first : first + 10]) / 1e6 * METERS[0], int(record[first + 10 : first + 19]) / 1e6 * METERS[1]
+
+
+def houses(folder: Path, code: str, count: int) -> Iterator[House]:
+    """Yields houses of random streets, 5 to 25 m beside the place of their number along the shape."""
+    records = {kind: (folder / f"TGR{code}.RT{kind}").read_text("latin-1").splitlines() for kind in "12456"}
+    features = {record[10:18]: record[20:50].strip() for record in records["5"]}
+    names, shapes = defaultdict(set), defaultdict(list)
+    sides = defaultdict(list)
+    for record in records["4"]:
+        names[record[5:15]] |= {features[record[at : at + 8]] for at in range(18, 58, 8) if record[at : at + 8].strip()}
+    for record in records["2"]:
+        shapes[record[5:15]] += [in_meters(record, at) for at in range(18, 208, 19) if int(record[at : at + 10])]
+    for record in records["1"]:
+        sides[record[5:15]] += [(1, record[58:80]), (-1, record[80:102])]
+    for record in records["6"]:
+        sides[record[5:15]] += [(1, record[18:40]), (-1, record[40:62])]
+    streets = [record for record in records["1"] if record[55] == "A" and record[19:49].strip()]
+    streets = [record for record in streets if any(numbers.strip() for _, numbers in sides[record[5:15]])]
+    dice = Random(3)
+    for record in (dice.choice(streets) for _ in range(count)):
+        tlid = record[5:15]
+        side, ends = dice.choice([found for found in sides[tlid] if found[1].strip()])
+        first, last = int(ends[:11]), int(ends[11:])
+        number = dice.randrange(min(first, last), max(first, last) + 1, 2)
+        line = [in_meters(record), *shapes[tlid], in_meters(record, 209)]
+        x, y = beside(line, (number - first) / ((last - first) or 1), side * dice.uniform(5, 25))
+        yield House({record[19:49].strip(), *names[tlid]}, number, (x / METERS[0], y / METERS[1]))
+
+
+def beside(line: list[tuple[float, float]], share: float, offset: float) -> tuple[float, float]:
+    """Returns the place after a share of a line and to its left."""
+    pieces = list(pairwise(line))
+    left = share * sum(math.dist(*piece) for piece in pieces)
+    for start, end in pieces:
+        length = math.dist(start, end)
+        if left <= length or (start, end) == pieces[-1]:
+            break
+        left -= length
+    x, y = (end[0] - start[0]) / length, (end[1] - start[1]) / length
+    return start[0] + left * x - offset * y, start[1] + left * y + offset * x
+
+
+def test_houses_of_a_county() -> None:
+    """The rest of the houses are nearer to a side street. 77.5 and 69.8 % are what PostGIS's TIGER geocoder finds."""
+    drawn = list(houses(EXAMPLES / "town", "01007", 1000))
+    started = time.perf_counter()
+    found = list(tigerline.reverse([house.place for house in drawn], EXAMPLES / "town"))
+    print(f"{time.perf_counter() - started:.2f} s")
+    names = {int(record[5:15]): record[19:49].strip() for record in (EXAMPLES / "town/TGR01007.RT1").open()}
+    right = [(house, street) for house, street in zip(drawn, found) if street and names[street.tlid] in house.names]
+    near = [house for house, street in right if street.number and abs(street.number - house.number) <= 10]
+    print(len(right), len(near))
+    assert len(right) >= 775 and len(near) >= 698
