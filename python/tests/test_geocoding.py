@@ -80,8 +80,10 @@ class TestColumns:
     def test_head(self, tmp_path: Path) -> None:
         (tmp_path / "in.csv").write_text(f"Zip, STREET ,note,id\n36003,751 Main Blvd S,x,1\n")
         done = geocode(tmp_path / "in.csv", "--header", "--reasons")
-        assert rows_of(done.stdout)[0] == [*geocoding.OUTPUT_COLUMNS, "reason"]
-        assert rows_of(done.stdout)[1][2:] == ["Match", "Exact", "751 MAIN BLVD S, , AL, 36003", *ROW[5:], ""]
+        names = "id address match exact matched_address coordinates tlid side reason longitude latitude"
+        assert rows_of(done.stdout)[0] == names.split()
+        place = ["-86.852619", "32.484638"]
+        assert rows_of(done.stdout)[1][2:] == ["Match", "Exact", "751 MAIN BLVD S, , AL, 36003", *ROW[5:], "", *place]
         (tmp_path / "in.csv").write_text("id,street,city,state,zip\n" + EXACT)
         assert geocode(tmp_path / "in.csv").stderr.endswith(
             "line 1 was taken for an address; is it a head line (--header)?\n"
@@ -104,17 +106,20 @@ INPUTS = [
     ("lone surrogate", b"+2AA-,751 Main Blvd S,,,36003", ["--encoding", "utf-7"], 1),
     ("other encoding", f"{EXACT}\n{EXACT}\n".encode() + b"1,5 Caf\xe9 St,,,\n", [],
      (3, "line 3 isn't in utf-8: give the encoding, such as --encoding cp1252")),
-    ("UTF-16 without saying so", EXACT.encode("utf-16"), [],
-     (3, "line 1 isn't in utf-8: give the encoding, such as --encoding cp1252")),
+    ("UTF-16 without saying so", EXACT.encode("utf-16"), [], 1),
+    ("Unicode Text of Excel", EXACT.replace(",", "\t").encode("utf-16"), [], 1),
     ("unknown encoding", EXACT.encode(), ["--encoding", "klingon"],
      (2, "there is no encoding klingon, but utf-8, cp1252, latin-1, utf-16 ...")),
     ("encoding of bytes", EXACT.encode(), ["--encoding", "hex"],
      (2, "there is no encoding hex, but utf-8, cp1252, latin-1, utf-16 ...")),
     ("missing column", f"{EXACT}\n\n2,751 Main Blvd S,Town,AL\n".encode(), [],
      (3, "line 3 has 4 columns, not 5: id, street, city, state and zip")),
-    ("one column", b"751 Main Blvd S\n", [], (3, "line 1 has 1 column, not 5: id, street, city, state and zip")),
+    ("one column", b"751 Main Blvd S\n", [], 
+     (3, "line 1 has 1 column, not 5: id, street, city, state and zip; is it a whole address (--one-line), or the delimiter "
+         "another one (--delimiter)?")),
     ("comma in a street", b"1,751 Main Blvd S, Apt 4,Town,AL,36003\n", [],
-     (3, "line 1 has 6 columns, not 5: id, street, city, state and zip")),
+     (3, "line 1 has 6 columns, not 5: id, street, city, state and zip; a cell with the delimiter in it needs quotation "
+         "marks")),
     ("open quotation mark", f'{EXACT}\n2,"751 Main Blvd S,Town,AL,36003\n{EXACT}\n'.encode(), [],
      (3, "line 2 isn't CSV: unexpected end of data")),
     ("text after a quotation", f'{EXACT}\n2,"751" Main,Town,AL,36003\n'.encode(), [],
@@ -122,7 +127,8 @@ INPUTS = [
     ("long cell", b"1," + b"x" * 200_000 + b",,,\n", [], (3, "line 1 isn't CSV: field larger than field limit (131072)")),
     ("short line under a head", b"id,street,zip\n1,751 Main Blvd S\n", ["--header"],
      (3, "line 2 has 2 columns, not 3 as the head line")),
-    ("head without a street", b"id,zip\n1,36003\n", ["--header"], (3, "line 1, the head line, has no column street")),
+    ("head without a street", b"id,zip\n1,36003\n", ["--header"], 
+     (3, "line 1, the head line, has no column street, but id, zip: name it by --columns street=NAME")),
 ]  # fmt: skip
 
 

@@ -1,29 +1,19 @@
-"""Reads addresses from CSV files, as the Census Bureau's batch geocoder takes them."""
+"""Reads addresses from CSV files: as the Census Bureau's batch geocoder takes them, with a head line, or on one line."""
 
-import codecs
-import csv
-import os
-import select
-import stat
-import sys
 import warnings
-from collections.abc import Iterator, Sequence
-from contextlib import contextmanager
-from dataclasses import dataclass
-from pathlib import Path
-from typing import NamedTuple, TextIO
+from collections.abc import Iterator, Mapping, Sequence
+from dataclasses import dataclass, field, replace
+from typing import NamedTuple
 
 from ._interrupts import Interrupts
-from ._scratch import naming, scratch_folder
+from ._one_line import parts_of
+from ._table_input import TableFile, columns_by_name, key_of
 
-STANDARD_INPUT = "-"
-CHUNK = 1 << 20
-POLL = 0.1  # seconds
-_HEADS = {"street", "address", "street address"}
+WHOLE_LINE = "\x1f"  # a delimiter that no file has
 
 
 class Address(NamedTuple):
-    """An address: its id, the street with the house number, and the rest. Only `street` and `zip` are used."""
+    """An address: its id, the street with the house number, and the rest."""
 
     id: str
     street: str
@@ -33,139 +23,116 @@ class Address(NamedTuple):
 
 
 COLUMNS = Address._fields
+ONE_LINE_COLUMNS = ("id", "address")
+_IDS = ("id", "uniqueid", "addressid", "recordid", "objectid", "key", "fid")
+# The usual names of columns, without blanks and punctuation.
+USUAL_NAMES: Mapping[str, Sequence[str]] = {
+    "id": _IDS,
+    "street": (
+        "street", "streetaddress", "address", "address1", "addressline1", "addressline", "streetline1", "street1", "addr",
+        "addr1", "line1", "siteaddress", "propertyaddress", "mailingaddress",
+    ),
+    "city": ("city", "town", "cityname", "citytown", "municipality", "locality", "placename", "place"),
+    "state": ("state", "statecode", "stateabbreviation", "stateabbr", "statename", "stateprovince", "st"),
+    "zip": ("zip", "zipcode", "zip5", "zipcode5", "postcode", "postalcode", "postal", "zippostalcode", "zippostcode"),
+}  # fmt: skip
+USUAL_ONE_LINE_NAMES: Mapping[str, Sequence[str]] = {
+    "id": _IDS,
+    "address": (
+        "address", "fulladdress", "onelineaddress", "singlelineaddress", "singleline", "oneline", "wholeaddress",
+        "completeaddress", "location", "siteaddress", "propertyaddress", "mailingaddress",
+    ),
+}  # fmt: skip
 
 
 @dataclass(frozen=True)
 class AddressFile:
-    """A CSV file of addresses: a regular file, and its name in messages."""
+    """A CSV file of addresses.
 
-    path: Path
-    name: str
-    encoding: str
-    has_head: bool
+    With a head line, `named` has names of columns that were given, and the others are found by their usual names. An
+    address on one line is in the column `address`; without a head line and a delimiter it is the whole line.
+    """
+
+    table: TableFile
+    has_head: bool = False
+    is_one_line: bool = False
+    named: Mapping[str, str] = field(default_factory=dict)
 
     def addresses(self, interrupts: Interrupts) -> Iterator[Address]:
         """Yields the addresses. Raises OSError with the line's number if a line isn't an address."""
-        try:
-            with naming(Path(self.name)), open(self.path, encoding=self._codec(), newline="") as file:
-                yield from self._read(file, interrupts)
-        except UnicodeError:
-            raise OSError(
-                f"{self.name}: line {self._line_of_encoding_error()} isn't in {self.encoding}: "
-                "give the encoding, such as --encoding cp1252"
-            ) from None
+        columns = self._columns()
+        count = len(columns)
+        places = {name: at for at, name in enumerate(columns)}
+        for at, (line, row) in enumerate(self._table(count).rows(interrupts)):
+            if at == 0 and self.has_head:
+                count, places = len(row), self._places(row, line)
+                continue
+            while len(row) > count and not row[-1].strip():
+                row.pop()
+            is_head = at == 0 and _looks_like_head(row)
+            if len(row) != count:
+                raise OSError(f"{self.table.name}: line {line} has {self._wrong_count(row, count, is_head)}")
+            if is_head:
+                warnings.warn(
+                    f"{self.table.name}: line {line} was taken for an address; is it a head line (--header)?",
+                    stacklevel=2,
+                )
+            yield self._address(row, line, places)
 
-    def _codec(self) -> str:
-        """Returns the name of the codec. Excel writes a byte order mark before UTF-8."""
-        try:
-            "".encode(self.encoding)
-        except LookupError:
-            raise ValueError(f"there is no encoding {self.encoding}, but utf-8, cp1252, latin-1, utf-16 ...") from None
-        return "utf-8-sig" if codecs.lookup(self.encoding).name == "utf-8" else self.encoding
+    def _columns(self) -> tuple[str, ...]:
+        """Returns the columns of a file without a head line."""
+        if not self.is_one_line:
+            return COLUMNS
+        return ONE_LINE_COLUMNS if self.table.delimiter else ONE_LINE_COLUMNS[1:]
 
-    def _read(self, file: TextIO, interrupts: Interrupts) -> Iterator[Address]:
-        columns: Sequence[int] | None = None
-        count = len(COLUMNS)
-        for line, row in self._rows(file):
-            interrupts.check()
-            if columns is not None or not self.has_head:
-                while len(row) > count and not row[-1].strip():
-                    row.pop()
-                if len(row) != count:
-                    raise OSError(f"{self.name}: line {line} has {_counted(len(row))}, not {self._expected(count)}")
-            if columns is None:
-                if self.has_head:
-                    count, columns = len(row), self._columns_of(row, line)
-                    continue
-                columns = range(count)
-                self._warn_of_head(row, line)
-            yield Address._make([row[at] if at >= 0 else "" for at in columns])
-
-    def _rows(self, file: TextIO) -> Iterator[tuple[int, list[str]]]:
-        """Yields the nonempty rows, with the lines in which they begin."""
-        reader = csv.reader(file, strict=True)
-        while True:
-            line = reader.line_num + 1
-            try:
-                row = next(reader)
-            except StopIteration:
-                return
-            except csv.Error as error:
-                raise OSError(f"{self.name}: line {line} isn't CSV: {error}") from None
-            if any(cell.strip() for cell in row):
-                yield line, row
-
-    def _expected(self, count: int) -> str:
+    def _table(self, count: int) -> TableFile:
         if self.has_head:
-            return f"{count} as the head line"
-        return f"{count}: {', '.join(COLUMNS[:-1])} and {COLUMNS[-1]}"
+            return self.table
+        is_whole_line = self.is_one_line and not self.table.delimiter
+        return replace(self.table, columns=(count,), delimiter=WHOLE_LINE if is_whole_line else self.table.delimiter)
 
-    def _columns_of(self, head: list[str], line: int) -> list[int]:
-        """Returns the place of each column of an address in the rows, or -1 if it is missing."""
-        names = [name.strip().lower() for name in head]
-        for required in ("id", "street"):
-            if required not in names:
-                raise OSError(f"{self.name}: line {line}, the head line, has no column {required}")
-        return [names.index(name) if name in names else -1 for name in COLUMNS]
-
-    def _warn_of_head(self, row: list[str], line: int) -> None:
-        if row[1].strip().lower() in _HEADS:
-            warnings.warn(
-                f"{self.name}: line {line} was taken for an address; is it a head line (--header)?", stacklevel=2
+    def _places(self, head: list[str], line: int) -> dict[str, int]:
+        """Returns the places of the columns of an address in the rows."""
+        usual, required = (USUAL_ONE_LINE_NAMES, "address") if self.is_one_line else (USUAL_NAMES, "street")
+        try:
+            places = columns_by_name(head, usual, self.named)
+        except ValueError as error:
+            raise OSError(f"{self.table.name}: line {line}, the head line: {error}") from None
+        if required not in places:
+            raise OSError(
+                f"{self.table.name}: line {line}, the head line, has no column {required}, but {', '.join(head)}: "
+                f"name it by --columns {required}=NAME"
             )
+        return places
 
-    def _line_of_encoding_error(self) -> int:
-        """Returns the first line that can't be decoded, by decoding line by line again."""
-        decoder = codecs.getincrementaldecoder(self.encoding)()
-        number = 0
-        with open(self.path, "rb") as file:
-            for number, line in enumerate(file, start=1):
-                try:
-                    decoder.decode(line)
-                except UnicodeError:
-                    break
-        return number
+    def _wrong_count(self, row: list[str], count: int, is_head: bool) -> str:
+        """Returns what is wrong with a row that has another number of columns, and what helps."""
+        found = _counted(len(row))
+        if self.has_head:
+            return f"{found}, not {count} as the head line"
+        columns = self._columns()
+        expected = f"{found}, not {count}: {', '.join(columns[:-1])} and {columns[-1]}"
+        if is_head:
+            return f"{expected}; it looks like a head line (--header)"
+        if len(row) == 1:
+            return f"{expected}; is it a whole address (--one-line), or the delimiter another one (--delimiter)?"
+        if len(row) > count:
+            return f"{expected}; a cell with the delimiter in it needs quotation marks"
+        return expected
+
+    def _address(self, row: list[str], line: int, places: Mapping[str, int]) -> Address:
+        cells = {name: row[at] for name, at in places.items()}
+        identifier = cells.get("id", str(line))
+        if self.is_one_line:
+            return Address(identifier, *parts_of(cells["address"]))
+        return Address(identifier, cells["street"], *(cells.get(name, "") for name in COLUMNS[2:]))
+
+
+def _looks_like_head(row: Sequence[str]) -> bool:
+    """Returns whether a row without a house number has the usual name of a street's or of an address's column."""
+    usual = {*USUAL_NAMES["street"], *USUAL_ONE_LINE_NAMES["address"]}
+    return any(key_of(cell) in usual for cell in row)
 
 
 def _counted(columns: int) -> str:
     return f"{columns} column{'' if columns == 1 else 's'}"
-
-
-@contextmanager
-def opened_input(name: str, interrupts: Interrupts) -> Iterator[Path]:
-    """Yields the path of a file that can be read twice: the file itself, or a copy of standard input or of a pipe."""
-    if name != STANDARD_INPUT and stat.S_ISREG(os.stat(name).st_mode):
-        yield Path(name)
-        return
-    with scratch_folder() as folder:
-        copy = folder / "addresses.csv"
-        if name == STANDARD_INPUT:
-            if sys.stdin is None:
-                raise OSError("standard input is closed")
-            _copy(sys.stdin.fileno(), copy, "standard input", interrupts)
-        else:
-            # Otherwise opening a named pipe would wait for a writer, and delay Ctrl-C.
-            descriptor = os.open(name, os.O_RDONLY | os.O_NONBLOCK)
-            try:
-                _copy(descriptor, copy, name, interrupts)
-            finally:
-                os.close(descriptor)
-        yield copy
-
-
-def _copy(descriptor: int, copy: Path, name: str, interrupts: Interrupts) -> None:
-    """Copies all input to a file. Waits only for short times, so that Ctrl-C is noticed."""
-    with naming(copy), open(copy, "wb") as file:
-        while True:
-            interrupts.check()
-            if not select.select([descriptor], [], [], POLL)[0]:
-                continue
-            try:
-                chunk = os.read(descriptor, CHUNK)
-            except BlockingIOError:
-                continue
-            except OSError as error:
-                raise OSError(error.errno, error.strerror, name) from None
-            if not chunk:
-                return
-            file.write(chunk)

@@ -1,127 +1,109 @@
-"""Writes the results of geocoding: tables to standard output or CSV files, and points to files for a GIS."""
+"""Writes the matches of addresses: the Census Bureau's columns, or points."""
 
 import csv
-import os
-import sys
 from collections import Counter
-from collections.abc import Callable, Iterable, Iterator, Sequence
+from collections.abc import Iterable, Iterator
 from pathlib import Path
-from select import PIPE_BUF, select
-from typing import NamedTuple
+from typing import TYPE_CHECKING
 
 from ._interrupts import Interrupts
-from ._output import PendingFile, pending_file
-from ._scratch import naming, scratch_folder
-from ._tables import CRS, DRIVERS, convert, count_features, gdal_tool
+from ._output import PendingFile
+from ._point_output import Column, Point, write_points
+from ._tables import DRIVERS
 
-POLL = 0.1  # seconds
-LAYER = "points"
-GDAL_OPTIONS = (
-    f"-nln {LAYER} -nlt POINT -a_srs {CRS} -oo EMPTY_STRING_AS_NULL=YES -oo GEOM_POSSIBLE_NAMES=geom"
-    " -oo KEEP_GEOM_COLUMNS=NO"
-)
-# GDAL ends a text at NUL and reads CR as a line end.
-READABLE = str.maketrans("\0\r", "??")
+if TYPE_CHECKING:
+    from .geocoding import Match
 
-
-class Column(NamedTuple):
-    """A column of points, and GDAL's type of its values."""
-
-    name: str
-    type: str = "String"
+# The columns of the Census Bureau's batch geocoder.
+CENSUS_COLUMNS = ("id", "address", "match", "exact", "matched_address", "coordinates", "tlid", "side")
+PLACE_COLUMNS = ("longitude", "latitude")
+POINT_COLUMNS = (
+    Column("id"), Column("address"), Column("match"), Column("exact"), Column("matched_address"),
+    Column("longitude", "Real"), Column("latitude", "Real"), Column("tlid", "Integer64"), Column("side"),
+    Column("county"), Column("reason"),
+)  # fmt: skip
 
 
-class Point(NamedTuple):
-    """The values of a point, and its longitude and latitude, or None if it has none."""
-
-    values: Sequence[object]
-    place: tuple[float, float] | None
-
-
-def write_output(
-    out: Path | None, overwrite: bool, interrupts: Interrupts, write: Callable[[PendingFile], str]
-) -> bytes:
-    """Has a function write a file that appears completely or not at all, and returns a message with its summary.
-
-    Without `out`, the file is copied to standard output, and there is no message.
-    """
-    if out is not None:
-        with pending_file(out, overwrite) as file:
-            with naming(file.final):
-                summary = write(file)
-            interrupts.check()
-            file.publish()
-        return os.fsencode(f"{out}: {summary}\n")
-    with scratch_folder() as folder:
-        path = folder / "table.csv"
-        with naming(path):
-            write(PendingFile(path, path, overwrite=False))
-        interrupts.check()
-        _copy_to_output(path, interrupts)
-    return b""
-
-
-def write_points(
-    file: PendingFile, columns: Sequence[Column], points: Iterable[Point], full: str, interrupts: Interrupts
-) -> int:
-    """Writes points as CSV, or by GDAL in the format of the file's suffix. Returns how many it left out.
-
-    FlatGeobuf has no features without a place, so these are left out. `full` is a column that has no empty cells.
-    """
-    suffix = file.path.suffix
-    if suffix not in DRIVERS:
-        _write_csv(file.path, columns, (point.values for point in points), interrupts)
-        return 0
-    ogr2ogr, ogrinfo = gdal_tool("ogr2ogr"), gdal_tool("ogrinfo")
+def write_matches(
+    file: PendingFile, matches: Iterable["Match"], has_head: bool, has_reason: bool, interrupts: Interrupts
+) -> str:
+    """Writes the matches in the format of the file's suffix, and returns a summary."""
     counts: Counter[str] = Counter()
-    with scratch_folder() as scratch:
-        source = scratch / f"{LAYER}.csv"
-        with naming(source):
-            rows = _rows_for_gdal(points, suffix != ".fgb", counts)
-            _write_csv(source, [*columns, Column("geom")], rows, interrupts)
-            types = ",".join(column.type for column in columns)
-            source.with_suffix(".csvt").write_text(f"{types},String\n")
-        convert(ogr2ogr, source, file, GDAL_OPTIONS.split(), interrupts)
-    written = count_features(ogrinfo, file.path, LAYER, full, interrupts)
-    if written != counts["written"]:
-        raise OSError(
-            f"{file.final}: ogr2ogr wrote {written or 'none'} of {counts['written']} points; the disk may be full"
+    if file.path.suffix in DRIVERS:
+        points = map(_point, _counted(matches, counts))
+        left_out = write_points(file, POINT_COLUMNS, points, "match", interrupts)
+        return summary(counts) + (
+            f"; {left_out} left out, since FlatGeobuf has no features without a place" if left_out else ""
         )
-    return counts["left out"]
+    _write_census(file.path, _counted(matches, counts), has_head, has_reason, interrupts)
+    return summary(counts)
 
 
-def _rows_for_gdal(points: Iterable[Point], keeps_all: bool, counts: Counter[str]) -> Iterator[Sequence[object]]:
-    """Yields the values of points and their places as WKT, and counts the points."""
-    for values, place in points:
-        if place is None and not keeps_all:
-            counts["left out"] += 1
-            continue
-        counts["written"] += 1
-        text = f"POINT ({place[0]} {place[1]})" if place else ""
-        yield [*(value.translate(READABLE) if isinstance(value, str) else value for value in values), text]
-
-
-def _write_csv(path: Path, columns: Sequence[Column], rows: Iterable[Sequence[object]], interrupts: Interrupts) -> None:
+def _write_census(
+    path: Path, matches: Iterable["Match"], has_head: bool, has_reason: bool, interrupts: Interrupts
+) -> None:
     with open(path, "w", encoding="utf-8", errors="replace", newline="") as file:
-        writer = csv.writer(file, lineterminator="\n")
-        writer.writerow(column.name for column in columns)
-        for row in rows:
+        writer = csv.writer(file, quoting=csv.QUOTE_ALL, lineterminator="\n")
+        if has_head:
+            writer.writerow((*CENSUS_COLUMNS, *(("reason",) if has_reason else ()), *PLACE_COLUMNS))
+        for match in matches:
             interrupts.check()
-            writer.writerow(row)
+            writer.writerow(row_of(match, has_head, has_reason))
 
 
-def _copy_to_output(path: Path, interrupts: Interrupts) -> None:
-    """Copies a file to standard output, which may be a closed pipe, or one that nobody reads for a long time."""
-    if sys.stdout is None:
-        raise OSError("the output can't be written: standard output is closed")
-    output = sys.stdout.fileno()
-    try:
-        with open(path, "rb") as file:
-            while chunk := file.read(PIPE_BUF):
-                while chunk:
-                    interrupts.check()
-                    # A writable pipe accepts at least this much. A larger write could block, and delay Ctrl-C.
-                    if select([], [output], [], POLL)[1]:
-                        chunk = chunk[os.write(output, chunk) :]
-    except OSError as error:
-        raise OSError(f"the output can't be written: {error.strerror}") from None
+def row_of(match: "Match", has_head: bool, has_reason: bool) -> list[str]:
+    """Returns a row of the Census Bureau's batch geocoder, which has three columns if there is no match.
+
+    With a reason or under a head line it has all columns, and under a head line also those of the place.
+    """
+    place = _place(match)
+    row = [match.address.id, given(match), match.status.value]
+    if place:
+        row += [exactness(match), match.matched or "", ",".join(place), str(match.tlid), match.side or ""]
+    if has_reason or has_head:
+        row += [""] * (len(CENSUS_COLUMNS) - len(row))
+    if has_reason:
+        row.append(" ".join(match.reasons))
+    if has_head:
+        row += place or ["", ""]
+    return row
+
+
+def given(match: "Match") -> str:
+    """Returns the address as it was given."""
+    return ", ".join(cell.strip() for cell in match.address[1:])
+
+
+def exactness(match: "Match") -> str:
+    return "Exact" if match.is_exact else "Non_Exact"
+
+
+def _place(match: "Match") -> list[str]:
+    """Returns the longitude and the latitude of a match, or nothing."""
+    if match.longitude is None or match.latitude is None:
+        return []
+    return [f"{match.longitude:.6f}", f"{match.latitude:.6f}"]
+
+
+def _point(match: "Match") -> Point:
+    """Returns the point of a match. Without one, the columns of the place and the match are empty."""
+    place = _place(match)
+    row: list[object] = [match.address.id, given(match), match.status.value, exactness(match) if place else ""]
+    row += [match.matched, *(place or (None, None)), match.tlid, match.side, match.county, " ".join(match.reasons)]
+    return Point(row, (float(place[0]), float(place[1])) if place else None)
+
+
+def _counted(matches: Iterable["Match"], counts: Counter[str]) -> Iterator["Match"]:
+    """Yields the matches, and counts each kind."""
+    for match in matches:
+        counts["exact" if match.is_exact else match.status.value] += 1
+        yield match
+
+
+def summary(counts: Counter[str]) -> str:
+    """Returns how many addresses have each kind of match."""
+    matched = counts["exact"] + counts["Match"]
+    return (
+        f"{counts.total()} address{'' if counts.total() == 1 else 'es'}: {matched} matched, {counts['exact']} of them exactly; "
+        f"{counts['Tie']} tied, {counts['No_Match']} not matched"
+    )

@@ -6,21 +6,31 @@ from typing import TypeVar
 
 Item = TypeVar("Item")
 
+PLURALS = {"county": "counties", "address": "addresses"}
+STEPS = 100  # as often a count is shown without tqdm
+
 
 def counted(counties: Sequence[Item], progress: bool) -> Iterable[Item]:
     """Returns the counties, and shows progress as they are consumed: a bar of tqdm, or a count without tqdm."""
+    return counted_of(counties, len(counties), "county", progress)
+
+
+def counted_of(items: Iterable[Item], total: int, unit: str, progress: bool) -> Iterable[Item]:
+    """Returns so many items, and shows progress as they are consumed."""
     if not progress:
-        return counties
+        return items
     try:
         from tqdm import tqdm
     except ImportError:
-        return _plain(counties)
-    bar: Iterable[Item] = tqdm(counties, unit="county", file=sys.stderr)
+        return _plain(items, total, PLURALS[unit])
+    bar: Iterable[Item] = tqdm(items, total=total, unit=unit, file=sys.stderr)
     return bar
 
 
-def _plain(counties: Sequence[Item]) -> Iterable[Item]:
-    for done, county in enumerate(counties):
-        print(f"\r{done} of {len(counties)} counties", end="", file=sys.stderr, flush=True)
-        yield county
-    print(f"\r{len(counties)} of {len(counties)} counties", file=sys.stderr, flush=True)
+def _plain(items: Iterable[Item], total: int, units: str) -> Iterable[Item]:
+    step = max(total // STEPS, 1)
+    for done, item in enumerate(items):
+        if done % step == 0:
+            print(f"\r{done} of {total} {units}", end="", file=sys.stderr, flush=True)
+        yield item
+    print(f"\r{total} of {total} {units}", file=sys.stderr, flush=True)

@@ -6,7 +6,7 @@ import os
 import select
 import stat
 import sys
-from argparse import ArgumentTypeError
+from argparse import ArgumentParser, ArgumentTypeError
 from collections.abc import Iterator, Mapping, Sequence
 from contextlib import contextmanager
 from dataclasses import dataclass
@@ -71,10 +71,9 @@ class TableFile:
     def _found_delimiter(self, codec: str) -> str:
         """Returns the delimiter by which the first line has as many columns as expected, or else the most columns."""
         with open(self.path, encoding=codec, errors="replace", newline="") as file:
-            first = next((line for line in file if line.strip()), "")
-        counts = {
-            delimiter: len(next(csv.reader([first], delimiter=delimiter), [])) for delimiter in DELIMITERS.values()
-        }
+            lines = iter(lambda: file.readline(csv.field_size_limit()), "")
+            first = next((line for line in lines if line.strip()), "")
+        counts = {mark: len(next(csv.reader([first], delimiter=mark), [])) for mark in DELIMITERS.values()}
         for delimiter, count in counts.items():
             if count in self.columns:
                 return delimiter
@@ -124,19 +123,20 @@ def columns_by_name(
     and punctuation are ignored. Columns without one of their usual names are left out. Raises ValueError if a name that
     was given is missing.
     """
-    keys = [_key(name) for name in head]
+    keys = [key_of(name) for name in head]
     places = {}
     for column, names in usual.items():
         if column in named:
-            if _key(named[column]) not in keys:
+            if key_of(named[column]) not in keys:
                 raise ValueError(f"no column has the name {named[column]!r}; the columns are {', '.join(head)}")
-            places[column] = keys.index(_key(named[column]))
+            places[column] = keys.index(key_of(named[column]))
         elif found := [name for name in names if name in keys]:
             places[column] = keys.index(found[0])
     return places
 
 
-def _key(name: str) -> str:
+def key_of(name: str) -> str:
+    """Returns a column's name in lowercase without blanks and punctuation."""
     return "".join(character for character in name.lower() if character.isalnum()) or name.strip()
 
 
@@ -195,3 +195,13 @@ def _copy(descriptor: int, copy: Path, name: str, interrupts: Interrupts) -> Non
             if not chunk:
                 return
             file.write(chunk)
+
+
+def add_input_options(parser: ArgumentParser, example: str) -> None:
+    """Adds the options that say how a table is written. `example` names columns."""
+    columns = f"the names of columns in the head line, if they aren't usual ones: {example}"
+    parser.add_argument("--columns", metavar="COLUMN=NAME", action="append", default=[], help=columns)
+    delimiter = f"the character between cells, or {', '.join(DELIMITERS)} (default: found by the first line)"
+    parser.add_argument("--delimiter", metavar="CHARACTER", type=delimiter_of, help=delimiter)
+    encoding = "the encoding, such as cp1252 (default: utf-8, or utf-16 if the file begins with its byte order mark)"
+    parser.add_argument("--encoding", metavar="NAME", help=encoding)

@@ -5,19 +5,14 @@ and chooses among the hits.
 """
 
 import argparse
-import csv
-import os
 import re
 import signal
-import sys
-from collections import Counter
-from collections.abc import Iterable, Iterator, Sequence
-from contextlib import ExitStack
+from collections.abc import Iterable, Iterator, Mapping, Sequence
 from dataclasses import dataclass
 from enum import StrEnum
+from functools import partial
 from itertools import islice
 from pathlib import Path
-from select import PIPE_BUF, select
 from typing import NamedTuple
 
 from . import _program
@@ -26,21 +21,23 @@ from ._commands import exit_status
 from ._extract import active_interrupts
 from ._geocode import Lookup
 from ._geocode_choice import Answer, Found
-from ._geocode_input import COLUMNS, POLL, STANDARD_INPUT, Address, AddressFile, opened_input
+from ._geocode_input import COLUMNS, USUAL_NAMES, USUAL_ONE_LINE_NAMES, Address, AddressFile
+from ._geocode_output import write_matches
 from ._geocode_towns import Wanted, city_key, state_of, state_of_county
 from ._interrupts import Interrupts
-from ._output import pending_file
+from ._output import PendingFile
+from ._point_output import write_output
 from ._program import PathLike
-from ._scratch import naming, scratch_folder
+from ._progress import counted_of
 from ._sources import choose_counties, find_counties
+from ._table_input import STANDARD_INPUT, TableFile, add_input_options, named_columns, opened_input
 
 __all__ = ["Address", "Candidate", "Match", "Reason", "Status", "geocode"]
 
 COMMAND = "geocode"
 # The number of addresses whose readings and hits are in memory. The counties are loaded again for each such part.
 ADDRESSES_AT_ONCE = 20_000
-OUTPUT_COLUMNS = ("id", "address", "match", "exact", "matched_address", "coordinates", "tlid", "side")
-_ZIP = re.compile(r"([0-9]{3,5})(?:[- ]?[0-9]{4})?")
+_ZIP = re.compile(r"([0-9]{3,5})(?:[- ]?[0-9]{4})?(?:\.0*)?")
 
 
 class Status(StrEnum):
@@ -152,7 +149,7 @@ def _wanted(address: Address) -> Wanted:
 
 
 def zip_of(cell: str) -> str:
-    """Returns the five digits of a ZIP Code, or an empty string. Spreadsheets drop leading zeros."""
+    """Returns the five digits of a ZIP Code, or an empty string. Spreadsheets drop leading zeros, and write 35042.0."""
     found = _ZIP.fullmatch(cell.strip())
     return found[1].zfill(5) if found and found[1].isascii() else ""
 
@@ -210,7 +207,8 @@ def parser() -> argparse.ArgumentParser:
     )
     add = result.add_argument
     add("addresses", metavar="IN", help=f"a CSV file of {', '.join(COLUMNS)} without a head line; - is standard input")
-    add("out", metavar="OUT", nargs="?", type=Path, help="the file to write (default: standard output)")
+    out = "the CSV file to write, or points as .gpkg, .geojson or .fgb (default: CSV to standard output)"
+    add("out", metavar="OUT", nargs="?", type=Path, help=out)
     add(
         "--data",
         metavar="DIR",
@@ -221,8 +219,10 @@ def parser() -> argparse.ArgumentParser:
     add("--counties", metavar="CODE", nargs="+", help=counties)
     add("--reasons", action="store_true", help="add a column with the reason for no match, or for one that isn't exact")
     add("--header", action="store_true", help="IN has a head line, which names the columns; write one, too")
-    add("--encoding", default="utf-8", help="the encoding of IN, such as cp1252 (default: utf-8)")
+    add_input_options(result, 'street="Street Address",zip=Postcode')
+    add("--one-line", action="store_true", help="an address is one cell, or without --header and --delimiter a line")
     add("--overwrite", action="store_true", help="replace OUT if it exists")
+    add("--progress", action="store_true", help="show on standard error how many addresses are done")
     add("--extractd", metavar="FILE", help="the program (default: the variable EXTRACTD, or extractd in PATH)")
     return result
 
@@ -235,77 +235,23 @@ def main(words: Sequence[str]) -> int:
 
 def run_command(options: argparse.Namespace) -> bytes:
     """Writes the matches, and returns a message if they are in a file and not on standard output."""
-    with Interrupts(signal.SIGINT, signal.SIGTERM, signal.SIGHUP) as interrupts, ExitStack() as files:
-        out = files.enter_context(pending_file(options.out, options.overwrite)) if options.out else None
-        path = out.path if out else files.enter_context(scratch_folder()) / "matches.csv"
-        name = "standard input" if options.addresses == STANDARD_INPUT else options.addresses
-        source = files.enter_context(opened_input(options.addresses, interrupts))
-        addresses = AddressFile(source, name, options.encoding, options.header)
-        for _ in addresses.addresses(interrupts):
-            pass  # Finds a faulty line before the first address is looked up.
+    usual = USUAL_ONE_LINE_NAMES if options.one_line else USUAL_NAMES
+    named = named_columns(options.columns, usual)
+    options.header = options.header or bool(named)
+    with Interrupts(signal.SIGINT, signal.SIGTERM, signal.SIGHUP) as interrupts:
+        write = partial(_write, options=options, named=named, interrupts=interrupts)
+        return write_output(options.out, options.overwrite, interrupts, write)
+
+
+def _write(file: PendingFile, options: argparse.Namespace, named: Mapping[str, str], interrupts: Interrupts) -> str:
+    """Writes the matches to a file, and returns a summary."""
+    name = "standard input" if options.addresses == STANDARD_INPUT else options.addresses
+    with opened_input(options.addresses, interrupts) as source:
+        table = TableFile(source, name, options.encoding, options.delimiter)
+        addresses = AddressFile(table, options.header, options.one_line, named)
+        count = sum(1 for _ in addresses.addresses(interrupts))  # Finds a faulty line before the first look-up.
         matches = _geocode(
             addresses.addresses(interrupts), options.data, options.counties, options.extractd, interrupts
         )
-        with naming(out.final if out else path):
-            counts = _write(path, matches, options, interrupts)
-        interrupts.check()
-        if not out:
-            _copy_to_output(path, interrupts)
-            return b""
-        out.publish()
-    return os.fsencode(f"{options.out}: {_summary(counts)}\n")
-
-
-def _write(path: Path, matches: Iterable[Match], options: argparse.Namespace, interrupts: Interrupts) -> Counter[str]:
-    """Writes the matches to a file, and returns the number of each kind."""
-    counts: Counter[str] = Counter()
-    with open(path, "w", encoding="utf-8", errors="replace", newline="") as file:
-        writer = csv.writer(file, quoting=csv.QUOTE_ALL, lineterminator="\n")
-        if options.header:
-            writer.writerow((*OUTPUT_COLUMNS, "reason") if options.reasons else OUTPUT_COLUMNS)
-        for match in matches:
-            interrupts.check()
-            writer.writerow(row_of(match, options.reasons))
-            counts["exact" if match.is_exact else match.status] += 1
-    return counts
-
-
-def row_of(match: Match, has_reason: bool) -> list[str]:
-    """Returns a row of the Census Bureau's batch geocoder, which has three columns if there is no match."""
-    row = [match.address.id, ", ".join(cell.strip() for cell in match.address[1:]), match.status]
-    if match.status is Status.MATCH:
-        row += [
-            "Exact" if match.is_exact else "Non_Exact",
-            match.matched or "",
-            f"{match.longitude:.6f},{match.latitude:.6f}",
-            str(match.tlid),
-            match.side or "",
-        ]
-    if has_reason:
-        row += [""] * (len(OUTPUT_COLUMNS) - len(row)) + [" ".join(match.reasons)]
-    return row
-
-
-def _summary(counts: Counter[str]) -> str:
-    matched = counts["exact"] + counts[Status.MATCH]
-    return (
-        f"{counts.total()} address{'' if counts.total() == 1 else 'es'}: {matched} matched, {counts['exact']} of them exactly; "
-        f"{counts[Status.TIE]} tied, {counts[Status.NO_MATCH]} not matched"
-    )
-
-
-def _copy_to_output(path: Path, interrupts: Interrupts) -> None:
-    """Copies a file to standard output, which may be a closed pipe, or one that nobody reads for a long time."""
-    if sys.stdout is None:
-        raise OSError("the output can't be written: standard output is closed")
-    output = sys.stdout.fileno()
-    try:
-        with open(path, "rb") as file:
-            while chunk := file.read(PIPE_BUF):
-                while chunk:
-                    interrupts.check()
-                    # A writable pipe accepts at least this much. A larger write could block, and delay Ctrl-C.
-                    if select([], [output], [], POLL)[1]:
-                        chunk = chunk[os.write(output, chunk) :]
-    except OSError as error:
-        raise OSError(f"the output can't be written: {error.strerror}") from None
+        shown = counted_of(matches, count, "address", options.progress)
+        return write_matches(file, shown, options.header, options.reasons, interrupts)

@@ -15,16 +15,16 @@ from pathlib import Path
 from . import _program
 from ._commands import exit_status
 from ._extract import active_interrupts
-from ._geocode_output import Column, Point, write_output, write_points
 from ._interrupts import Interrupts
 from ._nearest import Beside, StreetIndex, house_number, meters_per_degree
 from ._output import PendingFile
 from ._point_input import POINT_COLUMNS, GivenPoint, Place, PointFile, checked
+from ._point_output import Column, Point, write_output, write_points
 from ._program import PathLike
 from ._progress import counted
 from ._sources import STATES, County, choose_counties, find_counties
 from ._streets import Street, read_streets
-from ._table_input import DELIMITERS, STANDARD_INPUT, TableFile, delimiter_of, named_columns, opened_input
+from ._table_input import STANDARD_INPUT, TableFile, add_input_options, named_columns, opened_input
 
 __all__ = ["Nearest", "reverse"]
 
@@ -185,11 +185,7 @@ def parser() -> argparse.ArgumentParser:
         default=DISTANCE,
         help="how far a street may be (default: %(default)g)",
     )
-    columns = "the columns' names, if they aren't usual ones: longitude=East,latitude=North,id=No"
-    add("--columns", metavar="COLUMN=NAME", action="append", default=[], help=columns)
-    delimiter = f"the character between cells, or {', '.join(DELIMITERS)} (default: found by the first line)"
-    add("--delimiter", metavar="CHARACTER", type=delimiter_of, help=delimiter)
-    add("--encoding", help="the encoding of POINTS, such as cp1252 (default: utf-8, or utf-16 with a byte order mark)")
+    add_input_options(result, "longitude=East,latitude=North,id=No")
     add("--overwrite", action="store_true", help="replace OUT if it exists")
     add("--progress", action="store_true", help="show on standard error how many counties are done")
     add("--extractd", metavar="FILE", help="the program (default: the variable EXTRACTD, or extractd in PATH)")
