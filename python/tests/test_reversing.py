@@ -2,9 +2,7 @@
 
 import csv
 import io
-import json
 import math
-import time
 from collections import defaultdict
 from collections.abc import Iterator, Sequence
 from itertools import pairwise
@@ -115,6 +113,71 @@ def test_points(tmp_path: Path) -> None:
     assert texts == [" ".join(row[2].split()) for row in rows]
 
 
+# A file of points, options, and its answers: the id and the house number; or the status and the end of the message.
+FILES = [
+    ("id,longitude,latitude\na,-87.00099,33.0001\nb,-87,33.5\n", [], [("a", "151"), ("b", "")]),
+    ("Lat;Lon\n33.0001;-87.00099\n", [], [("2", "151")]),
+    ("-87.00099,33.0001\n\n-87.00099,32.9999\n", [], [("1", "151"), ("3", "150")]),
+    ("a\t-87.00099\t33.0001\n", [], [("a", "151")]),
+    ("Nr,Ost,Nord\na,-87.00099,33.0001\n", ["--columns", "id=Nr,longitude=Ost", "--columns", "latitude=Nord"],
+     [("a", "151")]),
+    ("-87.00099,33.0001\n", ["--distance", "5"], [("1", "")]),
+    ("", [], []),
+    ("id,x,y\na,-87,33\nb,,33\n", [], (3, "line 3: the longitude '' isn't a number of degrees")),
+    ("id,x,y\na,-87,133\n", [], (3, "line 2: a latitude is between -90 and 90, and 133.0 isn't")),
+    ("id,x,y\na,-87,nan\n", [], (3, "line 2: the latitude 'nan' isn't a number of degrees")),
+    ("a,b\n-87,33\n", [], (3, "line 1 has no columns longitude and latitude, but a, b: name them, as in --columns "
+     "longitude=X,latitude=Y")),
+    ("a,b\n-87,33\n", ["--columns", "longitude=c"],
+     (3, "line 1, the head line: no column has the name 'c'; the columns are a, b")),
+    ("-87,33\n", ["--columns", "lon=a"],
+     (2, "--columns has 'lon=a': write COLUMN=NAME, where COLUMN is one of id, longitude, latitude")),
+    ("-87,33\n", ["--distance", "-1"], (2, "a distance is between 0 and 100,000 meters, and -1.0 isn't")),
+]  # fmt: skip
+
+
+@pytest.mark.parametrize(("text", "options", "expected"), FILES)
+def test_files(
+    tmp_path: Path, text: str, options: list[str], expected: list[tuple[str, str]] | tuple[int, str]
+) -> None:
+    (tmp_path / "in").write_text(text)
+    done = run("reverse", tmp_path / "in", "--data", write_streets(tmp_path / "data"), *options)
+    if isinstance(expected, list):
+        assert (done.returncode, done.stderr) == (0, "")
+        assert [(row["id"], row["number"]) for row in csv.DictReader(io.StringIO(done.stdout))] == expected
+    else:
+        about = f"{tmp_path}/in: " if expected[0] == 3 else ""
+        assert (done.returncode, done.stderr, done.stdout) == (expected[0], f"error: {about}{expected[1]}\n", "")
+
+
+@pytest.mark.parametrize("suffix", ["csv", "gpkg", "geojson", "fgb"])
+@pytest.mark.usefixtures("gdal")
+def test_formats(tmp_path: Path, suffix: str) -> None:
+    """A point without a street is a feature, too."""
+    (tmp_path / "in").write_text("-87.00099,33.0001\n-87.00002,33.00099\n-88,33\n")
+    zip_folder(write_streets(tmp_path / "data"), tmp_path / "data.zip")
+    out = tmp_path / f"out.{suffix}"
+    done = run("reverse", tmp_path / "in", out, "--data", tmp_path / "data.zip")
+    assert (done.returncode, done.stderr) == (0, "")
+    assert done.stdout == f"{out}: 3 points: 2 with a street within 100 m\n"
+    rows = list(csv.DictReader(out.open())) if suffix == "csv" else layer(out)
+    rows.sort(key=lambda row: row["id"])  # FlatGeobuf sorts by location.
+    assert [row["address"] for row in rows] == ["151 MAIN ST, , AL, 35001", "226 OAK AVE, , AL, 35001", ""]
+    assert [row["tlid"] for row in rows] == ["1", "2", ""]
+    if suffix != "csv":
+        assert rows[0]["WKT"].replace("POINT (", "POINT(").startswith("POINT(-87.00099 33.0001")
+
+
+def test_counties(tmp_path: Path) -> None:
+    """The nearest street of all counties counts, and shape points may be missing."""
+    write_streets(tmp_path)
+    copy_county(tmp_path, code="01003")
+    (tmp_path / f"TGR{CODE}.RT2").unlink()
+    places = [degrees("-990 100"), (-86.62576, 32.566932), degrees("7000 30")]
+    found = list(tigerline.reverse(places, tmp_path, distance=20))
+    assert [street and (street.county, street.tlid) for street in found] == [(CODE, 1), ("01003", 107000006), None]
+
+
 class House(NamedTuple):
     """A house of the made-up county: all names of its street, its number, and its place beside the street."""
 
@@ -173,11 +236,8 @@ def beside(line: list[tuple[float, float]], share: float, offset: float) -> tupl
 def test_houses_of_a_county() -> None:
     """The rest of the houses are nearer to a side street. 77.5 and 69.8 % are what PostGIS's TIGER geocoder finds."""
     drawn = list(houses(EXAMPLES / "town", "01007", 1000))
-    started = time.perf_counter()
     found = list(tigerline.reverse([house.place for house in drawn], EXAMPLES / "town"))
-    print(f"{time.perf_counter() - started:.2f} s")
     names = {int(record[5:15]): record[19:49].strip() for record in (EXAMPLES / "town/TGR01007.RT1").open()}
     right = [(house, street) for house, street in zip(drawn, found) if street and names[street.tlid] in house.names]
     near = [house for house, street in right if street.number and abs(street.number - house.number) <= 10]
-    print(len(right), len(near))
     assert len(right) >= 775 and len(near) >= 698

@@ -1,4 +1,4 @@
-"""Reads addresses from CSV files: as the Census Bureau's batch geocoder takes them, with a head line, or on one line."""
+"""Reads addresses from CSV files: as the Census Bureau's batch geocoder takes them, with a head line, or as lines."""
 
 import warnings
 from collections.abc import Iterator, Mapping, Sequence
@@ -29,8 +29,8 @@ _IDS = ("id", "uniqueid", "addressid", "recordid", "objectid", "key", "fid")
 USUAL_NAMES: Mapping[str, Sequence[str]] = {
     "id": _IDS,
     "street": (
-        "street", "streetaddress", "address", "address1", "addressline1", "addressline", "streetline1", "street1", "addr",
-        "addr1", "line1", "siteaddress", "propertyaddress", "mailingaddress",
+        "street", "streetaddress", "address", "address1", "addressline1", "addressline", "streetline1", "street1",
+        "addr", "addr1", "line1", "siteaddress", "propertyaddress", "mailingaddress",
     ),
     "city": ("city", "town", "cityname", "citytown", "municipality", "locality", "placename", "place"),
     "state": ("state", "statecode", "stateabbreviation", "stateabbr", "statename", "stateprovince", "st"),

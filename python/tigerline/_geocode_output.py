@@ -4,7 +4,7 @@ import csv
 from collections import Counter
 from collections.abc import Iterable, Iterator
 from pathlib import Path
-from typing import TYPE_CHECKING
+from typing import TYPE_CHECKING, NamedTuple
 
 from ._interrupts import Interrupts
 from ._output import PendingFile
@@ -12,8 +12,9 @@ from ._point_output import Column, Point, write_points
 from ._tables import DRIVERS
 
 if TYPE_CHECKING:
-    from .geocoding import Match
+    from .geocoding import Candidate, Match
 
+CANDIDATE = "Candidate"
 # The columns of the Census Bureau's batch geocoder.
 CENSUS_COLUMNS = ("id", "address", "match", "exact", "matched_address", "coordinates", "tlid", "side")
 PLACE_COLUMNS = ("longitude", "latitude")
@@ -24,73 +25,99 @@ POINT_COLUMNS = (
 )  # fmt: skip
 
 
-def write_matches(
-    file: PendingFile, matches: Iterable["Match"], has_head: bool, has_reason: bool, interrupts: Interrupts
-) -> str:
+class Form(NamedTuple):
+    """Whether the lines have a head line, reasons, and those of candidates after them."""
+
+    has_head: bool
+    has_reasons: bool
+    has_candidates: bool
+
+
+class Line(NamedTuple):
+    """A match or a candidate as texts. Without a place the texts from `exact` to `county` are empty."""
+
+    id: str
+    address: str
+    match: str
+    reason: str
+    exact: str = ""
+    matched: str = ""
+    longitude: str = ""
+    latitude: str = ""
+    tlid: str = ""
+    side: str = ""
+    county: str = ""
+
+
+def write_matches(file: PendingFile, matches: Iterable["Match"], form: Form, interrupts: Interrupts) -> str:
     """Writes the matches in the format of the file's suffix, and returns a summary."""
     counts: Counter[str] = Counter()
-    if file.path.suffix in DRIVERS:
-        points = map(_point, _counted(matches, counts))
-        left_out = write_points(file, POINT_COLUMNS, points, "match", interrupts)
-        return summary(counts) + (
-            f"; {left_out} left out, since FlatGeobuf has no features without a place" if left_out else ""
-        )
-    _write_census(file.path, _counted(matches, counts), has_head, has_reason, interrupts)
-    return summary(counts)
+    lines = (line for match in _counted(matches, counts) for line in lines_of(match, form.has_candidates))
+    if file.path.suffix not in DRIVERS:
+        _write_census(file.path, lines, form, interrupts)
+        return _summary(counts)
+    left_out = write_points(file, POINT_COLUMNS, map(_point, lines), "match", interrupts)
+    return _summary(counts) + (
+        f"; FlatGeobuf has no features without a place, so {left_out} left out" if left_out else ""
+    )
 
 
-def _write_census(
-    path: Path, matches: Iterable["Match"], has_head: bool, has_reason: bool, interrupts: Interrupts
-) -> None:
+def lines_of(match: "Match", has_candidates: bool) -> Iterator[Line]:
+    """Yields the line of a match, and those of its candidates."""
+    address = ", ".join(cell.strip() for cell in match.address[1:])
+    line = Line(match.address.id, address, match.status.value, " ".join(match.reasons))
+    yield _with_place(line, match, match.is_exact)
+    if has_candidates:
+        for candidate in match.candidates:
+            reason = " ".join(candidate.reasons)
+            yield _with_place(line._replace(match=CANDIDATE, reason=reason), candidate, not candidate.reasons)
+
+
+def _with_place(line: Line, found: "Match | Candidate", is_exact: bool) -> Line:
+    if found.longitude is None or found.latitude is None:
+        return line
+    return line._replace(
+        exact="Exact" if is_exact else "Non_Exact",
+        matched=found.matched or "",
+        longitude=f"{found.longitude:.6f}",
+        latitude=f"{found.latitude:.6f}",
+        tlid=str(found.tlid),
+        side=found.side or "",
+        county=found.county or "",
+    )
+
+
+def _write_census(path: Path, lines: Iterable[Line], form: Form, interrupts: Interrupts) -> None:
     with open(path, "w", encoding="utf-8", errors="replace", newline="") as file:
         writer = csv.writer(file, quoting=csv.QUOTE_ALL, lineterminator="\n")
-        if has_head:
-            writer.writerow((*CENSUS_COLUMNS, *(("reason",) if has_reason else ()), *PLACE_COLUMNS))
-        for match in matches:
+        if form.has_head:
+            writer.writerow((*CENSUS_COLUMNS, *(("reason",) if form.has_reasons else ()), *PLACE_COLUMNS))
+        for line in lines:
             interrupts.check()
-            writer.writerow(row_of(match, has_head, has_reason))
+            writer.writerow(census_row(line, form))
 
 
-def row_of(match: "Match", has_head: bool, has_reason: bool) -> list[str]:
+def census_row(line: Line, form: Form) -> list[str]:
     """Returns a row of the Census Bureau's batch geocoder, which has three columns if there is no match.
 
-    With a reason or under a head line it has all columns, and under a head line also those of the place.
+    With reasons or under a head line it has all columns, and under a head line also those of the place.
     """
-    place = _place(match)
-    row = [match.address.id, given(match), match.status.value]
-    if place:
-        row += [exactness(match), match.matched or "", ",".join(place), str(match.tlid), match.side or ""]
-    if has_reason or has_head:
+    row = [line.id, line.address, line.match]
+    if line.longitude:
+        row += [line.exact, line.matched, f"{line.longitude},{line.latitude}", line.tlid, line.side]
+    elif form.has_head or form.has_reasons:
         row += [""] * (len(CENSUS_COLUMNS) - len(row))
-    if has_reason:
-        row.append(" ".join(match.reasons))
-    if has_head:
-        row += place or ["", ""]
+    if form.has_reasons:
+        row.append(line.reason)
+    if form.has_head:
+        row += [line.longitude, line.latitude]
     return row
 
 
-def given(match: "Match") -> str:
-    """Returns the address as it was given."""
-    return ", ".join(cell.strip() for cell in match.address[1:])
-
-
-def exactness(match: "Match") -> str:
-    return "Exact" if match.is_exact else "Non_Exact"
-
-
-def _place(match: "Match") -> list[str]:
-    """Returns the longitude and the latitude of a match, or nothing."""
-    if match.longitude is None or match.latitude is None:
-        return []
-    return [f"{match.longitude:.6f}", f"{match.latitude:.6f}"]
-
-
-def _point(match: "Match") -> Point:
-    """Returns the point of a match. Without one, the columns of the place and the match are empty."""
-    place = _place(match)
-    row: list[object] = [match.address.id, given(match), match.status.value, exactness(match) if place else ""]
-    row += [match.matched, *(place or (None, None)), match.tlid, match.side, match.county, " ".join(match.reasons)]
-    return Point(row, (float(place[0]), float(place[1])) if place else None)
+def _point(line: Line) -> Point:
+    place = (float(line.longitude), float(line.latitude)) if line.longitude else None
+    row = (line.id, line.address, line.match, line.exact, line.matched)
+    return Point((*row, line.longitude, line.latitude, line.tlid, line.side, line.county, line.reason), place)
 
 
 def _counted(matches: Iterable["Match"], counts: Counter[str]) -> Iterator["Match"]:
@@ -100,10 +127,11 @@ def _counted(matches: Iterable["Match"], counts: Counter[str]) -> Iterator["Matc
         yield match
 
 
-def summary(counts: Counter[str]) -> str:
+def _summary(counts: Counter[str]) -> str:
     """Returns how many addresses have each kind of match."""
     matched = counts["exact"] + counts["Match"]
+    addresses = f"{counts.total()} address{'' if counts.total() == 1 else 'es'}"
     return (
-        f"{counts.total()} address{'' if counts.total() == 1 else 'es'}: {matched} matched, {counts['exact']} of them exactly; "
+        f"{addresses}: {matched} matched, {counts['exact']} of them exactly; "
         f"{counts['Tie']} tied, {counts['No_Match']} not matched"
     )

@@ -3,6 +3,7 @@
 import csv
 import os
 import sys
+from argparse import ArgumentTypeError
 from collections import Counter
 from collections.abc import Callable, Iterable, Iterator, Sequence
 from pathlib import Path
@@ -16,6 +17,7 @@ from ._tables import CRS, DRIVERS, convert, count_features, gdal_tool
 
 POLL = 0.1  # seconds
 LAYER = "points"
+TEXT_SUFFIXES = (".csv", ".txt", "")
 GDAL_OPTIONS = (
     f"-nln {LAYER} -nlt POINT -a_srs {CRS} -oo EMPTY_STRING_AS_NULL=YES -oo GEOM_POSSIBLE_NAMES=geom"
     " -oo KEEP_GEOM_COLUMNS=NO"
@@ -36,6 +38,14 @@ class Point(NamedTuple):
 
     values: Sequence[object]
     place: tuple[float, float] | None
+
+
+def output_path(text: str) -> Path:
+    """Returns the path of an output file, as the type of an argument. Its suffix is one of a format that is written."""
+    path = Path(text)
+    if path.suffix.lower() not in (*DRIVERS, *TEXT_SUFFIXES):
+        raise ArgumentTypeError(f"{text!r} ends neither with .csv nor with {', '.join(DRIVERS)}")
+    return path
 
 
 def write_output(

@@ -22,11 +22,11 @@ from ._extract import active_interrupts
 from ._geocode import Lookup
 from ._geocode_choice import Answer, Found
 from ._geocode_input import COLUMNS, USUAL_NAMES, USUAL_ONE_LINE_NAMES, Address, AddressFile
-from ._geocode_output import write_matches
+from ._geocode_output import Form, write_matches
 from ._geocode_towns import Wanted, city_key, state_of, state_of_county
 from ._interrupts import Interrupts
 from ._output import PendingFile
-from ._point_output import write_output
+from ._point_output import output_path, write_output
 from ._program import PathLike
 from ._progress import counted_of
 from ._sources import choose_counties, find_counties
@@ -208,7 +208,7 @@ def parser() -> argparse.ArgumentParser:
     add = result.add_argument
     add("addresses", metavar="IN", help=f"a CSV file of {', '.join(COLUMNS)} without a head line; - is standard input")
     out = "the CSV file to write, or points as .gpkg, .geojson or .fgb (default: CSV to standard output)"
-    add("out", metavar="OUT", nargs="?", type=Path, help=out)
+    add("out", metavar="OUT", nargs="?", type=output_path, help=out)
     add(
         "--data",
         metavar="DIR",
@@ -218,6 +218,7 @@ def parser() -> argparse.ArgumentParser:
     counties = "01001 is a county, 01 or AL all of a state (default: all in DIR)"
     add("--counties", metavar="CODE", nargs="+", help=counties)
     add("--reasons", action="store_true", help="add a column with the reason for no match, or for one that isn't exact")
+    add("--candidates", action="store_true", help="add a line for each place of a tie, and for each in another town")
     add("--header", action="store_true", help="IN has a head line, which names the columns; write one, too")
     add_input_options(result, 'street="Street Address",zip=Postcode')
     add("--one-line", action="store_true", help="an address is one cell, or without --header and --delimiter a line")
@@ -254,4 +255,5 @@ def _write(file: PendingFile, options: argparse.Namespace, named: Mapping[str, s
             addresses.addresses(interrupts), options.data, options.counties, options.extractd, interrupts
         )
         shown = counted_of(matches, count, "address", options.progress)
-        return write_matches(file, shown, options.header, options.reasons, interrupts)
+        form = Form(options.header, options.reasons, options.candidates)
+        return write_matches(file, shown, form, interrupts)

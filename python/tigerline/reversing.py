@@ -9,6 +9,7 @@ from collections import Counter
 from collections.abc import Iterable, Iterator, Sequence
 from dataclasses import dataclass
 from functools import partial
+from importlib.util import find_spec
 from itertools import islice
 from pathlib import Path
 
@@ -19,7 +20,7 @@ from ._interrupts import Interrupts
 from ._nearest import Beside, StreetIndex, house_number, meters_per_degree
 from ._output import PendingFile
 from ._point_input import POINT_COLUMNS, GivenPoint, Place, PointFile, checked
-from ._point_output import Column, Point, write_output, write_points
+from ._point_output import Column, Point, output_path, write_output, write_points
 from ._program import PathLike
 from ._progress import counted
 from ._sources import STATES, County, choose_counties, find_counties
@@ -166,7 +167,7 @@ def parser() -> argparse.ArgumentParser:
         "out",
         metavar="OUT",
         nargs="?",
-        type=Path,
+        type=output_path,
         help="a CSV file, or .gpkg, .geojson or .fgb (default: standard output)",
     )
     add(
@@ -200,6 +201,8 @@ def main(words: Sequence[str]) -> int:
 
 def run_command(options: argparse.Namespace) -> bytes:
     """Writes the streets, and returns a message if they are in a file and not on standard output."""
+    if find_spec("shapely") is None:
+        raise FileNotFoundError("there is no module shapely: install python3-shapely")
     _check_distance(options.distance)
     named = named_columns(options.columns, POINT_COLUMNS)
     with Interrupts(signal.SIGINT, signal.SIGTERM, signal.SIGHUP) as interrupts:
