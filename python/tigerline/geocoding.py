@@ -8,6 +8,7 @@ import argparse
 import re
 import signal
 from collections.abc import Iterable, Iterator, Mapping, Sequence
+from contextlib import ExitStack
 from dataclasses import dataclass
 from enum import StrEnum
 from functools import partial
@@ -22,13 +23,15 @@ from ._extract import active_interrupts
 from ._geocode import Lookup
 from ._geocode_choice import Answer, Found
 from ._geocode_input import COLUMNS, USUAL_NAMES, USUAL_ONE_LINE_NAMES, Address, AddressFile
+from ._geocode_map import Dots, picture_path
 from ._geocode_output import Form, write_matches
 from ._geocode_towns import Wanted, city_key, state_of, state_of_county
 from ._interrupts import Interrupts
-from ._output import PendingFile
+from ._output import PendingFile, pending_file
 from ._point_output import output_path, write_output
 from ._program import PathLike
 from ._progress import counted_of
+from ._scratch import naming
 from ._sources import choose_counties, find_counties
 from ._table_input import STANDARD_INPUT, TableFile, add_input_options, named_columns, opened_input
 
@@ -222,7 +225,8 @@ def parser() -> argparse.ArgumentParser:
     add("--header", action="store_true", help="IN has a head line, which names the columns; write one, too")
     add_input_options(result, 'street="Street Address",zip=Postcode')
     add("--one-line", action="store_true", help="an address is one cell, or without --header and --delimiter a line")
-    add("--overwrite", action="store_true", help="replace OUT if it exists")
+    add("--map", metavar="FILE", type=picture_path, help="also draw the places on a map: .svg")
+    add("--overwrite", action="store_true", help="replace OUT and the map if they exist")
     add("--progress", action="store_true", help="show on standard error how many addresses are done")
     add("--extractd", metavar="FILE", help="the program (default: the variable EXTRACTD, or extractd in PATH)")
     return result
@@ -239,14 +243,25 @@ def run_command(options: argparse.Namespace) -> bytes:
     usual = USUAL_ONE_LINE_NAMES if options.one_line else USUAL_NAMES
     named = named_columns(options.columns, usual)
     options.header = options.header or bool(named)
-    with Interrupts(signal.SIGINT, signal.SIGTERM, signal.SIGHUP) as interrupts:
-        write = partial(_write, options=options, named=named, interrupts=interrupts)
-        return write_output(options.out, options.overwrite, interrupts, write)
+    with Interrupts(signal.SIGINT, signal.SIGTERM, signal.SIGHUP) as interrupts, ExitStack() as files:
+        picture = files.enter_context(pending_file(options.map, options.overwrite)) if options.map else None
+        write = partial(_write, picture=picture, options=options, named=named, interrupts=interrupts)
+        message = write_output(options.out, options.overwrite, interrupts, write)
+        if picture:
+            picture.publish()
+    return message
 
 
-def _write(file: PendingFile, options: argparse.Namespace, named: Mapping[str, str], interrupts: Interrupts) -> str:
-    """Writes the matches to a file, and returns a summary."""
+def _write(
+    file: PendingFile,
+    picture: PendingFile | None,
+    options: argparse.Namespace,
+    named: Mapping[str, str],
+    interrupts: Interrupts,
+) -> str:
+    """Writes the matches to a file, and their map to another one, and returns a summary."""
     name = "standard input" if options.addresses == STANDARD_INPUT else options.addresses
+    dots = Dots(options.candidates) if picture else None
     with opened_input(options.addresses, interrupts) as source:
         table = TableFile(source, name, options.encoding, options.delimiter)
         addresses = AddressFile(table, options.header, options.one_line, named)
@@ -254,6 +269,11 @@ def _write(file: PendingFile, options: argparse.Namespace, named: Mapping[str, s
         matches = _geocode(
             addresses.addresses(interrupts), options.data, options.counties, options.extractd, interrupts
         )
-        shown = counted_of(matches, count, "address", options.progress)
+        shown: Iterable[Match] = counted_of(matches, count, "address", options.progress)
         form = Form(options.header, options.reasons, options.candidates)
-        return write_matches(file, shown, form, interrupts)
+        summary = write_matches(file, dots.watched(shown) if dots else shown, form, interrupts)
+    if picture and dots:
+        with naming(picture.final):
+            drawn = dots.draw(options.data, options.extractd, f"{Path(name).name}: {summary}", interrupts)
+            picture.path.write_text(drawn, encoding="utf-8")
+    return summary

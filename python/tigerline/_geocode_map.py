@@ -1,0 +1,159 @@
+"""Draws the places of addresses over the segments around them, as an SVG picture."""
+
+import textwrap
+import warnings
+from argparse import ArgumentTypeError
+from collections.abc import Iterable, Iterator, Sequence
+from dataclasses import replace
+from pathlib import Path
+from typing import TYPE_CHECKING, NamedTuple
+
+from ._extract import ALL_SEGMENTS, extract
+from ._interrupts import Interrupts
+from ._lines import line_of
+from ._map_layers import INK, PALE, groups_of
+
+from ._map_parts import (
+    FRAME, LEGEND_WIDTH, LINE_HEIGHT, PAPER, background_parts, legend_text, scale_parts, stroke, text_of,
+)  # fmt: skip
+from ._map_rows import MOST_SEGMENTS, box_around, map_segment
+from ._map_view import MARGIN, Box, MapSegment, View, extent_of, view_of
+from ._program import PathLike
+from ._rows import read_rows
+from .maps import FONT
+
+if TYPE_CHECKING:
+    from .geocoding import Match
+
+RADIUS = 3.5  # pixels
+
+
+class Kind(NamedTuple):
+    """A row of the legend: how the places of one kind look."""
+
+    name: str
+    label: str
+    color: str
+
+
+# From the bottom to the top.
+KINDS = (
+    Kind("Candidate", "Candidate", "#8b7355"),
+    Kind("Non_Exact", "Match that isn't exact", "#e2762b"),
+    Kind("Exact", "Exact match", "#34528f"),
+)
+
+
+def picture_path(text: str) -> Path:
+    """Returns the path of a map, as the type of an option."""
+    if Path(text).suffix.lower() != ".svg":
+        raise ArgumentTypeError(f"{text!r} doesn't end with .svg")
+    return Path(text)
+
+
+class Dots:
+    """Collects the places of matches as segments of a map that are one point: their kind, and the address there."""
+
+    def __init__(self, has_candidates: bool) -> None:
+        self.places: list[MapSegment] = []
+        self.counties: dict[str, None] = {}
+        self._has_candidates = has_candidates
+
+    def watched(self, matches: Iterable["Match"]) -> Iterator["Match"]:
+        """Yields the matches, and adds the place of each."""
+        for match in matches:
+            if match.longitude is not None and match.latitude is not None:
+                kind = "Exact" if match.is_exact else "Non_Exact"
+                self._add(kind, match.matched, (match.longitude, match.latitude), match.county)
+            if self._has_candidates:
+                for candidate in match.candidates:
+                    place = candidate.longitude, candidate.latitude
+                    self._add("Candidate", candidate.matched, place, candidate.county)
+            yield match
+
+    def _add(self, kind: str, matched: str | None, place: tuple[float, float], county: str | None) -> None:
+        self.places.append(MapSegment(kind, matched or "", 0, (place,)))
+        if county:
+            self.counties[county] = None
+
+    def draw(self, data: PathLike, extractd: PathLike | None, caption: str, interrupts: Interrupts) -> str:
+        """Returns the picture, with the segments of their counties around the places."""
+        box = box_around(self.places)
+        background: list[MapSegment] = []
+        if box and self.counties:
+            background = _segments_in(box, data, list(self.counties), extractd, interrupts)
+        return "\n".join(_parts(self.places, background, box, caption)) + "\n"
+
+
+def _segments_in(
+    box: Box, data: PathLike, counties: list[str], extractd: PathLike | None, interrupts: Interrupts
+) -> list[MapSegment]:
+    """Returns the segments of counties near the box, or none of them if there are too many to draw."""
+    found: list[MapSegment] = []
+    with warnings.catch_warnings():
+        warnings.simplefilter("ignore")  # Missing files were reported before.
+        for county in extract(replace(ALL_SEGMENTS, extractd=extractd), data, counties, interrupts=interrupts):
+            for row in read_rows(county, signed=False):
+                interrupts.check()
+                segment = map_segment(row, line_of(row, {}))
+                if segment.points and box.touches(extent_of(segment.points)):
+                    found.append(segment)
+    if len(found) > MOST_SEGMENTS:
+        warnings.warn(
+            f"the map shows the places alone: around them are more than {MOST_SEGMENTS:,} segments", stacklevel=2
+        )
+        return []
+    return found
+
+
+def _parts(
+    places: Sequence[MapSegment], background: Sequence[MapSegment], box: Box | None, caption: str
+) -> Iterator[str]:
+    view = view_of((places, background), box)
+    width = view.width + LEGEND_WIDTH + 2 * MARGIN
+    lines = textwrap.wrap(caption, round(width / 8.2))
+    top = 2 * MARGIN + LINE_HEIGHT * len(lines)
+    height = top + max(view.height + MARGIN, LINE_HEIGHT * 6 + 90)
+    size = f'width="{width}" height="{height}"'
+    yield (
+        f'<svg xmlns="http://www.w3.org/2000/svg" {size} viewBox="0 0 {width} {height}" role="img" '
+        f'font-family="{FONT}" font-size="12.5" fill="{INK}">'
+    )
+    yield f'<title>{text_of(caption)}</title><rect {size} fill="#ffffff"/>'
+    for at, line in enumerate(lines):
+        y = MARGIN + 13 + LINE_HEIGHT * at
+        yield f'<text x="{MARGIN}" y="{y}" font-size="15" font-weight="bold">{text_of(line)}</text>'
+    yield from _map_parts(view, places, background, top)
+    legend_x = MARGIN + view.width + 18
+    yield from _legend_parts(places, len(background), legend_x, top + 14)
+    yield from scale_parts(view.pixels_per_kilometer, legend_x, height - MARGIN - 24)
+    yield "</svg>"
+
+
+def _map_parts(view: View, places: Sequence[MapSegment], background: Sequence[MapSegment], top: float) -> Iterator[str]:
+    size = f'width="{view.width}" height="{view.height}"'
+    yield f'<svg id="map" x="{MARGIN}" y="{top}" {size} viewBox="0 0 {view.width} {view.height}">'
+    yield f'<rect {size} fill="{PAPER}"/><g fill="none" stroke-linecap="round" stroke-linejoin="round">'
+    yield from background_parts(groups_of(background, view, "class"), view.thickness)
+    yield "</g>"
+    for kind in KINDS:
+        yield f'<g fill="{kind.color}" {stroke("#ffffff", 1)}>'
+        for place in places:
+            if place.cfcc == kind.name:
+                x, y = view.place(place.points[0])
+                title = f"<title>{text_of(place.name)}</title>"
+                yield f'<circle cx="{x:.1f}" cy="{y:.1f}" r="{RADIUS}">{title}</circle>'
+        yield "</g>"
+    yield f'</svg><rect x="{MARGIN}" y="{top}" {size} fill="none" {stroke(FRAME, 1.5)}/>'
+
+
+def _legend_parts(places: Sequence[MapSegment], rest: int, x: float, y: float) -> Iterator[str]:
+    for kind in reversed(KINDS):
+        count = sum(1 for place in places if place.cfcc == kind.name)
+        if count:
+            yield f'<circle cx="{x + 15}" cy="{y}" r="{RADIUS}" fill="{kind.color}"/>'
+            yield legend_text(kind.label, count, x, y)
+            y += LINE_HEIGHT
+    if rest:
+        yield f'<path {stroke(PALE, 2.6)} fill="none" d="M{x} {y}h30"/>'
+        yield legend_text("Segment", rest, x, y)
