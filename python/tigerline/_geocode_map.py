@@ -2,10 +2,8 @@
 
 import textwrap
 import warnings
-from argparse import ArgumentTypeError
 from collections.abc import Iterable, Iterator, Sequence
 from dataclasses import replace
-from pathlib import Path
 from typing import TYPE_CHECKING, NamedTuple
 
 from ._extract import ALL_SEGMENTS, extract
@@ -42,13 +40,6 @@ KINDS = (
     Kind("Non_Exact", "Match that isn't exact", "#e2762b"),
     Kind("Exact", "Exact match", "#34528f"),
 )
-
-
-def picture_path(text: str) -> Path:
-    """Returns the path of a map, as the type of an option."""
-    if Path(text).suffix.lower() != ".svg":
-        raise ArgumentTypeError(f"{text!r} doesn't end with .svg")
-    return Path(text)
 
 
 class Dots:

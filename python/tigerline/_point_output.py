@@ -48,6 +48,13 @@ def output_path(text: str) -> Path:
     return path
 
 
+def picture_path(text: str) -> Path:
+    """Returns the path of a map, as the type of an option."""
+    if Path(text).suffix.lower() != ".svg":
+        raise ArgumentTypeError(f"{text!r} doesn't end with .svg")
+    return Path(text)
+
+
 def write_output(
     out: Path | None, overwrite: bool, interrupts: Interrupts, write: Callable[[PendingFile], str]
 ) -> bytes:

@@ -23,12 +23,11 @@ from ._extract import active_interrupts
 from ._geocode import Lookup
 from ._geocode_choice import Answer, Found
 from ._geocode_input import COLUMNS, USUAL_NAMES, USUAL_ONE_LINE_NAMES, Address, AddressFile
-from ._geocode_map import Dots, picture_path
 from ._geocode_output import Form, write_matches
 from ._geocode_towns import Wanted, city_key, state_of, state_of_county
 from ._interrupts import Interrupts
 from ._output import PendingFile, pending_file
-from ._point_output import output_path, write_output
+from ._point_output import output_path, picture_path, write_output
 from ._program import PathLike
 from ._progress import counted_of
 from ._scratch import naming
@@ -261,7 +260,11 @@ def _write(
 ) -> str:
     """Writes the matches to a file, and their map to another one, and returns a summary."""
     name = "standard input" if options.addresses == STANDARD_INPUT else options.addresses
-    dots = Dots(options.candidates) if picture else None
+    dots = None
+    if picture:
+        from ._geocode_map import Dots
+
+        dots = Dots(options.candidates)
     with opened_input(options.addresses, interrupts) as source:
         table = TableFile(source, name, options.encoding, options.delimiter)
         addresses = AddressFile(table, options.header, options.one_line, named)
