@@ -14,6 +14,7 @@ import pytest
 import tigerline
 from counties import CODE, EXAMPLES, copy_county, zip_folder
 from test_main import layer, run
+from towns import write_cities
 
 pytest.importorskip("shapely", reason="no shapely")
 pytestmark = pytest.mark.usefixtures("extractd", "scratch")
@@ -83,7 +84,8 @@ def write_streets(folder: Path) -> Path:
         street = f"  {name.strip('-'):30}{kind.strip('-'):4}  {cfcc}"
         addresses = f"{numbers(left)}{numbers(right)}0000{zips(codes)}"
         start, end = ends.split()[:2], ends.split()[2:]
-        lines["1"].append(f"10006{tlid:>10}  {street}{addresses}".ljust(190) + place(start) + place(end))
+        record = f"10006{tlid:>10}  {street}{addresses}".ljust(140) + "9000190002".ljust(20) + "1000110003".ljust(30)
+        lines["1"].append(record + place(start) + place(end))
         if shape:
             lines["2"].append(f"20006{tlid:>10}  1{place(shape.split())}" + f"{0:+010}{0:+09}" * 9)
     for tlid, left, right, codes in ([*map(str.strip, row.split("|"))] for row in FURTHER):
@@ -153,16 +155,18 @@ def test_files(
 @pytest.mark.parametrize("suffix", ["csv", "gpkg", "geojson", "fgb"])
 @pytest.mark.usefixtures("gdal")
 def test_formats(tmp_path: Path, suffix: str) -> None:
-    """A point without a street is a feature, too."""
-    (tmp_path / "in").write_text("-87.00099,33.0001\n-87.00002,33.00099\n-88,33\n")
-    zip_folder(write_streets(tmp_path / "data"), tmp_path / "data.zip")
+    """A point without a street is a feature, too. The city is the place, or else the county subdivision."""
+    (tmp_path / "in").write_text("-87.00099,33.0001\n-86.99998,33.00099\n-88,33\n")
+    cities = [("10001", "P", "Milford"), ("90001", "M", "Kelso"), ("90002", "M", "Bibb")]
+    write_cities(write_streets(tmp_path / "data") / f"TGR{CODE}.RTC", CODE, cities)
+    zip_folder(tmp_path / "data", tmp_path / "data.zip")
     out = tmp_path / f"out.{suffix}"
     done = run("reverse", tmp_path / "in", out, "--data", tmp_path / "data.zip")
     assert (done.returncode, done.stderr) == (0, "")
     assert done.stdout == f"{out}: 3 points: 2 with a street within 100 m\n"
     rows = list(csv.DictReader(out.open())) if suffix == "csv" else layer(out)
     rows.sort(key=lambda row: row["id"])  # FlatGeobuf sorts by location.
-    assert [row["address"] for row in rows] == ["151 MAIN ST, , AL, 35001", "226 OAK AVE, , AL, 35001", ""]
+    assert [row["address"] for row in rows] == ["151 MAIN ST, MILFORD, AL, 35001", "227 OAK AVE, BIBB, AL, 35001", ""]
     assert [row["tlid"] for row in rows] == ["1", "2", ""]
     if suffix != "csv":
         assert rows[0]["WKT"].replace("POINT (", "POINT(").startswith("POINT(-87.00099 33.0001")

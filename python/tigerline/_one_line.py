@@ -5,16 +5,8 @@ from collections.abc import Sequence
 from typing import NamedTuple
 
 from ._geocode_words import DIRECTIONS, PARTS_OF_HOUSES, TYPES, UNITS
-from ._sources import STATES
+from ._geocode_towns import STATE_NAMES
 
-_NAMES = """
-    Alabama Alaska Arizona Arkansas California Colorado Connecticut Delaware Florida Georgia Hawaii Idaho Illinois
-    Indiana Iowa Kansas Kentucky Louisiana Maine Maryland Massachusetts Michigan Minnesota Mississippi Missouri Montana Nebraska
-    Nevada Ohio Oklahoma Oregon Pennsylvania Tennessee Texas Utah Vermont Virginia Washington Wisconsin Wyoming
-    New_Hampshire New_Jersey New_Mexico New_York North_Carolina North_Dakota Rhode_Island South_Carolina South_Dakota
-    West_Virginia District_of_Columbia Puerto_Rico
-"""
-STATE_NAMES = frozenset(name.replace("_", " ").upper() for name in _NAMES.split())
 LONGEST_STATE = 3  # words
 # Types that end a street, and are hardly ever in the name of a city.
 _ENDS = {
@@ -68,8 +60,7 @@ def _without_state(text: str) -> tuple[str, str]:
     for count in range(LONGEST_STATE, 0, -1):
         before, last = words[:-count], words[-count:]
         key = " ".join(_keys(last))
-        is_state = key in STATE_NAMES or (key in STATES and _is_no_type(key, before))
-        if is_state and before:
+        if before and key in STATE_NAMES and _is_no_type(key, before):
             return " ".join(before).rstrip(" ,;"), " ".join(last).strip(",;")
     return text, ""
 

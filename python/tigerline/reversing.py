@@ -16,6 +16,7 @@ from pathlib import Path
 from . import _program
 from ._commands import exit_status
 from ._extract import active_interrupts
+from ._geocode_towns import state_of_county
 from ._interrupts import Interrupts
 from ._nearest import Beside, StreetIndex, house_number, meters_per_degree
 from ._output import PendingFile
@@ -23,7 +24,7 @@ from ._point_input import POINT_COLUMNS, GivenPoint, Place, PointFile, checked
 from ._point_output import Column, Point, output_path, write_output, write_points
 from ._program import PathLike
 from ._progress import counted
-from ._sources import STATES, County, choose_counties, find_counties
+from ._sources import County, choose_counties, find_counties
 from ._streets import Street, read_streets
 from ._table_input import STANDARD_INPUT, TableFile, add_input_options, named_columns, opened_input
 
@@ -35,21 +36,23 @@ DISTANCE = 100.0  # meters
 POINTS_AT_ONCE = 100_000
 OUTPUT_COLUMNS = (
     Column("id"), Column("longitude", "Real"), Column("latitude", "Real"), Column("address"),
-    Column("number", "Integer64"), Column("street"), Column("zip"), Column("county"), Column("tlid", "Integer64"),
-    Column("side"), Column("distance", "Real"),
+    Column("number", "Integer64"), Column("street"), Column("city"), Column("state"), Column("zip"), Column("county"),
+    Column("tlid", "Integer64"), Column("side"), Column("distance", "Real"),
 )  # fmt: skip
-_STATES = {code: state for state, code in STATES.items()}
 
 
 @dataclass(frozen=True, slots=True)
 class Nearest:
     """The street that is nearest to a point, and the house number there.
 
-    `street` has the data's spelling, and `number` is None if that side has no house numbers. `distance` is in meters.
+    `street` has the data's spelling, and `number` is None if that side has no house numbers. `city` is empty if it isn't
+    known. `distance` is in meters.
     """
 
     street: str
     number: int | None
+    city: str
+    state: str
     zip: str
     county: str
     tlid: int
@@ -58,9 +61,9 @@ class Nearest:
 
     @property
     def address(self) -> str:
-        """The address in capitals, as `Match.matched` has it. The city isn't known."""
+        """The address in capitals, as `Match.matched` has it."""
         street = self.street if self.number is None else f"{self.number} {self.street}"
-        return ", ".join((street, "", _STATES.get(self.county[:2], ""), self.zip)).upper()
+        return ", ".join((street, self.city, self.state, self.zip)).upper()
 
 
 def reverse(
@@ -149,9 +152,19 @@ def _nearest(beside: Beside | None) -> Nearest | None:
     if beside is None:
         return None
     street = beside.street
-    number, zip_code = house_number(street.left if beside.is_left else street.right, beside.share)
-    side = "L" if beside.is_left else "R"
-    return Nearest(street.name, number, zip_code, street.county, street.tlid, side, beside.distance)
+    side = street.left if beside.is_left else street.right
+    number, zip_code = house_number(side.ranges, beside.share)
+    return Nearest(
+        street.name,
+        number,
+        side.city,
+        state_of_county(street.county),
+        zip_code,
+        street.county,
+        street.tlid,
+        "L" if beside.is_left else "R",
+        beside.distance,
+    )
 
 
 def parser() -> argparse.ArgumentParser:
@@ -239,5 +252,5 @@ def _row(point: GivenPoint, street: Nearest | None, found: Counter[bool]) -> Poi
     if street is None:
         return Point([*row, *[""] * (len(OUTPUT_COLUMNS) - len(row))], point.place)
     number = "" if street.number is None else street.number
-    row += [street.address, number, street.street, street.zip, street.county, street.tlid, street.side]
-    return Point([*row, f"{street.distance:.1f}"], point.place)
+    row += [street.address, number, street.street, street.city, street.state, street.zip, street.county]
+    return Point([*row, street.tlid, street.side, f"{street.distance:.1f}"], point.place)
