@@ -81,7 +81,7 @@ def _with_place(line: Line, found: "Match | Candidate", is_exact: bool) -> Line:
         matched=found.matched or "",
         longitude=f"{found.longitude:.6f}",
         latitude=f"{found.latitude:.6f}",
-        tlid=str(found.tlid),
+        tlid="" if found.tlid is None else str(found.tlid),
         side=found.side or "",
         county=found.county or "",
     )

@@ -4,8 +4,7 @@ import re
 from collections.abc import Sequence
 from typing import NamedTuple
 
-from ._geocode_words import DIRECTIONS, PARTS_OF_HOUSES, TYPES, UNITS
-from ._geocode_towns import STATE_NAMES
+from ._geocode_words import DIRECTIONS, PARTS_OF_HOUSES, STATE_NAMES, TYPES, UNITS
 
 LONGEST_STATE = 3  # words
 # Types that end a street, and are hardly ever in the name of a city.
