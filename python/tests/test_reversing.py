@@ -182,6 +182,20 @@ def test_counties(tmp_path: Path) -> None:
     assert [street and (street.county, street.tlid) for street in found] == [(CODE, 1), ("01003", 107000006), None]
 
 
+@pytest.mark.parametrize(
+    ("point", "distance", "message"),
+    [
+        ((-87.0, 133.0), 100, "a latitude is between -90 and 90, and 133.0 isn't"),
+        ((-187.0, 33.0), 100, "a longitude is between -180 and 180, and -187.0 isn't"),
+        ((math.nan, 33.0), 100, "a longitude is between -180 and 180, and nan isn't"),
+        ((-87.0, 33.0), 0, "a distance is between 0 and 100,000 meters, and 0 isn't"),
+    ],
+)
+def test_bad_arguments(tmp_path: Path, point: tuple[float, float], distance: float, message: str) -> None:
+    with pytest.raises(ValueError, match=message):
+        list(tigerline.reverse([point], write_streets(tmp_path), distance=distance))
+
+
 class House(NamedTuple):
     """A house of the made-up county: all names of its street, its number, and its place beside the street."""
 
