@@ -73,6 +73,20 @@ def test_faults(tmp_path: Path, text: str, options: str, message: str) -> None:
     assert str(caught.value) == f"IN: {message}"
 
 
+@pytest.mark.parametrize(
+    ("content", "message"),
+    [
+        (b"1,8 Oak St,,,\n2,8 Ca\xf1on St,,,\n", "line 2 isn't in utf-8"),
+        ("\ufeff1\t8 Oak St\t\t\t\n".encode("utf-16-le") + b"x", "line 2 isn't in utf-16"),
+    ],
+)
+def test_encodings(tmp_path: Path, content: bytes, message: str) -> None:
+    (tmp_path / "in").write_bytes(content)
+    with Interrupts() as interrupts, pytest.raises(OSError) as caught:
+        list(AddressFile(TableFile(tmp_path / "in", "IN")).addresses(interrupts))
+    assert str(caught.value) == f"IN: {message}: give the encoding, such as --encoding cp1252"
+
+
 def test_names_of_columns() -> None:
     expected = {"street": "Street Address", "zip": "Postcode", "city": "City, Town"}
     assert named_columns(["street=Street Address,zip=Postcode", '"city=City, Town"'], USUAL_NAMES) == expected

@@ -52,7 +52,7 @@ class TableFile:
                     yield line, row
         except UnicodeError:
             raise OSError(
-                f"{self.name}: line {self._line_of_encoding_error(codec)} isn't in {self.encoding or UTF_8}: "
+                f"{self.name}: line {self._line_of_encoding_error(codec)} isn't in {self.encoding or codec.removesuffix('-sig')}: "
                 "give the encoding, such as --encoding cp1252"
             ) from None
 
