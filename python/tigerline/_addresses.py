@@ -61,11 +61,11 @@ class Reading(NamedTuple):
     type: str = ""
     sufdir: str = ""
     changes: tuple[Reason, ...] = ()
-    stage: Stage = Stage.AS_WRITTEN
+    stage: int = 0  # A Stage; the hash of an Enum takes long.
 
     def changed(self, reason: Reason, stage: Stage) -> "Reading":
         """Returns the reading for a later stage, with a further reason why it isn't what is written."""
-        return self._replace(changes=(*self.changes, reason), stage=stage)
+        return self._replace(changes=(*self.changes, reason), stage=int(stage))
 
 
 class Street(NamedTuple):

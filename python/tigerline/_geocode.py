@@ -26,6 +26,7 @@ HIT_COLUMNS = (
     "id", "status", "reason", "longitude", "latitude", "tlid", "side", "fedirp", "fename", "fetype", "fedirs", "zip",
     "county", "from", "to",
 )  # fmt: skip
+NO_HIT = Hit._make((*[""] * 12, ()))
 Asked = tuple[Street, Answer]
 
 
@@ -119,6 +120,8 @@ class Lookup:
             files["1"], {hit.tlid for _, status, _, hit in lines if status != "no_match"}
         )
         for at, status, reason, hit in lines:
+            if status == "no_match" and reason != "no_such_number":
+                continue
             placed = hit._replace(cities=cities.get((hit.tlid, hit.side), ())) if cities else hit
             for asker in askers[at]:
                 if status != "no_match":
@@ -164,4 +167,4 @@ def read_hits(output: bytes) -> Iterator[tuple[int, str, str, Hit]]:
     if tuple(head) != HIT_COLUMNS:
         raise OSError(f"extractd geocode-batch wrote other columns than expected: {','.join(head)[:200]!r}")
     for line in lines:
-        yield int(line[0]), line[1], line[2], Hit._make((*line[3:], ()))
+        yield int(line[0]), line[1], line[2], NO_HIT if line[1] == "no_match" else Hit._make((*line[3:], ()))
