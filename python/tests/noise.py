@@ -1,6 +1,6 @@
 """Draws addresses of made-up towns, exact ones and noisy ones, each with the segment and the side where it is.
 
-    python3 tests/noise.py [FOLDER]
+    PYTHONPATH=. python3 tests/noise.py [FOLDER]
 
 measures `tigerline geocode` on 2,000 addresses over 20 towns, on addresses of another county and of another state, and on addresses
 whose street is cut from the data. FOLDER keeps the counties, which take minutes to draw. EXTRACTD names the program.

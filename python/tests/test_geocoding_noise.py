@@ -1,6 +1,6 @@
 """Addresses with noise over three made-up towns: what is right, and that nothing is in a wrong town.
 
-`python3 tests/noise.py` measures the same over 20 towns.
+`PYTHONPATH=. python3 tests/noise.py` measures the same over 20 towns.
 """
 
 from collections import Counter
