@@ -16,7 +16,6 @@ Prints the tables that pass with such a row. The last line is `N passed, N faile
 import argparse
 import os
 import re
-import shutil
 import subprocess
 import sys
 import tempfile
@@ -24,7 +23,8 @@ from concurrent.futures import ThreadPoolExecutor
 from pathlib import Path
 from typing import Dict, Iterator, List, NamedTuple, Optional
 
-TOP = Path(__file__).resolve().parent.parent
+from crate_copy import TOP, make_copy
+
 TABLE = re.compile(r"const (?P<name>\w+): (?:fixtures::)?Table = Table \{\n\s*rows: (?P<rows>[\d_]+),\n\s*text: (?P<text>.*?)\n\};", re.DOTALL)
 # The last literal of a table's text: `r#"..."#`, `r"..."` or `"..."`, which another literal of a concat! may precede.
 CLOSING = re.compile(r'(\n?)"#?,?\s*\)?,?\s*$')
@@ -84,28 +84,22 @@ def with_row(source: str, name: str, row: Optional[str] = None, kind: str = "") 
     return source[: found.start()] + table + source[found.end() :]
 
 
-def copied(table: Table, to: Path) -> Path:
-    """Makes a repository in which the table's crate is a copy, and the others are links. Returns the folder of the crate."""
-    for name in ["crates.txt", "HANDLES"]:
-        shutil.copy2(TOP / name, to / name)
-    (to / "crates").mkdir()
-    for path in (TOP / "crates").iterdir():
-        if path.name != table.crate:
-            (to / "crates" / path.name).symlink_to(path)
-    folder = to / "crates" / table.crate
-    shutil.copytree(TOP / "crates" / table.crate, folder, ignore=shutil.ignore_patterns("out", "must-fail", "mutants"))
-    return folder
-
-
 def outcome(table: Table, kind: str) -> str:
     """Returns `fails` if the tests fail with a bad row, as they must; `none` if the table has no such row; else what happened."""
     source = with_row(table.path.read_text(encoding="utf-8"), table.name, kind=kind)
     if source is None:
         return "none"
     with tempfile.TemporaryDirectory(prefix="bad-row-") as room:
-        folder = copied(table, Path(room))
+        folder = make_copy(table.crate, Path(room), is_proved=False)
         (folder / table.path.relative_to(TOP / "crates" / table.crate)).write_text(source, encoding="utf-8")
-        done = subprocess.run(["rt", "try", "--test", "--seconds", SECONDS], cwd=folder, stdin=subprocess.DEVNULL, stdout=subprocess.PIPE, stderr=subprocess.STDOUT, errors="replace")
+        done = subprocess.run(
+            ["rt", "try", "--test", "--seconds", SECONDS],
+            cwd=folder,
+            stdin=subprocess.DEVNULL,
+            stdout=subprocess.PIPE,
+            stderr=subprocess.STDOUT,
+            errors="replace",
+        )
     result = re.search(r"^test result: .* (\d+) passed; (\d+) failed", done.stdout, re.MULTILINE)
     if result is None:
         return f"can't be tried: {done.stdout.strip()[-400:]}"

@@ -26,8 +26,8 @@ from concurrent.futures import ThreadPoolExecutor
 from pathlib import Path
 from typing import Iterator, List, NamedTuple, Optional, Tuple
 
-TOP = Path(__file__).resolve().parent.parent
-FOLDERS = ["must-fail", "mutants"]
+from crate_copy import MUTANTS, TOP, make_copy
+
 # What a check says of an edit that it can't read, compile or apply: such an edit says nothing of a contract.
 UNREADABLE = re.compile(r"error\[|is not in scope|has no field|is no name|operand is missing|expected the end|cannot continue|was not admitted")
 
@@ -59,7 +59,7 @@ class Mutant(NamedTuple):
 
 
 def mutants_of(crate: str) -> List[Mutant]:
-    folders = [TOP / "crates" / crate / folder for folder in FOLDERS]
+    folders = [TOP / "crates" / crate / folder for folder in MUTANTS]
     return [Mutant(crate, path) for folder in folders for path in sorted(folder.glob("*.edit"))]
 
 
@@ -110,21 +110,6 @@ def edited(mutant: Mutant, folder: Path) -> Optional[List[str]]:
     return functions
 
 
-def copied(crate: str, to: Path) -> Path:
-    """Makes a repository in which the crate is a copy, and the others are links. Returns the folder of the crate."""
-    for name in ["crates.txt", "HANDLES"]:
-        shutil.copy2(TOP / name, to / name)
-    (to / "crates").mkdir()
-    for path in (TOP / "crates").iterdir():
-        if path.name != crate:
-            (to / "crates" / path.name).symlink_to(path)
-    folder = to / "crates" / crate
-    # What a check kept is replaced and not changed, so links serve.
-    copy = lambda one, other: os.link(one, other) if one.endswith(".oantt") else shutil.copy2(one, other)
-    shutil.copytree(TOP / "crates" / crate, folder, copy_function=copy, ignore=shutil.ignore_patterns(*FOLDERS))
-    return folder
-
-
 def run(words: List[str], folder: Path) -> Tuple[int, str]:
     done = subprocess.run(words, cwd=folder, stdin=subprocess.DEVNULL, stdout=subprocess.PIPE, stderr=subprocess.STDOUT, errors="replace")
     return done.returncode, done.stdout
@@ -133,7 +118,7 @@ def run(words: List[str], folder: Path) -> Tuple[int, str]:
 def is_refused(mutant: Mutant) -> bool:
     """Returns whether a check of the edited functions alone refuses a mutant."""
     with tempfile.TemporaryDirectory(prefix="mutant-") as room:
-        folder = copied(mutant.crate, Path(room))
+        folder = make_copy(mutant.crate, Path(room), is_proved=True)
         functions = edited(mutant, folder)
         if not functions:
             return False
@@ -147,7 +132,7 @@ def fault_of(mutant: Mutant) -> Optional[str]:
     if is_refused(mutant):
         return None
     with tempfile.TemporaryDirectory(prefix="mutant-") as room:
-        folder = copied(mutant.crate, Path(room))
+        folder = make_copy(mutant.crate, Path(room), is_proved=True)
         (folder / "must-fail").mkdir()
         shutil.copy2(mutant.path, folder / "must-fail")
         status, said = run(["rt", "must-fail", mutant.crate], Path(room))
