@@ -625,7 +625,7 @@ try_announcing() {
 END
 }
 
-# look COUNTY: whether the server listens in `limit` KiB, or is refused for want of memory.
+# look COUNTY: whether the server listens in `limit` KiB, or runs out of memory.
 look() {
     if start_server "$1" limited v "$limit"; then
         stop_server

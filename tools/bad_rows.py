@@ -4,7 +4,7 @@
     python3 tools/bad_rows.py                  all tables, each with a bad row of one kind
     python3 tools/bad_rows.py NAME..           those of these crates, or single ones, as in tl_tests/fields.rt/SIDES
     --every-kind                               each with a bad row of every kind in turn
-    --jobs N                                   so many at once; 1 to 2 GB of memory each
+    --jobs N                                   how many run at once; 1 to 2 GB of memory each
 
 A table is a constant of the type `Table`. Its last row is put in once more, without its last cell, with a further cell, or with a misspelt word or
 number, and the table says that it has one row more. `rt try --test` compiles and runs the tests, without a proof.
@@ -124,7 +124,7 @@ def fault_of(table: Table, kinds: List[str]) -> Optional[str]:
 def main() -> int:
     parser = argparse.ArgumentParser(description="Puts a malformed row into each table of tests: the tests have to fail.")
     parser.add_argument("--every-kind", action="store_true", help="a bad row of every kind in turn")
-    parser.add_argument("--jobs", type=int, default=os.cpu_count(), help="so many at once")
+    parser.add_argument("--jobs", type=int, default=os.cpu_count(), help="how many run at once")
     parser.add_argument("names", nargs="*", metavar="NAME", help="a crate, or CRATE/FILE/TABLE; none: all")
     given = parser.parse_args()
     chosen = [it for it in tables() if not given.names or it.crate in given.names or it.label in given.names]

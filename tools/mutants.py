@@ -4,7 +4,7 @@
     python3 tools/mutants.py                the mutants of all crates
     python3 tools/mutants.py NAME..         those of these crates
     python3 tools/mutants.py NAME/MUTANT..  single mutants, by the name of the file without `.edit`
-    --jobs N                                so many at once; 1 to 2 GB of memory each
+    --jobs N                                how many run at once; 1 to 2 GB of memory each
 
 The gate tries those in must-fail/, which are few. This script also tries the others, before a release or after a change of contracts.
 
@@ -141,7 +141,7 @@ def fault_of(mutant: Mutant) -> Optional[str]:
 
 def main() -> int:
     parser = argparse.ArgumentParser(description="Tries every mutant: the prover has to refuse each.")
-    parser.add_argument("--jobs", type=int, default=os.cpu_count(), help="so many at once")
+    parser.add_argument("--jobs", type=int, default=os.cpu_count(), help="how many run at once")
     parser.add_argument("names", nargs="*", metavar="NAME", help="a crate, or CRATE/MUTANT; none: all")
     given = parser.parse_args()
     mutants = chosen(given.names)
