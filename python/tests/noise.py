@@ -4,6 +4,7 @@
 
 measures `tigerline geocode` on 2,000 addresses over 20 towns, on addresses of another county and of another state, and on addresses
 whose street is cut from the data. FOLDER keeps the counties, which take minutes to draw. EXTRACTD names the program.
+postgis.py measures PostGIS on the same addresses.
 """
 
 import re
@@ -11,10 +12,11 @@ import sys
 import tempfile
 import time
 from collections import Counter, defaultdict
-from collections.abc import Callable, Sequence
+from collections.abc import Callable, Iterator, Sequence
 from dataclasses import dataclass, replace
 from pathlib import Path
 from random import Random
+from typing import NamedTuple
 
 import tigerline
 from test_geocoding_index import DIRECTIONS, LONG, Index, Segment, place
@@ -41,9 +43,19 @@ SPOKEN = {
 }
 
 
+class Spot(NamedTuple):
+    """A place on a segment: its TLID, and the share of the segment before it, from 0 to 1."""
+
+    tlid: int
+    share: float
+
+
 @dataclass(frozen=True)
 class Drawn:
-    """An address, what was done to it, and where it is: a segment and a side, a crossing, or nowhere."""
+    """An address, what was done to it, and where it is: a segment and a side, a crossing, or nowhere.
+
+    `places` are on straight segments, and empty if the address is nowhere. `spot` is where it was drawn.
+    """
 
     kind: str
     number: str
@@ -53,7 +65,8 @@ class Drawn:
     sufdir: str
     city: str
     zip: str
-    places: frozenset[tuple[str, str]]
+    places: frozenset[tuple[str, str] | None]
+    spot: Spot
     written: str = ""
 
     @property
@@ -96,7 +109,8 @@ class Source:
                 if min(low, high) <= number <= max(low, high) and (low % 2 != high % 2 or low % 2 == number % 2)
             }
             if len(places) == 1:
-                return Drawn("exact", str(number), *name, self.city(segment), zip_code, frozenset(places))
+                spot = Spot(segment.tlid, (number - first) / ((last - first) or 1))
+                return Drawn("exact", str(number), *name, self.city(segment), zip_code, frozenset(places), spot)
 
     def crossing(self) -> Drawn:
         """Draws a corner of two streets with different names that meet nowhere else in their ZIP Code."""
@@ -107,11 +121,13 @@ class Source:
             zips = {side[3] for side in first.sides} & {side[3] for side in second.sides} if second else set()
             if second and len(zips) == 1 and self._meets(first, second, zips) == {end}:
                 one, other = (" ".join(filter(None, segment.names[0])) for segment in (first, second))
-                spot = tuple(
+                longitude, latitude = (
                     f"{'-' if value < 0 else ''}{abs(value) // 10**6}.{abs(value) % 10**6:06}" for value in end
                 )
+                spot = Spot(first.tlid, 0 if first.ends and end == first.ends[:2] else 1)
                 text = f"{one}{self.random.choice([' & ', ' and ', ' at ', ' @ ', '/'])}{other}"
-                return Drawn("crossing", "", "", "", "", "", self.city(first), zips.pop(), frozenset({spot}), text)
+                places = frozenset({(longitude, latitude)})
+                return Drawn("crossing", "", "", "", "", "", self.city(first), zips.pop(), places, spot, text)
 
     def _meets(self, first: Segment, second: Segment, zips: set[str]) -> set[tuple[int, int]]:
         ends = []
@@ -267,29 +283,40 @@ def cut(folder: Path, data: Path, code: str, names: set[str]) -> Path:
     return folder
 
 
-def measure_cut(drawn: Sequence[Drawn], data: Path, code: str, scratch: Path, parts: int = 10) -> Counter[str]:
-    """Geocodes addresses whose streets are cut from the data, a part of the names at a time: every match is wrong."""
+def cut_parts(drawn: Sequence[Drawn], parts: int) -> Iterator[tuple[set[str], list[Drawn]]]:
+    """Yields a part of the names at a time, and the addresses that have them, which are nowhere if these are cut."""
     names = sorted({one.name for one in drawn})
-    total: Counter[str] = Counter()
     for part in range(parts):
         missing = set(names[part::parts])
-        without = cut(scratch, data, code, missing)
-        total += sum(
-            measure([replace(one, places=frozenset()) for one in drawn if one.name in missing], without).values(),
-            Counter(),
-        )
+        yield missing, [replace(one, places=frozenset()) for one in drawn if one.name in missing]
+
+
+def measure_cut(drawn: Sequence[Drawn], data: Path, code: str, scratch: Path, parts: int = 10) -> Counter[str]:
+    """Geocodes addresses whose streets are cut from the data, a part of the names at a time: every match is wrong."""
+    total: Counter[str] = Counter()
+    for missing, nowhere in cut_parts(drawn, parts):
+        total += sum(measure(nowhere, cut(scratch, data, code, missing)).values(), Counter())
     return total
+
+
+def draw_counties(folder: Path) -> list[Town]:
+    """Draws the counties `first` and `second` that aren't there yet, and returns the towns of the first."""
+    if not (folder / "second").exists():
+        write_county(folder / "second", "01009", cities=SECOND_CITIES, first_zip=36100)
+    return write_county(folder / "first") if not (folder / "first").exists() else towns_of(CITIES, 35100)
+
+
+def draw_addresses(folder: Path, towns: Sequence[Town]) -> tuple[list[Drawn], list[Drawn]]:
+    """Draws 1,000 exact addresses of the first county, and 1,000 noisy ones."""
+    source = Source(folder / "first", "01007", towns, "first")
+    exact = [source.exact() for _ in range(1000)]
+    return exact, [noisy(source, kind) for kind, count in SHARES.items() for _ in range(count)]
 
 
 def main() -> None:
     with tempfile.TemporaryDirectory() as temporary:
         folder = next((Path(word) for word in sys.argv[1:] if word != "-v"), Path(temporary))
-        towns = write_county(folder / "first") if not (folder / "first").exists() else towns_of(CITIES, 35100)
-        if not (folder / "second").exists():
-            write_county(folder / "second", "01009", cities=SECOND_CITIES, first_zip=36100)
-        source = Source(folder / "first", "01007", towns, "first")
-        exact = [source.exact() for _ in range(1000)]
-        noise = [noisy(source, kind) for kind, count in SHARES.items() for _ in range(count)]
+        exact, noise = draw_addresses(folder, draw_counties(folder))
         started = time.process_time(), time.monotonic()
         report("exact", measure(exact, folder / "first"))
         report("noise", measure(noise, folder / "first"))
@@ -303,13 +330,13 @@ def main() -> None:
 
 
 def towns_of(cities: list[str], first_zip: int) -> list[Town]:
-    return [
-        Town(city, "", "", tuple(f"{first_zip + 3 * at + zone}" for zone in range(3))) for at, city in enumerate(cities)
-    ]
+    zips = range(first_zip, first_zip + 3 * len(cities), 3)
+    return [Town(city, "", "", (f"{at}", f"{at + 1}", f"{at + 2}")) for city, at in zip(cities, zips, strict=True)]
 
 
 def report(title: str, counts: dict[str, Counter[str]]) -> None:
-    for kind, counter in [*counts.items(), ("all", sum(counts.values(), Counter()))]:
+    total: Counter[str] = sum(counts.values(), Counter())
+    for kind, counter in [*counts.items(), ("all", total)]:
         if kind != "all" or len(counts) != 1 or kind in counts:
             print(
                 f"{title:20} {kind:20} {counter.total():5}",
