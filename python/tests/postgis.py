@@ -2,14 +2,14 @@
 
     PYTHONPATH=. python3 tests/postgis.py [FOLDER]
 
-Run it as root on Debian 12 in the folder python, with the program's path in EXTRACTD. It takes some ten minutes. It needs pytest and
-shapely, which ../python/try.sh installs, and it installs PostgreSQL 15 and PostGIS by apt-get. Its own PostgreSQL server runs in a
-temporary folder, without a port, and both are removed at the end. FOLDER keeps the counties, as for noise.py.
+Run it in the folder python, as root on Debian 12, with the program's path in EXTRACTD. It takes some ten minutes. It installs PostgreSQL 15
+and PostGIS by apt-get, and needs pytest and shapely, which try.sh installs. It starts a PostgreSQL server of its own in a temporary
+folder, without a port, and removes both at the end. FOLDER keeps the counties, as for noise.py.
 
-Each county is a database, loaded by postgis.sql. The addresses are those of noise.py. A place of PostGIS is right if it is at most 13 m
-from the address's segment, with its shape points, and at most 80 m from the place of the house number along it, on either side:
-PostGIS moves places 10 m off the street. Without a street, as the middle of a town, a result counts as none. A place of `tigerline
-geocode` is right if it is exactly that of the address. Points for the way back are those of test_reversing.py.
+Each county is a database, loaded by postgis.sql. The addresses are those of noise.py. A result of PostGIS is right if it is at most 13 m
+from the address's segment, with its shape points, and at most 80 m from the place of the house number along it: PostGIS moves places
+10 m off the street. A result without a street, such as the middle of a town, counts as none. A match of `tigerline geocode` is right if
+it is exactly at the place of the address. The points are those of test_reversing.py.
 """
 
 import csv
@@ -285,16 +285,19 @@ def processor_time() -> float:
 def of_addresses(server: Server, folder: Path, exact: list[Drawn], noise: list[Drawn], lines: Lines) -> Iterator[Row]:
     """Yields the rows of exact and noisy addresses, and the speed."""
     started, seconds = processor_time(), 0.0
-    ours = [total(measure(drawn, folder / "first")) for drawn in (exact, noise)]
+    by_kind = measure([*exact, *noise], folder / "first")
     own_seconds = processor_time() - started
-    for title, drawn, own in zip(("exact", "noise"), (exact, noise), ours):
+    ours = by_kind.pop("exact"), total(by_kind)
+    for title, drawn, own in zip(("exact", "noisy"), (exact, noise), ours):
         found, used = geocode(server, "first", drawn)
         seconds += used
-        counters = own, *counted(drawn, found, lines)
-        yield Row(f"{title}: right / wrong", *(f"{one['right']} / {one['wrong']}" for one in counters))
-        yield Row(f"{title}: tie or none", *(str(one["tie"] + one["none"]) for one in counters))
+        cells = (
+            f"{one['right']} / {one['wrong']} / {one['tie'] + one['none']}"
+            for one in (own, *counted(drawn, found, lines))
+        )
+        yield Row(f"{title} addresses: right / wrong / tie or none", *cells)
     count = len(exact) + len(noise)
-    yield Row("addresses per second", f"{count / own_seconds:,.0f}", f"{count / seconds:,.0f}")
+    yield Row("addresses per second of processor time", f"{count / own_seconds:,.0f}", f"{count / seconds:,.0f}")
 
 
 def of_crossings(server: Server, folder: Path, noise: list[Drawn], lines: Lines) -> Row:
@@ -306,15 +309,15 @@ def of_crossings(server: Server, folder: Path, noise: list[Drawn], lines: Lines)
         calls.append(f"geocode_intersection({', '.join(map(quoted, (*streets, 'AL', one.city, one.zip)))}, 1)")
     theirs = counted(drawn, found_by(server, "first", calls)[0], lines)
     right = (counter["right"] for counter in (total(measure(drawn, folder / "first")), *theirs))
-    return Row(f"{len(drawn)} crossings, by `geocode_intersection`: right", *map(str, right))
+    return Row(f"{len(drawn)} crossings, with `geocode_intersection`: right", *map(str, right))
 
 
 def of_absent(server: Server, folder: Path, exact: list[Drawn], noise: list[Drawn], lines: Lines) -> Iterator[Row]:
     """Yields the rows of addresses that aren't in the data."""
     for title, drawn, county, state in (
-        ("another county", exact, "second", "AL"),
-        ("another county, noise", noise, "second", "AL"),
-        ("another state", exact, "first", "GA"),
+        ("exact addresses of a county that isn't loaded", exact, "second", "AL"),
+        ("noisy addresses of a county that isn't loaded", noise, "second", "AL"),
+        ("exact addresses of another state", exact, "first", "GA"),
     ):
         nowhere = [replace(one, places=frozenset()) for one in drawn]
         found = geocode(server, county, nowhere, state)[0]
@@ -334,7 +337,7 @@ def of_cut(server: Server, folder: Path, exact: list[Drawn], lines: Lines) -> Ro
         server.psql("postgres", "DROP DATABASE cut;")
         for counter, more in zip(theirs, counted(nowhere, found, lines)):
             counter.update(more)
-    return wrong("street cut", ours, theirs)
+    return wrong("exact addresses whose street is cut from the data", ours, theirs)
 
 
 def of_points(server: Server, folder: Path) -> Iterator[Row]:
@@ -352,7 +355,7 @@ def of_points(server: Server, folder: Path) -> Iterator[Row]:
     rows = (found.get(at, ["", ""]) for at in range(len(drawn)))
     theirs = [({name.lower()}, int(number) if number else None) for name, number in rows]
     yield Row("points: street right / number within 10", right_points(drawn, ours), right_points(drawn, theirs))
-    yield Row("points per second", f"{len(drawn) / own_seconds:,.0f}", f"{len(drawn) / seconds:,.0f}")
+    yield Row("points per second of processor time", f"{len(drawn) / own_seconds:,.0f}", f"{len(drawn) / seconds:,.0f}")
 
 
 def today(names: Iterable[str]) -> set[str]:
@@ -375,17 +378,18 @@ def main() -> None:
         exact, noise = draw_addresses(folder, draw_counties(folder))
         lines = load(server, "first", folder / "first", FIRST)
         load(server, "second", folder / "second", SECOND)
-        print(f"| Of 1,000 | tigerline | PostGIS | PostGIS, rating <= {GOOD_RATING} |\n|---|---|---|---|")
+        print(f"| Of 1,000 | `tigerline` | PostGIS | PostGIS, rating ≤ {GOOD_RATING} |\n|---|---|---|---|")
         for row in rows(server, folder, exact, noise, lines):
             print("|", " | ".join(row), "|", flush=True)
 
 
 def rows(server: Server, folder: Path, exact: list[Drawn], noise: list[Drawn], lines: Lines) -> Iterator[Row]:
-    yield from of_addresses(server, folder, exact, noise, lines)
+    *shares, speed = of_addresses(server, folder, exact, noise, lines)
+    yield from shares
     yield of_crossings(server, folder, noise, lines)
     yield from of_absent(server, folder, exact, noise, lines)
     yield of_cut(server, folder, exact, lines)
-    yield from of_points(server, folder)
+    yield from (*of_points(server, folder), speed)
 
 
 if __name__ == "__main__":
