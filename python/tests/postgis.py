@@ -91,7 +91,7 @@ class Server(NamedTuple):
     socket: Path
 
     def psql(self, database: str, script: str, folder: Path | None = None) -> str:
-        """Runs a script in a session of its own. Prints errors of statements, after which it goes on."""
+        """Runs a script over a connection of its own. Prints errors of statements, after which it goes on."""
         command = [f"{PROGRAMS}/psql", "-XqAt", "-F", "\t", "-h", str(self.socket), "-U", "postgres", database]
         done = subprocess.run(
             command, input=script, cwd=folder, stdout=subprocess.PIPE, stderr=subprocess.PIPE, text=True
@@ -104,7 +104,7 @@ class Server(NamedTuple):
     def ask(self, database: str, queries: Iterable[str]) -> tuple[dict[int, list[str]], float]:
         """Returns the first row of each query that has one, by its place, and the server's seconds of processor time.
 
-        There is a session for each processor.
+        There is a connection for each processor.
         """
         statements = [f"SELECT {at}, {query} LIMIT 1;" for at, query in enumerate(queries)]
         count = os.cpu_count() or 1
