@@ -73,7 +73,7 @@ def add_crossings(asked: Sequence[tuple[Crossing, Answer]], ends: Ends, county: 
         first, second = (_meetings(readings, ends) for readings in crossing.streets)
         if first and second and not answer.excuse:
             answer.excuse = Reason.INTERSECTION
-        for place in first.keys() & second.keys():
+        for place in [place for place in first if place in second]:
             one, other = first[place], second[place]
             lacks = tuple(dict.fromkeys((Reason.INTERSECTION, *one.lacks, *other.lacks)))
             hit = _hit(place, one.end, other.end, answer, county)
