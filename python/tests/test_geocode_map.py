@@ -8,8 +8,10 @@ import pytest
 from counties import EXAMPLES
 from test_geocode_output import MATCHES
 from test_main import run
+from test_maps import page_data, probed
 from tigerline._geocode_map import KINDS, Dots
 from tigerline._interrupts import Interrupts
+from tigerline._map_view import MapSegment
 
 SVG = "{http://www.w3.org/2000/svg}"
 COLORS = {kind.color: kind.name for kind in KINDS}
@@ -39,12 +41,26 @@ def test_dots(monkeypatch: pytest.MonkeyPatch, has_candidates: bool, expected: l
     dots = Dots(has_candidates)
     assert list(dots.watched(MATCHES)) == MATCHES
     with Interrupts() as interrupts:
-        found = dots_of(dots.draw("nowhere", None, "A & B", interrupts))
+        found = dots_of(dots.draw("nowhere", None, "A & B", False, interrupts))
     assert [f"{kind} {name}" for kind, name, _, _ in found] == expected
     if has_candidates:
         (first, second, last) = (found[2], found[0], found[1])
         assert first[2] < second[2] < last[2] and first[3] < second[3] == last[3]
         assert last[2] - second[2] == pytest.approx(2 * (second[2] - first[2]), abs=0.2)
+
+
+def test_page(monkeypatch: pytest.MonkeyPatch, tmp_path: Path) -> None:
+    """A browser shows the address and the kind of the place at the pointer, though it is on a street."""
+    street = MapSegment("A41", "Oak St", 0, ((-88, 33.25), (-87, 33.25)))
+    monkeypatch.setattr("tigerline._geocode_map._segments_in", lambda *_: [street])
+    dots = Dots(False)
+    assert list(dots.watched(MATCHES)) == MATCHES
+    with Interrupts() as interrupts:
+        page = dots.draw("nowhere", None, "A & B", True, interrupts)
+    data = page_data(page)
+    assert [data["names"][name] for _, name, _, _ in data["segments"]] == ["Oak St", "8 OAK ST"]
+    said = probed(page, tmp_path)
+    assert said["faults"] == [] and said["said"][:3] == [False, "8 OAK ST\nExact match", True]
 
 
 @pytest.mark.usefixtures("extractd", "scratch")

@@ -1,8 +1,8 @@
-"""Draws the places of addresses over the segments around them, as an SVG picture."""
+"""Draws the places of addresses over the segments around them: an SVG picture, or an HTML page."""
 
 import textwrap
 import warnings
-from collections.abc import Iterable, Iterator, Sequence
+from collections.abc import Callable, Iterable, Iterator, Sequence
 from dataclasses import replace
 from typing import TYPE_CHECKING, NamedTuple
 
@@ -18,12 +18,13 @@ from ._map_rows import MOST_SEGMENTS, box_around, map_segment
 from ._map_view import MARGIN, Box, MapSegment, View, extent_of, view_of
 from ._program import PathLike
 from ._rows import read_rows
-from .maps import FONT
+from .maps import FONT, Sheet, page_of, page_rows
 
 if TYPE_CHECKING:
     from .geocoding import Match
 
 RADIUS = 3.5  # pixels
+Drawer = Callable[[View, Sequence[MapSegment]], Iterator[str]]
 
 
 class Kind(NamedTuple):
@@ -67,13 +68,34 @@ class Dots:
         if county:
             self.counties[county] = None
 
-    def draw(self, data: PathLike, extractd: PathLike | None, caption: str, interrupts: Interrupts) -> str:
-        """Returns the picture, with the segments of their counties around the places."""
+    def draw(
+        self, data: PathLike, extractd: PathLike | None, caption: str, is_page: bool, interrupts: Interrupts
+    ) -> str:
+        """Returns the picture or the page, with the segments of their counties around the places."""
         box = box_around(self.places)
         background: list[MapSegment] = []
         if box and self.counties:
             background = _segments_in(box, data, list(self.counties), extractd, interrupts)
-        return "\n".join(_parts(self.places, background, box, caption)) + "\n"
+        view = view_of((self.places, background), box)
+        if is_page:
+            return _page(view, self.places, background, caption)
+        return "\n".join(_parts(view, self.places, background, caption, _circles)) + "\n"
+
+
+def _page(view: View, places: Sequence[MapSegment], background: Sequence[MapSegment], caption: str) -> str:
+    parts = list(_parts(view, places, background, caption, _points))
+    names: dict[str, int] = {}
+    dots = [place._replace(points=place.points * 2) for place in places]
+    return page_of(
+        Sheet(view, parts, parts.index("</svg>")),
+        caption,
+        [*page_rows(background, view, names, False), *page_rows(dots, view, names, False)],
+        list(names),
+        dots=len(dots),
+        labels={kind.name: kind.label for kind in KINDS},
+        unselected="",
+        hint="point at a place for its address, click to keep it",
+    )
 
 
 def _segments_in(
@@ -98,9 +120,8 @@ def _segments_in(
 
 
 def _parts(
-    places: Sequence[MapSegment], background: Sequence[MapSegment], box: Box | None, caption: str
+    view: View, places: Sequence[MapSegment], background: Sequence[MapSegment], caption: str, dots: Drawer
 ) -> Iterator[str]:
-    view = view_of((places, background), box)
     width = view.width + LEGEND_WIDTH + 2 * MARGIN
     lines = textwrap.wrap(caption, round(width / 8.2))
     top = 2 * MARGIN + LINE_HEIGHT * len(lines)
@@ -114,19 +135,26 @@ def _parts(
     for at, line in enumerate(lines):
         y = MARGIN + 13 + LINE_HEIGHT * at
         yield f'<text x="{MARGIN}" y="{y}" font-size="15" font-weight="bold">{text_of(line)}</text>'
-    yield from _map_parts(view, places, background, top)
+    yield from _map_parts(view, background, top, dots(view, places))
     legend_x = MARGIN + view.width + 18
     yield from _legend_parts(places, len(background), legend_x, top + 14)
     yield from scale_parts(view.pixels_per_kilometer, legend_x, height - MARGIN - 24)
     yield "</svg>"
 
 
-def _map_parts(view: View, places: Sequence[MapSegment], background: Sequence[MapSegment], top: float) -> Iterator[str]:
+def _map_parts(view: View, background: Sequence[MapSegment], top: float, dots: Iterable[str]) -> Iterator[str]:
     size = f'width="{view.width}" height="{view.height}"'
     yield f'<svg id="map" x="{MARGIN}" y="{top}" {size} viewBox="0 0 {view.width} {view.height}">'
     yield f'<rect {size} fill="{PAPER}"/><g fill="none" stroke-linecap="round" stroke-linejoin="round">'
     yield from background_parts(groups_of(background, view, "class"), view.thickness)
     yield "</g>"
+    yield from dots
+    yield "</svg>"
+    yield f'<rect x="{MARGIN}" y="{top}" {size} fill="none" {stroke(FRAME, 1.5)}/>'
+
+
+def _circles(view: View, places: Sequence[MapSegment]) -> Iterator[str]:
+    """Yields the places as circles with their addresses."""
     for kind in KINDS:
         yield f'<g fill="{kind.color}" {stroke("#ffffff", 1)}>'
         for place in places:
@@ -135,7 +163,15 @@ def _map_parts(view: View, places: Sequence[MapSegment], background: Sequence[Ma
                 title = f"<title>{text_of(place.name)}</title>"
                 yield f'<circle cx="{x:.1f}" cy="{y:.1f}" r="{RADIUS}">{title}</circle>'
         yield "</g>"
-    yield f'</svg><rect x="{MARGIN}" y="{top}" {size} fill="none" {stroke(FRAME, 1.5)}/>'
+
+
+def _points(view: View, places: Sequence[MapSegment]) -> Iterator[str]:
+    """Yields the places as lines without a length, which stay as small if the page is zoomed."""
+    for kind in KINDS:
+        spots = [view.place(place.points[0]) for place in places if place.cfcc == kind.name]
+        data = "".join(f"M{x:.1f} {y:.1f}h0" for x, y in spots)
+        for color, width in (("#ffffff", 2 * RADIUS + 1), (kind.color, 2 * RADIUS - 1)):
+            yield f'<path fill="none" stroke-linecap="round" {stroke(color, width)} d="{data}"/>'
 
 
 def _legend_parts(places: Sequence[MapSegment], rest: int, x: float, y: float) -> Iterator[str]:

@@ -50,13 +50,15 @@ function distanceTo(px, py, [, x, y, toX, toY]) {
 }
 
 // The segment nearest to a point of the map, within 9 pixels of the screen; of several the one on top. -1 is none.
+// A dot is taken rather than the line that it is on.
 function nearest(px, py) {
     let best = Math.min(9 * width / view.zoom / map.getBoundingClientRect().width, CELL), number = -1;
+    const radius = 0.7 * best;
     const column = Math.floor(px / CELL), row = Math.floor(py / CELL);
     for (let across = -1; across <= 1; across++)
         for (let down = -1; down <= 1; down++)
             for (const piece of cells.get((column + across) + "," + (row + down)) || []) {
-                const distance = distanceTo(px, py, piece);
+                const distance = distanceTo(px, py, piece) - (piece[0] < sheet.firstDot ? 0 : radius);
                 if (distance < best || distance === best && piece[0] > number) {
                     best = distance;
                     number = piece[0];
@@ -110,8 +112,8 @@ function point(number, event) {
     found.setAttribute("d", "");
     if (number < 0) return;
     const [cfcc, name, score, points] = sheet.segments[number];
-    tip.textContent = `${sheet.names[name] || "(no name)"}\nclass ${cfcc.trim() || "(none)"}`
-        + (score === null ? "\nnot selected" : `, score ${score}`);
+    tip.textContent = `${sheet.names[name] || "(no name)"}\n` + (sheet.labels[cfcc]
+        || `class ${cfcc.trim() || "(none)"}` + (score === null ? sheet.unselected : `, score ${score}`));
     tip.style.left = Math.min(event.clientX + 14, innerWidth - tip.offsetWidth - 4) + "px";
     tip.style.top = Math.min(event.clientY + 14, innerHeight - tip.offsetHeight - 4) + "px";
     let line = "";
@@ -186,7 +188,7 @@ PAGE = """<!DOCTYPE html>
 <button value="+" aria-label="zoom in">+</button>
 <button value="-" aria-label="zoom out">&minus;</button>
 <button value="0">whole map</button>
-Turn the wheel to zoom, drag to move, point at a segment for its name, class and score, click to keep them.
+Turn the wheel to zoom, drag to move, {hint}.
 </nav>
 </main>
 <div id="tip" role="status" hidden></div>

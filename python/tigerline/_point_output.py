@@ -18,6 +18,7 @@ from ._tables import CRS, DRIVERS, convert, count_features, gdal_tool
 POLL = 0.1  # seconds
 LAYER = "points"
 TEXT_SUFFIXES = (".csv", ".txt", "")
+MAP_SUFFIXES = (".svg", ".html")
 GDAL_OPTIONS = (
     f"-nln {LAYER} -nlt POINT -a_srs {CRS} -oo EMPTY_STRING_AS_NULL=YES -oo GEOM_POSSIBLE_NAMES=geom"
     " -oo KEEP_GEOM_COLUMNS=NO"
@@ -50,8 +51,8 @@ def output_path(text: str) -> Path:
 
 def picture_path(text: str) -> Path:
     """Returns the path of a map, as the type of an option."""
-    if Path(text).suffix.lower() != ".svg":
-        raise ArgumentTypeError(f"{text!r} doesn't end with .svg")
+    if Path(text).suffix.lower() not in MAP_SUFFIXES:
+        raise ArgumentTypeError(f"{text!r} doesn't end with {' or '.join(MAP_SUFFIXES)}")
     return Path(text)
 
 

@@ -224,7 +224,7 @@ def parser() -> argparse.ArgumentParser:
     add("--header", action="store_true", help="IN has a head line, which names the columns; write one, too")
     add_input_options(result, 'street="Street Address",zip=Postcode')
     add("--one-line", action="store_true", help="an address is one cell, or without --header and --delimiter a line")
-    add("--map", metavar="FILE", type=picture_path, help="also draw the places on a map: .svg")
+    add("--map", metavar="FILE", type=picture_path, help="also draw the places on a map: .svg or .html")
     add("--overwrite", action="store_true", help="replace OUT and the map if they exist")
     add("--progress", action="store_true", help="show on standard error how many addresses are done")
     add("--extractd", metavar="FILE", help="the program (default: the variable EXTRACTD, or extractd in PATH)")
@@ -277,6 +277,7 @@ def _write(
         summary = write_matches(file, dots.watched(shown) if dots else shown, form, interrupts)
     if picture and dots:
         with naming(picture.final):
-            drawn = dots.draw(options.data, options.extractd, f"{Path(name).name}: {summary}", interrupts)
+            is_page = picture.path.suffix.lower() != ".svg"
+            drawn = dots.draw(options.data, options.extractd, f"{Path(name).name}: {summary}", is_page, interrupts)
             picture.path.write_text(drawn, encoding="utf-8")
     return summary

@@ -11,7 +11,7 @@ import argparse
 import json
 import sys
 import textwrap
-from collections.abc import Iterable, Iterator, Sequence
+from collections.abc import Iterable, Iterator, Mapping, Sequence
 from pathlib import Path
 from typing import NamedTuple
 
@@ -115,16 +115,41 @@ def draw_html(
     """
     sheet = sheet_of(segments, caption, by, background, box)
     names: dict[str, int] = {}
+    rows = [*page_rows(background, sheet.view, names, False), *page_rows(segments, sheet.view, names, True)]
+    return page_of(sheet, caption, rows, list(names))
+
+
+HINT = "point at a segment for its name, class and score, click to keep them"
+
+
+def page_of(
+    sheet: Sheet,
+    caption: str,
+    rows: Sequence[object],
+    names: Sequence[str],
+    *,
+    dots: int = 0,
+    labels: Mapping[str, str] | None = None,
+    unselected: str = "\nnot selected",
+    hint: str = HINT,
+) -> str:
+    """Returns an HTML page with a picture and the rows of its segments, of which the last ones are dots.
+
+    At the pointer it shows the name of a segment, and the label of its class or else the class.
+    """
     data = {
-        "segments": [*page_rows(background, sheet.view, names, False), *page_rows(segments, sheet.view, names, True)],
-        "names": list(names),
+        "segments": rows,
+        "names": names,
+        "firstDot": len(rows) - dots,
+        "labels": labels or {},
+        "unselected": unselected,
         "pixelsPerKilometer": round(sheet.view.pixels_per_kilometer, 6),
         "labelSize": NAME_SIZE,
     }
     text = json.dumps(data, separators=(",", ":")).replace("<", "\\u003c")
     found = '<path id="found" fill="none" stroke="#d6006c" stroke-width="4" stroke-linecap="round" d=""/>'
     picture = "\n".join([*sheet.parts[: sheet.map_end], found, *sheet.parts[sheet.map_end :]])
-    return PAGE.format(title=text_of(caption), style=STYLE, picture=picture, data=text, script=SCRIPT)
+    return PAGE.format(title=text_of(caption), style=STYLE, picture=picture, data=text, script=SCRIPT, hint=hint)
 
 
 def parsed_arguments(arguments: Sequence[str] | None) -> argparse.Namespace:
