@@ -24,18 +24,18 @@ MATCHES = [
             Candidate((), "8 ELM", -86.0, 33.0, 9, "L", "01001"),
         ),
     ),
-    Match(Address("", "x\r\0"), Status.NO_MATCH, (Reason.NO_HOUSE_NUMBER,)),
+    Match(Address("", "x\r\0"), Status.NO_MATCH, (Reason.NO_SUCH_STREET,), hint="OAK"),
 ]
 MATCH_LINE = "1;8 Oak St, A, AL, 2;Match;Exact;8 OAK ST;-87.500000,33.250000;7;L"
 # Whether there are a head line, reasons and candidates, and the lines.
 FORMS = [
     ((False, False, False), [MATCH_LINE, "2;8 Elm, , , ;Tie", ";x, , , ;No_Match"]),
-    ((False, True, False), [f"{MATCH_LINE};", "2;8 Elm, , , ;Tie;;;;;;tie", ";x, , , ;No_Match;;;;;;no_house_number"]),
+    ((False, True, False), [f"{MATCH_LINE};;", "2;8 Elm, , , ;Tie;;;;;;tie;", ";x, , , ;No_Match;;;;;;no_such_street;OAK"]),
     ((True, True, False), [
-        f"{HEAD},reason,longitude,latitude".replace(",", ";"),
-        f"{MATCH_LINE};;-87.500000;33.250000",
-        "2;8 Elm, , , ;Tie;;;;;;tie;;",
-        ";x, , , ;No_Match;;;;;;no_house_number;;",
+        f"{HEAD},reason,hint,longitude,latitude".replace(",", ";"),
+        f"{MATCH_LINE};;;-87.500000;33.250000",
+        "2;8 Elm, , , ;Tie;;;;;;tie;;;",
+        ";x, , , ;No_Match;;;;;;no_such_street;OAK;;",
     ]),
     ((False, False, True), [
         MATCH_LINE,
@@ -90,3 +90,4 @@ def test_points(tmp_path: Path, interrupts: Interrupts, suffix: str, found: list
     by_tlid = {row["tlid"]: row for row in rows}
     assert [float(by_tlid["7"][name]) for name in ("longitude", "latitude")] == [-87.5, 33.25]
     assert by_tlid["7"]["WKT"] == "POINT (-87.5 33.25)" and by_tlid["8"]["reason"] == "type"
+    assert [row["hint"] for row in rows if row["hint"]] == ["OAK"] * (suffix != "fgb")

@@ -72,7 +72,7 @@ class TestColumns:
     def test_reasons(self, tmp_path: Path) -> None:
         (tmp_path / "in.csv").write_text(self.LINES)
         found = rows_of(geocode(tmp_path / "in.csv", "--reasons").stdout)
-        assert {len(row) for row in found} == {9}
+        assert {len(row) for row in found} == {10}
         assert [row[8] for row in found] == [
             "", "direction", "tie", "hyphenated_number", "no_such_number_on_street", "no_such_street", "",
         ]  # fmt: skip
@@ -80,10 +80,10 @@ class TestColumns:
     def test_head(self, tmp_path: Path) -> None:
         (tmp_path / "in.csv").write_text(f"Zip, STREET ,note,id\n36003,751 Main Blvd S,x,1\n")
         done = geocode(tmp_path / "in.csv", "--header", "--reasons")
-        names = "id address match exact matched_address coordinates tlid side reason longitude latitude"
+        names = "id address match exact matched_address coordinates tlid side reason hint longitude latitude"
         assert rows_of(done.stdout)[0] == names.split()
         place = ["-86.852619", "32.484638"]
-        assert rows_of(done.stdout)[1][2:] == ["Match", "Exact", "751 MAIN BLVD S, , AL, 36003", *ROW[5:], "", *place]
+        assert rows_of(done.stdout)[1][2:] == [*ROW[2:], "", "", *place]
         (tmp_path / "in.csv").write_text("id,street,city,state,zip\n" + EXACT)
         assert geocode(tmp_path / "in.csv").stderr.endswith(
             "line 1 was taken for an address; is it a head line (--header)?\n"

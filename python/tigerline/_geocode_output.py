@@ -17,11 +17,12 @@ if TYPE_CHECKING:
 CANDIDATE = "Candidate"
 # The columns of the Census Bureau's batch geocoder.
 CENSUS_COLUMNS = ("id", "address", "match", "exact", "matched_address", "coordinates", "tlid", "side")
+REASON_COLUMNS = ("reason", "hint")
 PLACE_COLUMNS = ("longitude", "latitude")
 POINT_COLUMNS = (
     Column("id"), Column("address"), Column("match"), Column("exact"), Column("matched_address"),
     Column("longitude", "Real"), Column("latitude", "Real"), Column("tlid", "Integer64"), Column("side"),
-    Column("county"), Column("reason"),
+    Column("county"), Column("reason"), Column("hint"),
 )  # fmt: skip
 
 
@@ -47,6 +48,7 @@ class Line(NamedTuple):
     tlid: str = ""
     side: str = ""
     county: str = ""
+    hint: str = ""
 
 
 def write_matches(file: PendingFile, matches: Iterable["Match"], form: Form, interrupts: Interrupts) -> str:
@@ -66,7 +68,7 @@ def lines_of(match: "Match", has_candidates: bool) -> Iterator[Line]:
     """Yields the line of a match, and those of its candidates."""
     address = ", ".join(cell.strip() for cell in match.address[1:])
     line = Line(match.address.id, address, match.status.value, " ".join(match.reasons))
-    yield _with_place(line, match, match.is_exact)
+    yield _with_place(line._replace(hint=match.hint or ""), match, match.is_exact)
     if has_candidates:
         for candidate in match.candidates:
             reason = " ".join(candidate.reasons)
@@ -91,7 +93,7 @@ def _write_census(path: Path, lines: Iterable[Line], form: Form, interrupts: Int
     with open(path, "w", encoding="utf-8", errors="replace", newline="") as file:
         writer = csv.writer(file, quoting=csv.QUOTE_ALL, lineterminator="\n")
         if form.has_head:
-            writer.writerow((*CENSUS_COLUMNS, *(("reason",) if form.has_reasons else ()), *PLACE_COLUMNS))
+            writer.writerow((*CENSUS_COLUMNS, *(REASON_COLUMNS if form.has_reasons else ()), *PLACE_COLUMNS))
         for line in lines:
             interrupts.check()
             writer.writerow(census_row(line, form))
@@ -108,7 +110,7 @@ def census_row(line: Line, form: Form) -> list[str]:
     elif form.has_head or form.has_reasons:
         row += [""] * (len(CENSUS_COLUMNS) - len(row))
     if form.has_reasons:
-        row.append(line.reason)
+        row += [line.reason, line.hint]
     if form.has_head:
         row += [line.longitude, line.latitude]
     return row
@@ -117,7 +119,8 @@ def census_row(line: Line, form: Form) -> list[str]:
 def _point(line: Line) -> Point:
     place = (float(line.longitude), float(line.latitude)) if line.longitude else None
     row = (line.id, line.address, line.match, line.exact, line.matched)
-    return Point((*row, line.longitude, line.latitude, line.tlid, line.side, line.county, line.reason), place)
+    further = (line.longitude, line.latitude, line.tlid, line.side, line.county, line.reason, line.hint)
+    return Point((*row, *further), place)
 
 
 def _counted(matches: Iterable["Match"], counts: Counter[str]) -> Iterator["Match"]:

@@ -219,7 +219,7 @@ def parser() -> argparse.ArgumentParser:
     )
     counties = "01001 is a county, 01 or AL all of a state (default: all in DIR)"
     add("--counties", metavar="CODE", nargs="+", help=counties)
-    add("--reasons", action="store_true", help="add a column with the reason for no match, or for one that isn't exact")
+    add("--reasons", action="store_true", help="add the reason for no match, or for one that isn't exact, and a hint")
     add("--candidates", action="store_true", help="add a line for each place of a tie, and for each in another town")
     add("--header", action="store_true", help="IN has a head line, which names the columns; write one, too")
     add_input_options(result, 'street="Street Address",zip=Postcode')
