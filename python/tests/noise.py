@@ -2,9 +2,9 @@
 
     PYTHONPATH=. python3 tests/noise.py [FOLDER]
 
-measures `tigerline geocode` on 2,000 addresses over 20 towns, on addresses of another county and of another state, and on addresses
-whose street is cut from the data. FOLDER keeps the counties, which take minutes to draw. EXTRACTD names the program.
-postgis.py measures PostGIS on the same addresses.
+measures `tigerline geocode` on 2,000 addresses over 20 towns, on addresses of another county and of another state, on addresses whose
+street is cut from the data, and on 51 spellings of numbered roads. FOLDER keeps the counties, which take minutes to draw. EXTRACTD
+names the program. postgis.py measures PostGIS on the same addresses.
 """
 
 import re
@@ -41,6 +41,23 @@ SPOKEN = {
     ],
     "County Road": ["CR", "C R", "Co Rd", "Cty Rd", "Co Hwy", "County Hwy", "County", "Co", "Road", "Rd", "CH", "C.R."],
 }
+# Spellings of numbered roads, by the words in the data.
+ROADS = {
+    "US Hwy": """
+        US {0} | US-{0} | U.S. {0} | US Hwy {0} N | Hwy {0} S | Hwy {0} | Highway {0} | Route {0} | Rt {0} | US Highway {0}
+        U.S. Hwy {0} | US Route {0} | US Rt {0} | United States Hwy {0}
+    """,
+    "State Hwy": """
+        SR {0} | SR-{0} | S.R. {0} | State Route {0} | State Rt {0} | St Rt {0} | State Highway {0} | State Rd {0} | St Hwy {0}
+        AL {0} | AL-{0} | AL Hwy {0} | Alabama {0} | Alabama Hwy {0} | Alabama Highway {0} | Hwy {0} | Highway {0} | Route {0}
+        Rt {0}
+    """,
+    "County Road": """
+        CR {0} | CR-{0} | C.R. {0} | C R {0} | Co Rd {0} | Co. Rd. {0} | Co Road {0} | County Rd {0} | Cty Rd {0} | Cnty Rd {0}
+        County Hwy {0} | Co Hwy {0} | CH {0} | County Route {0} | County {0} | Co {0} | Road {0} | Rd {0}
+    """,
+}
+ADDRESSES_OF_ROADS = 12
 
 
 class Spot(NamedTuple):
@@ -177,6 +194,19 @@ def spoken(random: Random, name: str) -> str:
     system, number = name.rsplit(" ", 1)
     word = random.choice(SPOKEN[system])
     return f"{word}{number}" if word.endswith("-") else f"{word} {number}"
+
+
+def roads(source: Source) -> list[Drawn]:
+    """Draws addresses on numbered roads in all their spellings."""
+    drawn = []
+    for words, spellings in ROADS.items():
+        found = [source.exact(lambda name: name[1].startswith(f"{words} ")) for _ in range(ADDRESSES_OF_ROADS)]
+        for spelling in re.split(r"[|\n]", spellings.strip()):
+            for one in found:
+                road = spelling.strip().format(one.name.removeprefix(f"{words} "))
+                text = " ".join(filter(None, (one.number, one.predir, road, one.type, one.sufdir)))
+                drawn.append(replace(one, kind=f"{spelling.strip().format('#')} for {words}", written=text))
+    return drawn
 
 
 def beyond(source: Source, drawn: Drawn) -> Drawn:
@@ -326,6 +356,7 @@ def main() -> None:
         report("other county", measure(exact, folder / "second"))
         report("other county, noise", {"all": sum(measure(noise, folder / "second").values(), Counter())})
         report("other state", measure(exact, folder / "first", "GA"))
+        report("roads", measure(roads(Source(folder / "first", "01007", towns, "roads")), folder / "first"))
         report("street cut", {"all": measure_cut(exact, folder / "first", "01007", Path(temporary) / "cut")})
 
 
@@ -339,7 +370,7 @@ def report(title: str, counts: dict[str, Counter[str]]) -> None:
     for kind, counter in [*counts.items(), ("all", total)]:
         if kind != "all" or len(counts) != 1 or kind in counts:
             print(
-                f"{title:20} {kind:20} {counter.total():5}",
+                f"{title:20} {kind:34} {counter.total():5}",
                 *(f"{name} {counter[name]}" for name in ("right", "wrong", "tie", "none")),
             )
 
