@@ -74,7 +74,7 @@ class TestColumns:
         found = rows_of(geocode(tmp_path / "in.csv", "--reasons").stdout)
         assert {len(row) for row in found} == {10}
         assert [row[8] for row in found] == [
-            "", "direction", "tie", "hyphenated_number", "no_such_number_on_street", "no_such_street", "",
+            "", "direction", "tie", "no_such_number_on_street", "no_such_number_on_street", "no_such_street", "",
         ]  # fmt: skip
 
     def test_head(self, tmp_path: Path) -> None:

@@ -177,7 +177,7 @@ SPOILS = {
     "misspelt": False, "other number": False, "hyphenated": False, "no number": False, "box": False,
 }  # fmt: skip
 REASONS = {
-    "hyphenated": "hyphenated_number", "no number": "no_house_number",
+    "hyphenated": "no_such_number_on_street", "no number": "no_house_number",
     "box": "po_box_or_rural_route",
 }  # fmt: skip
 

@@ -1,11 +1,13 @@
 """Parses street strings such as `123 N Main St Apt 4`. A string has several readings, and only the data decides."""
 
 import re
-from collections.abc import Iterator
+from collections.abc import Iterator, Sequence
 from enum import IntEnum, StrEnum
+from functools import lru_cache
 from typing import NamedTuple
 
 from ._geocode_clean import cleaned, without_town
+from ._geocode_hyphens import is_range, plain_number
 from ._geocode_words import DIRECTIONS, PARTS_OF_HOUSES, TYPES, UNITS, other_spellings, route_names
 
 LONGEST_NAME = 30  # bytes of the field FENAME
@@ -63,16 +65,37 @@ class Reading(NamedTuple):
     changes: tuple[Reason, ...] = ()
     stage: int = 0  # A Stage; the hash of an Enum takes long.
 
+    @property
+    def parts(self) -> tuple[str, str, str]:
+        """The direction before the name, the type, and the direction after it."""
+        return self.predir, self.type, self.sufdir
+
     def changed(self, reason: Reason, stage: Stage) -> "Reading":
         """Returns the reading for a later stage, with a further reason why it isn't what is written."""
         return self._replace(changes=(*self.changes, reason), stage=int(stage))
 
 
 class Street(NamedTuple):
-    """A house number and the readings of the rest: those without units first, and then those that state the most."""
+    """A house number and the readings of the rest: those without units first, and then those that state the most.
+
+    A number such as `164-20` is `hyphenated`, and `number` is what stands for it in questions. `593-595` may also be a
+    range, and `as_range` then has the number where it starts.
+    """
 
     number: int
     readings: tuple[Reading, ...]
+    hyphenated: str = ""
+    as_range: "Street | None" = None
+
+    @property
+    def forms(self) -> tuple["Street", ...]:
+        """The street with each number that it may have."""
+        return (self, self.as_range) if self.as_range else (self,)
+
+    def written(self, is_hyphenated: bool) -> str:
+        """Returns the number as it was found: with the hyphen, or the start of a range."""
+        street = self if is_hyphenated or not self.as_range else self.as_range
+        return street.hyphenated or str(street.number)
 
 
 class Crossing(NamedTuple):
@@ -86,7 +109,7 @@ _BOX = re.compile(
     r"|(?:P ?O ?B|BOX|R ?R|RURAL ROUTE|HC|HIGHWAY CONTRACT|STAR ROUTE) ?#?[0-9]).*",
     re.DOTALL,
 )
-_CROSSING = re.compile(r".*(?:[&@]|(?<=[A-Z0-9]) ?/ ?(?=[0-9]*[A-Z])| AND | AT ).*", re.DOTALL)
+_CROSSING = re.compile(r"[&@]|(?<=[A-Z0-9]) ?/ ?(?=[0-9]*[A-Z])| AND | AT ")
 _BETWEEN = re.compile(r"\s*[&@/]\s*|\s+(?:and|at)\s+", re.IGNORECASE)
 _FRACTION = re.compile(r"[0-9]+/[0-9]+|[¼½¾⅓⅔⅛⅜⅝⅞]")
 # Kinds of first words; the first match counts. A letter after the number is removed like a unit, except N, S, E and W.
@@ -108,9 +131,9 @@ def take_apart(text: str, state: str = "", town: tuple[str, ...] = ()) -> Street
     repeated in the string.
     """
     clean = cleaned(text)
-    words = re.sub(r"#\s+", "#", re.sub(r"(?<=\w)#", " #", clean.text)).replace(",", ", ").split()
-    words = [word for word in words if _key(word)]
-    keys = [_key(word) for word in words]
+    given = re.sub(r"#\s+", "#", re.sub(r"(?<=\w)#", " #", clean.text)) if "#" in clean.text else clean.text
+    pairs = [(word, key) for word in given.replace(",", ", ").split() if (key := _key(word))]
+    words, keys = [word for word, _ in pairs], [key for _, key in pairs]
     if _BOX.fullmatch(" ".join(keys)):
         return Reason.PO_BOX_OR_RURAL_ROUTE
     if not keys:
@@ -120,15 +143,35 @@ def take_apart(text: str, state: str = "", town: tuple[str, ...] = ()) -> Street
         return _crossing(" ".join(without_town(words, town)), state) or number
     if isinstance(number, Reason):
         return number
-    dropped = ((Reason.EXTRA_WORDS,) if clean.has_extra_words else ()) + (
-        (Reason.NUMBER_SUFFIX,) if clean.has_number_suffix or not keys[0].isdigit() else ()
+    extra = (Reason.EXTRA_WORDS,) if clean.has_extra_words else ()
+    suffix = (Reason.NUMBER_SUFFIX,) if clean.has_number_suffix or not keys[0].isdigit() else ()
+    street = Street(number, _all_readings(words[1:], state, town, (*extra, *suffix)))
+    if not clean.second:
+        return street
+    if not is_range(keys[0], clean.second):
+        return _hyphenated(keys[0], clean.second, street, None)
+    start = Street(number, _all_readings(words[1:], state, town, (*extra, Reason.NUMBER_SUFFIX)))
+    return _hyphenated(keys[0], clean.second, street, start)
+
+
+def _hyphenated(first: str, second: str, street: Street, start: Street | None) -> Street | Reason:
+    """Returns the street with a hyphenated number. `start` is the street with the start of a range."""
+    number = plain_number(first, second)
+    if number is None:
+        return start or Reason.HYPHENATED_NUMBER
+    return Street(number, street.readings, f"{first}-{second}", start)
+
+
+def _all_readings(
+    words: list[str], state: str, town: tuple[str, ...], dropped: tuple[Reason, ...]
+) -> tuple[Reading, ...]:
+    """Returns the readings of the words behind the number."""
+    readings = (
+        reading._replace(changes=(*dropped, *further, *reading.changes)) if dropped or further else reading
+        for way, further in _streets(words, town)
+        for reading in _readings(tuple(way), state)
     )
-    readings = dict.fromkeys(
-        reading._replace(changes=(*dropped, *further, *reading.changes))
-        for way, further in _streets(words[1:], town)
-        for reading in _readings(way, state)
-    )
-    return Street(number, tuple(readings))
+    return tuple(dict.fromkeys(readings))
 
 
 def _streets(words: list[str], town: tuple[str, ...]) -> Iterator[tuple[list[str], tuple[Reason, ...]]]:
@@ -146,7 +189,7 @@ def _crossing(text: str, state: str) -> Crossing | None:
     parts = [part.replace(",", ", ").split() for part in _BETWEEN.split(text)]
     if len(parts) != 2 or not all(parts) or parts[0][0].isdigit():
         return None
-    first, second = (tuple(_readings(part, state)) for part in parts)
+    first, second = (_readings(tuple(part), state) for part in parts)
     return Crossing((first, second)) if first and second else None
 
 
@@ -159,10 +202,10 @@ def _number(keys: list[str]) -> int | Reason:
     """Returns the house number of the words of a street string."""
     first, rest = keys[0], keys[1:]
     found = _NUMBER.fullmatch(first)
-    crossing = _CROSSING.fullmatch(f" {' '.join(keys)} ")
-    if crossing and (not found or re.search("[&@]", crossing[0])):
+    text = f" {' '.join(keys)} "
+    if ("&" in text or "@" in text) or (not found and _CROSSING.search(text)):
         return Reason.INTERSECTION
-    for reason, pattern in _FIRST_WORDS:
+    for reason, pattern in _FIRST_WORDS if not first.isdigit() else ():
         if pattern.fullmatch(first):
             return reason
     if not found:
@@ -210,7 +253,8 @@ def _is_unit_value(key: str) -> bool:
     return any(character.isdigit() for character in key) or key in PARTS_OF_HOUSES or (len(key) <= 2 and not is_word)
 
 
-def _readings(words: list[str], state: str) -> list[Reading]:
+@lru_cache(maxsize=10_000)
+def _readings(words: tuple[str, ...], state: str) -> tuple[Reading, ...]:
     """Returns the readings of a street without number and unit, starting with those that state the most parts."""
     keys = [_key(word) for word in words]
     found = []
@@ -222,7 +266,7 @@ def _readings(words: list[str], state: str) -> list[Reading]:
                     for name, is_other in _names(words[first:last], state)
                     if len(name.encode("utf-8", "replace")) <= LONGEST_NAME
                 ]
-    return sorted(found, key=lambda reading: -_parts(reading))
+    return tuple(sorted(found, key=lambda reading: -_parts(reading)))
 
 
 def _parts(reading: Reading) -> int:
@@ -252,7 +296,7 @@ def _type_at_end(keys: list[str]) -> Iterator[tuple[str, int]]:
     yield "", len(keys)
 
 
-def _names(words: list[str], state: str) -> Iterator[tuple[str, bool]]:
+def _names(words: Sequence[str], state: str) -> Iterator[tuple[str, bool]]:
     """Yields possible contents of FENAME, and whether each is another word for a numbered road."""
     if not words or len(words) > LONGEST_NAME:
         return

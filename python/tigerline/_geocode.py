@@ -3,7 +3,8 @@
 import csv
 import io
 import warnings
-from collections.abc import Iterator, Sequence
+from collections import defaultdict
+from collections.abc import Iterable, Iterator, Sequence, Set
 from contextlib import ExitStack, contextmanager
 from dataclasses import dataclass, field
 from pathlib import Path
@@ -14,9 +15,11 @@ from ._addresses import Crossing, Reading, Street
 from ._extract import with_own_paths
 from ._geocode_choice import Answer, Hit
 from ._geocode_crossings import add_crossings, read_ends
-from ._geocode_streets import Streets
+from ._geocode_hyphens import copy_county, hyphenated
+from ._geocode_streets import OTHER_NAMES, Streets, name_key, street_names
 from ._geocode_towns import Cities
 from ._interrupts import Interrupts
+from ._scratch import scratch_folder
 from ._sources import County, opened_county
 
 RECORD_TYPES = "1456C"
@@ -26,20 +29,50 @@ HIT_COLUMNS = (
     "id", "status", "reason", "longitude", "latitude", "tlid", "side", "fedirp", "fename", "fetype", "fedirs", "zip",
     "county", "from", "to",
 )  # fmt: skip
-NO_HIT = Hit._make((*[""] * 12, ()))
+TLID, SIDE = Hit._fields.index("tlid"), Hit._fields.index("side")
 Asked = tuple[Street, Answer]
+# A house number, a name, and the directions and the type that it must have.
+Question = tuple[int, str, tuple[str, str, str]]
 
 
 class Asker(NamedTuple):
-    """The address and the reading that a question is for, and whether the question states all parts of the reading.
+    """The reading that a question is for, its place among those of its address, and the answer."""
 
-    `order` is the reading's place among those of the address. Other addresses may ask the same question before.
-    """
-
-    answer: Answer
+    number: int
     reading: Reading
     order: int
-    is_full: bool
+    answer: Answer
+
+
+class Questions:
+    """What is asked for some addresses, by the names of the streets."""
+
+    def __init__(self, addresses: Iterable[Asked]) -> None:
+        self._askers = [
+            Asker(street.number, reading, order, answer)
+            for street, answer in addresses
+            for order, reading in enumerate(street.readings)
+        ]
+        self._by_name: dict[bytes, list[int]] = defaultdict(list)
+        for at, asker in enumerate(self._askers):
+            self._by_name[name_key(asker.reading.name)].append(at)
+
+    def __bool__(self) -> bool:
+        return bool(self._askers)
+
+    def of(self, names: Set[bytes]) -> dict[Question, list[Asker]]:
+        """Returns the questions for these names, each once and with its askers, in the order of the addresses.
+
+        The program compares the first name of a segment that matches the given parts, and a segment may be called both
+        `Main Ave` and `Main St`. So each question is asked with the parts and without them, since the data may omit them.
+        """
+        found: dict[Question, list[Asker]] = {}
+        for at in sorted(at for name in self._by_name.keys() & {*names, OTHER_NAMES} for at in self._by_name[name]):
+            asker = self._askers[at]
+            number, reading = asker.number, asker.reading
+            for given in dict.fromkeys((reading.parts, NO_PARTS)):
+                found.setdefault((number, reading.name, given), []).append(asker)
+        return found
 
 
 class OpenCounty(NamedTuple):
@@ -65,11 +98,11 @@ class Lookup:
         self, addresses: Sequence[Asked], crossings: Sequence[tuple[Crossing, Answer]], interrupts: Interrupts
     ) -> None:
         """Adds the hits of the addresses to their answers, and the places of crossings."""
-        asked = _questions(addresses)
+        asked = _by_form(addresses)
         names = {reading.name.upper() for crossing, _ in crossings for street in crossing.streets for reading in street}
         for order, county in enumerate(self.counties if addresses or crossings else ()):
             with self._opened(county, order, interrupts) as opened:
-                self._ask(opened, *asked, interrupts)
+                self._ask(opened, asked, interrupts)
                 if crossings:
                     add_crossings(crossings, read_ends(opened.files, opened.cities, names), county.code, order)
             interrupts.check()
@@ -77,7 +110,7 @@ class Lookup:
         remaining = [(street, answer) for street, answer in addresses if not answer.found]
         for order, county in enumerate(self.counties if remaining else ()):
             with self._opened(county, order, interrupts) as opened:
-                self._ask(opened, *_questions(_further(opened, remaining)), interrupts)
+                self._ask(opened, _by_form(_further(opened, remaining)), interrupts)
             interrupts.check()
         self._warn_of_cities(remaining)
 
@@ -104,30 +137,76 @@ class Lookup:
                     warnings.warn(f"TGR{found.hit.county}.RTC is missing: cities can't be compared", stacklevel=2)
                     return
 
-    def _ask(self, opened: OpenCounty, askers: list[list[Asker]], questions: bytes, interrupts: Interrupts) -> None:
-        """Runs the program for a county, unless there is nothing to ask."""
-        if not askers:
+    def _ask(self, opened: OpenCounty, asked: tuple[Questions, Questions], interrupts: Interrupts) -> None:
+        """Asks for plain numbers in a county, and for hyphenated ones in its copy with plain numbers.
+
+        The program reads a county even if there is no question for it, and so refuses one that is faulty.
+        """
+        if not any(asked):
             return
-        county, files = opened.county, opened.files
-        folder = str(files["1"].parent)
-        command = [self.program, "geocode-batch", "--addresses", "-", "--data", folder, county.code]
+        names = street_names(opened.files)
+        plain, with_hyphen = (questions.of(names) for questions in asked)
+        self._run(opened, opened.files, plain, interrupts)
+        if with_hyphen:
+            with scratch_folder() as folder:
+                self._run(opened, copy_county(opened.files, folder), with_hyphen, interrupts, is_copy=True)
+
+    def _run(
+        self,
+        opened: OpenCounty,
+        files: dict[str, Path],
+        questions: dict[Question, list[Asker]],
+        interrupts: Interrupts,
+        is_copy: bool = False,
+    ) -> None:
+        """Runs the program for a county or its copy."""
+        county = opened.county
+        command = [self.program, "geocode-batch", "--addresses", "-", "--data", str(files["1"].parent), county.code]
         try:
-            output = _program.run(command, interrupts, standard_input=questions, county=county.code)
+            output = _program.run(command, interrupts, standard_input=_csv_of(questions), county=county.code)
         except OSError as error:
             raise with_own_paths(error, county, files) from None
-        lines = list(read_hits(output))
-        cities = opened.cities.of_segments(
-            files["1"], {hit.tlid for _, status, _, hit in lines if status != "no_match"}
-        )
-        for at, status, reason, hit in lines:
-            if status == "no_match" and reason != "no_such_number":
-                continue
-            placed = hit._replace(cities=cities.get((hit.tlid, hit.side), ())) if cities else hit
-            for asker in askers[at]:
-                if status != "no_match":
-                    asker.answer.add(asker.reading, placed, (opened.order, asker.order))
-                elif asker.is_full and reason == "no_such_number" and asker.answer.may_be_in(county.code):
-                    asker.answer.street_exists = True
+        hits = _hits(output, opened, files, is_copy)
+        _give(questions, hits, opened)
+
+
+def _hits(output: bytes, opened: OpenCounty, files: dict[str, Path], is_copy: bool) -> dict[int, list[Hit]]:
+    """Returns the hits of each question whose street exists, with the names of their cities."""
+    lines = list(read_lines(output))
+    cities = opened.cities.of_segments(files["1"], {fields[TLID] for _, _, fields in lines if fields})
+    hits: dict[int, list[Hit]] = {}
+    for at, reason, fields in lines:
+        if fields:
+            hit = Hit._make((*fields, cities.get((fields[TLID], fields[SIDE]), ())))
+            if is_copy:
+                hit = hit._replace(first=hyphenated(hit.first), last=hyphenated(hit.last))
+            hits.setdefault(at, []).append(hit)
+        elif reason == "no_such_number":
+            hits[at] = []
+    return hits
+
+
+def _give(questions: dict[Question, list[Asker]], hits: dict[int, list[Hit]], opened: OpenCounty) -> None:
+    """Gives the hits to those who ask. The same hit with and without parts is given once."""
+    places = {question: at for at, question in enumerate(questions)}
+    for at, ((number, name, given), askers) in enumerate(questions.items()):
+        if at not in hits:
+            continue
+        for asker in askers:
+            reading, answer = asker.reading, asker.answer
+            if given == reading.parts:
+                answer.add(reading, hits[at], (opened.order, asker.order))
+                if not hits[at] and answer.may_be_in(opened.county.code):
+                    answer.street_exists = True
+            else:
+                known = set(hits.get(places[number, name, reading.parts], ()))
+                answer.add(reading, [hit for hit in hits[at] if hit not in known], (opened.order, asker.order))
+
+
+def _by_form(addresses: Sequence[Asked]) -> tuple[Questions, Questions]:
+    """Returns the questions with plain numbers, and those with hyphenated ones."""
+    plain = Questions(asked for asked in addresses if not asked[0].hyphenated)
+    return plain, Questions(asked for asked in addresses if asked[0].hyphenated)
 
 
 def _further(opened: OpenCounty, addresses: Sequence[Asked]) -> list[Asked]:
@@ -140,31 +219,19 @@ def _further(opened: OpenCounty, addresses: Sequence[Asked]) -> list[Asked]:
     ]
 
 
-def _questions(addresses: Sequence[Asked]) -> tuple[list[list[Asker]], bytes]:
-    """Returns the askers of each question, and a CSV file with each question once.
-
-    The program compares the first name of a segment that matches the given parts, and a segment may be called both
-    `Main Ave` and `Main St`. So each question is asked with the parts and without them, since the data may omit them.
-    """
-    askers: dict[tuple[int, str, tuple[str, str, str]], list[Asker]] = {}
-    for street, answer in addresses:
-        for order, reading in enumerate(street.readings):
-            parts = reading.predir, reading.type, reading.sufdir
-            for given in dict.fromkeys((parts, NO_PARTS)):
-                asker = Asker(answer, reading, order, given == parts)
-                askers.setdefault((street.number, reading.name, given), []).append(asker)
+def _csv_of(questions: Iterable[Question]) -> bytes:
     text = io.StringIO()
     writer = csv.writer(text, lineterminator="\n")
     writer.writerow(QUESTION_COLUMNS)
-    writer.writerows((at, number, name, *given) for at, (number, name, given) in enumerate(askers))
-    return list(askers.values()), text.getvalue().encode("utf-8", "replace")
+    writer.writerows((at, number, name, *given) for at, (number, name, given) in enumerate(questions))
+    return text.getvalue().encode("utf-8", "replace")
 
 
-def read_hits(output: bytes) -> Iterator[tuple[int, str, str, Hit]]:
-    """Yields the lines of `geocode-batch`: the id, the status, the reason and the hit. Raises OSError for other lines."""
+def read_lines(output: bytes) -> Iterator[tuple[int, str, list[str]]]:
+    """Yields the lines of `geocode-batch`: the id, the reason, and the fields of a hit. Raises OSError for other lines."""
     lines = csv.reader(io.StringIO(output.decode("latin-1"), newline=""))
     head = next(lines, None) or []
     if tuple(head) != HIT_COLUMNS:
         raise OSError(f"extractd geocode-batch wrote other columns than expected: {','.join(head)[:200]!r}")
     for line in lines:
-        yield int(line[0]), line[1], line[2], NO_HIT if line[1] == "no_match" else Hit._make((*line[3:], ()))
+        yield int(line[0]), line[2], [] if line[1] == "no_match" else line[3:]

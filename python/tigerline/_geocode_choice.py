@@ -1,5 +1,6 @@
 """Chooses among the hits of `extractd geocode-batch` for an address."""
 
+from collections.abc import Iterable
 from dataclasses import dataclass, field
 from typing import NamedTuple
 
@@ -32,6 +33,11 @@ class Hit(NamedTuple):
     def place(self) -> tuple[str, str] | None:
         """The longitude and the latitude, or None if the segment has no coordinates."""
         return (self.longitude, self.latitude) if self.longitude else None
+
+    @property
+    def is_hyphenated(self) -> bool:
+        """Whether the ends of the range are hyphenated."""
+        return "-" in self.first
 
     @property
     def street(self) -> str:
@@ -88,33 +94,42 @@ class Answer:
         """Returns whether the address may be in a county, by its state."""
         return not self.wanted.state or self.wanted.state == state_of_county(county)
 
-    def add(self, reading: Reading, hit: Hit, order: tuple[int, int]) -> None:
-        """Adds a hit that agrees with the reading, and drops those that agree less. `order`: county and reading."""
-        difference = compare_street(reading, hit.fedirp, hit.fetype, hit.fedirs)
-        if difference is None:
-            return
-        lacks, unconfirmed = difference
-        self.include(Found(order, hit, lacks), reading.stage, 1 + unconfirmed if lacks else 0)
+    def add(self, reading: Reading, hits: Iterable[Hit], order: tuple[int, int]) -> None:
+        """Adds the hits that agree with the reading, and drops those that agree less. `order`: county and reading."""
+        known: dict[tuple[str, str, str], tuple[tuple[Reason, ...], int] | None] = {}
+        for hit in hits:
+            parts = hit.fedirp, hit.fetype, hit.fedirs
+            if parts not in known:
+                known[parts] = compare_street(reading, *parts)
+            difference = known[parts]
+            if difference is not None:
+                lacks, unconfirmed = difference
+                self.include(Found(order, hit, lacks), reading.stage, 1 + unconfirmed if lacks else 0)
 
     def include(self, found: Found, stage: int, missing: int) -> None:
         """Adds what is found if its town agrees. `missing` says how much the address lacks for an exact match."""
         hit = found.hit
         if not self.may_be_in(hit.county):
-            self._refuse((_IN_OTHER_STATE, 0, 0), found._replace(lacks=(Reason.OTHER_STATE,)))
+            self._refuse((_IN_OTHER_STATE, 0, 0), found, (Reason.OTHER_STATE,))
             return
         town = compare_towns(self.wanted, hit.zip, hit.cities)
-        found = found._replace(lacks=self._of_town(town, hit) + found.lacks)
-        rank = (stage, town.rank, missing)
         if not town.agrees:
-            self._refuse((town, stage, missing), found)
-        elif rank <= self.rank:
-            self.found = [*self.found, found] if rank == self.rank else [found]
-            self.rank = rank
+            self._refuse((town, stage, missing), found, self._of_town(town, hit) + found.lacks)
+            return
+        rank = (stage, town.rank, missing)
+        if rank > self.rank:
+            return
+        if rank < self.rank:
+            self.found, self.rank = [], rank
+        self.found.append(found._replace(lacks=self._of_town(town, hit) + found.lacks))
 
-    def _refuse(self, rank: Rank, found: Found) -> None:
-        if rank <= self.refused_rank:
-            self.refused = [*self.refused, found] if rank == self.refused_rank else [found]
-            self.refused_rank = rank
+    def _refuse(self, rank: Rank, found: Found, lacks: tuple[Reason, ...]) -> None:
+        """Notes what is in another town, which only counts if nothing else is found."""
+        if self.found or rank > self.refused_rank:
+            return
+        if rank < self.refused_rank:
+            self.refused, self.refused_rank = [], rank
+        self.refused.append(found._replace(lacks=lacks))
 
     def _of_town(self, town: Town, hit: Hit) -> tuple[Reason, ...]:
         """Returns what an address lacks if its town agrees so far."""

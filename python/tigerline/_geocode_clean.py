@@ -16,41 +16,48 @@ _NUMBER_SIGN = re.compile(r"^\s*(?:#|no\.?\s)\s*(?=[0-9]+[A-Z]?\s+\S*[A-Z])", re
 _NUMBER_AT_END = re.compile(
     r"(?<!road)(?<!\brd)(?<!highway)(?<!hwy)(?<!route)(?<!rte)(?<!\brt)[\s,]+no\.?\s*[0-9]+[A-Z]?\s*$", re.IGNORECASE
 )
-_UNIT_FIRST = re.compile(rf"^\s*(?:(?:{_UNIT})\.?\s*#?\s*|#\s*)[0-9A-Z-]+\s*,?\s+(?=[0-9]+[A-Z]?\s)", re.IGNORECASE)
-_BUILDING_FIRST = re.compile(
-    rf"^[^0-9&@/]*[A-Z][^0-9&@/]*(?:,|\b(?:{_BUILDINGS}))\s+(?=[0-9]+[A-Z]?\s+\S)", re.IGNORECASE
-)
-_BESIDE_NUMBER = re.compile(
-    rf"^\s*(?P<number>[0-9]+)(?:\s?[{_FRACTIONS}]|[\s-]+[0-9]+/[0-9]+|\s*-\s*(?P<end>[0-9]+)|\s*-\s*[A-Z]|[A-Z](?<![NSEW]))(?=\s)",
+# What a string has in it if one of these patterns may be found.
+_MAY_HAVE_MORE = re.compile(r"^\s*[^0-9\s]|\(|c/o|att|\bno(?![a-z])", re.IGNORECASE)
+_HOUSE = "[0-9]+(?:-[0-9]+)?[A-Z]?"
+_UNIT_FIRST = re.compile(rf"^\s*(?:(?:{_UNIT})\.?\s*#?\s*|#\s*)[0-9A-Z-]+\s*,?\s+(?={_HOUSE}\s)", re.IGNORECASE)
+_BUILDING_FIRST = re.compile(rf"^[^0-9&@/]*[A-Z][^0-9&@/]*(?:,|\b(?:{_BUILDINGS}))\s+(?={_HOUSE}\s+\S)", re.IGNORECASE)
+_NUMBER = re.compile(
+    r"^\s*(?P<number>[0-9]+)(?:\s*-\s*(?P<second>[0-9]+))?"
+    rf"(?P<suffix>\s?[{_FRACTIONS}]|[\s-]+[0-9]+/[0-9]+|\s*-\s*[A-Z]|[A-Z](?<![NSEW]))?(?!\S)",
     re.IGNORECASE,
 )
 
 
 class Cleaned(NamedTuple):
-    """A street string that begins with a plain number, and what was dropped from it."""
+    """A street string that begins with a plain number, and what was dropped from it.
+
+    `second` is the second part of a hyphenated number, and the string begins with the first part.
+    """
 
     text: str
     has_extra_words: bool = False
     has_number_suffix: bool = False
+    second: str = ""
 
 
 def cleaned(text: str) -> Cleaned:
-    """Returns the string without words for the postman, and without letters, fractions and ranges behind the number.
-
-    `593-595` is a range, since the second number is greater and has as many digits. `164-20` is a number of Queens.
-    """
+    """Returns the string without words for the postman, and without letters and fractions behind the number."""
     if len(text) > LONGEST:
         return Cleaned(text)
     kept = text.translate({ord("’"): "'", ord("‘"): "'", ord("`"): "'"})
-    plain = _NUMBER_SIGN.sub("", kept)
+    plain = _without_more(kept) if _MAY_HAVE_MORE.search(kept) else kept.strip()
+    found = _NUMBER.match(plain)
+    number = f"{found['number']}{plain[found.end():]}" if found else plain
+    suffix, second = (found["suffix"], found["second"]) if found else (None, None)
+    return Cleaned(number, plain != kept.strip(), suffix is not None, second or "")
+
+
+def _without_more(text: str) -> str:
+    """Returns the string without words for the postman."""
+    plain = _NUMBER_SIGN.sub("", text)
     for pattern in (_PARENTHESES, _CARE_OF, _UNIT_FIRST, _BUILDING_FIRST, _NUMBER_AT_END):
         plain = pattern.sub(" ", plain).strip()
-    found = _BESIDE_NUMBER.match(plain)
-    if found and found["end"]:
-        is_range = len(found["end"]) == len(found["number"]) and found["end"] > found["number"]
-        found = found if is_range else None
-    number = f"{found['number']}{plain[found.end():]}" if found else plain
-    return Cleaned(number, plain != kept.strip(), found is not None)
+    return plain
 
 
 def without_town(words: list[str], town: Sequence[str]) -> list[str]:

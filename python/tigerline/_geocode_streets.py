@@ -23,8 +23,23 @@ _RANGES = slice(_PLACES["FRADDL"].start, _PLACES["TOADDR"].stop)
 AREAS = tuple(tuple(_PLACES[name + side] for name in ("ZIP", "PLACE", "COUSUB")) for side in "LR")
 # Of types 4, 5 and 6: the numbers of alternate names, a name with its number, and the ZIP Codes of a further range.
 _FEATURES = tuple(slice(at, at + 8) for at in range(18, 58, 8))
-_FEATURE, _FEATURE_STREET = slice(10, 18), slice(18, 56)
+_NAME = _PLACES["FENAME"]
+_FEATURE, _FEATURE_STREET, _FEATURE_NAME = slice(10, 18), slice(18, 56), slice(20, 50)
 _FURTHER_ZIPS = (slice(66, 71), slice(71, 76))
+
+
+OTHER_NAMES = b""  # the key of names that are not ASCII
+
+
+def name_key(name: str) -> bytes:
+    """Returns what equal names have in common: capitals, as far as they are ASCII."""
+    return name.upper().encode() if name.isascii() else OTHER_NAMES
+
+
+def street_names(files: dict[str, Path]) -> set[bytes]:
+    """Returns the keys of the names in a county, or of more. `extractd` finds no street with any other name."""
+    own = {record[_NAME] for record in records(files, "1")}
+    return {name.rstrip(b" ").upper() for name in own | {record[_FEATURE_NAME] for record in records(files, "5")}}
 
 
 class StreetName(NamedTuple):

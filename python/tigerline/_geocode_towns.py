@@ -74,7 +74,8 @@ def state_of_county(code: str) -> str:
     return _POSTAL.get(code[:2], "")
 
 
-def compare_towns(wanted: Wanted, zip_code: str, cities: Collection[str]) -> Town:
+@lru_cache(maxsize=20_000)
+def compare_towns(wanted: Wanted, zip_code: str, cities: tuple[str, ...]) -> Town:
     """Compares the town of an address with the ZIP Code and the cities of a segment's side.
 
     An address that states a ZIP Code or a city has to agree in one of them, since post offices also serve places outside

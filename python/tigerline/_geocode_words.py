@@ -84,6 +84,7 @@ _US_HIGHWAY = ("US Hwy {}", "US Highway {}", "US Route {}", "US Rte {}", "U S Hw
 _INTERSTATE = ("I-{}", "I- {}", "I {}", "Interstate {}", "Interstate Hwy {}", "Interstate Highway {}")
 _FARM_ROAD = ("FM {}", "F M {}", "FM Road {}", "Farm to Market Road {}", "Farm-to-Market Road {}")
 
+LETTERS = "ABCDEFGHIJKLMNOPQRSTUVWXYZ"
 _HIGHWAYS = ("Highway {}", "Hwy {}", "Route {}")
 _STATE_SYSTEM = _STATE_HIGHWAY + _STATE_ROUTE + _STATE_ROAD
 _COUNTY_SYSTEM = _COUNTY_ROAD + _COUNTY_ROUTE + _COUNTY_HIGHWAY
@@ -122,6 +123,8 @@ def route_names(name: str, state: str = "") -> tuple[list[str], list[str]]:
     """
     same: list[str] = []
     other: list[str] = []
+    if not name[-2:].strip(LETTERS):
+        return same, other  # Most names have no number at their end.
     found = _OF_STATE.fullmatch(name)
     if found and (written := STATE_NAMES.get(found["state"])) and state in ("", written):
         other += [text.format(found["number"]) for text in _STATE_SYSTEM]
@@ -161,7 +164,7 @@ def other_spellings(words: list[str]) -> list[str]:
         # Elsewhere, `St` and `Ave` are types.
         if other and (word.upper() not in ("ST", "SAINT", "AVE", "AVENUE") or (at == 0 and len(words) > 1)):
             found.append(" ".join((*words[:at], other, *words[at + 1 :])))
-    if _KING.fullmatch(name.replace(".", "").replace(",", "").upper()):
+    if name[:1] in "DdMm" and _KING.fullmatch(name.replace(".", "").replace(",", "").upper()):
         found += _KING_NAMES
     return found
 

@@ -131,7 +131,7 @@ def _geocode(
     lookup = Lookup(program, chosen)
     while part := list(islice(remaining, ADDRESSES_AT_ONCE)):
         taken = [(_street_of(address, states), Answer(_wanted(address))) for address in part]
-        asked = [(street, answer) for street, answer in taken if isinstance(street, Street)]
+        asked = [(form, answer) for street, answer in taken if isinstance(street, Street) for form in street.forms]
         crossings = [(street, answer) for street, answer in taken if isinstance(street, Crossing)]
         with active_interrupts(interrupts) as held:
             held.check()
@@ -183,7 +183,7 @@ def _candidates(street: Street | Crossing, found: Iterable[Found]) -> tuple[Cand
 
 def _candidate(street: Street | Crossing, found: Found) -> Candidate:
     hit = found.hit
-    number = f"{street.number} " if isinstance(street, Street) else ""
+    number = f"{street.written(hit.is_hyphenated)} " if isinstance(street, Street) else ""
     return Candidate(
         found.lacks,
         f"{number}{hit.street}, {hit.town}".upper(),
