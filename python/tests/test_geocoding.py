@@ -367,7 +367,7 @@ def test_page(tmp_path: Path, monkeypatch: pytest.MonkeyPatch) -> None:
         )
         done = subprocess.run(["bash", "-c", script], stdout=subprocess.PIPE, stderr=subprocess.STDOUT, text=True)
         assert done.stdout == block
-    assert len(blocks) == 3
+    assert len(blocks) == 4
 
 
 # Segments 1, 2, ...: the names (direction, name, type, direction), the house numbers of the left side, and its ZIP Code.

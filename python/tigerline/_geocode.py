@@ -29,7 +29,7 @@ HIT_COLUMNS = (
     "id", "status", "reason", "longitude", "latitude", "tlid", "side", "fedirp", "fename", "fetype", "fedirs", "zip",
     "county", "from", "to",
 )  # fmt: skip
-TLID, SIDE = Hit._fields.index("tlid"), Hit._fields.index("side")
+ID, REASON, FIRST_FIELD, TLID, SIDE = map(HIT_COLUMNS.index, ("id", "reason", "longitude", "tlid", "side"))
 Asked = tuple[Street, Answer]
 # A house number, a name, and the directions and the type that it must have.
 Question = tuple[int, str, tuple[str, str, str]]
@@ -172,17 +172,17 @@ class Lookup:
 
 def _hits(output: bytes, opened: OpenCounty, files: dict[str, Path], is_copy: bool) -> dict[int, list[Hit]]:
     """Returns the hits of each question whose street exists, with the names of their cities."""
-    lines = list(read_lines(output))
-    cities = opened.cities.of_segments(files["1"], {fields[TLID] for _, _, fields in lines if fields})
+    lines = read_lines(output)
+    cities = opened.cities.of_segments(files["1"], {line[TLID] for line in lines if line[TLID]})
     hits: dict[int, list[Hit]] = {}
-    for at, reason, fields in lines:
-        if fields:
-            hit = Hit._make((*fields, cities.get((fields[TLID], fields[SIDE]), ())))
+    for line in lines:
+        if line[TLID]:
+            hit = Hit._make((*line[FIRST_FIELD:], cities.get((line[TLID], line[SIDE]), ())))
             if is_copy:
                 hit = hit._replace(first=hyphenated(hit.first), last=hyphenated(hit.last))
-            hits.setdefault(at, []).append(hit)
-        elif reason == "no_such_number":
-            hits[at] = []
+            hits.setdefault(int(line[ID]), []).append(hit)
+        elif line[REASON] == "no_such_number":
+            hits[int(line[ID])] = []
     return hits
 
 
@@ -227,11 +227,9 @@ def _csv_of(questions: Iterable[Question]) -> bytes:
     return text.getvalue().encode("utf-8", "replace")
 
 
-def read_lines(output: bytes) -> Iterator[tuple[int, str, list[str]]]:
-    """Yields the lines of `geocode-batch`: the id, the reason, and the fields of a hit. Raises OSError for other lines."""
-    lines = csv.reader(io.StringIO(output.decode("latin-1"), newline=""))
-    head = next(lines, None) or []
+def read_lines(output: bytes) -> list[list[str]]:
+    """Returns the lines of `geocode-batch` without their head. Raises OSError for other columns."""
+    head, *lines = [*csv.reader(io.StringIO(output.decode("latin-1"), newline=""))] or [[]]
     if tuple(head) != HIT_COLUMNS:
         raise OSError(f"extractd geocode-batch wrote other columns than expected: {','.join(head)[:200]!r}")
-    for line in lines:
-        yield int(line[0]), line[2], [] if line[1] == "no_match" else line[3:]
+    return lines

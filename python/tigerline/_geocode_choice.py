@@ -2,6 +2,7 @@
 
 from collections.abc import Iterable
 from dataclasses import dataclass, field
+from functools import lru_cache
 from typing import NamedTuple
 
 from ._addresses import Reading, Reason
@@ -154,8 +155,20 @@ def compare_street(reading: Reading, fedirp: str, fetype: str, fedirs: str) -> t
 
     A direction on the other side of the name is the same direction: `Main St W` may be `W Main St`, but not `E Main St`.
     """
+    compared = _compare_parts(reading.parts, fedirp, fetype, fedirs)
+    if compared is None or not reading.changes:
+        return compared
+    lacks, unconfirmed = compared
+    return tuple(dict.fromkeys((*lacks, *reading.changes))), unconfirmed + len(reading.changes)
+
+
+@lru_cache(maxsize=20_000)
+def _compare_parts(
+    parts: tuple[str, str, str], fedirp: str, fetype: str, fedirs: str
+) -> tuple[tuple[Reason, ...], int] | None:
+    predir, type_, sufdir = parts
     lacks = []
-    stated, found = (reading.predir, reading.sufdir), (fedirp.upper(), fedirs.upper())
+    stated, found = (predir, sufdir), (fedirp.upper(), fedirs.upper())
     if any(one and other and one != other for one, other in zip(stated, found)):
         return None
     if any(stated) and any(found) and not {*stated} & {*found} - {""}:
@@ -163,9 +176,9 @@ def compare_street(reading: Reading, fedirp: str, fetype: str, fedirs: str) -> t
     if stated != found:
         lacks.append(Reason.DIRECTION)
     unconfirmed = sum(1 for direction in stated if direction and direction not in found)
-    if bool(reading.type) != bool(fetype):
+    if bool(type_) != bool(fetype):
         lacks.append(Reason.TYPE)
-        unconfirmed += bool(reading.type)
-    elif not same_type(reading.type, fetype):
+        unconfirmed += bool(type_)
+    elif not same_type(type_, fetype):
         return None
-    return tuple(dict.fromkeys((*lacks, *reading.changes))), unconfirmed + len(reading.changes)
+    return tuple(lacks), unconfirmed

@@ -43,15 +43,17 @@ def read_ends(files: dict[str, Path], cities: Cities, names: set[str]) -> Ends:
     """Returns the ends of the roads that have one of these names in capitals, by name."""
     found: Ends = defaultdict(list)
     others = other_names(files)
-    known: dict[bytes, StreetName] = {}
+    known: dict[bytes, StreetName | None] = {}
     for record in records(files, "1"):
         if record[_CFCC] != _ROAD:
             continue
         for field in (record[STREET], *others.get(record[TLID], ())):
-            name = known.get(field) or known.setdefault(field, street_name(field))
-            if name.name.upper() in names:
-                end = _end_of(record, name, cities)
-                found[name.name.upper()] += [(place, end) for place in _places_of(record)]
+            if field not in known:
+                name = street_name(field)
+                known[field] = name if name.name.upper() in names else None
+            if wanted := known[field]:
+                end = _end_of(record, wanted, cities)
+                found[wanted.name.upper()] += [(place, end) for place in _places_of(record)]
     return found
 
 

@@ -18,7 +18,7 @@ NAME_LENGTH = 122
 _FIPS, _NAME = slice(14, 19), slice(62, 122)
 _PLACES = {field.name: field.bytes for field in FIELDS}
 _TLID = _PLACES["TLID"]
-_CITY_CODES = {side: (_PLACES[f"PLACE{side}"], _PLACES[f"COUSUB{side}"]) for side in "LR"}
+_CITY_CODES = tuple((_PLACES[f"PLACE{side}"], _PLACES[f"COUSUB{side}"]) for side in "LR")
 
 _POSTAL = {code: postal for postal, code in STATES.items()}
 _SHORT_WORDS = {"SAINT": "ST", "FORT": "FT", "MOUNT": "MT"}
@@ -102,25 +102,32 @@ class Cities:
     def __init__(self, path: Path | None, name: str) -> None:
         self.is_missing = path is None
         self._names: dict[bytes, str] = {}
+        self._known: dict[tuple[bytes, ...], tuple[str, ...]] = {}
         if path is not None:
             self._names.update(_names(path, name))
 
     def of(self, codes: tuple[bytes, ...]) -> tuple[str, ...]:
         """Returns the names that belong to the codes of a place and a county subdivision, the place's first."""
-        return tuple(dict.fromkeys(self._names[code] for code in codes if code in self._names))
+        found = self._known.get(codes)
+        if found is None:
+            found = tuple(dict.fromkeys(self._names[code] for code in codes if code in self._names))
+            self._known[codes] = found
+        return found
 
     def of_segments(self, path: Path, segments: Collection[str]) -> dict[tuple[str, str], tuple[str, ...]]:
         """Returns the cities of both sides of these segments of a type 1 file, by TLID and side."""
         if not self._names:
             return {}
         wanted = {segment.rjust(10).encode("ascii", "replace"): segment for segment in segments}
+        (place, subdivision), (other_place, other_subdivision) = _CITY_CODES
+        found = {}
         with open(path, "rb") as records:
-            return {
-                (segment, side): self.of((record[place], record[subdivision]))
-                for record in records
-                if (segment := wanted.get(_plain(record[_TLID])))
-                for side, (place, subdivision) in _CITY_CODES.items()
-            }
+            for record in records:
+                segment = wanted.get(_plain(record[_TLID]))
+                if segment:
+                    found[segment, "L"] = self.of((record[place], record[subdivision]))
+                    found[segment, "R"] = self.of((record[other_place], record[other_subdivision]))
+        return found
 
 
 def _plain(tlid: bytes) -> bytes:

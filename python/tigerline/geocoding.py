@@ -5,10 +5,11 @@ and chooses among the hits.
 """
 
 import argparse
+import gc
 import re
 import signal
 from collections.abc import Iterable, Iterator, Mapping, Sequence
-from contextlib import ExitStack
+from contextlib import ExitStack, contextmanager
 from dataclasses import dataclass
 from enum import StrEnum
 from functools import partial
@@ -243,12 +244,25 @@ def run_command(options: argparse.Namespace) -> bytes:
     named = named_columns(options.columns, usual)
     options.header = options.header or bool(named)
     with Interrupts(signal.SIGINT, signal.SIGTERM, signal.SIGHUP) as interrupts, ExitStack() as files:
+        files.enter_context(_without_collector())
         picture = files.enter_context(pending_file(options.map, options.overwrite)) if options.map else None
         write = partial(_write, picture=picture, options=options, named=named, interrupts=interrupts)
         message = write_output(options.out, options.overwrite, interrupts, write)
         if picture:
             picture.publish()
     return message
+
+
+@contextmanager
+def _without_collector() -> Iterator[None]:
+    """Pauses the search for cycles, which takes a fifth of the time and finds none."""
+    was_enabled = gc.isenabled()
+    gc.disable()
+    try:
+        yield
+    finally:
+        if was_enabled:
+            gc.enable()
 
 
 def _write(
