@@ -19,6 +19,7 @@ Elm   | 36003 |       | 20009
 Pine  |       | 10002 | 20001
 Pine  |       |       | 20009
 Ash   | 36003 | 10003 | 20001
+La Cañada | 36003 | 10003 | 20001
 """
 CITIES = [
     ("10001", "P", "Saint Paul"),
@@ -46,6 +47,12 @@ ADDRESSES = """
 5 Pine St | Mayhew          |         | 36009 | Match    | no_zip     | 5 PINE ST, MAYHEW, AL,
 5 Pine St | Selby           |         | 36009 | No_Match | other_city | 5
 5 Ash St  | La Ca\xf1ada    |         |       | Match    | no_zip     | 5 ASH ST, LA CA\xd1ADA, AL, 36003
+5 La Cañada St  |            |    | 36003 | Match    |            | 5 LA CAÑADA ST, LA CAÑADA, AL, 36003
+5 la can\u0303ada st  |     |    | 36003 | Match    |            | 5 LA CAÑADA ST, LA CAÑADA, AL, 36003
+5 LA CAÑADA ST  | LA CAN\u0303ADA | |     | Match   | no_zip     | 5 LA CAÑADA ST, LA CAÑADA, AL, 36003
+5 La Canada St  |            |    | 36003 | Match    | spelling   | 5 LA CAÑADA ST, LA CAÑADA, AL, 36003
+5 La €añada St  |            |    | 36003 | Match    | spelling   | 5 LA CAÑADA ST, LA CAÑADA, AL, 36003
+5 La €€ada St   |            |    | 36003 | No_Match | no_such_street |
 9 Fig St  | Kelso           | AL      | 36001 | No_Match | no_such_street |
 """.replace(
     "\\xf1", "\xf1"
@@ -63,7 +70,7 @@ def write_county(folder: Path, with_cities: bool = True) -> Path:
         areas = f"{subdivision:5}".ljust(20) + f"{place:5}"
         ends = f"{-86_000_000 - tlid:+010}{32_000_000:+09}" * 2
         lines.append((head + areas).ljust(190) + ends + "\n")
-    (folder / f"TGR{CODE}.RT1").write_text("".join(lines))
+    (folder / f"TGR{CODE}.RT1").write_text("".join(lines), encoding="latin-1")
     for record_type in "456":
         (folder / f"TGR{CODE}.RT{record_type}").touch()
     if with_cities:

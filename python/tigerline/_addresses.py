@@ -1,6 +1,7 @@
 """Parses street strings such as `123 N Main St Apt 4`. A string has several readings, and only the data decides."""
 
 import re
+import unicodedata
 from collections.abc import Iterator, Sequence
 from enum import IntEnum, StrEnum
 from functools import lru_cache
@@ -10,7 +11,7 @@ from ._geocode_clean import cleaned, without_town
 from ._geocode_hyphens import is_range, plain_number
 from ._geocode_words import DIRECTIONS, PARTS_OF_HOUSES, TYPES, UNITS, other_spellings, route_names
 
-LONGEST_NAME = 30  # bytes of the field FENAME
+LONGEST_NAME = 30  # characters of the field FENAME
 LONGEST_NUMBER = 11  # digits
 
 
@@ -130,7 +131,7 @@ def take_apart(text: str, state: str = "", town: tuple[str, ...] = ()) -> Street
     `state` is a postal abbreviation, for roads such as `AL 25`. `town` has the city, the state and the ZIP Code, which may be
     repeated in the string.
     """
-    clean = cleaned(text)
+    clean = cleaned(unicodedata.normalize("NFC", text))
     given = re.sub(r"#\s+", "#", re.sub(r"(?<=\w)#", " #", clean.text)) if "#" in clean.text else clean.text
     pairs = [(word, key) for word in given.replace(",", ", ").split() if (key := _key(word))]
     words, keys = [word for word, _ in pairs], [key for _, key in pairs]
@@ -264,7 +265,7 @@ def _readings(words: tuple[str, ...], state: str) -> tuple[Reading, ...]:
                 found += [
                     Reading(name, predir, type_, sufdir, (Reason.ROUTE,) if is_other else ())
                     for name, is_other in _names(words[first:last], state)
-                    if len(name.encode("utf-8", "replace")) <= LONGEST_NAME
+                    if len(name) <= LONGEST_NAME
                 ]
     return tuple(sorted(found, key=lambda reading: -_parts(reading)))
 

@@ -229,7 +229,7 @@ def _csv_of(questions: Iterable[Question]) -> bytes:
 
 def read_lines(output: bytes) -> list[list[str]]:
     """Returns the lines of `geocode-batch` without their head. Raises OSError for other columns."""
-    head, *lines = [*csv.reader(io.StringIO(output.decode("latin-1"), newline=""))] or [[]]
+    head, *lines = [*csv.reader(io.StringIO(output.decode("utf-8"), newline=""))] or [[]]
     if tuple(head) != HIT_COLUMNS:
         raise OSError(f"extractd geocode-batch wrote other columns than expected: {','.join(head)[:200]!r}")
     return lines

@@ -96,6 +96,8 @@ class Streets:
         """Yields readings of another spelling, type or direction. Notes in the answer what there is several times."""
         for key in filter(None, (answer.wanted.zip, answer.wanted.city)):
             town = self.town(key)
+            for reading in readings:
+                yield from _of_other_case(reading, town)
             if not town.has_any(readings):
                 for reading in readings:
                     for name in town.near.of(reading.name.upper()):
@@ -106,6 +108,13 @@ class Streets:
             streets = self.town(answer.wanted.zip).streets.get(reading.name.upper(), set())
             if answer.wanted.zip and streets:
                 yield from _of_other_parts(reading, sorted(streets), answer)
+
+
+def _of_other_case(reading: Reading, town: TownStreets) -> Iterator[Reading]:
+    """Yields the reading with the names that differ in the case of letters beyond ASCII, which the program tells apart."""
+    if not reading.name.isascii():
+        names = {street.name for street in town.streets.get(reading.name.upper(), ())}
+        yield from (reading._replace(name=name) for name in sorted(names))
 
 
 def _of_other_parts(reading: Reading, streets: list[StreetName], answer: Answer) -> Iterator[Reading]:

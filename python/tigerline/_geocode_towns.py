@@ -4,6 +4,7 @@ Nothing here is proved. `extractd` reads no record of type C, which has the name
 """
 
 import re
+import unicodedata
 from collections.abc import Collection, Iterator
 from enum import IntEnum
 from functools import lru_cache
@@ -57,7 +58,7 @@ class Wanted(NamedTuple):
 @lru_cache(maxsize=100_000)
 def city_key(text: str) -> str:
     """Returns what two spellings of a city have in common: `City of Saint Paul` and `St. Paul` become `ST PAUL`."""
-    words = re.sub(r"[.'’]", "", text).upper().replace("-", " ").split()
+    words = re.sub(r"[.'’]", "", unicodedata.normalize("NFC", text)).upper().replace("-", " ").split()
     if words[:2] == ["CITY", "OF"] or words[:2] == ["TOWN", "OF"]:
         words = words[2:]
     return " ".join(_SHORT_WORDS.get(word, word) for word in words)
