@@ -3,5 +3,7 @@ pub mod ListingLaws
 pub mod MarkLemmas
 pub mod NextLemmas
 pub mod ReadLemmas
+pub mod RegularLemmas
+pub mod StepLemmas
 pub mod TextLaws
 pub mod TextLemmas

@@ -18,7 +18,7 @@ use Rattle.addresses.specs.Record.{IsRecordRead, Fields, fault_of, fields_in, ha
 use Rattle.addresses.specs.TextReader.{IsTextReader, Marked, marked_left}
 use Rattle.addresses.specs.declared.fault.AddressFlaw.TheVariants.{NotOneRecord, NotUtf8}
 
-all-utf8 : (fields : List (List ℕ)) → AllText fields → list_all is_utf8 fields ≡ true
+pub all-utf8 : (fields : List (List ℕ)) → AllText fields → list_all is_utf8 fields ≡ true
 unfolding AllText
 all-utf8 [] text = refl
 all-utf8 (field ∷ fields) text = rw (is_utf8-from_IsUtf8 field text.0, all-utf8 fields text.1) refl
@@ -30,7 +30,7 @@ all-text (field ∷ fields) all =
     let parts = and_parts (is_utf8 field) (list_all is_utf8 fields) all in
     (IsUtf8-from_is_utf8 field parts.0, all-text fields parts.1)
 
-not-all-utf8 : (fields : List (List ℕ)) → ¬ (AllText fields) → list_all is_utf8 fields ≡ false
+pub not-all-utf8 : (fields : List (List ℕ)) → ¬ (AllText fields) → list_all is_utf8 fields ≡ false
 not-all-utf8 fields mixed = elim (cases_Bool (list_all is_utf8 fields)) [ inl all ↦ absurd (mixed (all-text fields all)) | inr some ↦ some ]
 
 took : (next : Option Read) (fields : List (List ℕ)) (state : State) (rest : List ℕ) → NextIs next true fields state rest

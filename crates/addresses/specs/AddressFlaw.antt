@@ -2,10 +2,11 @@
 use Rattle.std.specs.Prelude.{codes}
 use Rattle.refusals.specs.Refusal.{RefusalParts, refused}
 use Rattle.addresses.specs.declared.fault.AddressFlaw.{AddressFlaw}
-use Rattle.addresses.specs.declared.fault.AddressFlaw.TheVariants.{NoColumn, NotUtf8, OpenQuote, LineTooLong, NotOneRecord}
+use Rattle.addresses.specs.declared.fault.AddressFlaw.TheVariants.{NoNumber, NoName, NotUtf8, OpenQuote, LineTooLong, NotOneRecord}
 
 abbrev pub refusal : AddressFlaw → RefusalParts
-refusal NoColumn = refused 101 (codes "NoColumn")
+refusal NoNumber = refused 101 (codes "NoColumn")
+refusal NoName = refused 101 (codes "NoColumn")
 refusal NotUtf8 = refused 102 (codes "NotUtf8")
 refusal OpenQuote = refused 103 (codes "OpenQuote")
 refusal LineTooLong = refused 104 (codes "LineTooLong")

@@ -2,8 +2,11 @@ pub mod Address
 pub mod AddressFault
 pub mod AddressFlaw
 pub mod Columns
+pub mod InStep
 pub mod Listing
 pub mod Reading
 pub mod Record
 pub mod RecordText
+pub mod Regular
 pub mod TextReader
+pub mod WholeRecord

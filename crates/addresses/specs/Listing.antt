@@ -2,12 +2,12 @@
 use Rattle.std.specs.Prelude.{◌≡◌, ⊤, ℕ, Bool, true, false, List, [], ◌∷◌, ◌++◌, map, Option, Some, None, Result, Ok, Err}
 use Rattle.addresses.specs.Address.{AddressParts, address_of}
 use Rattle.addresses.specs.Columns.{columns_of}
-use Rattle.addresses.specs.Reading.{Reading, RecordParts, left_in, reading_of}
+use Rattle.addresses.specs.Reading.{Reading, RecordParts, reading_of}
 use Rattle.addresses.specs.declared.addresses.Addresses.{Addresses}
 use Rattle.addresses.specs.declared.columns.Columns.{Columns}
 use Rattle.addresses.specs.declared.fault.AddressFault.{AddressFault}
 use Rattle.addresses.specs.declared.fault.AddressFault.TheVariants.{NoHeader, At, Memory}
-use Rattle.addresses.specs.declared.fault.AddressFlaw.TheVariants.{NoColumn}
+use Rattle.addresses.specs.declared.fault.AddressFlaw.{AddressFlaw}
 
 -- the addresses that can be read, and the fault of the record after them, if any
 pub record Listing : Type 0 where
@@ -29,9 +29,9 @@ with_addresses first later = record { addresses = first ++ later.addresses; faul
 abbrev pub listed : Columns → Reading → Listing
 listed columns reading = record { addresses = map (address_of columns) reading.records; fault = reading.fault }
 
-abbrev pub under_columns : ℕ → Option Columns → Reading → Result Listing AddressFault
-under_columns line None reading = Err (At line NoColumn)
-under_columns line (Some columns) reading = Ok (listed columns reading)
+abbrev pub under_columns : ℕ → Result Columns AddressFlaw → Reading → Result Listing AddressFault
+under_columns line (Err flaw) reading = Err (At line flaw)
+under_columns line (Ok columns) reading = Ok (listed columns reading)
 
 -- the first record is the header
 abbrev pub under_header : List RecordParts → Option AddressFault → Result Listing AddressFault
@@ -45,7 +45,7 @@ addresses_in file = under_header (reading_of file).records (reading_of file).fau
 
 -- the remaining addresses
 abbrev pub addresses_left : Addresses → Listing
-addresses_left addresses = listed addresses.columns (left_in addresses.unread)
+addresses_left addresses = listed addresses.columns addresses.unread
 
 -- The result of reading the header: the file's addresses, none of them read yet, or the header's fault. Otherwise an allocation failed.
 abbrev pub IsHeaderRead : Result Addresses AddressFault → Result Listing AddressFault → Type 0

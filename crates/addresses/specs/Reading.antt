@@ -6,7 +6,6 @@ use Rattle.addresses.specs.RecordText.{line_feeds, record_texts}
 use Rattle.addresses.specs.declared.fault.AddressFault.{AddressFault}
 use Rattle.addresses.specs.declared.fault.AddressFault.TheVariants.{NoHeader, At, Memory}
 use Rattle.addresses.specs.declared.fault.AddressFlaw.{AddressFlaw}
-use Rattle.addresses.specs.declared.unread.Unread.{Unread}
 
 -- a record's line, counted from 1, and its fields
 pub record RecordParts : Type 0 where
@@ -41,10 +40,6 @@ reading_from line (text ∷ texts) = followed line (record_in text) (reading_fro
 -- the records of a file, after its byte order mark, if any
 abbrev pub reading_of : List ℕ → Reading
 reading_of file = reading_from 1 (record_texts (strip_bom file))
-
--- the remaining records
-abbrev pub left_in : Unread → Reading
-left_in unread = reading_from unread.line (record_texts unread.text.now)
 
 -- The result of reading the next record: its line, with these fields, leaving the later records; nothing at the end; or the next fault. Otherwise an
 -- allocation failed.

@@ -4,7 +4,7 @@ ghost use Rattle.addresses.specs.Address.{address_in};
 ghost use Rattle.addresses.specs.Listing.{IsAddressRead, IsHeaderRead, addresses_in, addresses_left};
 
 use crate::columns::Columns;
-use crate::fault::{AddressFault, AddressFlaw};
+use crate::fault::AddressFault;
 use crate::row::Row;
 use crate::unread::Unread;
 use csv::StringRecord;
@@ -17,7 +17,6 @@ use std::alloc::Global;
 /// Other columns are ignored, as are empty lines and a byte order mark at the start of the file.
 #[derive(Drop)]
 pub struct Addresses<'a> {
-    alloc: Global,
     columns: Columns,
     unread: Unread<'a>,
 }
@@ -27,20 +26,15 @@ impl<'a> Addresses<'a> {
     pub fn of(alloc: Global, file: &'a [u8]) -> Result<Addresses<'a>, AddressFault>
         ensures { IsHeaderRead result (addresses_in file.now) }
     {
-        let mut unread = Unread::of(file);
+        let mut unread = Unread::of(alloc, file)?;
         let mut header = StringRecord::new(alloc);
-        let Some(line) = unread.next(alloc, &mut header)? else {
+        let Some(line) = unread.next(&mut header)? else {
             return Err(AddressFault::NoHeader);
         };
-        let Some(columns) = Columns::of(&header) else {
-            let flaw = AddressFlaw::NoColumn;
-            return Err(AddressFault::At { line, flaw });
-        };
-        Ok(Addresses {
-            alloc,
-            columns,
-            unread,
-        })
+        match Columns::of(&header) {
+            Ok(columns) => Ok(Addresses { columns, unread }),
+            Err(flaw) => Err(AddressFault::At { line, flaw }),
+        }
     }
 
     /// Reads the next address into a row. Returns false after the last one; then, and after a fault, the row's contents are unspecified. A call after
@@ -49,7 +43,7 @@ impl<'a> Addresses<'a> {
         ensures next { IsAddressRead result (address_in row.new) (addresses_left self.old) (addresses_left self.new) }
         ensures stays { OnErr result (self.new ≡ self.old) }
     {
-        let Some(line) = self.unread.next(self.alloc, &mut row.cells)? else {
+        let Some(line) = self.unread.next(&mut row.cells)? else {
             return Ok(false);
         };
         row.line = line;

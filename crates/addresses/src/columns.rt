@@ -3,6 +3,7 @@ ghost use Rattle.std.specs.Prelude.{◌≡◌};
 ghost use Rattle.addresses.specs.Columns.{column_named, columns_of, is_named};
 ghost use Rattle.csv.specs.Records.{fields_of};
 
+use crate::fault::AddressFlaw;
 use csv::StringRecord;
 
 /// The indices of the columns in a record, counted from 0.
@@ -19,13 +20,13 @@ pub(crate) struct Columns {
 }
 
 impl Columns {
-    /// Finds the columns that a header names. Returns `None` if it has no `number` or no `name`.
-    pub(crate) fn of(header: &StringRecord) -> Option<Columns>
+    /// Finds the columns that a header names. It has to have `number` and `name`.
+    pub(crate) fn of(header: &StringRecord) -> Result<Columns, AddressFlaw>
         ensures { result ≡ columns_of (fields_of header.now) }
     {
-        let number = column_named(header, "number")?;
-        let name = column_named(header, "name")?;
-        Some(Columns {
+        let number = column_named(header, "number").ok_or(AddressFlaw::NoNumber)?;
+        let name = column_named(header, "name").ok_or(AddressFlaw::NoName)?;
+        Ok(Columns {
             id: column_named(header, "id"),
             number,
             name,

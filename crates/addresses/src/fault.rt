@@ -3,13 +3,16 @@ ghost use Rattle.std.specs.Prelude.{◌≡◌};
 ghost use Rattle.addresses.specs.AddressFlaw as address_flaw;
 
 use refusals::{Fault, Refusal};
+use std::alloc::AllocError;
 use thiserror::Error;
 
 /// What is wrong with a record. The derived text is for people.
 #[derive(Clone, Copy, Debug, PartialEq, Eq, Error)]
 pub enum AddressFlaw {
-    #[error("the header has no column `number` or no column `name`")]
-    NoColumn,
+    #[error("the header has no column `number`")]
+    NoNumber,
+    #[error("the header has no column `name`")]
+    NoName,
     #[error("a field isn't UTF-8")]
     NotUtf8,
     #[error("a quotation mark isn't closed before the end of the file")]
@@ -41,12 +44,23 @@ impl AddressFlaw {
         ensures { result ≡ address_flaw.refusal self }
     {
         match self {
-            AddressFlaw::NoColumn => Refusal::refused(101, "NoColumn"),
+            AddressFlaw::NoNumber => Refusal::refused(101, "NoColumn"),
+            AddressFlaw::NoName => Refusal::refused(101, "NoColumn"),
             AddressFlaw::NotUtf8 => Refusal::refused(102, "NotUtf8"),
             AddressFlaw::OpenQuote => Refusal::refused(103, "OpenQuote"),
             AddressFlaw::LineTooLong => Refusal::refused(104, "LineTooLong"),
             AddressFlaw::NotOneRecord => Refusal::refused(105, "NotOneRecord"),
         }
+    }
+}
+
+impl From<AllocError> for AddressFault {
+    ghost use Rattle.addresses.specs.declared.fault.AddressFault.TheVariants.{Memory};
+
+    ghost from_gives = { λ error fault. fault ≡ Memory };
+
+    fn from(_error: AllocError) -> Self {
+        AddressFault::Memory
     }
 }
 

@@ -7,6 +7,7 @@ mod fault;
 pub mod laws;
 mod record;
 mod records;
+mod regular;
 mod row;
 mod text;
 mod unread;

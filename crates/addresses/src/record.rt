@@ -14,6 +14,9 @@ use std::io::{Chain, Read};
 /// The maximum length of a record in bytes, including its line end.
 pub const RECORD_LIMIT: usize = 65_536;
 
+/// A reader of a text, after a byte order mark.
+pub(crate) type TextReader<'a> = Reader<Chain<&'a [u8], &'a [u8]>>;
+
 /// Reads the text of a record that begins in this line. Returns false if it has no record, as in an empty line.
 pub(crate) fn read_fields(
     alloc: Global,
@@ -39,8 +42,8 @@ pub(crate) fn read_fields(
     }
 }
 
-/// Creates a reader of a record's text.
-fn text_reader<'a>(alloc: Global, text: &'a [u8]) -> Reader<Chain<&'a [u8], &'a [u8]>>
+/// Creates a reader of a text.
+pub(crate) fn text_reader<'a>(alloc: Global, text: &'a [u8]) -> TextReader<'a>
     ensures { IsTextReader text.now result }
 {
     // The reader skips one byte order mark. It skips this one, so a mark in the text itself stays in its first field.
@@ -52,7 +55,7 @@ fn text_reader<'a>(alloc: Global, text: &'a [u8]) -> Reader<Chain<&'a [u8], &'a 
 }
 
 /// Returns the fault that an error corresponds to. A reader of bytes fails only because of its text or because memory runs out.
-fn fault_of(line: u64, error: &Error) -> AddressFault
+pub(crate) fn fault_of(line: u64, error: &Error) -> AddressFault
     ensures { result ≡ fault_of line (error_kind error.now) }
 {
     match error.kind() {

@@ -1,64 +1,33 @@
-//! The records of a file, one after the other.
-ghost use Rattle.std.specs.Prelude.{◌≡◌, OnErr};
-ghost use Rattle.addresses.specs.Reading.{IsNextRead, left_in, reading_of};
-ghost use Rattle.addresses.specs.Record.{IsRecordRead, record_in};
+//! The first record of a text.
+ghost use Rattle.std.specs.Prelude.{◌≡◌, ◌++◌, OnErr, OnOk};
+ghost use Rattle.addresses.specs.InStep.{IsInStep};
+ghost use Rattle.addresses.specs.Record.{IsRecordRead, fields_in, record_in};
 ghost use Rattle.addresses.specs.RecordText.{is_open};
+ghost use Rattle.addresses.specs.WholeRecord.{IsWholeRecord};
 ghost use Rattle.csv.specs.Records.{fields_of};
 
 use crate::fault::{AddressFault, AddressFlaw};
-use crate::record::{RECORD_LIMIT, read_fields};
-use crate::text::{FirstText, first_text, line_feeds, without_mark};
-use crate::unread::Unread;
+use crate::record::{RECORD_LIMIT, TextReader, fault_of, read_fields, text_reader};
+use crate::regular::is_regular;
+use crate::text::{FirstText, is_blank};
 use csv::StringRecord;
 use std::alloc::Global;
 
-impl<'a> Unread<'a> {
-    /// Starts at the first record of a file, after its byte order mark if it has one.
-    pub(crate) fn of(file: &'a [u8]) -> Self
-        ensures { left_in result ≡ reading_of file.now }
-    {
-        Unread {
-            text: without_mark(file),
-            line: 1,
-        }
-    }
-
-    /// Reads the next record and returns the line in which it begins, or `None` after the last record. Skips empty lines.
-    pub(crate) fn next(
-        &mut self,
-        alloc: Global,
-        row: &mut StringRecord,
-    ) -> Result<Option<u64>, AddressFault>
-        ensures next { IsNextRead result (fields_of row.new) (left_in self.old) (left_in self.new) }
-        ensures stays { OnErr result (self.new ≡ self.old) }
-    {
-        let mut text = self.text;
-        let mut line = self.line;
-        while !text.is_empty() {
-            let first = first_text(text);
-            let begins = line;
-            let found = read_record(alloc, begins, first, row)?;
-            text = first.rest;
-            line += line_feeds(first.text) as u64;
-            if found {
-                *self = Unread { text, line };
-                return Ok(Some(begins));
-            }
-        }
-        *self = Unread { text, line };
-        Ok(None)
-    }
-}
-
-/// Reads the text of a record that begins in this line. Returns false if it has no record, as in an empty line.
-fn read_record(
+/// Reads the text of a record that begins in this line, with the reader of the file, which then is after it. Returns false if it has no record, as an
+/// empty line. After a fault the reader is before the text.
+pub(crate) fn read_record<'a>(
     alloc: Global,
     line: u64,
-    first: FirstText<'_>,
+    first: FirstText<'a>,
+    reader: &mut TextReader<'a>,
     row: &mut StringRecord,
 ) -> Result<bool, AddressFault>
-    requires { first.is_open ≡ is_open first.text.now }
-    ensures { IsRecordRead line (fields_of row.new) (record_in first.entry.text.now) result }
+    requires open { first.is_open ≡ is_open first.text.now }
+    requires split { first.file.now ≡ first.text.now ++ first.rest.now }
+    requires before { IsInStep first.file.now reader.old }
+    ensures read { IsRecordRead line (fields_of row.new) (record_in first.entry.text.now) result }
+    ensures after { OnOk result (IsInStep first.entry.rest.now reader.new) }
+    ensures stays { OnErr result (IsInStep first.entry.file.now reader.new) }
 {
     if first.is_open {
         let flaw = AddressFlaw::OpenQuote;
@@ -68,5 +37,38 @@ fn read_record(
         let flaw = AddressFlaw::LineTooLong;
         return Err(AddressFault::At { line, flaw });
     }
-    read_fields(alloc, line, first.text, row)
+    if is_blank(first.text) {
+        return Ok(false);
+    }
+    if is_regular(first.text) {
+        return read_next(alloc, line, first, reader, row);
+    }
+    let found = read_fields(alloc, line, first.text, row)?;
+    // The reader of the file may read another record here, so it starts anew.
+    *reader = text_reader(alloc, first.rest);
+    Ok(found)
+}
+
+/// Reads a text that is one record, whatever follows it, with the reader of the file.
+fn read_next<'a>(
+    alloc: Global,
+    line: u64,
+    first: FirstText<'a>,
+    reader: &mut TextReader<'a>,
+    row: &mut StringRecord,
+) -> Result<bool, AddressFault>
+    requires whole { IsWholeRecord first.text.now }
+    requires split { first.file.now ≡ first.text.now ++ first.rest.now }
+    requires before { IsInStep first.file.now reader.old }
+    ensures read { IsRecordRead line (fields_of row.new) (fields_in first.entry.text.now) result }
+    ensures after { OnOk result (IsInStep first.entry.rest.now reader.new) }
+    ensures stays { OnErr result (IsInStep first.entry.file.now reader.new) }
+{
+    match reader.read_record(row) {
+        Ok(found) => Ok(found),
+        Err(error) => {
+            *reader = text_reader(alloc, first.file);
+            Err(fault_of(line, &error))
+        }
+    }
 }

@@ -1,14 +1,17 @@
 //! The texts of a file's records.
-ghost use Rattle.std.specs.Prelude.{◌≡◌, ◌≢◌, ◌+◌, ◌<◌, ◌≤◌, [], ◌∷◌, length};
+ghost use Rattle.std.specs.Prelude.{◌≡◌, ◌≢◌, ◌<◌, ◌≤◌, [], ◌∷◌, ◌++◌, length};
+ghost use Rattle.std.specs.List.{list_all};
 ghost use Rattle.addresses.specs.RecordText.{inside_after, is_open, line_feeds, record_texts};
+ghost use Rattle.addresses.specs.Regular.{is_line_end};
 ghost use Rattle.csv.specs.Reading.{strip_bom};
 
 /// U+FEFF in UTF-8.
 pub(crate) const BYTE_ORDER_MARK: [u8; 3] = [0xef, 0xbb, 0xbf];
 
-/// The text of a file's first record, with its line end, and what follows it.
+/// A file, split after the text of its first record and its line end.
 #[derive(Clone, Copy)]
 pub(crate) struct FirstText<'a> {
+    pub file: &'a [u8],
     pub text: &'a [u8],
     pub rest: &'a [u8],
     /// Whether the record's quotation marks are still open at the end of the file.
@@ -25,7 +28,8 @@ pub(crate) fn without_mark<'a>(file: &'a [u8]) -> &'a [u8]
 /// Splits a file after its first record.
 pub(crate) fn first_text<'a>(file: &'a [u8]) -> FirstText<'a>
     ensures texts { file.now ≢ [] → record_texts file.now ≡ result.text.now ∷ record_texts result.rest.now }
-    ensures split { length file.now ≡ length result.text.now + length result.rest.now }
+    ensures file { result.file.now ≡ file.now }
+    ensures split { file.now ≡ result.text.now ++ result.rest.now }
     ensures progress { file.now ≢ [] → length result.rest.now < length file.now }
     ensures open { result.is_open ≡ is_open result.text.now }
 {
@@ -35,6 +39,7 @@ pub(crate) fn first_text<'a>(file: &'a [u8]) -> FirstText<'a>
         if *byte == b'\n' && !is_open {
             let (text, rest) = file.split_at(at + 1);
             return FirstText {
+                file,
                 text,
                 rest,
                 is_open,
@@ -42,6 +47,7 @@ pub(crate) fn first_text<'a>(file: &'a [u8]) -> FirstText<'a>
         }
     }
     FirstText {
+        file,
         text: file,
         rest: &[],
         is_open,
@@ -61,4 +67,17 @@ pub(crate) fn line_feeds(text: &[u8]) -> usize
     ensures few { result ≤ length text.now }
 {
     text.iter().filter(|byte| **byte == b'\n').count()
+}
+
+/// Returns whether a text is nothing but line ends.
+pub(crate) fn is_blank(text: &[u8]) -> bool
+    ensures { result ≡ list_all is_line_end text.now }
+{
+    text.iter().all(|byte| is_line_end(*byte))
+}
+
+fn is_line_end(byte: u8) -> bool
+    ensures { result ≡ is_line_end byte }
+{
+    byte == b'\r' || byte == b'\n'
 }

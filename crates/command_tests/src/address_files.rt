@@ -8,7 +8,7 @@ use std::test::Fail;
 // A file, and what is read from it: each address as its line, its id in brackets if there is such a column, and the other cells in order, then the
 // end or the refusal.
 const FILES: Table = Table {
-    rows: 40,
+    rows: 45,
     text: r#"
 number,name\n1,A; 2 1/A////. end
 number,name\n1,A\n2,B\n; 2 1/A////. 3 2/B////. end
@@ -50,6 +50,11 @@ number,name\r1,A; refused 105 line 1 NotOneRecord
 number,name\n1,\xff\r2,"B; refused 103 line 2 OpenQuote
 number,name\n1,\xff\r2,B; refused 102 line 2 NotUtf8
 number,name\n1,A\r2,\xff; refused 105 line 2 NotOneRecord
+number,name\n1,A""\n2,"B"\n"3","C,"\n; 2 1/A""////. 3 2/B////. 4 3/C,////. end
+number,name\n1,"A"b\n2,"""B"""\n3,C; 2 1/Ab////. 3 2/"B"////. 4 3/C////. end
+number,name\n1,A",",B\n2,C\n"3",D\r\n; 2 1/A"////. 3 2/C////. 4 3/D////. end
+number,name\n1,A\r\r\n\r2,B\n3,C\n; 2 1/A////. 3 2/B////. 4 3/C////. end
+number,name\r\n\n1,""\r\n\r\n2,"B\r\n"\r\n\n,C\n; 3 1/////. 5 2/B////. 8 /C////. end
 "#,
 };
 
