@@ -3,3 +3,4 @@ pub mod Batch
 pub mod Degrees
 pub mod Lines
 pub mod Question
+pub mod ReadyWriter

@@ -13,6 +13,7 @@ use Rattle.batch.specs.declared.answer.Status.{Status}
 use Rattle.batch.specs.declared.answer.Status.TheVariants.{Match, Tie, NoMatch}
 use Rattle.batch.specs.declared.row.Cells.{Cells}
 use Rattle.geocode.specs.HitLine.{letter}
+use Rattle.geocode.specs.Latin1.{utf8_of}
 use Rattle.geocode.specs.Matches.{MatchParts}
 use Rattle.geocode.specs.declared.hit.Place.{Place}
 use Rattle.tl_segments.specs.County.{CountyParts}
@@ -51,11 +52,15 @@ code_at counties county = unwrap_or (slice_get counties county) []
 abbrev pub id_of : AddressParts → List ℕ
 id_of address = unwrap_or address.id (decimal address.line)
 
+-- a field of a record without leading and trailing blanks, in UTF-8
+abbrev pub field_text : List ℕ → List ℕ
+field_text field = utf8_of (trimmed field)
+
 abbrev pub match_cells : List ℕ → Status → List (List ℕ) → MatchParts → List (List ℕ)
 match_cells id status counties found =
     id ∷ status_text status ∷ [] ∷ longitude_cell found.hit.place ∷ latitude_cell found.hit.place ∷ decimal found.hit.tlid
-    ∷ letter found.hit.side ∷ trimmed found.name.fedirp ∷ trimmed found.name.fename ∷ trimmed found.name.fetype ∷ trimmed found.name.fedirs
-    ∷ trimmed found.side.zip ∷ code_at counties found.county ∷ trimmed found.side.from ∷ trimmed found.side.to ∷ []
+    ∷ letter found.hit.side ∷ field_text found.name.fedirp ∷ field_text found.name.fename ∷ field_text found.name.fetype ∷ field_text found.name.fedirs
+    ∷ field_text found.side.zip ∷ code_at counties found.county ∷ field_text found.side.from ∷ field_text found.side.to ∷ []
 
 abbrev pub none_cells : List ℕ → Reason → List (List ℕ)
 none_cells id reason = id ∷ status_text NoMatch ∷ reason_text reason ∷ replicate 12 []

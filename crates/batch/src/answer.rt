@@ -4,9 +4,10 @@ ghost use Rattle.batch.specs.Answer.{answer_in, are_all_at, is_at, parts_of, sta
 ghost use Rattle.batch.specs.Question as question;
 ghost use Rattle.geocode.specs.Gazetteer.{IsGazetteerOf};
 ghost use Rattle.geocode.specs.Matches.{match_of};
+ghost use Rattle.geocode.specs.Street as looked_for;
 
 use crate::question::Question;
-use geocode::{Gazetteer, Match, Place};
+use geocode::{Gazetteer, Match, Place, Street};
 use std::alloc::{AllocError, Allocator};
 use tl_segments::County;
 
@@ -32,7 +33,7 @@ pub enum Reason {
     OtherZip,
     /// The house number or the ZIP code isn't 1 to 11 digits.
     NotANumber,
-    /// The name has more than 30 bytes.
+    /// The name has more than 30 characters.
     NameTooLong,
     /// There is no house number or no name.
     Missing,
@@ -48,40 +49,45 @@ pub(crate) enum Answer<'a, A: Allocator> {
 impl Question<'_> {
     /// Looks for the answer to the question in counties, using their gazetteer.
     pub(crate) fn answer<'c, A: Allocator + Copy>(
-        self,
+        &self,
         alloc: A,
         gazetteer: &Gazetteer<A>,
         counties: &'c [County<A>],
     ) -> Result<Answer<'c, A>, AllocError>
         requires { IsGazetteerOf gazetteer.now counties.now }
-        ensures { IfOk result (λ answer. parts_of answer ≡ answer_in counties.now (question.parts_of self.entry)) }
+        ensures { IfOk result (λ answer. parts_of answer ≡ answer_in counties.now (question.parts_of self.now)) }
     {
-        let found = gazetteer.matches(alloc, counties, self.number, self.street, self.zip)?;
+        let Some(street) = self.street() else {
+            return Ok(Answer::Nowhere(Reason::NoSuchStreet));
+        };
+        let number = self.query.number;
+        let found = gazetteer.matches(alloc, counties, number, street, self.query.zip)?;
         if !found.is_empty() {
             return Ok(Answer::Found(found));
         }
-        Ok(Answer::Nowhere(self.why_none(alloc, gazetteer, counties)?))
+        Ok(Answer::Nowhere(why_none(alloc, gazetteer, counties, number, street)?))
     }
+}
 
-    /// Returns why nothing was found.
-    fn why_none<A: Allocator + Copy>(
-        self,
-        alloc: A,
-        gazetteer: &Gazetteer<A>,
-        counties: &[County<A>],
-    ) -> Result<Reason, AllocError>
-        requires { IsGazetteerOf gazetteer.now counties.now }
-        ensures { IfOk result (λ reason. reason ≡ why_none counties.now (question.parts_of self.entry)) }
-    {
-        if !gazetteer.has_street(counties, self.street) {
-            return Ok(Reason::NoSuchStreet);
-        }
-        let anywhere = gazetteer.matches(alloc, counties, self.number, self.street, None)?;
-        if anywhere.is_empty() {
-            return Ok(Reason::NoSuchNumber);
-        }
-        Ok(Reason::OtherZip)
+/// Returns why a house number wasn't found on a street.
+fn why_none<A: Allocator + Copy>(
+    alloc: A,
+    gazetteer: &Gazetteer<A>,
+    counties: &[County<A>],
+    number: u64,
+    street: Street<'_>,
+) -> Result<Reason, AllocError>
+    requires { IsGazetteerOf gazetteer.now counties.now }
+    ensures { IfOk result (λ reason. reason ≡ why_none counties.now (looked_for.parts_of street.entry) number) }
+{
+    if !gazetteer.has_street(counties, street) {
+        return Ok(Reason::NoSuchStreet);
     }
+    let anywhere = gazetteer.matches(alloc, counties, number, street, None)?;
+    if anywhere.is_empty() {
+        return Ok(Reason::NoSuchNumber);
+    }
+    Ok(Reason::OtherZip)
 }
 
 /// Returns the status of an address with these matches.

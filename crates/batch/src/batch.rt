@@ -1,8 +1,9 @@
 //! Addresses looked up in counties.
-ghost use Rattle.std.specs.Prelude.{◌≡◌, map, IfOk};
+ghost use Rattle.std.specs.Prelude.{◌≡◌, map, IfOk, OnOk};
 
 use crate::answer::Answer;
 use crate::cells::push_lines;
+use crate::lines::Lines;
 use crate::question::Question;
 use addresses::Address;
 use geocode::Gazetteer;
@@ -49,14 +50,15 @@ impl<'a, A: Allocator + Copy> Batch<'a, A> {
         })
     }
 
-    /// Returns the lines of an address, at least one. CSV records are built in `tables` memory.
-    pub fn lines(
+    /// Writes the lines of an address, at least one, in place of the lines that are there. CSV records are built in `tables` memory.
+    pub fn write_lines(
         &self,
         alloc: A,
         tables: Global,
         address: &Address<'_>,
-    ) -> Result<Vec<u8>, AllocError>
-        ensures { IfOk result (λ lines. lines.items ≡ lines_of self.now.codes self.now.counties (parts_of address.now)) }
+        lines: &mut Lines,
+    ) -> Result<(), AllocError>
+        ensures { OnOk result (lines.new ≡ lines_of self.now.codes self.now.counties (parts_of address.now)) }
     {
         let answer = self.answer(alloc, address)?;
         let mut line = Buffer::new();
@@ -64,9 +66,8 @@ impl<'a, A: Allocator + Copy> Batch<'a, A> {
             Some(id) => id,
             None => line.format(address.line),
         };
-        let mut lines = Vec::new(tables);
-        push_lines(tables, id.as_bytes(), self.codes, &answer, &mut lines)?;
-        Ok(lines)
+        lines.clear();
+        push_lines(tables, id.as_bytes(), self.codes, &answer, lines)
     }
 
     /// Looks for an address.

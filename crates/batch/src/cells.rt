@@ -1,13 +1,13 @@
 //! The lines of output: one for each match, or one that says why there is none.
 ghost use Rattle.std.specs.Prelude.{◌≡◌, ◌++◌, map, OnOk};
 ghost use Rattle.std.specs.List.{flat_map};
-ghost use Rattle.addresses.specs.Columns.{trimmed};
 ghost use Rattle.batch.specs.Answer as answered;
 ghost use Rattle.batch.specs.Lines.{header, latitude_cell, code_at, line, lines_with, longitude_cell, match_cells, none_cells, reason_text, status_text};
 ghost use Rattle.geocode.specs.Matches.{match_of};
 
 use crate::answer::{Answer, Reason, Status, status_of};
 use crate::degrees::{DEGREES_LENGTH, degrees};
+use crate::lines::Lines;
 use crate::row::Cells;
 use arrayvec::ArrayVec;
 use geocode::{Match, Place};
@@ -30,9 +30,9 @@ pub(crate) fn push_lines<A: Allocator>(
     id: &[u8],
     codes: &[&str],
     answer: &Answer<'_, A>,
-    lines: &mut Vec<u8>,
+    lines: &mut Lines,
 ) -> Result<(), AllocError>
-    ensures { OnOk result (lines.new.items ≡ lines.old.items ++ lines_with id.now (map (λ code. code.now) codes.now) (answered.parts_of answer.now)) }
+    ensures { OnOk result (lines.new ≡ lines.old ++ lines_with id.now (map (λ code. code.now) codes.now) (answered.parts_of answer.now)) }
 {
     match answer {
         Answer::Found(found) => push_matches(alloc, id, codes, found.as_slice(), lines),
@@ -46,9 +46,9 @@ fn push_matches(
     id: &[u8],
     codes: &[&str],
     found: &[Match<'_>],
-    lines: &mut Vec<u8>,
+    lines: &mut Lines,
 ) -> Result<(), AllocError>
-    ensures { OnOk result (lines.new.items ≡ lines.old.items
+    ensures { OnOk result (lines.new ≡ lines.old
         ++ flat_map (λ found_one. line (match_cells id.now (answered.status_of (map match_of found.now)) (map (λ code. code.now) codes.now) found_one))
         (map match_of found.now)) }
 {
@@ -66,12 +66,12 @@ fn push_match(
     status: Status,
     codes: &[&str],
     found: &Match<'_>,
-    lines: &mut Vec<u8>,
+    lines: &mut Lines,
 ) -> Result<(), AllocError>
-    ensures { OnOk result (lines.new.items ≡ lines.old.items
+    ensures { OnOk result (lines.new ≡ lines.old
         ++ line (match_cells id.now status (map (λ code. code.now) codes.now) (match_of found.now))) }
 {
-    Cells::new(alloc)
+    let cells = Cells::new(alloc)
         .with(id)?
         .with(status.text().as_bytes())?
         .with(b"")?
@@ -79,25 +79,20 @@ fn push_match(
         .with(latitude_cell(found.hit.place).as_slice())?
         .with(Buffer::new().format(found.hit.tlid).as_bytes())?
         .with(found.hit.side.letter().as_bytes())?
-        .with(trimmed(found.name.fedirp))?
-        .with(trimmed(found.name.fename))?
-        .with(trimmed(found.name.fetype))?
-        .with(trimmed(found.name.fedirs))?
-        .with(trimmed(found.zip))?
+        .with_field(found.name.fedirp)?
+        .with_field(found.name.fename)?
+        .with_field(found.name.fetype)?
+        .with_field(found.name.fedirs)?
+        .with_field(found.zip)?
         .with(code_at(codes, found.county).as_bytes())?
-        .with(trimmed(found.from))?
-        .with(trimmed(found.to))?
-        .write(lines)
+        .with_field(found.from)?
+        .with_field(found.to)?;
+    lines.push(&cells)
 }
 
 /// Appends the line of an address that wasn't found.
-fn push_none(
-    alloc: Global,
-    id: &[u8],
-    reason: Reason,
-    lines: &mut Vec<u8>,
-) -> Result<(), AllocError>
-    ensures { OnOk result (lines.new.items ≡ lines.old.items ++ line (none_cells id.now reason)) }
+fn push_none(alloc: Global, id: &[u8], reason: Reason, lines: &mut Lines) -> Result<(), AllocError>
+    ensures { OnOk result (lines.new ≡ lines.old ++ line (none_cells id.now reason)) }
 {
     let mut cells = Cells::new(alloc)
         .with(id)?
@@ -106,14 +101,7 @@ fn push_none(
     for _empty in 0..EMPTY_CELLS {
         cells = cells.with(b"")?;
     }
-    cells.write(lines)
-}
-
-/// Removes leading and trailing blanks from a field.
-fn trimmed(field: &[u8]) -> &[u8]
-    ensures { result.now ≡ trimmed field.now }
-{
-    field.trim_ascii()
+    lines.push(&cells)
 }
 
 /// Returns the code of the county with this index in the list.

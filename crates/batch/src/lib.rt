@@ -5,9 +5,11 @@ mod answer;
 mod batch;
 mod cells;
 mod degrees;
+mod lines;
 mod question;
 mod row;
 
 pub use answer::{Reason, Status};
 pub use batch::Batch;
 pub use cells::header;
+pub use lines::Lines;

@@ -1,19 +1,22 @@
 //! The question that an address asks.
-ghost use Rattle.std.specs.Prelude.{◌≡◌, MatchResult, Ok, Err, option_copied};
+ghost use Rattle.std.specs.Prelude.{◌≡◌, MatchResult, Ok, Err, option_copied, option_map};
 ghost use Rattle.addresses.specs.Address.{parts_of};
-ghost use Rattle.batch.specs.Question.{is_missing, question_of, reason_of, zip_of};
+ghost use Rattle.batch.specs.Question.{is_missing, question_of, reason_of, street_in, zip_of};
 ghost use Rattle.batch.specs.Question as question;
+ghost use Rattle.geocode.specs.Street as looked_for;
 
 use crate::answer::Reason;
 use addresses::Address;
 use geocode::{Query, QueryFault, Street};
 
 /// A house number on a street, optionally in a ZIP code.
-#[derive(Clone, Copy)]
+#[derive(Drop)]
 pub(crate) struct Question<'a> {
-    pub number: u64,
-    pub street: Street<'a>,
-    pub zip: Option<u64>,
+    pub query: Query,
+    pub predir: &'a [u8],
+    /// The street's type.
+    pub kind: &'a [u8],
+    pub sufdir: &'a [u8],
 }
 
 impl<'a> Question<'a> {
@@ -26,23 +29,28 @@ impl<'a> Question<'a> {
         if is_missing(address) {
             return Err(Reason::Missing);
         }
-        match Query::of(
-            address.number.as_bytes(),
-            address.name.as_bytes(),
-            zip_of(address.zip),
-        ) {
+        match Query::of(address.number.as_bytes(), address.name, zip_of(address.zip)) {
             Ok(query) => Ok(Question {
-                number: query.number,
-                street: Street {
-                    name: query.name,
-                    predir: address.predir.as_bytes(),
-                    kind: address.kind.as_bytes(),
-                    sufdir: address.sufdir.as_bytes(),
-                },
-                zip: query.zip,
+                query,
+                predir: address.predir.as_bytes(),
+                kind: address.kind.as_bytes(),
+                sufdir: address.sufdir.as_bytes(),
             }),
             Err(fault) => Err(reason_of(fault)),
         }
+    }
+
+    /// Returns the street, or `None` if no file can have its name.
+    pub(crate) fn street(&self) -> Option<Street<'_>>
+        ensures { option_map looked_for.parts_of result ≡ street_in (question.parts_of self.now) }
+    {
+        let name = self.query.name.street_name()?;
+        Some(Street {
+            name,
+            predir: self.predir,
+            kind: self.kind,
+            sufdir: self.sufdir,
+        })
     }
 }
 

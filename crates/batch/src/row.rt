@@ -1,20 +1,22 @@
 //! CSV records.
-ghost use Rattle.std.specs.Prelude.{◌≡◌, ◌∷◌, ◌++◌, [], IfOk, OnOk};
+ghost use Rattle.std.specs.Prelude.{◌≡◌, ◌∷◌, ◌++◌, [], IfOk};
+ghost use Rattle.addresses.specs.Columns.{trimmed};
 ghost use Rattle.csv.specs.Records.{partial_of};
 
-use csv::{ByteRecord, WriterBuilder};
+use csv::ByteRecord;
+use geocode::push_utf8;
 use std::alloc::{AllocError, Global};
 
 /// The cells of a line.
 #[derive(Drop)]
 pub(crate) struct Cells {
     alloc: Global,
-    cells: ByteRecord,
+    pub cells: ByteRecord,
     ghost complete: { partial_of cells ≡ [] },
 }
 
 impl Cells {
-    ghost use Rattle.batch.specs.Lines.{cells_of, line};
+    ghost use Rattle.batch.specs.Lines.{cells_of, field_text};
 
     pub(crate) fn new(alloc: Global) -> Cells
         ensures { cells_of result ≡ [] }
@@ -34,15 +36,19 @@ impl Cells {
         Ok(Cells { alloc, cells })
     }
 
-    /// Appends the line of the cells (RFC 4180), terminated by LF. A cell with a comma, a quotation mark or a line end is quoted.
-    pub(crate) fn write(self, lines: &mut Vec<u8>) -> Result<(), AllocError>
-        ensures { OnOk result (lines.new.items ≡ lines.old.items ++ line (cells_of self)) }
+    /// Appends a field of a record, without leading and trailing blanks, in UTF-8.
+    pub(crate) fn with_field(self, field: &[u8]) -> Result<Cells, AllocError>
+        ensures { IfOk result (λ cells. cells_of cells ≡ cells_of self ++ field_text field.now ∷ []) }
     {
-        let mut writer = WriterBuilder::new().from_writer(Vec::new(self.alloc));
-        if writer.write_byte_record(&self.cells).is_err() {
-            return Err(AllocError);
-        }
-        let text = writer.into_inner().map_err(|_| AllocError)?;
-        lines.extend_from_slice(text.as_slice())
+        let mut text = String::new(self.alloc);
+        push_utf8(trimmed(field), &mut text)?;
+        self.with(text.as_bytes())
     }
+}
+
+/// Removes leading and trailing blanks from a field.
+fn trimmed(field: &[u8]) -> &[u8]
+    ensures { result.now ≡ trimmed field.now }
+{
+    field.trim_ascii()
 }

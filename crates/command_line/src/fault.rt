@@ -37,7 +37,7 @@ pub enum ArgumentsFault<'a> {
         most_digits: usize,
         text: &'a str,
     },
-    /// This name isn't 1 to 30 bytes.
+    /// This name isn't 1 to 30 characters.
     Name(&'a str),
     /// This isn't the name of a numeric column.
     Score(&'a str),
@@ -98,7 +98,7 @@ impl ArgumentsFault<'_> {
                 say_given(line, text)
             }
             ArgumentsFault::Name(name) => {
-                write!(line, "error: --name is 1 to {NAME_LENGTH} bytes")?;
+                write!(line, "error: --name is 1 to {NAME_LENGTH} characters")?;
                 say_given(line, name)
             }
             ArgumentsFault::Score(name) => {

@@ -23,7 +23,7 @@ extractd run --program p.bpf --data d 010\n1; error: CODE is five digits, and "0
 extractd select --where TRUE --score C\tD --data d 01001; error: --score is a column with numbers, and "C\tD" isn't
 extractd geocode --data d --number 1\r --name main 01001; error: --number is 1 to 11 digits, and "1\r" isn't
 extractd geocode --data d --number 1 --name \x1b__________________________\x7f___ 01001;
-  error: --name is 1 to 30 bytes, and "\u{1b}                          \u{7f}   " isn't
+  error: --name is 1 to 30 characters, and "\u{1b}                          \u{7f}   " isn't
 extractd serve --data d --port 80\n 01001; error: --port is 1 to 65535, and "80\n" isn't
 extractd verify --program p.bpf a\nb; error: unexpected argument 'a\nb' found
 extractd verify --program p.bpf --a\x1b; error: unexpected argument '--a\u{1b}' found
@@ -99,9 +99,9 @@ extractd geocode --data d --number 100000000151 --name main 01001;
   error: --number is 1 to 11 digits, and "100000000151" isn't
 extractd geocode --data d --number 151a --name main 01001; error: --number is 1 to 11 digits, and "151a" isn't
 extractd geocode --data d --number 151 --name main___________________________ 01001;
-  error: --name is 1 to 30 bytes, and "main                           " isn't
-extractd geocode --data d --number 151 --name äääääääääääääääm 01001;
-  error: --name is 1 to 30 bytes, and "äääääääääääääääm" isn't
+  error: --name is 1 to 30 characters, and "main                           " isn't
+extractd geocode --data d --number 151 --name äääääääääääääääääääääääääääääää 01001;
+  error: --name is 1 to 30 characters, and "äääääääääääääääääääääääääääääää" isn't
 extractd geocode --data d --number 151 --name main --zip 000000360670 01001;
   error: --zip is 1 to 11 digits, and "000000360670" isn't
 extractd geocode --data d --number 151 --name main --zip 3606x 01001; error: --zip is 1 to 11 digits, and "3606x" isn't

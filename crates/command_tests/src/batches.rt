@@ -12,7 +12,7 @@ pub const WORDS: [(&str, &str); 2] = [
 ];
 
 pub const BATCHES: Table = Table {
-    rows: 26,
+    rows: 28,
     text: r#"
 extractd geocode-batch --addresses a.csv --data d 01001 >
   a.csv d/TGR01001.RT1 d/TGR01001.RT4 d/TGR01001.RT5 d/TGR01001.RT6;
@@ -45,6 +45,10 @@ extractd geocode-batch --addresses a.csv --data d 01001;
 extractd geocode-batch --addresses a.csv --data d 01001;
   HEADER2,no_match,name_too_long,EMPTY\n3,no_match,missing,EMPTY\n4,no_match,missing,EMPTY\n5,no_match,not_a_number,EMPTY\n; 0;;
   a.csv: number,name,zip\n151,{text x*31},\n,main,\n151,,\n151,main,x\n; d/TGR01001.RT1: {rt1}\n
+extractd geocode-batch --addresses a.csv --data d 01001;
+  HEADER2,match,,-86.494898,32.405102,123456789,L,,La Cañada,Pase,,36067,01001,101,199\n3,no_match,no_such_street,EMPTY\n4,no_match,no_such_street,EMPTY\n5,no_match,no_such_street,EMPTY\n6,no_match,name_too_long,EMPTY\n;
+  0;; a.csv: number,name\n151,la cañada\n151,la canada\n151,la caňada\n151,{text €*30}\n151,{text €*31}\n;
+  d/TGR01001.RT1: {rt1 FENAME=La_Ca\xf1ada FETYPE=Pase}\n
 extractd geocode-batch --addresses a.csv --data d 01001 01003;
   HEADERa,match,,-86.494898,32.405102,7,L,,Main,,,36067,01003,101,199\nb,no_match,no_such_street,EMPTY\n; 0;;
   a.csv: id,number,name\na,151,main\nb,151,elm\n; d/TGR01001.RT1: {rt1 FENAME=Oak}\n; d/TGR01003.RT1: {rt1 TLID=7}\n
@@ -54,18 +58,20 @@ extractd geocode-batch --addresses a.csv --data d 01001;
 extractd geocode-batch --addresses a.csv --data d 01001; HEADER; 0;; a.csv: number,name; d/TGR01001.RT1: {rt1}\n
 extractd geocode-batch --addresses a.csv --data d 01001; HEADER2,no_match,no_such_street,EMPTY\n; 0;;
   a.csv: number,name\n151,main\n; d/TGR01001.RT1:
-extractd geocode-batch --addresses a.csv --data d 01001;; 1; refused 100 NoHeader; a.csv:; d/TGR01001.RT1: {rt1}\n
-extractd geocode-batch --addresses a.csv --data d 01001;; 1; refused 101 line 1 NoColumn; a.csv: number,nam\n151,main\n;
+extractd geocode-batch --addresses a.csv --data d 01001;; 1; refused 100 NoHeader\nthe file has no header; a.csv:; d/TGR01001.RT1: {rt1}\n
+extractd geocode-batch --addresses a.csv --data d 01001;; 1; refused 101 line 2 NoColumn\nthe header has no column `number`; a.csv: \nname\nmain\n;
   d/TGR01001.RT1: {rt1}\n
-extractd geocode-batch --addresses a.csv --data d 01001;; 1; refused 102 line 3 NotUtf8;
+extractd geocode-batch --addresses a.csv --data d 01001;; 1; refused 101 line 1 NoColumn\nthe header has no column `name`; a.csv: number,nam\n151,main\n;
+  d/TGR01001.RT1: {rt1}\n
+extractd geocode-batch --addresses a.csv --data d 01001;; 1; refused 102 line 3 NotUtf8\na field isn't UTF-8;
   a.csv: number,name\n151,main\n151,\xff\n; d/TGR01001.RT1: {rt1}\n
-extractd geocode-batch --addresses a.csv --data d 01001;; 1; refused 103 line 2 OpenQuote;
+extractd geocode-batch --addresses a.csv --data d 01001;; 1; refused 103 line 2 OpenQuote\na quotation mark isn't closed before the end of the file;
   a.csv: number,name\n151,"main\n151,main\n; d/TGR01001.RT1: {rt1}\n
-extractd geocode-batch --addresses a.csv --data d 01001;; 1; refused 104 line 3 LineTooLong;
+extractd geocode-batch --addresses a.csv --data d 01001;; 1; refused 104 line 3 LineTooLong\nthe record has more than 65,536 bytes;
   a.csv: number,name\n151,main\n151,{text x*65532}\n; d/TGR01001.RT1: {rt1}\n
 extractd geocode-batch --addresses a.csv --data d 01001; HEADER2,no_match,name_too_long,EMPTY\n; 0;;
   a.csv: number,name\n151,{text x*65531}\n; d/TGR01001.RT1: {rt1}\n
-extractd geocode-batch --addresses a.csv --data d 01001;; 1; refused 105 line 2 NotOneRecord;
+extractd geocode-batch --addresses a.csv --data d 01001;; 1; refused 105 line 2 NotOneRecord\na carriage return or an unquoted line break ends the record early;
   a.csv: number,name\n151,main\r151,main\n; d/TGR01001.RT1: {rt1}\n
 extractd geocode-batch --addresses a.csv --data d 01001 > a.csv;; 3; error: a.csv: not found; d/TGR01001.RT1: {rt1}\n
 extractd geocode-batch --addresses - --data d 01001 > /dev/stdin;; 3; error: /dev/stdin: not found

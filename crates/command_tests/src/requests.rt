@@ -50,7 +50,7 @@ fn request_of<'a>(alloc: Global, words: &[&'a str]) -> Option<Request<'a>> {
         ] => {
             Some(Request::Geocode(Geocode {
                 data,
-                query: Query::of(number.as_bytes(), name.as_bytes(), None).ok()?,
+                query: Query::of(number.as_bytes(), name, None).ok()?,
                 codes: codes.to_vec(alloc).ok()?,
             }))
         }

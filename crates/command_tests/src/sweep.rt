@@ -56,7 +56,7 @@ extractd geocode-batch --addresses a.csv --data d 01001 01003;
   a.csv: number,name\n151,main\n151,elm\n; d/TGR01001.RT1:; d/TGR01003.RT1: {rt1 TLID=7}\n
 extractd geocode-batch --addresses a.csv --data d 01001; HEADERx,match,,-86.494898,32.405102,123456789,L,,Oak,,,36067,01001,101,199\n;
   0;; a.csv: number,name,id\n151,oak,x\n; d/TGR01001.RT1: {rt1}\n; d/TGR01001.RT4: {rt4}\n; d/TGR01001.RT5: {rt5}\n
-extractd geocode-batch --addresses a.csv --data d 01001;; 1; refused 105 line 3 NotOneRecord;
+extractd geocode-batch --addresses a.csv --data d 01001;; 1; refused 105 line 3 NotOneRecord\na carriage return or an unquoted line break ends the record early;
   a.csv: number,name\n151,main\n151,main\rx\n; d/TGR01001.RT1: {rt1}\n
 extractd geocode-batch --addresses a.csv --data d 01001;; 1; refused 1 rt1 line 1 WrongLength; a.csv: number,nam;
   d/TGR01001.RT1: {rt1 ..227}\n ! reads 228
@@ -96,7 +96,7 @@ extractd run --program p.bpf --data d 0100;; 2; error: CODE is five digits, and 
 extractd trace --program p.bpf --data d --line 1a --limit 1 01001;; 2; error: --line is 1 to 19 digits, and "1a" isn't
 extractd trace --program p.bpf --data d --line \n1\t --limit 1 01001;; 2; error: --line is 1 to 19 digits, and
   "\x5cn1\x5ct" isn't
-extractd geocode --data d --number 151 --name '' 01001;; 2; error: --name is 1 to 30 bytes, and "" isn't
+extractd geocode --data d --number 151 --name '' 01001;; 2; error: --name is 1 to 30 characters, and "" isn't
 extractd serve --data d --port 8080 01001;; 2; error: serve needs a socket
 extractd run --program p.bpf 01001;; 2; error: the following required arguments were not provided:\n  --data
   <DIR>\n\nUsage: extractd run --program <FILE> --data <DIR> <CODE>\n\nFor more information, try '--help'.

@@ -1,24 +1,24 @@
 -- What each exit status guarantees, given how a request was carried out.
-use Rattle.std.proofs.Common.{◌≡◌, ◌≢◌, ℕ, List, Option, Result, Err, subst, arith, ◌∙◌}
+use Rattle.std.proofs.Common.{◌≡◌, ◌≢◌, ℕ, List, Option, Result, Err, ap, subst, sym, arith, ◌∙◌}
 use Rattle.std.specs.Io.KnownBytes.{Keeps}
 use Rattle.std.specs.declared.io.Error.{Error}
 use Rattle.refusals.specs.Refusal.{RefusalParts}
 use Rattle.tl_fields.specs.Counted.{CountsFault, CountsFlush}
 use Rattle.tl_fields.specs.Device.{WriteCounts, Writer}
 use Rattle.tl_fields.specs.declared.writing.WriteFault.{WriteFault}
-use Rattle.commands.specs.Command.{CarriesOut, IsFilterRefused, IsLackOfLine, IsOutOfMemory, IsRefusal, IsRefusalOf, IsRefusedWith}
+use Rattle.commands.specs.Command.{CarriesOut, IsTextRefused, IsLackOfLine, IsOutOfMemory, IsRefusal, IsRefusalOf, IsRefusedWith}
 use Rattle.commands.specs.Command.{Writes, of_library, of_other}
 use Rattle.commands.specs.County.{file_name}
 use Rattle.commands.specs.Failure.{Says, refusal_status, status}
 use Rattle.commands.specs.Files.{Disk}
 use Rattle.commands.specs.Command.{IsUnusable, of_county, of_county_file, of_file, of_source, of_write}
 use Rattle.commands.proofs.CarriedLemmas.{refusal_not_usage}
-use Rattle.commands.proofs.ClassLemmas.{filter_status}
+use Rattle.commands.proofs.ClassLemmas.{address_status, filter_status}
 use Rattle.commands.proofs.SelectLemmas.{counties_counts}
 use Rattle.commands.specs.declared.request.Request.{Request}
-use Rattle.commands.specs.declared.request.Request.TheVariants.{Run, Compile, Select}
+use Rattle.commands.specs.declared.request.Request.TheVariants.{Run, Compile, GeocodeBatch, Select}
 use Rattle.commands.specs.declared.failure.Failure.{Failure}
-use Rattle.commands.specs.declared.failure.Failure.TheVariants.{Refusal, Memory, Write, File, CountyFile, NotUtf8, Filter, County, Output}
+use Rattle.commands.specs.declared.failure.Failure.TheVariants.{Refusal, Memory, Write, File, CountyFile, NotUtf8, Noted, County, Output}
 
 -- an attempted flush is counted
 pub flush_counted : (flush : Result (Unit {0}) Error) (counts counts' : WriteCounts) → CountsFlush flush counts counts'
@@ -35,12 +35,13 @@ write_counts (Select asked) known fault out out' is =
     (is.2.stops.outcome.before.counts ∙ counties_counts is.2.written) is.2.stops.outcome.row.5
 write_counts request known fault out out' is = is.written.1
 
--- a filter's refusal is never an I/O failure
-filter_usable : (request : Request) (known : List ℕ → Option (List ℕ)) (refusal : RefusalParts) → IsFilterRefused request known refusal
+-- a text's refusal is never an I/O failure
+text_usable : (request : Request) (known : List ℕ → Option (List ℕ)) (refusal : RefusalParts) → IsTextRefused request known refusal
     → refusal_status refusal ≢ 3
-filter_usable (Compile asked) known refusal is = filter_status is.text asked.compiling.score refusal is.refused
-filter_usable (Select asked) known refusal is = filter_status asked.filter.now asked.compiling.score refusal is
-filter_usable request known refusal is = absurd is
+text_usable (Compile asked) known refusal is = filter_status is.text asked.compiling.score refusal is.refused
+text_usable (Select asked) known refusal is = filter_status asked.filter.now asked.compiling.score refusal is
+text_usable (GeocodeBatch asked) known refusal is = λ three. address_status is.fault (ap refusal_status (sym is.refused) ∙ three)
+text_usable request known refusal is = absurd is
 
 kept_as : {out unflushed : Writer} (held : Option (List ℕ)) → unflushed ≡ out → Keeps unflushed.held held → Keeps out.held held
 kept_as held same = subst (λ (writer : Writer). Keeps writer.held held) same
@@ -68,7 +69,7 @@ module _ {request : Request} {disk disk' : Disk} {out unflushed out' errors erro
   pub refused_said : (failure : Failure) → CarriesOut request (Err failure) disk disk' out unflushed → Says failure errors errors'
       → Keeps unflushed.held out'.held → status failure ≡ 1 → IsRefusal request disk.known out out' errors errors'
   refused_said (Refusal refusal) carried said kept one = refusal_said disk.known unflushed (Refusal refusal) carried.outcome.0 said kept one
-  refused_said (Filter refusal note) carried said kept one = refusal_said disk.known unflushed (Filter refusal note) carried.outcome said kept one
+  refused_said (Noted refusal note) carried said kept one = refusal_said disk.known unflushed (Noted refusal note) carried.outcome said kept one
   refused_said (County code refusal) carried said kept one = refusal_said disk.known unflushed (County code refusal) carried.outcome.0 said kept one
   refused_said failure carried said kept one = absurd (omega (arith, one))
 
@@ -77,8 +78,8 @@ module _ {request : Request} {disk disk' : Disk} {out unflushed out' errors erro
       → Keeps unflushed.held out'.held → status failure ≡ 4 → IsOutOfMemory request disk.known out out' errors errors'
   memory_said (Refusal refusal) carried said kept four =
       of_library (refusal_said disk.known unflushed (Refusal refusal) carried.outcome.0 said kept four)
-  memory_said (Filter refusal note) carried said kept four =
-      of_library (refusal_said disk.known unflushed (Filter refusal note) carried.outcome said kept four)
+  memory_said (Noted refusal note) carried said kept four =
+      of_library (refusal_said disk.known unflushed (Noted refusal note) carried.outcome said kept four)
   memory_said (County code refusal) carried said kept four =
       of_library (refusal_said disk.known unflushed (County code refusal) carried.outcome.0 said kept four)
   memory_said Memory carried said kept four = of_other (kept_as out'.held carried.outcome kept) said
@@ -92,8 +93,8 @@ module _ {request : Request} {disk disk' : Disk} {out unflushed out' errors erro
       of_county (carried.outcome.1 three) (refusal_said disk.known unflushed (Refusal refusal) carried.outcome.0 said kept three)
   unusable_said (County code refusal) flush carried said kept flushed three =
       of_county (carried.outcome.1 three) (refusal_said disk.known unflushed (County code refusal) carried.outcome.0 said kept three)
-  unusable_said (Filter refusal note) flush carried said kept flushed three =
-      absurd (filter_usable request disk.known refusal carried.outcome.0 three)
+  unusable_said (Noted refusal note) flush carried said kept flushed three =
+      absurd (text_usable request disk.known refusal carried.outcome.0 three)
   unusable_said (Write fault) flush carried said kept flushed three =
       of_write fault unflushed carried.outcome (write_counts request disk.known fault out unflushed carried.outcome) said kept flush flushed
   unusable_said (File name error) flush carried said kept flushed three =

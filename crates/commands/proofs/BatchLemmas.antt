@@ -21,14 +21,15 @@ use Rattle.tl_fields.specs.Writing.{WritesText}
 use Rattle.tl_segments.specs.County.{CountyParts}
 use Rattle.commands.specs.Command.{CarriesOut}
 use Rattle.commands.specs.Counties.{AreCountiesOf, HaveRefusedCounty, IsFileOfCounties, TellsLoad}
-use Rattle.commands.specs.Failure.{NamesFile, TellsCounts, WritesAs, refusal_status, status}
+use Rattle.commands.specs.Failure.{IsOfAddresses, NamesFile, TellsCounts, WritesAs, refusal_status, status}
 use Rattle.commands.specs.Files.{Disk, IsUnfailed}
 use Rattle.commands.specs.GeocodeBatch.{AreAddressesOf, Inputs, IsFaultOf, TellsAddresses, WritesBatch, WritesUnlessMemory, codes_of, fault_of}
-use Rattle.commands.specs.GeocodeBatch.{of_addresses, of_county, of_memory, output}
+use Rattle.commands.specs.GeocodeBatch.{of_county, of_memory, output}
 use Rattle.commands.specs.declared.failure.Failure.{Failure}
 use Rattle.commands.specs.declared.failure.Failure.TheVariants as failure
 use Rattle.commands.specs.declared.geocode_batch.GeocodeBatch.{GeocodeBatch}
 use Rattle.commands.specs.declared.request.Request.TheVariants as request
+use Rattle.commands.proofs.ClassLemmas.{address_status}
 use Rattle.commands.proofs.CarriedLemmas.{fault_unflushed, refused_carried, refusal_not_usage}
 use Rattle.commands.proofs.CountiesLemmas.{texts}
 use Rattle.commands.proofs.FileLemmas.{unfailed_both}
@@ -203,8 +204,10 @@ pub batch_usage : (text : List ℕ) (WritesBefore : Writer → Writer → Type 0
 batch_usage text WritesBefore (Ok done) a b wrote = tt
 batch_usage text WritesBefore (Err failure) a b wrote = λ two. grind (arith, refusal_not_usage, wrote, two)
 
-address_status : (fault : AddressFault) → refusal_status (address_fault.refusal fault) ≢ 3
-address_status fault e = grind (arith, e)
+told_fault : (file : List ℕ) (fault : AddressFault) → TellsAddresses file fault → fault ≢ Memory → IsFaultOf file fault
+told_fault file Memory told other = absurd (other refl)
+told_fault file NoHeader told other = told
+told_fault file (At line flaw) told other = told
 
 -- The file of addresses was read, and what is known of the files stays the same. Then a county can't be loaded.
 module _ (batch : GeocodeBatch) {disk later disk' : Disk} {out : Writer} (before : IsUnfailed disk later)
@@ -259,12 +262,17 @@ inputs_of batch {later = later} same codes lent file is_file counties are = reco
 -- The file of addresses and the counties are loaded.
 module _ (batch : GeocodeBatch) {disk disk' : Disk} (inputs : Inputs batch disk.known) (counts : IsUnfailed disk disk') {out : Writer} where
   -- not all of the file's addresses are read
-  pub addresses_failed : (fault : AddressFault) → TellsAddresses inputs.file fault
-      → CarriesOut (request.GeocodeBatch batch) (Err (failure.Refusal (address_fault.refusal fault))) disk disk' out out
-  addresses_failed Memory told = refused_carried memory (of_memory refl (inl refl)) counts.opens (sound (address_status Memory) counts.reads) refl
-  addresses_failed fault told =
-      refused_carried (address_fault.refusal fault) (of_addresses inputs fault told refl refl) counts.opens
-      (sound (address_status fault) counts.reads) refl
+  pub addresses_failed : (fault : AddressFault) (failed : Failure) → TellsAddresses inputs.file fault → IsOfAddresses fault failed
+      → CarriesOut (request.GeocodeBatch batch) (Err failed) disk disk' out out
+  addresses_failed fault (failure.Noted refusal note) told is = record {
+    outcome = (record { inputs = inputs; fault = fault; is_fault = told_fault inputs.file fault told is.0; refused = is.1 }, refl);
+    names = tt;
+    counts = λ other. counts;
+    unflushed = refl;
+  }
+  addresses_failed fault (failure.Refusal refusal) told is =
+      rw is.1 (refused_carried memory (of_memory refl (inl refl)) counts.opens (sound (address_status Memory) counts.reads) refl)
+  addresses_failed fault failed told is = absurd is
 
   -- all are read, and then the output is written
   pub batch_carried : {out' : Writer} (addresses : List AddressParts) (result : Result (Unit {0}) Failure)

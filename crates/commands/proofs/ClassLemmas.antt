@@ -1,6 +1,8 @@
 -- Refusals of a program, a text or a filter are never for a failed read or write.
 use Rattle.std.proofs.Common.{◌≡◌, ◌≢◌, ◌≤◌, ℕ, List, length, Option, IsUtf8, ap, sym, arith, ◌∙◌}
 use Rattle.std.specs.declared.alloc.Global.{Global}
+use Rattle.addresses.specs.AddressFault as address_fault
+use Rattle.addresses.specs.declared.fault.AddressFault.{AddressFault}
 use Rattle.bpf_insn.specs.CodeFault as code_fault
 use Rattle.bpf_insn.specs.declared.fault.CodeFault.{CodeFault}
 use Rattle.bpf_text.specs.TextFault as text_fault
@@ -23,7 +25,7 @@ use Rattle.refusals.specs.Refusal.{RefusalParts}
 use Rattle.commands.specs.Failure.{IsOfCompile, IsOfFilter, refusal_status}
 use Rattle.commands.specs.Filter.{IsFilterFailure, IsFilterRefusal, of_program, of_text}
 use Rattle.commands.specs.declared.failure.Failure.{Failure}
-use Rattle.commands.specs.declared.failure.Failure.TheVariants.{Filter, Memory}
+use Rattle.commands.specs.declared.failure.Failure.TheVariants.{Noted, Memory}
 
 pub code_status : (fault : CodeFault) → refusal_status (code_fault.refusal fault) ≢ 3
 code_status fault e = grind (arith, e)
@@ -33,6 +35,9 @@ program_status fault e = grind (arith, e)
 
 pub text_status : (fault : TextFault) → refusal_status (text_fault.refusal fault) ≢ 3
 text_status fault e = grind (arith, e)
+
+pub address_status : (fault : AddressFault) → refusal_status (address_fault.refusal fault) ≢ 3
+address_status fault e = grind (arith, e)
 
 filter_fault_status : (fault : FilterFault) → refusal_status (filter_fault.refusal fault) ≢ 3
 filter_fault_status fault e = grind (arith, e)
@@ -46,7 +51,7 @@ filter_status text score refusal (of_program filter spelled long is) three = gri
 pub of_filter_failure : (text : List ℕ) (score : Option NumericColumn) (fault : FilterFault) (failure : Failure)
     → (length text ≤ TEXT_LIMIT → IsUtf8 text → (made : AFilter Global) → IsFilterText text made → fault ≡ filter.Memory)
     → IsOfFilter fault failure → IsFilterFailure text score failure
-of_filter_failure text score fault (Filter refusal note) reads is =
+of_filter_failure text score fault (Noted refusal note) reads is =
     of_text fault (λ short utf8 made spelled. is.0 (reads short utf8 made spelled)) is.1
 of_filter_failure text score fault Memory reads is = tt
 of_filter_failure text score fault failure reads is = absurd is
@@ -55,7 +60,7 @@ of_filter_failure text score fault failure reads is = absurd is
 pub of_compile_failure : (text : List ℕ) (score : Option NumericColumn) (made : AFilter Global) (fault : CompileFault)
     (failure : Failure) → IsFilterText text made → (fault ≡ compile.TooLong → IsTooLong (program_of made score))
     → IsOfCompile fault failure → IsFilterFailure text score failure
-of_compile_failure text score made fault (Filter refusal note) spelled long is =
+of_compile_failure text score made fault (Noted refusal note) spelled long is =
     of_program made spelled (long is.0) (is.1 ∙ ap compile_fault.refusal is.0)
 of_compile_failure text score made fault Memory spelled long is = tt
 of_compile_failure text score made fault failure spelled long is = absurd is

@@ -9,20 +9,20 @@ use Rattle.commands.specs.Failure.{IsOfFilter, status}
 use Rattle.commands.specs.Files.{IsFront}
 use Rattle.commands.specs.Filter.{IsFilterFailure, IsProgramOf, length_fault, of_text}
 use Rattle.commands.specs.declared.failure.Failure.{Failure}
-use Rattle.commands.specs.declared.failure.Failure.TheVariants.{Filter, Memory}
+use Rattle.commands.specs.declared.failure.Failure.TheVariants.{Noted, Memory}
 use Rattle.commands.proofs.CarriedLemmas.{refusal_not_usage}
 
 -- a failure for a filter is no fault of usage
 pub failure_usage : (text : List ℕ) (score : Option NumericColumn) (failure : Failure) → IsFilterFailure text score failure
     → status failure ≢ 2
-failure_usage text score (Filter refusal note) is two = refusal_not_usage refusal two
+failure_usage text score (Noted refusal note) is two = refusal_not_usage refusal two
 failure_usage text score Memory is two = absurd (omega (arith, two))
 failure_usage text score failure is two = absurd is
 
 -- a text that is too long is refused so
 long_failure : (text : List ℕ) (score : Option NumericColumn) (fault : FilterFault) (failure : Failure) → TEXT_LIMIT < length text
     → IsOfFilter fault failure → IsFilterFailure text score failure
-long_failure text score fault (Filter refusal note) long is = of_text fault (λ few. absurd (omega (arith, few, long))) is.1
+long_failure text score fault (Noted refusal note) long is = of_text fault (λ few. absurd (omega (arith, few, long))) is.1
 long_failure text score fault Memory long is = tt
 long_failure text score fault failure long is = absurd is
 

@@ -7,7 +7,7 @@ use Rattle.cql2.specs.declared.column.NumericColumn.{NumericColumn}
 use Rattle.extract.specs.declared.fault.ExtractFault.TheVariants as extract
 use Rattle.tl_fields.specs.Device.{Writer}
 use Rattle.refusals.specs.Refusal.{RefusalParts}
-use Rattle.commands.specs.Command.{CarriesOut, IsFilterRefused}
+use Rattle.commands.specs.Command.{CarriesOut, IsTextRefused}
 use Rattle.commands.specs.Counties.{IsFileOfCounties}
 use Rattle.commands.specs.Failure.{NamesFile, TellsCounts}
 use Rattle.commands.specs.Files.{Disk, IsUnfailed}
@@ -18,7 +18,7 @@ use Rattle.commands.specs.declared.request.Request.{Request}
 use Rattle.commands.specs.declared.request.Request.TheVariants as request
 use Rattle.commands.specs.declared.select.Select.{Select}
 use Rattle.commands.specs.declared.failure.Failure.{Failure}
-use Rattle.commands.specs.declared.failure.Failure.TheVariants.{Memory, Write, CountyFile, Filter, County}
+use Rattle.commands.specs.declared.failure.Failure.TheVariants.{Memory, Write, CountyFile, Noted, County}
 use Rattle.commands.proofs.CountiesLemmas.{codes_at, texts}
 
 -- written extracts count no fault and no flush
@@ -75,9 +75,9 @@ fails_behind failure disk later disk' unfailed is = tt
 -- a filter is refused
 pub filter_carried : {request : Request} {disk disk' : Disk} {out : Writer} (text : List ℕ) (score : Option NumericColumn)
     (failure : Failure) → IsFilterFailure text score failure
-    → ((refusal : RefusalParts) → IsFilterRefusal text score refusal → IsFilterRefused request disk.known refusal)
+    → ((refusal : RefusalParts) → IsFilterRefusal text score refusal → IsTextRefused request disk.known refusal)
     → IsUnfailed disk disk' → CarriesOut request (Err failure) disk disk' out out
-filter_carried text score (Filter refusal note) is each counts =
+filter_carried text score (Noted refusal note) is each counts =
     record { outcome = (each refusal is, refl); names = tt; counts = λ other. counts; unflushed = refl }
 filter_carried text score Memory is each counts =
     record { outcome = refl; names = tt; counts = λ other. counts; unflushed = refl }

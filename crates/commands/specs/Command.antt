@@ -25,7 +25,7 @@ use Rattle.commands.specs.Verify as verify
 use Rattle.commands.specs.declared.request.Request.{Request}
 use Rattle.commands.specs.declared.request.Request.TheVariants.{Run, Trace, Geocode, GeocodeBatch, Verify, Explain, Assemble, Disassemble, Compile, Select}
 use Rattle.commands.specs.declared.failure.Failure.{Failure}
-use Rattle.commands.specs.declared.failure.Failure.TheVariants.{Refusal, Memory, Write, File, CountyFile, NotUtf8, NoLine, Filter, County, Output}
+use Rattle.commands.specs.declared.failure.Failure.TheVariants.{Refusal, Memory, Write, File, CountyFile, NotUtf8, NoLine, Noted, County, Output}
 
 -- the request's output was written, completely or until the output failed
 abbrev pub Writes : Request → (List ℕ → Option (List ℕ)) → Result (Unit {0}) WriteFault → Writer → Writer → Type 0
@@ -57,11 +57,12 @@ IsRefused (Assemble asked) known refusal out out' = assemble.IsRefused asked kno
 IsRefused (Disassemble asked) known refusal out out' = disassemble.IsRefused asked known refusal out out'
 IsRefused request known refusal out out' = ⊥
 
--- the request's filter is refused with this refusal
-abbrev pub IsFilterRefused : Request → (List ℕ → Option (List ℕ)) → RefusalParts → Type 0
-IsFilterRefused (Compile asked) known refusal = compile.IsRefused asked known refusal
-IsFilterRefused (Select asked) known refusal = IsFilterRefusal asked.filter.now asked.compiling.score refusal
-IsFilterRefused request known refusal = ⊥
+-- the request's filter or file of addresses is refused with this refusal
+abbrev pub IsTextRefused : Request → (List ℕ → Option (List ℕ)) → RefusalParts → Type 0
+IsTextRefused (Compile asked) known refusal = compile.IsRefused asked known refusal
+IsTextRefused (Select asked) known refusal = IsFilterRefusal asked.filter.now asked.compiling.score refusal
+IsTextRefused (GeocodeBatch asked) known refusal = geocode_batch.AreAddressesRefused asked known refusal
+IsTextRefused request known refusal = ⊥
 
 -- the county of this code, one of several, is refused with this refusal
 abbrev pub IsCountyRefused : Request → (List ℕ → Option (List ℕ)) → List ℕ → RefusalParts → Writer → Writer → Type 0
@@ -71,7 +72,7 @@ IsCountyRefused request known code refusal out out' = ⊥
 -- a library refused the request, which is reported as this failure
 abbrev pub IsRefusedWith : Request → (List ℕ → Option (List ℕ)) → Failure → Writer → Writer → Type 0
 IsRefusedWith request known (Refusal refusal) out out' = IsRefused request known refusal out out'
-IsRefusedWith request known (Filter refusal note) out out' = IsFilterRefused request known refusal × (out' ≡ out)
+IsRefusedWith request known (Noted refusal note) out out' = IsTextRefused request known refusal × (out' ≡ out)
 IsRefusedWith request known (County code refusal) out out' = IsCountyRefused request known code.now refusal out out'
 IsRefusedWith request known failure out out' = ⊥
 
@@ -117,7 +118,7 @@ IsCarriedOut request (Ok done) disk disk' out out' = Writes request disk.known (
 IsCarriedOut request (Err (Write fault)) disk disk' out out' = Writes request disk.known (Err fault) out out'
 IsCarriedOut request (Err (Refusal refusal)) disk disk' out out' =
     IsRefused request disk.known refusal out out' × (refusal_status refusal ≡ 3 → disk'.failed_reads ≢ disk.failed_reads)
-IsCarriedOut request (Err (Filter refusal note)) disk disk' out out' = IsFilterRefused request disk.known refusal × (out' ≡ out)
+IsCarriedOut request (Err (Noted refusal note)) disk disk' out out' = IsTextRefused request disk.known refusal × (out' ≡ out)
 IsCarriedOut request (Err (County code refusal)) disk disk' out out' =
     IsCountyRefused request disk.known code.now refusal out out' × (refusal_status refusal ≡ 3 → disk'.failed_reads ≢ disk.failed_reads)
 IsCarriedOut request (Err (File name error)) disk disk' out out' = (out' ≡ out) × IsFailed disk disk'

@@ -1,6 +1,9 @@
 -- Why a command fails: its exit status, and what it reports.
 use Rattle.std.specs.Prelude.{◌≡◌, ◌≢◌, ℕ, List, [], ◌∷◌, ◌++◌, codes, decimal, ⊤, Result, Ok, Err}
 use Rattle.std.specs.Borrow.{Bor}
+use Rattle.addresses.specs.AddressFault as address_fault
+use Rattle.addresses.specs.declared.fault.AddressFault.{AddressFault}
+use Rattle.addresses.specs.declared.fault.AddressFault.TheVariants as address
 use Rattle.bpf_insn.specs.CodeFault as code_fault
 use Rattle.cql2_code.specs.CompileFault as compile_fault
 use Rattle.cql2_code.specs.declared.fault.CompileFault.{CompileFault}
@@ -31,7 +34,7 @@ use Rattle.commands.specs.declared.files.FileFault.TheVariants as fault
 use Rattle.commands.specs.declared.files.ProgramInputFault.{ProgramInputFault}
 use Rattle.commands.specs.declared.files.ProgramInputFault.TheVariants as program_input
 use Rattle.commands.specs.declared.failure.Failure.{Failure}
-use Rattle.commands.specs.declared.failure.Failure.TheVariants.{Refusal, Memory, Write, File, CountyFile, NotUtf8, NoLine, Filter, County, Output}
+use Rattle.commands.specs.declared.failure.Failure.TheVariants.{Refusal, Memory, Write, File, CountyFile, NotUtf8, NoLine, Noted, County, Output}
 use Rattle.commands.specs.declared.failure.Piece.{Piece}
 use Rattle.commands.specs.declared.failure.Piece.TheVariants.{Text, Echo}
 
@@ -47,7 +50,7 @@ refusal_status refusal = class_status refusal.class
 -- a line that the file doesn't have is a usage error (2); a file or an output that can't be used is 3
 abbrev pub status : Failure → ℕ
 status (Refusal refusal) = refusal_status refusal
-status (Filter refusal note) = refusal_status refusal
+status (Noted refusal note) = refusal_status refusal
 status (County code refusal) = refusal_status refusal
 status Memory = 4
 status (NoLine number) = 2
@@ -80,14 +83,20 @@ of_extract fault = Refusal (extract_fault.refusal fault)
 
 -- why a text is not a filter, and why a filter can't be compiled
 abbrev pub IsOfFilter : FilterFault → Failure → Type 0
-IsOfFilter fault (Filter refusal note) = (fault ≢ filter.Memory) × (refusal ≡ filter_fault.refusal fault)
+IsOfFilter fault (Noted refusal note) = (fault ≢ filter.Memory) × (refusal ≡ filter_fault.refusal fault)
 IsOfFilter fault Memory = fault ≡ filter.Memory
 IsOfFilter fault failure = ⊥
 
 abbrev pub IsOfCompile : CompileFault → Failure → Type 0
-IsOfCompile fault (Filter refusal note) = (fault ≡ compile.TooLong) × (refusal ≡ compile_fault.refusal fault)
+IsOfCompile fault (Noted refusal note) = (fault ≡ compile.TooLong) × (refusal ≡ compile_fault.refusal fault)
 IsOfCompile fault Memory = fault ≡ compile.Memory
 IsOfCompile fault failure = ⊥
+
+-- why a file of addresses can't be read
+abbrev pub IsOfAddresses : AddressFault → Failure → Type 0
+IsOfAddresses fault (Noted refusal note) = (fault ≢ address.Memory) × (refusal ≡ address_fault.refusal fault)
+IsOfAddresses fault (Refusal refusal) = (fault ≡ address.Memory) × (refusal ≡ memory)
+IsOfAddresses fault failure = ⊥
 
 -- why the extract of one of several counties isn't written completely
 abbrev pub of_county_extract : Bor (List ℕ) → ExtractFault → Failure
@@ -129,11 +138,11 @@ SaysNotUtf8 name errors errors' = SaysText (codes "error: " ++ escaped name ++ c
 abbrev pub SaysOutput : Writer → Writer → Type 0
 SaysOutput errors errors' = (reason : List ℕ) × SaysText (codes "error: the output can't be written: " ++ reason ++ 10 ∷ []) errors errors'
 
--- the report of a failure: for a refusal its line, followed by a note for a filter or by the code for one of several counties, on a second line;
+-- the report of a failure: for a refusal its line, followed by a note for a text or by the code for one of several counties, on a second line;
 -- otherwise a line that starts with `error: `
 abbrev pub Says : Failure → Writer → Writer → Type 0
 Says (Refusal refusal) errors errors' = SaysLine (line refusal) errors errors'
-Says (Filter refusal note) errors errors' = SaysText (line refusal ++ 10 ∷ note.bytes ++ 10 ∷ []) errors errors'
+Says (Noted refusal note) errors errors' = SaysText (line refusal ++ 10 ∷ note.bytes ++ 10 ∷ []) errors errors'
 Says (County code refusal) errors errors' = SaysText (line refusal ++ 10 ∷ codes "county " ++ escaped code.now ++ 10 ∷ []) errors errors'
 Says Memory errors errors' = SaysMemory errors errors'
 Says (Write fault) errors errors' = SaysLine (line (write_fault.refusal fault)) errors errors'

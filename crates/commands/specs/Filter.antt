@@ -20,7 +20,7 @@ use Rattle.cql2_text.specs.declared.fault.FilterFlaw.TheVariants as flaw
 use Rattle.cql2_text.specs.declared.reader.TheConstants.{TEXT_LIMIT}
 use Rattle.refusals.specs.Refusal.{RefusalParts}
 use Rattle.commands.specs.declared.failure.Failure.{Failure}
-use Rattle.commands.specs.declared.failure.Failure.TheVariants.{Filter as AFilter, Memory}
+use Rattle.commands.specs.declared.failure.Failure.TheVariants.{Noted, Memory}
 
 -- The text spells a filter. The program has a code that selects the segments for which the filter is true, with their scores, and the verifier
 -- accepts it.
@@ -49,6 +49,6 @@ pub data IsFilterRefusal (text : List ℕ) (score : Option NumericColumn) (refus
 
 -- a failure to compile the filter
 abbrev pub IsFilterFailure : List ℕ → Option NumericColumn → Failure → Type 0
-IsFilterFailure text score (AFilter refusal note) = IsFilterRefusal text score refusal
+IsFilterFailure text score (Noted refusal note) = IsFilterRefusal text score refusal
 IsFilterFailure text score Memory = ⊤
 IsFilterFailure text score failure = ⊥

@@ -70,12 +70,17 @@ pub record WritesFirst (batch : GeocodeBatch) (known : List ℕ → Option (List
   pub count : ℕ
   pub written : WritesText (output inputs (take count addresses)) (Ok tt) out out'
 
--- Why `geocode-batch` is refused. One of the counties or the file of addresses is refused, and nothing was written. Or an allocation failed, and
--- either nothing was written, or the header and the lines of the first few addresses.
+-- the file of addresses is refused
+pub record AreAddressesRefused (batch : GeocodeBatch) (known : List ℕ → Option (List ℕ)) (refusal : RefusalParts) : Type 0 where
+  pub inputs : Inputs batch known
+  pub fault : AddressFault
+  pub is_fault : IsFaultOf inputs.file fault
+  pub refused : refusal ≡ address_fault.refusal fault
+
+-- Why `geocode-batch` is refused otherwise. One of the counties is refused, and nothing was written. Or an allocation failed, and either nothing
+-- was written, or the header and the lines of the first few addresses.
 pub data IsRefused (batch : GeocodeBatch) (known : List ℕ → Option (List ℕ)) (refusal : RefusalParts) (out out' : Writer) : Type 0 where
   of_county : HaveRefusedCounty known batch.«data».now (codes_of batch) refusal → out' ≡ out → IsRefused batch known refusal out out'
-  of_addresses : (inputs : Inputs batch known) (fault : AddressFault) → IsFaultOf inputs.file fault → refusal ≡ address_fault.refusal fault
-      → out' ≡ out → IsRefused batch known refusal out out'
   of_memory : refusal ≡ memory → (out' ≡ out) ⊎ WritesFirst batch known out out' → IsRefused batch known refusal out out'
 
 -- The text was written, completely or until the output failed. Or an allocation failed, after what `WritesBefore` describes was written.

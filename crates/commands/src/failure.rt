@@ -4,13 +4,14 @@ ghost use Rattle.std.specs.List.{flat_map};
 ghost use Rattle.tl_fields.specs.Device.{writer};
 ghost use Rattle.tl_fields.specs.Writing.{WritesText};
 ghost use Rattle.commands.specs.Escape.{escaped};
-ghost use Rattle.commands.specs.Failure.{IsOfCompile, IsOfFilter, Says, SaysFile, SaysLine, SaysText, WritesAs, class_status, of_county_extract, of_county_file, of_extract, of_file, of_opening, of_program, of_source, said, status};
+ghost use Rattle.commands.specs.Failure.{IsOfAddresses, IsOfCompile, IsOfFilter, Says, SaysFile, SaysLine, SaysText, WritesAs, class_status, of_county_extract, of_county_file, of_extract, of_file, of_opening, of_program, of_source, said, status};
 ghost use Rattle.commands.specs.declared.failure.Failure.TheVariants.{Memory};
 
 use crate::county::{CountyFileFault, name_end};
 use crate::escape::write_escaped;
 use crate::failure::Piece::{Echo, Text};
 use crate::files::{FileFault, ProgramInputFault};
+use addresses::AddressFault;
 use arrayvec::ArrayString;
 use bpf_text::{SourceFault, TextFault};
 use cql2_code::CompileFault;
@@ -40,8 +41,8 @@ pub const OUT_OF_MEMORY: u8 = 4;
 pub enum Failure<'a> {
     /// A library refuses the input or runs out of memory.
     Refusal(Refusal),
-    /// A filter is refused. The note gives more detail for people.
-    Filter {
+    /// A filter or a file of addresses is refused. The note gives more detail for people.
+    Noted {
         refusal: Refusal,
         note: ArrayString<128>,
     },
@@ -142,9 +143,22 @@ impl<'a> Failure<'a> {
     {
         match fault {
             FilterFault::Memory => Failure::Memory,
-            fault => Failure::Filter {
+            fault => Failure::Noted {
                 refusal: fault.refusal(),
                 note: filter_note(text, fault),
+            },
+        }
+    }
+
+    /// Returns the failure for a file of addresses that can't be read.
+    pub fn of_addresses(fault: AddressFault) -> Self
+        ensures { IsOfAddresses fault result }
+    {
+        match fault {
+            AddressFault::Memory => Failure::Refusal(Refusal::memory()),
+            fault => Failure::Noted {
+                refusal: fault.refusal(),
+                note: addresses_note(fault),
             },
         }
     }
@@ -155,7 +169,7 @@ impl<'a> Failure<'a> {
     {
         match fault {
             CompileFault::Memory => Failure::Memory,
-            fault => Failure::Filter {
+            fault => Failure::Noted {
                 refusal: fault.refusal(),
                 note: compile_note(fault),
             },
@@ -194,7 +208,7 @@ impl<'a> Failure<'a> {
     {
         match self {
             Failure::Refusal(refusal) => class_status(refusal.class()),
-            Failure::Filter { refusal, .. } => class_status(refusal.class()),
+            Failure::Noted { refusal, .. } => class_status(refusal.class()),
             Failure::County { refusal, .. } => class_status(refusal.class()),
             Failure::Memory => OUT_OF_MEMORY,
             Failure::NoLine { .. } => USAGE,
@@ -208,8 +222,8 @@ impl<'a> Failure<'a> {
     {
         match self {
             Failure::Refusal(refusal) => say_line(errors, refusal.line().as_str()),
-            Failure::Filter { refusal, note } => {
-                say_of_filter(errors, refusal.line().as_str(), note.as_str());
+            Failure::Noted { refusal, note } => {
+                say_noted(errors, refusal.line().as_str(), note.as_str());
             }
             Failure::County { code, refusal } => {
                 say_of_county(errors, refusal.line().as_str(), code);
@@ -338,8 +352,8 @@ fn say_line<E: CountedWrite>(errors: &mut E, line: &str)
     say(errors, &[Text(line), Text("\n")]);
 }
 
-/// Reports why a filter is refused.
-fn say_of_filter<'p, E: CountedWrite>(errors: &mut E, refusal: &'p str, note: &'p str)
+/// Reports why a text is refused.
+fn say_noted<'p, E: CountedWrite>(errors: &mut E, refusal: &'p str, note: &'p str)
     ensures { SaysText (refusal.now ++ 10 ∷ note.now ++ 10 ∷ [])
         (writer E.contents E.counts errors.old) (writer E.contents E.counts errors.new) }
 {
@@ -408,6 +422,16 @@ fn filter_note(text: &[u8], fault: FilterFault) -> ArrayString<128> {
     if let Some(name) = fault.nearest_column(text) {
         let _ = write!(note, ", and the nearest is {name}");
     }
+    note
+}
+
+/// Returns the note for people about a file of addresses that can't be read.
+fn addresses_note(fault: AddressFault) -> ArrayString<128> {
+    let mut note = ArrayString::new();
+    let _ = match fault {
+        AddressFault::At { flaw, .. } => write!(note, "{flaw}"),
+        other => write!(note, "{other}"),
+    };
     note
 }
 

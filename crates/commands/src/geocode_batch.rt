@@ -13,7 +13,7 @@ use crate::counties::load_counties;
 use crate::failure::{Failure, write};
 use crate::files::{Files, read_file};
 use addresses::{AddressFault, Addresses, Row};
-use batch::{Batch, header};
+use batch::{Batch, Lines, header};
 use refusals::{Fault, Refusal};
 use std::alloc::{Allocator, Global};
 use tl_fields::CountedWrite;
@@ -56,7 +56,7 @@ impl<'a> GeocodeBatch<'a> {
         };
         match check_addresses(self.tables, file.as_slice()) {
             Ok(()) => {}
-            Err(fault) => return Err(Failure::Refusal(fault.refusal())),
+            Err(fault) => return Err(Failure::of_addresses(fault)),
         }
         let batch = Batch::of(alloc, counties.as_slice(), self.codes.as_slice())?;
         write_batch(alloc, self.tables, file.as_slice(), &batch, out)
@@ -96,13 +96,14 @@ fn write_batch<'a, A: Allocator + Copy, W: CountedWrite>(
         Err(fault) => return Err(Failure::Refusal(fault.refusal())),
     };
     let mut row = Row::new(tables);
+    let mut lines = Lines::new(tables);
     loop {
         match addresses.read(&mut row) {
             Ok(true) => {}
             Ok(false) => return Ok(()),
             Err(fault) => return Err(Failure::Refusal(fault.refusal())),
         }
-        match write_lines(alloc, tables, batch, &row, out) {
+        match write_lines(alloc, tables, batch, &row, &mut lines, out) {
             Ok(()) => {}
             Err(failure) => return Err(failure),
         }
@@ -115,14 +116,16 @@ fn write_lines<'a, A: Allocator + Copy, W: CountedWrite>(
     tables: Global,
     batch: &Batch<'_, A>,
     row: &Row,
+    lines: &mut Lines,
     out: &mut W,
 ) -> Result<(), Failure<'a>>
     ensures { WritesUnlessMemory (lines_of batch.now.codes batch.now.counties (address_in row.now)) (λ before after. after ≡ before) result
         (writer W.contents W.counts out.old) (writer W.contents W.counts out.new) }
 {
     let address = row.address();
-    let Ok(lines) = batch.lines(alloc, tables, &address) else {
-        return Err(Failure::Refusal(Refusal::memory()));
-    };
-    write(out, lines.as_slice())
+    match batch.write_lines(alloc, tables, &address, lines) {
+        Ok(()) => {}
+        Err(_wanting) => return Err(Failure::Refusal(Refusal::memory())),
+    }
+    write(out, lines.as_bytes())
 }

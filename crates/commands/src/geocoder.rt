@@ -19,7 +19,7 @@ use tl_fields::CountedWrite;
 pub struct Geocode<'a> {
     /// The folder of the county files.
     pub data: &'a str,
-    pub query: Query<'a>,
+    pub query: Query,
     /// The counties' codes, five digits each: the state, then the county within it.
     pub codes: Vec<&'a str>,
 }

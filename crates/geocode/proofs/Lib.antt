@@ -1,4 +1,3 @@
-mod PositionLemmas
 mod GazetteerLemmas
 mod HitLemmas
 mod IndexedLemmas
@@ -6,5 +5,7 @@ mod MatchHitLemmas
 mod MatchLemmas
 mod NameHashLemmas
 mod NameIndexLemmas
+mod PositionLemmas
 mod QueryLemmas
 mod SpanLemmas
+pub mod Latin1Lemmas

@@ -1,12 +1,14 @@
 pub mod Gazetteer
 pub mod HitLine
+pub mod Hits
+pub mod Latin1
+pub mod Matches
 pub mod NameHash
 pub mod NameIndex
-pub mod Hits
-pub mod Matches
+pub mod NameText
 pub mod Position
+pub mod Query
 pub mod Sides
 pub mod Span
 pub mod Street
 pub mod StreetName
-pub mod Query

@@ -9,7 +9,7 @@ ghost use Rattle.geocode.specs.Query.{hits_of, house_number, parts_of, query_of,
 use crate::gazetteer::Gazetteer;
 use crate::hit::Hit;
 use crate::hits::find;
-use crate::street_name::StreetName;
+use crate::name_text::NameText;
 use std::alloc::{AllocError, Allocator};
 use tl_fields::number;
 use tl_segments::County;
@@ -18,11 +18,11 @@ use tl_segments::County;
 pub const MOST_DIGITS: usize = 11;
 
 /// A geocoder's query.
-#[derive(Clone, Copy)]
-pub struct Query<'a> {
+#[derive(Drop)]
+pub struct Query {
     /// The house number.
     pub number: u64,
-    pub name: StreetName<'a>,
+    pub name: NameText,
     /// The number of the ZIP code, if the house must be in a particular one.
     pub zip: Option<u64>,
 }
@@ -32,51 +32,53 @@ pub struct Query<'a> {
 pub enum QueryFault {
     /// The house number isn't 1 to 11 digits.
     Number,
-    /// The name isn't 1 to 30 bytes.
+    /// The name isn't 1 to 30 characters.
     Name,
     /// The ZIP code isn't 1 to 11 digits.
     Zip,
 }
 
-impl<'a> Query<'a> {
+impl Query {
     /// Parses a query from these texts, or returns the first of them that is invalid.
-    pub fn of(
-        number: &'a [u8],
-        name: &'a [u8],
-        zip: Option<&'a [u8]>,
-    ) -> Result<Query<'a>, QueryFault>
+    pub fn of(number: &[u8], name: &str, zip: Option<&[u8]>) -> Result<Query, QueryFault>
         ensures { MatchResult result
             (λ query. query_of number.now name.now (option_copied zip.entry) ≡ Ok (parts_of query))
             (λ fault. query_of number.now name.now (option_copied zip.entry) ≡ Err fault) }
     {
         let number = house_number(number).ok_or(QueryFault::Number)?;
-        let name = StreetName::of(name).ok_or(QueryFault::Name)?;
+        let name = NameText::of(name).ok_or(QueryFault::Name)?;
         let zip = zip_number(zip).ok_or(QueryFault::Zip)?;
         Ok(Query { number, name, zip })
     }
 
     /// Returns the hits in these counties, in order. It allocates only for hits.
     pub fn find<A: Allocator + Copy>(
-        self,
+        &self,
         alloc: A,
         counties: &[County<A>],
     ) -> Result<Vec<Hit, A>, AllocError>
-        ensures { IfOk result (λ hits. hits.items ≡ hits_of (parts_of self.entry) counties.now) }
+        ensures { IfOk result (λ hits. hits.items ≡ hits_of (parts_of self.now) counties.now) }
     {
-        find(alloc, counties, self.number, self.name.text, self.zip)
+        match self.name.street_name() {
+            Some(name) => find(alloc, counties, self.number, name.text, self.zip),
+            None => Ok(Vec::new(alloc)),
+        }
     }
 
     /// Returns the same hits as [`find`](Self::find), using the gazetteer of these counties. Allocates only for hits.
     pub fn find_in<A: Allocator + Copy>(
-        self,
+        &self,
         alloc: A,
         gazetteer: &Gazetteer<A>,
         counties: &[County<A>],
     ) -> Result<Vec<Hit, A>, AllocError>
         requires { IsGazetteerOf gazetteer.now counties.now }
-        ensures { IfOk result (λ hits. hits.items ≡ hits_of (parts_of self.entry) counties.now) }
+        ensures { IfOk result (λ hits. hits.items ≡ hits_of (parts_of self.now) counties.now) }
     {
-        gazetteer.find(alloc, counties, self.number, self.name.text, self.zip)
+        match self.name.street_name() {
+            Some(name) => gazetteer.find(alloc, counties, self.number, name.text, self.zip),
+            None => Ok(Vec::new(alloc)),
+        }
     }
 }
 

@@ -8,7 +8,7 @@ use tl_segments::{County, LoadFault};
 // The house number, the name, and the ZIP code or `-` for none; the lines of the hits, or which of these texts is invalid; and the lines of all files
 // of one county, or of two, separated by `/`.
 const HITS: Table = Table {
-    rows: 75,
+    rows: 83,
     text: r"
 151; main; 36067; 123456789\tL\t-86494898\t32405102\n; {rt1}\n
 150; main; 36067; 123456789\tR\t-86494898\t32405102\n; {rt1}\n
@@ -21,8 +21,15 @@ const HITS: Table = Table {
 151; mainX{text \x20*25}; -;; {rt1}\n
 151; \x20; -;; {rt1}\n
 151; \x20; -; 123456789\tL\t-86494898\t32405102\n; {rt1 FENAME=}\n
-151; cAFé; -; 123456789\tL\t-86494898\t32405102\n; {rt1 FENAME=Caf\xc3\xa9}\n
-151; cAFÉ; -;; {rt1 FENAME=Caf\xc3\xa9}\n
+151; cAFé; -; 123456789\tL\t-86494898\t32405102\n; {rt1 FENAME=Caf\xe9}\n
+151; cAFÉ; -;; {rt1 FENAME=Caf\xe9}\n
+151; cAFé; -;; {rt1 FENAME=Caf\xc3\xa9}\n
+151; cAFÃ©; -; 123456789\tL\t-86494898\t32405102\n; {rt1 FENAME=Caf\xc3\xa9}\n
+151; ÿÿÿÿÿÿÿÿÿÿÿÿÿÿÿÿÿÿÿÿÿÿÿÿÿÿÿÿÿÿ; -; 123456789\tL\t-86494898\t32405102\n;
+  {rt1 FENAME=\xff\xff\xff\xff\xff\xff\xff\xff\xff\xff\xff\xff\xff\xff\xff\xff\xff\xff\xff\xff\xff\xff\xff\xff\xff\xff\xff\xff\xff\xff}\n
+151; Āā; -;; {rt1 FENAME=\x00\x01}\n
+151; 5€; -;; {rt1 FENAME=5\x80}\n
+151; €€€€€€€€€€€€€€€€€€€€€€€€€€€€€€; -;; {rt1}\n
 151; name of street with 30 letters; -;; {rt1}\n
 0; main; -;; {rt1}\n
 1510; main; -;; {rt1}\n
@@ -89,6 +96,8 @@ const HITS: Table = Table {
 000000000151; main; -; number; {rt1}\n
 151;; -; name; {rt1}\n
 151; name of a street of 31 letters.; -; name; {rt1}\n
+151; ÿÿÿÿÿÿÿÿÿÿÿÿÿÿÿÿÿÿÿÿÿÿÿÿÿÿÿÿÿÿÿ; -; name; {rt1}\n
+151; €€€€€€€€€€€€€€€€€€€€€€€€€€€€€€€; -; name; {rt1}\n
 151; main;; zip; {rt1}\n
 151; main; -1; zip; {rt1}\n
 151; main; 36067\x20; zip; {rt1}\n
@@ -156,7 +165,7 @@ fn push_line(files: &mut Files, line: &[u8]) -> Result<(), TableFault> {
 #[derive(Drop)]
 pub struct Search {
     number: Vec<u8>,
-    name: Vec<u8>,
+    name: String,
     zip: Option<Vec<u8>>,
     answer: Vec<u8>,
     counties: TwoCounties,
@@ -168,7 +177,7 @@ impl Search {
         let (number, name, zip, answer, counties) = cells(row)?.five()?;
         Ok(Search {
             number: bytes(alloc, number)?,
-            name: bytes(alloc, name)?,
+            name: text(alloc, name)?,
             zip: if zip == "-" {
                 None
             } else {
@@ -190,6 +199,11 @@ impl Search {
     }
 }
 
+/// Reads a cell that is UTF-8 once its escapes are bytes.
+pub fn text(alloc: Global, cell: &str) -> Result<String, TableFault> {
+    String::from_utf8(bytes(alloc, cell)?).map_err(|_| TableFault::Word)
+}
+
 /// Returns which text of a query is invalid.
 fn name_of(fault: QueryFault) -> &'static [u8] {
     match fault {
@@ -203,7 +217,7 @@ fn name_of(fault: QueryFault) -> &'static [u8] {
 fn has_hits<A: Allocator + Copy>(
     heap: A,
     counties: &[County<A>],
-    query: Query<'_>,
+    query: Query,
     lines: &[u8],
 ) -> Result<bool, LoadFault> {
     let walked = query.find(heap, counties)?;

@@ -1,5 +1,5 @@
 //! Matches of house numbers on streets, worked out by hand.
-use crate::hits::TwoCounties;
+use crate::hits::{TwoCounties, text};
 use crate::sweep::growths;
 use fixtures::{Table, TableFault, bytes, cells};
 use geocode::{Gazetteer, Match, Query, Street, StreetName, has_street, hit_lines, matches};
@@ -36,7 +36,7 @@ const MATCHES: Table = Table {
 #[derive(Drop)]
 pub struct StreetSearch<'a> {
     number: Vec<u8>,
-    name: Vec<u8>,
+    name: String,
     predir: &'a [u8],
     kind: &'a [u8],
     sufdir: &'a [u8],
@@ -55,7 +55,7 @@ impl<'a> StreetSearch<'a> {
             sufdir: affix(sufdir)?,
             is_there: truth(is_there)?,
             number: bytes(alloc, number)?,
-            name: bytes(alloc, name)?,
+            name: text(alloc, name)?,
             lines: bytes(alloc, lines)?,
             counties: TwoCounties::new(alloc, counties)?,
         })
@@ -67,7 +67,10 @@ impl<'a> StreetSearch<'a> {
         let Ok(query) = Query::of(&self.number, &self.name, None) else {
             return Ok(false);
         };
-        let street = self.street(query.name);
+        let Some(name) = query.name.street_name() else {
+            return Ok(false);
+        };
+        let street = self.street(name);
         has_matches(
             heap,
             &counties,

@@ -47,7 +47,7 @@ fn answer_place<A: Allocator + Copy>(
         return Ok(Answer::Status(Status::BadRequest));
     };
     let zip = zip.as_ref().map(|zip| zip.as_bytes());
-    let Ok(place) = Query::of(number.as_bytes(), name.as_bytes(), zip) else {
+    let Ok(place) = Query::of(number.as_bytes(), name.as_str(), zip) else {
         return Ok(Answer::Status(Status::BadRequest));
     };
     let hits = place.find_in(alloc, gazetteer, counties)?;

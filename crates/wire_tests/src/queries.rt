@@ -82,16 +82,16 @@ GET /geocode?number=151&name=main{text +*26}{end} => 200 text 123456789\tL\t-864
 GET /geocode?number=151&name=main{text +*27}{end} => 400
 GET /geocode?number=151&name={text %61*30}{end} => 200 text
 GET /geocode?number=151&name={text %61*31}{end} => 400
-GET /geocode?number=151&name={text %c3%a9*15}{end} => 200 text
-GET /geocode?number=151&name={text %c3%a9*15}x{end} => 400
-GET /geocode?number=151&name={text %ff*10}{end} => 200 text
-GET /geocode?number=151&name={text %ff*11}{end} => 400
+GET /geocode?number=151&name={text %c3%a9*30}{end} => 200 text
+GET /geocode?number=151&name={text %c3%a9*30}x{end} => 400
+GET /geocode?number=151&name={text %ff*30}{end} => 200 text
+GET /geocode?number=151&name={text %ff*31}{end} => 400
 GET /geocode?number=151&name={text %*30}{end} => 200 text
 GET /geocode?number=151&name={text %*31}{end} => 400
 GET /geocode?number=151&name={text x*7000}{end} => 400
 GET /geocode?number=151&name=m\xc3\xa4in{end} => 200 text
-GET /geocode?number=151&name={text \xc3\xa4*15}{end} => 200 text
-GET /geocode?number=151&name={text \xc3\xa4*16}{end} => 400
+GET /geocode?number=151&name={text \xc3\xa4*30}{end} => 200 text
+GET /geocode?number=151&name={text \xc3\xa4*31}{end} => 400
 GET /geocode?x=1&number=151&y&=z&name=main&{end} => 200 text 123456789\tL\t-86494898\t32405102\n
 GET /geocode?&&number=151&&&name=main&&{end} => 200 text 123456789\tL\t-86494898\t32405102\n
 GET /geocode?{text x&*500}number=151&name=main{end} => 200 text 123456789\tL\t-86494898\t32405102\n
@@ -114,9 +114,9 @@ HEAD /geocode?number=151&name=main{end} => 405 GET",
 };
 
 // Counties, and the results of queries over them: addresses that descend; ends exchanged; an end without a latitude; a second range on the left,
-// without a ZIP code; an alternate name; three counties; more than a thousand hits; no county.
+// without a ZIP code; an alternate name; a letter beyond ASCII; three counties; more than a thousand hits; no county.
 pub const COUNTIES: Table = Table {
-    rows: 26,
+    rows: 34,
     text: r"{rt1 FRADDL=________199 TOADDL=________101}\n
 GET /geocode?number=151&name=main{end} => 200 text 123456789\tL\t-86495103\t32404897\n
 GET /geocode?number=152&name=main{end} => 200 text 123456789\tR\t-86494694\t32405306\n
@@ -138,6 +138,15 @@ GET /geocode?number=151&name=old+mill{end} => 200 text 123456789\tL\t-86494898\t
 GET /geocode?number=151&name=OLD%20MILL&zip=36067{end} => 200 text 123456789\tL\t-86494898\t32405102\n
 GET /geocode?number=151&name=main{end} => 200 text 123456789\tL\t-86494898\t32405102\n
 GET /geocode?number=151&name=old{end} => 200 text
+
+{rt1 FENAME=La_Ca\xf1ada}\n
+GET /geocode?number=151&name=la+ca%C3%B1ada{end} => 200 text 123456789\tL\t-86494898\t32405102\n
+GET /geocode?number=151&name=LA%20CA%c3%b1ADA{end} => 200 text 123456789\tL\t-86494898\t32405102\n
+GET /geocode?number=151&name=la+ca\xc3\xb1ada{end} => 200 text 123456789\tL\t-86494898\t32405102\n
+GET /geocode?number=151&name=la+ca%C3%91ada{end} => 200 text
+GET /geocode?number=151&name=la+ca%F1ada{end} => 200 text
+GET /geocode?number=151&name=la+can%CC%83ada{end} => 200 text
+GET /geocode?number=151&name=la+canada{end} => 200 text
 
 {rt1 TLID=0000000042}\n{rt1}\n | {rt1\n*0} | {rt1 TLID=0000000007 ZIPL=37067}\n
 GET /geocode?number=151&name=main{end}

@@ -40,12 +40,12 @@ while IFS='|' read -r arguments status size text; do
 done <<END
 --addresses $county/addresses.csv --data $county 01001|0|641|
 --addresses $county/addresses.csv --data empty 01001|0|426|
---addresses - --data $county 01001|1|0|refused 100 NoHeader
---addresses batch/no_name.csv --data $county 01001|1|0|refused 101 line 1 NoColumn
---addresses batch/latin.csv --data $county 01001|1|0|refused 102 line 2 NotUtf8
---addresses batch/open.csv --data $county 01001|1|0|refused 103 line 3 OpenQuote
---addresses batch/long.csv --data $county 01001|1|0|refused 104 line 2 LineTooLong
---addresses batch/returns.csv --data $county 01001|1|0|refused 105 line 1 NotOneRecord
+--addresses - --data $county 01001|1|0|refused 100 NoHeader*the file has no header
+--addresses batch/no_name.csv --data $county 01001|1|0|refused 101 line 1 NoColumn*the header has no column \`name\`
+--addresses batch/latin.csv --data $county 01001|1|0|refused 102 line 2 NotUtf8*a field isn't UTF-8
+--addresses batch/open.csv --data $county 01001|1|0|refused 103 line 3 OpenQuote*a quotation mark isn't closed before the end of the file
+--addresses batch/long.csv --data $county 01001|1|0|refused 104 line 2 LineTooLong*the record has more than 65,536 bytes
+--addresses batch/returns.csv --data $county 01001|1|0|refused 105 line 1 NotOneRecord*a carriage return or an unquoted line break ends the record early
 --addresses batch/missing.csv --data $county 01001|3|0|error: batch/missing.csv: not found
 --addresses folder --data $county 01001|3|0|error: folder: is a directory
 --addresses batch/open.csv --data faulty 01003|1|0|refused 1 rt1 line 1 WrongLength

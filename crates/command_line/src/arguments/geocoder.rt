@@ -54,12 +54,8 @@ fn query<'a>(
     number: &'a str,
     name: &'a str,
     zip: Option<&'a str>,
-) -> Result<Query<'a>, ArgumentsFault<'a>> {
-    match Query::of(
-        number.as_bytes(),
-        name.as_bytes(),
-        zip.map(|zip| zip.as_bytes()),
-    ) {
+) -> Result<Query, ArgumentsFault<'a>> {
+    match Query::of(number.as_bytes(), name, zip.map(|zip| zip.as_bytes())) {
         Ok(query) => Ok(query),
         Err(QueryFault::Number) => Err(no_number("number", number)),
         Err(QueryFault::Name) => Err(ArgumentsFault::Name(name)),

@@ -6,6 +6,6 @@ use Rattle.geocode.specs.Matches.{match_of}
 use Rattle.batch.proofs.cells.push_matches.Given as goal
 
 abbrev pub invariant-loop-one : goal.invariant-loop-one
-invariant-loop-one l = l.lines.items ≡ l.initial.lines.items
+invariant-loop-one l = l.lines ≡ l.initial.lines
     ++ flat_map (λ one. line (match_cells l.id (status_of (map match_of l.found)) (map (λ code. code.now) l.codes) (match_of one)))
     (take l.one-index l.found)

@@ -22,8 +22,8 @@ returns-in-Err-of g c = λ addresses are.
     are c.in-Err-of.ensures
     (subst (λ (text : List ℕ). WritesText text (Ok tt) out out') (c.as_bytes.ensures.value ∙ c.header.ensures) c.in-Ok.ensures))
 
-pub loop-row-init : goal.loop-row-init
-loop-row-init g c =
+pub loop-lines-init : goal.loop-lines-init
+loop-lines-init g c =
     let out = writer g.W.Write.contents g.W.CountedWrite.counts c.args.out.now in
     let out' = writer g.W.Write.contents g.W.CountedWrite.counts c.write.new.out in
     header_written c.args.batch.now.codes c.args.batch.now.counties c.args.file.now (addresses_left c.in-Ok-of.addresses) out out'
@@ -33,22 +33,22 @@ loop-row-init g c =
 pub returns-in-Ok-false : goal.returns-in-Ok-false
 returns-in-Ok-false g c = λ addresses are.
     let ended = rw c.in-Ok-false.field-0-test at c.in-Ok-false.ensures.next in
-    batch_done c.args.batch.now.codes c.args.batch.now.counties c.loop-row.invariant addresses are ended.0
+    batch_done c.args.batch.now.codes c.args.batch.now.counties c.loop-lines.invariant addresses are ended.0
 
 pub returns-in-Err-read : goal.returns-in-Err-read
 returns-in-Err-read g c = λ addresses are.
-    rw c.refusal-in-Err-read.ensures (batch_unread c.args.batch.now.codes c.args.batch.now.counties c.loop-row.invariant addresses are
+    rw c.refusal-in-Err-read.ensures (batch_unread c.args.batch.now.codes c.args.batch.now.counties c.loop-lines.invariant addresses are
     (address_in c.read.new.row) (addresses_left c.read.new.self) c.in-Err-read.fault c.in-Err-read.ensures.next)
 
-pub loop-row-preserved : goal.loop-row-preserved
-loop-row-preserved g c =
-    batch_further c.args.batch.now.codes c.args.batch.now.counties c.loop-row.invariant (address_in c.read.new.row)
+pub loop-lines-preserved : goal.loop-lines-preserved
+loop-lines-preserved g c =
+    batch_further c.args.batch.now.codes c.args.batch.now.counties c.loop-lines.invariant (address_in c.read.new.row)
     (addresses_left c.read.new.self) (writer g.W.Write.contents g.W.CountedWrite.counts c.write_lines.new.out)
     (rw c.in-Ok-true.field-0-test at c.in-Ok-true.ensures.next) c.in-Ok-write_lines.ensures
 
 pub returns-in-Err-write_lines : goal.returns-in-Err-write_lines
 returns-in-Err-write_lines g c = λ addresses are.
-    batch_stopped c.args.batch.now.codes c.args.batch.now.counties c.loop-row.invariant addresses are (address_in c.read.new.row)
+    batch_stopped c.args.batch.now.codes c.args.batch.now.counties c.loop-lines.invariant addresses are (address_in c.read.new.row)
     (addresses_left c.read.new.self) c.in-Err-write_lines.failure
     (writer g.W.Write.contents g.W.CountedWrite.counts c.write_lines.new.out) (rw c.in-Ok-true.field-0-test at c.in-Ok-true.ensures.next)
     c.in-Err-write_lines.ensures

@@ -6,10 +6,10 @@ use Rattle.commands.proofs.BatchLemmas.{IsWrittenTo}
 use Rattle.commands.proofs.geocode_batch.write_batch.Given as goal
 
 -- the output for the addresses so far is written
-abbrev pub invariant-loop-row : goal.invariant-loop-row
-invariant-loop-row g l =
+abbrev pub invariant-loop-lines : goal.invariant-loop-lines
+invariant-loop-lines g l =
     IsWrittenTo (lines_of_all l.batch.codes l.batch.counties) l.file (addresses_left l.addresses)
     (writer g.W.Write.contents g.W.CountedWrite.counts l.fn.out) (writer g.W.Write.contents g.W.CountedWrite.counts l.out)
 
-abbrev pub decreases-loop-row : goal.decreases-loop-row
-decreases-loop-row g l = length (addresses_left l.addresses).addresses
+abbrev pub decreases-loop-lines : goal.decreases-loop-lines
+decreases-loop-lines g l = length (addresses_left l.addresses).addresses

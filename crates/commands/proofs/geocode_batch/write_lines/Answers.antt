@@ -12,4 +12,4 @@ returns g c =
     let lines = lines_of c.args.batch.now.codes c.args.batch.now.counties in
     written_unless _ _ c.write.result out out'
     (subst (λ (text : List ℕ). WritesAs text c.write.result out out')
-    (c.as_slice.ensures.value ∙ c.in-Ok.ensures ∙ ap lines c.address-address.ensures) c.write.ensures)
+    (c.as_bytes.ensures ∙ c.in-Ok.ensures ∙ ap lines c.address-address.ensures) c.write.ensures)

@@ -15,10 +15,10 @@ pub returns-in-Err-check_addresses-clause-carried : goal.returns-in-Err-check_ad
 returns-in-Err-check_addresses-clause-carried g c =
     let inputs = inputs_of c.args.self c.in-Ok.ensures.stay c.as_slice.result.now c.as_slice.ensures.value c.in-Ok.file.items
     c.in-Ok.ensures.known c.in-Ok-load_counties.counties.items c.in-Ok-load_counties.ensures.ok in
-    rw c.refusal.ensures (addresses_failed c.args.self inputs (unfailed_both c.in-Ok.ensures.uses c.in-Ok-load_counties.ensures.counts)
-    c.in-Err-check_addresses.fault
+    addresses_failed c.args.self inputs (unfailed_both c.in-Ok.ensures.uses c.in-Ok-load_counties.ensures.counts)
+    c.in-Err-check_addresses.fault c.of_addresses.result
     (subst (λ (file : List ℕ). TellsAddresses file c.in-Err-check_addresses.fault) c.as_slice-2.ensures.value
-    c.in-Err-check_addresses.ensures.err))
+    c.in-Err-check_addresses.ensures.err) c.of_addresses.ensures
 
 pub returns-clause-carried : goal.returns-clause-carried
 returns-clause-carried g c =
