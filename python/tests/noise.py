@@ -346,7 +346,8 @@ def draw_addresses(folder: Path, towns: Sequence[Town]) -> tuple[list[Drawn], li
 def main() -> None:
     with tempfile.TemporaryDirectory() as temporary:
         folder = next((Path(word) for word in sys.argv[1:] if word != "-v"), Path(temporary))
-        exact, noise = draw_addresses(folder, draw_counties(folder))
+        towns = draw_counties(folder)
+        exact, noise = draw_addresses(folder, towns)
         started = time.process_time(), time.monotonic()
         report("exact", measure(exact, folder / "first"))
         report("noise", measure(noise, folder / "first"))

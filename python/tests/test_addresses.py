@@ -216,7 +216,7 @@ def test_long_names() -> None:
     street = take_apart("5 " + "x" * LONGEST_NAME)
     assert isinstance(street, Street) and len(street.readings) == 1
     assert take_apart("5 " + "x" * (LONGEST_NAME + 1)) == Street(5, ())
-    assert take_apart("5 " + "é" * (LONGEST_NAME // 2 + 1)) == Street(5, ())
+    assert take_apart("5 " + "é" * (LONGEST_NAME + 1)) == Street(5, ())
     assert take_apart("5 " + "N Main St " * 50_000) == Street(5, ())
 
 

@@ -350,8 +350,8 @@ class TestInterrupts:
 
 
 def test_page(tmp_path: Path, monkeypatch: pytest.MonkeyPatch) -> None:
-    """The examples of `tigerline geocode` in docs/geocoding.md."""
-    page = (TOP / "docs/geocoding.md").read_text()
+    """The examples of `tigerline geocode` in docs/addresses.md."""
+    page = (TOP / "docs/addresses.md").read_text()
     shutil.copytree(EXAMPLES, tmp_path / "clone/examples")
     command = tmp_path / "bin/tigerline"
     command.parent.mkdir()

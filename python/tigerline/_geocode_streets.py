@@ -68,6 +68,10 @@ class TownStreets:
         """The names near to others."""
         return NearNames(self.streets)
 
+    def spellings(self, name: str) -> list[str]:
+        """Returns the spellings of a name in capitals, if there are letters whose case counts."""
+        return [name] if name.isascii() else sorted({street.name for street in self.streets.get(name, ())})
+
     def has_any(self, readings: tuple[Reading, ...]) -> bool:
         """Returns whether a street is called as one of the readings."""
         return any(reading.name.upper() in self.streets for reading in readings)
@@ -96,25 +100,26 @@ class Streets:
         """Yields readings of another spelling, type or direction. Notes in the answer what there is several times."""
         for key in filter(None, (answer.wanted.zip, answer.wanted.city)):
             town = self.town(key)
-            for reading in readings:
-                yield from _of_other_case(reading, town)
+            yield from _of_other_case(readings, town)
             if not town.has_any(readings):
                 for reading in readings:
                     for name in town.near.of(reading.name.upper()):
-                        yield reading.changed(Reason.SPELLING, Stage.SPELLING)._replace(name=name)
+                        for spelled in town.spellings(name):
+                            yield reading.changed(Reason.SPELLING, Stage.SPELLING)._replace(name=spelled)
                     answer.hint = answer.hint or town.near.hint(reading.name.upper())
         # What is in another town exactly as it is written has a wrong ZIP Code rather than a wrong type.
-        for reading in readings if not answer.refused else ():
-            streets = self.town(answer.wanted.zip).streets.get(reading.name.upper(), set())
+        town = self.town(answer.wanted.zip)
+        for reading in (*readings, *_of_other_case(readings, town)) if not answer.refused else ():
+            streets = town.streets.get(reading.name.upper(), set())
             if answer.wanted.zip and streets:
                 yield from _of_other_parts(reading, sorted(streets), answer)
 
 
-def _of_other_case(reading: Reading, town: TownStreets) -> Iterator[Reading]:
-    """Yields the reading with the names that differ in the case of letters beyond ASCII, which the program tells apart."""
-    if not reading.name.isascii():
-        names = {street.name for street in town.streets.get(reading.name.upper(), ())}
-        yield from (reading._replace(name=name) for name in sorted(names))
+def _of_other_case(readings: tuple[Reading, ...], town: TownStreets) -> Iterator[Reading]:
+    """Yields the readings with a letter beyond ASCII as the town spells them. The program tells the case of these letters apart."""
+    for reading in readings:
+        if not reading.name.isascii():
+            yield from (reading._replace(name=name) for name in town.spellings(reading.name.upper()))
 
 
 def _of_other_parts(reading: Reading, streets: list[StreetName], answer: Answer) -> Iterator[Reading]:
