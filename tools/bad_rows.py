@@ -7,7 +7,8 @@
     --jobs N                                   how many run at once; 1 to 2 GB of memory each
 
 A table is a constant of the type `Table`. Its last row is put in once more, without its last cell, with a further cell, or with a misspelt word or
-number, and the table says that it has one row more. `rt try --test` compiles and runs the tests, without a proof.
+number, and the table says that it has one row more. `rt try --test` compiles and runs the tests, without a proof. Tables that have no test in
+common are tried at once.
 
 Prints the tables that pass with such a row. The last line is `N passed, N failed`, where a table has passed if each bad row made the tests fail.
 """
@@ -21,7 +22,7 @@ import sys
 import tempfile
 from concurrent.futures import ThreadPoolExecutor
 from pathlib import Path
-from typing import Dict, Iterator, List, NamedTuple, Optional
+from typing import Dict, Iterator, List, NamedTuple, Optional, Set, Tuple
 
 from crate_copy import TOP, make_copy
 
@@ -29,6 +30,8 @@ TABLE = re.compile(r"const (?P<name>\w+): (?:fixtures::)?Table = Table \{\n\s*ro
 # The last literal of a table's text: `r#"..."#`, `r"..."` or `"..."`, which another literal of a concat! may precede.
 CLOSING = re.compile(r'(\n?)"#?,?\s*\)?,?\s*$')
 SECONDS = "900"  # that a test has, also on a busy machine
+# A test that failed, by its module and name. One that ran out of time hasn't refused a row.
+FAILED_TEST = re.compile(r"^test (\S+) \.\.\. (?!ok\b)(?!.*no-answer)", re.MULTILINE)
 KINDS = ["missing cell", "further cell", "misspelt cell"]
 SEPARATORS = [" => ", " ;; ", "|", ";"]
 
@@ -84,14 +87,59 @@ def with_row(source: str, name: str, row: Optional[str] = None, kind: str = "") 
     return source[: found.start()] + table + source[found.end() :]
 
 
-def outcome(table: Table, kind: str) -> str:
-    """Returns `fails` if the tests fail with a bad row, as they must; `none` if the table has no such row; else what happened."""
-    source = with_row(table.path.read_text(encoding="utf-8"), table.name, kind=kind)
-    if source is None:
-        return "none"
+def functions_of(source: str) -> Iterator[Tuple[str, str, bool]]:
+    """Yields the functions of a source: the name, the text up to the next one, and whether it is a test."""
+    starts = list(re.finditer(r"(?P<test>#\[test\]\s*)?\bfn (?P<name>\w+)", source))
+    for at, found in enumerate(starts):
+        end = starts[at + 1].start() if at + 1 < len(starts) else len(source)
+        yield found["name"], source[found.end() : end], found["test"] is not None
+
+
+def tests_of(chosen: List[Table]) -> Dict[Table, Set[str]]:
+    """Returns the tests of each table, by module and name: those that name it, or that call a function which does. Equal names aren't told apart."""
+    tests: Dict[Table, Set[str]] = {}
+    for crate in {table.crate for table in chosen}:
+        folder = TOP / "crates" / crate / "src"
+        functions = [
+            ("::".join([*path.relative_to(folder).with_suffix("").parts, name]), text, is_test)
+            for path in sorted(folder.rglob("*.rt"))
+            for name, text, is_test in functions_of(path.read_text(encoding="utf-8"))
+        ]
+        for table in (it for it in chosen if it.crate == crate):
+            names_it = re.compile(rf"\b{table.name}\b")
+            naming = {name for name, text, _ in functions if names_it.search(text)}
+            calls_one = re.compile(r"\b(?:" + "|".join(sorted({name.split("::")[-1] for name in naming} | {"-"})) + r")\(")
+            tests[table] = {name for name, text, is_test in functions if is_test and (name in naming or calls_one.search(text))}
+    return tests
+
+
+def rounds(chosen: List[Table], tests: Dict[Table, Set[str]]) -> Iterator[List[Table]]:
+    """Yields groups of a crate's tables that have no test in common. A failed test then shows which of them it refuses."""
+    groups: List[List[Table]] = []
+    for table in chosen:
+        fitting = (it for it in groups if it[0].crate == table.crate and not any(tests[table] & tests[other] for other in it))
+        group = next(fitting, None) if tests[table] else None
+        if group is None:
+            groups.append([table])
+        else:
+            group.append(table)
+    yield from groups
+
+
+def run_tests(group: List[Table], kind: str) -> Tuple[List[Table], str]:
+    """Runs the tests of a crate with a bad row in each of these tables that have one. Returns these tables, and the output."""
+    crate = group[0].crate
+    bad: List[Table] = []
     with tempfile.TemporaryDirectory(prefix="bad-row-") as room:
-        folder = make_copy(table.crate, Path(room), is_proved=False)
-        (folder / table.path.relative_to(TOP / "crates" / table.crate)).write_text(source, encoding="utf-8")
+        folder = make_copy(crate, Path(room), is_proved=False)
+        for table in group:
+            path = folder / table.path.relative_to(TOP / "crates" / crate)
+            source = with_row(path.read_text(encoding="utf-8"), table.name, kind=kind)
+            if source is not None:
+                path.write_text(source, encoding="utf-8")
+                bad.append(table)
+        if not bad:
+            return bad, ""
         done = subprocess.run(
             ["rt", "try", "--test", "--seconds", SECONDS],
             cwd=folder,
@@ -100,25 +148,39 @@ def outcome(table: Table, kind: str) -> str:
             stderr=subprocess.STDOUT,
             errors="replace",
         )
-    result = re.search(r"^test result: .* (\d+) passed; (\d+) failed", done.stdout, re.MULTILINE)
-    if result is None:
-        return f"can't be tried: {done.stdout.strip()[-400:]}"
-    # A test that runs out of time hasn't refused the row.
-    late = done.stdout.count("checked: no-answer")
-    if int(result[2]) > late:
-        return "fails"
-    return "can't be tried: a test ran out of time" if late else "passes"
+    return bad, done.stdout
 
 
-def fault_of(table: Table, kinds: List[str]) -> Optional[str]:
-    """Returns why a table isn't refused with some bad row, if so."""
-    outcomes = {kind: outcome(table, kind) for kind in kinds}
-    if set(outcomes.values()) == {"none"}:
-        outcomes["misspelt"] = outcome(table, "misspelt")
-    wrong = [f"{kind}: {it}" for kind, it in outcomes.items() if it not in ("fails", "none")]
-    if not wrong and "fails" not in outcomes.values():
-        wrong = ["no bad row was found"]
-    return "; ".join(wrong) or None
+def outcomes(group: List[Table], kind: str, tests: Dict[Table, Set[str]]) -> Dict[Table, str]:
+    """Returns `fails` for each table whose tests fail with a bad row, as they must; `none` if it has no such row; else what happened."""
+    bad, output = run_tests(group, kind)
+    found = {table: "none" for table in group}
+    if not bad:
+        return found
+    if not re.search(r"^test result: ", output, re.MULTILINE):
+        return {table: f"can't be tried: {output.strip()[-400:]}" for table in group}
+    failed = set(FAILED_TEST.findall(output))
+    for table in bad:
+        found[table] = "fails" if tests[table] & failed or (len(group) == 1 and failed) else "passes"
+    return found
+
+
+def faults_of(group: List[Table], kinds: List[str], tests: Dict[Table, Set[str]]) -> Dict[Table, Optional[str]]:
+    """Returns why a table isn't refused with some bad row, for each that isn't."""
+    all_found: Dict[Table, Dict[str, str]] = {table: {} for table in group}
+    left = group
+    for kind in [*kinds, *(kind for kind in [*KINDS, "misspelt"] if kind not in kinds)]:
+        for table, found in outcomes(left, kind, tests).items() if left else ():
+            all_found[table][kind] = found
+        # A table without a bad row of the kinds that were asked for is tried with another.
+        left = left if kind in kinds[:-1] else [table for table in left if set(all_found[table].values()) == {"none"}]
+    faults: Dict[Table, Optional[str]] = {}
+    for table, found_ones in all_found.items():
+        wrong = [f"{kind}: {it}" for kind, it in found_ones.items() if it not in ("fails", "none")]
+        if not wrong and "fails" not in found_ones.values():
+            wrong = ["no bad row was found"]
+        faults[table] = "; ".join(wrong) or None
+    return faults
 
 
 def main() -> int:
@@ -130,12 +192,15 @@ def main() -> int:
     chosen = [it for it in tables() if not given.names or it.crate in given.names or it.label in given.names]
     if not chosen:
         sys.exit("there is no such table")
+    tests = tests_of(chosen)
+    groups = list(rounds(chosen, tests))
+    kinds = [KINDS if given.every_kind else [KINDS[at % len(KINDS)]] for at in range(len(groups))]
     failed = 0
     with ThreadPoolExecutor(given.jobs) as pool:
-        trials = [(table, KINDS if given.every_kind else [KINDS[at % len(KINDS)]]) for at, table in enumerate(chosen)]
-        for table, fault in zip(chosen, pool.map(lambda it: fault_of(*it), trials)):
-            print(f"{'FAILED' if fault else 'ok'}: {table.label}{f': {fault}' if fault else ''}", flush=True)
-            failed += fault is not None
+        for faults in pool.map(faults_of, groups, kinds, [tests] * len(groups)):
+            for table, fault in faults.items():
+                print(f"{'FAILED' if fault else 'ok'}: {table.label}{f': {fault}' if fault else ''}", flush=True)
+                failed += fault is not None
     print(f"{len(chosen) - failed} passed, {failed} failed")
     return 1 if failed else 0
 
