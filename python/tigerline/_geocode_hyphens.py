@@ -15,7 +15,7 @@ LONGEST_PART = 5  # digits; with the hyphen, two parts are as long as a field.
 _PLACES = {field.name: field.bytes for field in FIELDS}
 _END = re.compile(rb" *([0-9]{1,5})-([0-9]{1,5}) *")
 _WIDTH = 11
-# Where the range of the left side begins, and behind it that of the right side.
+# Where the range of the left side begins. That of the right side follows it.
 _RANGES = {"1": _PLACES["FRADDL"].start, "6": 18}
 
 
