@@ -1,16 +1,16 @@
 //! Replies, and writing them.
 ghost use Rattle.std.specs.Prelude.{[], ◌≡◌, ◌≤◌, ◌+◌, ◌++◌, length, None, option_map};
 ghost use Rattle.std.specs.Option.{ForSome};
-ghost use Rattle.tl_fields.specs.Device.{writer};
-ghost use Rattle.tl_fields.specs.Writing.{WritesText};
+ghost use Rattle.counted_io.specs.Device.{writer};
+ghost use Rattle.counted_io.specs.Writing.{WritesText};
 ghost use Rattle.http_reply.specs.Status.{text};
 ghost use Rattle.http_reply.specs.Reply.{allow_header, head, header, media_type, parts_of, reply_text, status_line};
 ghost use Rattle.http_reply.specs.declared.reply.MediaType.TheVariants.{Plain};
 
 use crate::status::Status;
 use arrayvec::ArrayVec;
+use counted_io::{CountedWrite, WriteFault, write_whole};
 use itoa::Buffer;
-use tl_fields::{CountedWrite, WriteFault, write_whole};
 
 /// The greatest number of bytes of a body that are stored in the reply itself.
 pub const LEAD_LIMIT: usize = 65;

@@ -1,7 +1,7 @@
 -- The bytes taken from a reader by several reads.
 use Rattle.std.proofs.Common.{ℕ, List, [], ◌++◌, ◌∙◌, refl}
-use Rattle.tl_fields.specs.Device.{Reader}
-use Rattle.tl_fields.proofs.KnownBytesLemmas.{Consumes-append, Consumes-refl}
+use Rattle.counted_io.specs.Device.{Reader}
+use Rattle.counted_io.proofs.KnownBytesLemmas.{Consumes-append, Consumes-refl}
 use Rattle.http_request.specs.Reading.{Takes}
 
 -- if nothing was read, nothing was taken

@@ -2,7 +2,7 @@
 use Rattle.std.specs.Prelude.{ℕ, ◌≤◌, List, length, take, Option, None, Some, Result, Ok, Err}
 use Rattle.httparse.specs.declared.spans.HeaderSpan.{HeaderSpan}
 use Rattle.httparse.specs.Spans.{IsRequestOf, IsRequestWithin}
-use Rattle.tl_fields.specs.Device.{Reader}
+use Rattle.counted_io.specs.Device.{Reader}
 use Rattle.http_request.specs.Reading.{FailsInHead, IsClosed, LacksHead, Takes}
 use Rattle.http_request.specs.declared.head.Found.{Found}
 use Rattle.http_request.specs.declared.head.HeadFault.{HeadFault}

@@ -1,12 +1,12 @@
 //! The body of a request, read piece by piece.
 ghost use Rattle.std.specs.Prelude.{◌≡◌, MatchResult};
-ghost use Rattle.tl_fields.specs.Device.{reader};
+ghost use Rattle.counted_io.specs.Device.{reader};
 ghost use Rattle.http_request.specs.Reading.{EndsBody, ReadsBody};
 ghost use Rattle.http_request.specs.declared.body.BodyFault.TheVariants.{Memory};
 
+use counted_io::CountedRead;
 use std::alloc::{AllocError, Allocator};
 use thiserror::Error;
-use tl_fields::CountedRead;
 
 /// Why a body can't be read.
 #[derive(Clone, Copy, Debug, PartialEq, Eq, Error)]

@@ -1,14 +1,14 @@
 //! The head of a request, read into a buffer of a fixed size.
 ghost use Rattle.std.specs.Prelude.{◌≡◌, length};
-ghost use Rattle.tl_fields.specs.Device.{reader};
+ghost use Rattle.counted_io.specs.Device.{reader};
 ghost use Rattle.http_request.specs.Reading.{AnswersHead};
 ghost use Rattle.http_request.specs.Search.{AnswersSearch};
 
 use crate::request::Request;
+use counted_io::CountedRead;
 use httparse::Status;
 use httparse::spans::{EMPTY_HEADER_SPAN, HeaderSpan, RequestSpans, parse_request};
 use thiserror::Error;
-use tl_fields::CountedRead;
 
 /// The greatest number of bytes of a head, including the empty line that ends it.
 pub const HEAD_LIMIT: usize = 8192;

@@ -1,6 +1,6 @@
 //! Laws over the definitions, as contracts of functions that do nothing.
 ghost use Rattle.std.specs.Prelude.{◌≡◌, ℕ, List, ◌++◌};
-ghost use Rattle.tl_fields.specs.Device.{Reader};
+ghost use Rattle.counted_io.specs.Device.{Reader};
 ghost use Rattle.http_request.specs.Head.{Head, HasHead};
 ghost use Rattle.http_request.specs.Reading.{EndsInBody, LacksHead, ReadsBody, ReadsHead, RequestParts};
 ghost use Rattle.http_request.specs.Whole.{HadHead, HadNoHead, HadRequest, HadShortRequest, left_of};

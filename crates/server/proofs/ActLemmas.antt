@@ -6,7 +6,7 @@ use Rattle.jobs.specs.declared.event.Reply.{Reply as JobReply}
 use Rattle.server.specs.Rounds.{AreRounds, Serving}
 use Rattle.server.specs.Service.{HasServed, HasTurned}
 use Rattle.server.specs.Tally.{ServesTallied, Tallied, TurnsTallied}
-use Rattle.tl_fields.specs.declared.writing.WriteFault.{WriteFault}
+use Rattle.counted_io.specs.declared.writing.WriteFault.{WriteFault}
 use Rattle.wire.specs.Event.{Act, AreActs, Replied, Rested, Turned}
 use Rattle.wire.specs.Serving.{Connection, IsReplied, IsServed}
 use Rattle.wire.specs.State.{StateParts}

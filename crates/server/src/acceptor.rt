@@ -3,11 +3,11 @@ ghost use Rattle.std.specs.Prelude.{◌≡◌, IfErr, false};
 ghost use Rattle.std.specs.IoError.{error_kind};
 ghost use Rattle.server.specs.Acceptor.{CountsAccept, is_passed_over};
 
+use counted_io::count_one;
 use std::io;
 use std::io::ErrorKind;
 use std::marker::Model;
 use std::net::OpenListener;
-use tl_fields::count_one;
 
 /// An acceptor of connections at a listener, which counts them and the accepts that failed. Contracts see it as a record with the fields `taken`
 /// and `failed`.

@@ -1,10 +1,10 @@
 //! The service of each connection.
 ghost use Rattle.std.specs.Prelude.{⊤};
-ghost use Rattle.tl_fields.specs.Device.{reader, writer};
+ghost use Rattle.counted_io.specs.Device.{reader, writer};
 ghost use Rattle.server.specs.Service.{Ends};
 ghost use Rattle.server.specs.declared.service.Close.{Close};
 
-use tl_fields::{CountedRead, CountedWrite};
+use counted_io::{CountedRead, CountedWrite};
 
 /// The way to close a connection.
 #[derive(Clone, Copy, PartialEq, Eq)]

@@ -9,11 +9,11 @@ use crate::ends::{ClientReader, ClientWriter};
 use crate::limits::Limits;
 use crate::service::{Close, Service};
 use crate::tally::Tally;
+use counted_io::Counting;
 use std::io;
 use std::io::Read;
 use std::net::{OpenListener, Shutdown, TcpStream};
 use std::time::{Clock, Duration};
-use tl_fields::Counting;
 
 /// Serves connections one by one until an accept fails, and returns its error. The service serves each connection once, and makes one turn after
 /// it.

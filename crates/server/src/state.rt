@@ -1,7 +1,7 @@
 //! The program's service: requests over HTTP, and the turns of its jobs.
 use crate::service::{Close, Service};
+use counted_io::{CountedRead, CountedWrite};
 use std::alloc::Allocator;
-use tl_fields::{CountedRead, CountedWrite};
 use wire::{Extent, State, serve_request};
 
 impl<A: Allocator + Copy> Service for State<A> {

@@ -2,8 +2,8 @@
 ghost use Rattle.std.specs.Prelude.{◌≡◌};
 
 use crate::service::{Close, Service};
+use counted_io::{CountedRead, CountedWrite, count_one};
 use std::marker::Model;
-use tl_fields::{CountedRead, CountedWrite, count_one};
 
 /// Any service, with the number of connections that it served and the number of turns that it made.
 ///

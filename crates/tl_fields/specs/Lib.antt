@@ -1,10 +1,4 @@
 pub mod Aligned
-pub mod Buffered
-pub mod Content
 pub mod Coordinate
-pub mod Counted
-pub mod Device
 pub mod Field
-pub mod Fuse
 pub mod Number
-pub mod Writing

@@ -1,20 +1,13 @@
-//! Fields of a record line, the numbers and coordinates in them, and readers and writers that count their failures.
+//! Fields of a record line, and the numbers and coordinates in them.
 #![tactic(auto)]
 
 mod aligned;
-mod buffered;
-mod content;
-mod counted;
 mod fields;
-mod fuse;
-mod line_copy;
 mod numbers;
-mod writing;
 
-pub use buffered::Buffered;
-pub use content::{LONGEST_CONTENT, Stop};
-pub use counted::{CountedRead, CountedWrite, Counting, count_one};
+pub use counted_io::{
+    Buffered, Burst, CountedRead, CountedWrite, Counting, Fuse, LONGEST_CONTENT, Stop, WriteFault,
+    count_one, write_whole,
+};
 pub use fields::field;
-pub use fuse::{Burst, Fuse};
 pub use numbers::{blank, coordinate, has_number, number};
-pub use writing::{WriteFault, write_whole};

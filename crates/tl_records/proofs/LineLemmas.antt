@@ -4,7 +4,7 @@ use Rattle.std.proofs.Common.{append_assoc, length-append, arith}
 use Rattle.std.proofs.lemmas.List.{append_cancel_right}
 use Rattle.std.proofs.lemmas.Bool.{cases_eq}
 use Rattle.std.proofs.lemmas.List.Elements.{All-nil, All-cons, All-head, All-tail, All-push, All-pop}
-use Rattle.tl_fields.specs.Content.{HasNoLineFeed}
+use Rattle.counted_io.specs.Content.{HasNoLineFeed}
 use Rattle.tl_records.specs.Lines.{EndsInReturn, IsEnded, by_lf, by_cr_lf, missing, IsFirstLine, AreLines, IsWithoutReturn}
 
 -- the bytes before the first line feed, and those after it, are unique

@@ -3,7 +3,7 @@ use Rattle.std.proofs.Common.{◌≡◌, ◌≢◌, ℕ, ◌≤◌, inl, inr, Li
 use Rattle.std.proofs.Common.{length-append, arith}
 use Rattle.std.proofs.lemmas.List.Elements.{All-pop}
 use Rattle.std.specs.Io.KnownBytes.{Consumes}
-use Rattle.tl_fields.specs.Content.{HasNoLineFeed}
+use Rattle.counted_io.specs.Content.{HasNoLineFeed}
 use Rattle.tl_records.specs.Lines.{WhereKnown, IsNextLine, IsWithoutReturn}
 use Rattle.tl_records.proofs.LineLemmas.{ended_by_lf}
 

@@ -1,8 +1,8 @@
 -- Lines of a file (TIGER/Line 2006, record layouts: a record is a line), and how they are read.
 use Rattle.std.specs.Prelude.{◌≡◌, ◌≢◌, ℕ, ◌+◌, ◌-◌, ◌^◌, ◌<◌, ◌≤◌, ◌⊎◌, ◌==◌, if◌then◌else◌, List, [], ◌∷◌, ◌++◌, length, Option, Some, None, Result, Ok, Err}
 use Rattle.std.specs.Io.KnownBytes.{IsAtEnd}
-use Rattle.tl_fields.specs.Content.{HasNoLineFeed}
-use Rattle.tl_fields.specs.Device.{Reader}
+use Rattle.counted_io.specs.Content.{HasNoLineFeed}
+use Rattle.counted_io.specs.Device.{Reader}
 use Rattle.tl_records.specs.declared.fault.LineFault.{LineFault}
 use Rattle.tl_records.specs.declared.fault.LineFlaw.{LineFlaw}
 use Rattle.tl_records.specs.declared.fault.LineFlaw.TheVariants.{WrongLength, Read, TooManyLines}

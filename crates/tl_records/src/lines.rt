@@ -1,12 +1,12 @@
 //! The lines of a file of records.
 ghost use Rattle.std.specs.Prelude.{◌≡◌, ◌-◌, ◌^◌, ◌≤◌, [], length};
-ghost use Rattle.tl_fields.specs.Device.{reader};
+ghost use Rattle.counted_io.specs.Device.{reader};
 ghost use Rattle.tl_records.specs.Lines.{IsLineRead, IsWithoutReturn};
 
 use crate::fault::{LineFault, LineFlaw};
 use arrayvec::ArrayVec;
+use counted_io::{CountedRead, LONGEST_CONTENT, Stop};
 use std::marker::Model;
-use tl_fields::{CountedRead, LONGEST_CONTENT, Stop};
 
 const CARRIAGE_RETURN: u8 = b'\r';
 

@@ -2,10 +2,10 @@
 use crate::plain;
 use crate::seen::Seen;
 use crate::sweep::growths;
+use counted_io::{Buffered, CountedRead};
 use fixtures::{FileTexts, Files, Table, TableFault, cells, is_refusal};
 use refusals::Fault;
 use std::alloc::{Allocator, Global};
-use tl_fields::{Buffered, CountedRead};
 use tl_segments::{County, Index, LoadFault};
 
 // The files of types 1, 4, 5 and 6, and what is seen of the segments.

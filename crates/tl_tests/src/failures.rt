@@ -1,10 +1,10 @@
 //! Failures of each read of a county's files.
 use crate::counties::{Way, load};
 use crate::seen::Seen;
+use counted_io::Burst;
 use fixtures::{Device, Files, Readers, Table, TableFault, cells, error_kind, is_refusal, number};
 use refusals::Fault;
 use std::alloc::Global;
-use tl_fields::Burst;
 use tl_segments::{CountyFile, LoadFault};
 
 const FILES: &str = r"{rt1\n*2}; {rt4\n*2}; {rt5\n*2}; {rt6\n*2}";

@@ -1,8 +1,8 @@
 //! The lines of files, worked out by hand.
+use counted_io::{Buffered, CountedRead, Counting};
 use fixtures::{Table, TableFault, bytes, cells};
 use std::alloc::Global;
 use std::io::BufReader;
-use tl_fields::{Buffered, CountedRead, Counting};
 use tl_records::{Line, read_line};
 
 // A file, and the results of reading it, each followed by LF: a line, or a fault, after which reading continues where it stopped.

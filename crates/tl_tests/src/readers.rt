@@ -1,9 +1,9 @@
 //! How often a reader is called, with and without a buffer: not after the end that it reported, and not again after a failure.
 use arrayvec::ArrayVec;
+use counted_io::{Buffered, CountedRead, Counting, Stop};
 use fixtures::{Device, Table, TableFault, cells, number, reader, size};
 use std::alloc::Global;
 use std::io::{BufReader, Read};
-use tl_fields::{Buffered, CountedRead, Counting, Stop};
 use tl_records::{Line, read_line, read_line_into};
 
 // Two lines, the last one without a terminator, and the number of bytes read for each, and at the end.

@@ -50,7 +50,7 @@ a
 a; b; c
 a; b; c; d; e";
 
-/// Returns whether a text of a row is refused, and not for want of memory.
+/// Returns whether a text of a row is refused, and not because memory ran out.
 fn is_refused(alloc: Global, row: &str) -> bool {
     let fault = match row.split_once('|') {
         Some(("number", text)) => number(text).err(),

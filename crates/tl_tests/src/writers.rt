@@ -1,8 +1,8 @@
 //! Writers that fail in the middle of their output: what they take, and what they count.
+use counted_io::{CountedWrite, Counting, WriteFault, write_whole};
 use fixtures::{Device, Table, TableFault, Writer, cells, number, size, taken, writer};
 use std::alloc::Global;
 use std::io::Write;
-use tl_fields::{CountedWrite, Counting, WriteFault, write_whole};
 
 // How a writer fails, and a sequence of calls and checks: a write of a text, with the number of bytes that it takes, or `-` if the call fails; a
 // flush; the counts of failed calls, of writes that took nothing and of flushes; the number of calls that its fuse counted; and everything that it

@@ -166,7 +166,7 @@ trial|write; one; pipe
 trial|cut; 1; none",
 };
 
-/// Returns whether a text of a row is refused, and not for want of memory.
+/// Returns whether a text of a row is refused, and not because memory ran out.
 fn is_refused(alloc: Global, row: &str) -> bool {
     let mut rows = Vec::new(alloc);
     let fault = match row.split_once('|') {

@@ -1,10 +1,10 @@
 //! A server whose readers, writers and heap can fail.
 use crate::notation::counties_of;
 use crate::rows::Row;
+use counted_io::Burst;
 use fixtures::{Device, Files, Refusing, TableFault, cells, error_kind, reader, size, writer};
 use jobs::{COUNTY_LIMIT, Reply};
 use std::alloc::{AllocError, Global};
-use tl_fields::Burst;
 use wire::{State, WireFault, serve_one};
 
 /// How rows are tried at a place.

@@ -1,4 +1,5 @@
 //! A service, a client and a clock.
+use counted_io::{CountedRead, CountedWrite};
 use fixtures::{TableFault, error_kind, size};
 use server::{Close, Limits, Service};
 use std::cell::Cell;
@@ -6,7 +7,6 @@ use std::io;
 use std::io::{ErrorKind, Read, Write};
 use std::net::{Shutdown, TcpStream};
 use std::time::{Clock, Duration};
-use tl_fields::{CountedRead, CountedWrite};
 
 /// Returns the fault in a cell: `none`, `end` for the end of the input, or a kind of error.
 pub fn fault_in(cell: &str) -> Result<Option<ErrorKind>, TableFault> {

@@ -1,6 +1,7 @@
 //! The program's service over sockets: requests over HTTP, and the turns of its jobs.
 use crate::notation::{counties_of, files_of};
 use crate::sockets::exchange::{Then, client_that, short_limits};
+use counted_io::Counting;
 use fixtures::{Table, TableFault, bytes, cells, size};
 use jobs::COUNTY_LIMIT;
 use server::{Acceptor, serve_next};
@@ -10,7 +11,6 @@ use std::io::{Read, Write};
 use std::net::{TcpListener, TcpStream};
 use std::test::Fail;
 use std::time::Clock;
-use tl_fields::Counting;
 use wire::{State, serve_one};
 
 // What a client does after its request, or `asks` if there is no connection; the request; the number of bytes of the reply, and its start. The

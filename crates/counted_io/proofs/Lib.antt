@@ -1,0 +1,4 @@
+pub mod BufferLemmas
+pub mod ContentLemmas
+pub mod CopyLemmas
+pub mod KnownBytesLemmas

@@ -1,0 +1,242 @@
+//! A counting reader over a buffered one.
+ghost use Rattle.std.specs.Prelude.{◌≡◌, ◌≤◌, ◌+◌, ◌++◌, ◌∷◌, [], None, IfSome, IsTrue, OnSome, length, take};
+ghost use Rattle.std.specs.Io.{ReadsAtMost};
+ghost use Rattle.std.specs.Io.KnownBytes.{ReadConsumes};
+ghost use Rattle.memchr.specs.Find.{IsFirstByte, is_byte};
+ghost use Rattle.counted_io.specs.Buffered.{IsFrontRead, IsLineInFront};
+ghost use Rattle.counted_io.specs.Content.{AddsStop, IsContentRead};
+ghost use Rattle.counted_io.specs.Counted.{AddsFailure, CountsFailure};
+
+use crate::content::{CARRIAGE_RETURN, LINE_FEED, LONGEST_CONTENT, Stop};
+use crate::counted::{CountedRead, count_one};
+use crate::line_copy::{LANES, copy_if_no_line_feed};
+use arrayvec::ArrayVec;
+use memchr::memchr;
+use std::io;
+use std::io::{BufRead, Read};
+
+/// A reader that counts the failures of the buffered reader that it wraps.
+///
+/// The end of a line is searched for in the buffer, and a one-byte read avoids copying a slice. The source is read when the buffer is empty, just as
+/// with one-byte reads.
+///
+/// As a [`Read`], it exposes no known bytes: its `remaining` is `None`, like a file's, because std's contract for a buffer says nothing about unknown
+/// bytes at the end of the input. Code that is generic over readers therefore promises nothing about the bytes of this one, but its promises about
+/// failed reads, order and lengths hold. If the inner reader's bytes are known, rely on the clauses `taken` and `known` of this type's own methods.
+/// [`Counting`](crate::Counting) exposes the bytes of its inner reader.
+#[derive(Drop)]
+pub struct Buffered<B> {
+    reader: B,
+    failed_reads: u64,
+}
+
+impl<B: BufRead> Buffered<B> {
+    /// Wraps the reader, with the count at 0.
+    pub fn new(reader: B) -> Self
+        ensures reader { result.reader ≡ reader }
+        ensures failed_reads { result.failed_reads ≡ 0 }
+    {
+        Buffered {
+            reader,
+            failed_reads: 0,
+        }
+    }
+
+    /// Returns the inner reader. Calls made through it aren't counted.
+    pub fn get_ref(&self) -> &B
+        ensures { result.now ≡ self.now.reader }
+    {
+        &self.reader
+    }
+
+    /// Returns the number of failed reads, modulo 2^64.
+    pub fn failed_reads(&self) -> u64
+        ensures { result ≡ self.now.failed_reads }
+    {
+        self.failed_reads
+    }
+
+    // Takes the part of a line that the buffer shows, and returns why the line stops there, or `None` if it goes on. The first `kept` bytes of the
+    // content belong to this line; the rest is left from an earlier one.
+    #[inline(always)]
+    fn read_front(
+        &mut self,
+        content: &mut ArrayVec<u8, LONGEST_CONTENT>,
+        kept: usize,
+    ) -> Option<Stop>
+        requires within { kept ≤ length content.old.items }
+        requires short { kept ≤ LONGEST_CONTENT }
+        ensures front { IsFrontRead (take kept content.old.items) content.new.items
+            (record { left = B.remaining self.old.reader; failed = self.old.failed_reads })
+            (record { left = B.remaining self.new.reader; failed = self.new.failed_reads }) result }
+        ensures exact { IfSome result (λ stop. AddsStop stop self.old.failed_reads self.new.failed_reads) }
+    {
+        let front = match self.reader.fill_buf() {
+            Ok(front) => front,
+            Err(_) => {
+                count_one(&mut self.failed_reads);
+                content.truncate(kept);
+                return Some(Stop::ReadFailed);
+            }
+        };
+        if copy_like_last(front, content, kept) {
+            self.reader.consume(content.len() + 1);
+            return Some(Stop::LineFeed);
+        }
+        let room = LONGEST_CONTENT - kept;
+        let shown = &front[..front.len().min(room + 1)];
+        let Some(length) = first_line_feed(shown) else {
+            if shown.is_empty() {
+                content.truncate(kept);
+                return Some(Stop::EndOfInput);
+            }
+            let count = shown.len();
+            if count > room {
+                self.reader.consume(count);
+                return Some(Stop::TooLong);
+            }
+            put_after(content, kept, shown);
+            self.reader.consume(count);
+            return None;
+        };
+        put_after(content, kept, &shown[..length]);
+        self.reader.consume(length + 1);
+        Some(Stop::LineFeed)
+    }
+
+    #[inline]
+    fn read_byte(&mut self, byte: &mut u8) -> io::Result<usize>
+        ensures bound { ReadsAtMost result (byte.new ∷ []) }
+        ensures bytes { OnSome (B.remaining self.old.reader)
+            (ReadConsumes (B.remaining self.old.reader) (B.remaining self.new.reader) result (byte.new ∷ [])) }
+        ensures failures { AddsFailure result self.old.failed_reads self.new.failed_reads }
+    {
+        let front = match self.reader.fill_buf() {
+            Ok(front) => front,
+            Err(error) => {
+                count_one(&mut self.failed_reads);
+                return Err(error);
+            }
+        };
+        let Some(first) = front.first().copied() else {
+            return Ok(0);
+        };
+        self.reader.consume(1);
+        *byte = first;
+        Ok(1)
+    }
+
+    #[cold]
+    fn read_slice(&mut self, buf: &mut [u8]) -> io::Result<usize>
+        ensures bound { ReadsAtMost result buf.new }
+        ensures bytes { ReadConsumes (B.remaining self.old.reader) (B.remaining self.new.reader) result buf.new }
+        ensures failures { AddsFailure result self.old.failed_reads self.new.failed_reads }
+    {
+        let result = self.reader.read(buf);
+        if result.is_err() {
+            count_one(&mut self.failed_reads);
+        }
+        result
+    }
+}
+
+impl<B: BufRead> Read for Buffered<B> {
+    #[inline]
+    fn read(&mut self, buf: &mut [u8]) -> io::Result<usize>
+        ensures bound { ReadsAtMost result buf.new }
+        ensures taken { OnSome (B.remaining self.old.reader)
+            (ReadConsumes (B.remaining self.old.reader) (B.remaining self.new.reader) result buf.new) }
+        ensures failures { AddsFailure result self.old.failed_reads self.new.failed_reads }
+    {
+        match buf {
+            [byte] => self.read_byte(byte),
+            _ => self.read_slice(buf),
+        }
+    }
+}
+
+impl<B: BufRead> CountedRead for Buffered<B> {
+    ghost failed_reads = { λ r. r.failed_reads };
+
+    #[inline]
+    fn read_counted(&mut self, buf: &mut [u8]) -> io::Result<usize>
+        ensures bound { ReadsAtMost result buf.new }
+        ensures taken { OnSome (B.remaining self.old.reader)
+            (ReadConsumes (B.remaining self.old.reader) (B.remaining self.new.reader) result buf.new) }
+        ensures failures { CountsFailure result self.old.failed_reads self.new.failed_reads }
+        ensures failed_reads { AddsFailure result self.old.failed_reads self.new.failed_reads }
+    {
+        self.read(buf)
+    }
+
+    #[inline(always)]
+    fn read_content(&mut self, content: &mut ArrayVec<u8, LONGEST_CONTENT>) -> Stop
+        ensures content { IsContentRead content.new.items
+            (record { left = None; failed = self.old.failed_reads })
+            (record { left = None; failed = self.new.failed_reads }) result }
+        // The same for a buffered reader whose bytes are known.
+        ensures known { OnSome (B.remaining self.old.reader) (IsContentRead content.new.items
+            (record { left = B.remaining self.old.reader; failed = self.old.failed_reads })
+            (record { left = B.remaining self.new.reader; failed = self.new.failed_reads }) result) }
+        ensures exact { AddsStop result self.old.failed_reads self.new.failed_reads }
+    {
+        let mut kept = 0;
+        loop {
+            if let Some(stop) = self.read_front(content, kept) {
+                return stop;
+            }
+            kept = content.len();
+        }
+    }
+}
+
+/// Returns the index of the first line feed. This is a separate function because most lines are read without it.
+#[cold]
+#[inline(never)]
+fn first_line_feed(bytes: &[u8]) -> Option<usize>
+    ensures { IsFirstByte (is_byte LINE_FEED) bytes.now result }
+{
+    memchr(LINE_FEED, bytes)
+}
+
+/// Replaces the content with the line at the front of a buffer, if its record has the content's length and the buffer shows all of it, as it does for
+/// most records. Otherwise returns false, with any bytes after the kept ones. A CR before the line feed isn't counted.
+#[inline(always)]
+fn copy_like_last(front: &[u8], content: &mut ArrayVec<u8, LONGEST_CONTENT>, kept: usize) -> bool
+    requires { kept ≤ length content.old.items }
+    ensures line { IsTrue result → IsLineInFront front.now content.new.items × (kept ≡ 0) }
+    ensures kept { take kept content.new.items ≡ take kept content.old.items }
+    ensures within { kept ≤ length content.new.items }
+{
+    let length = content.len();
+    if kept != 0 || length < LANES || length >= front.len() {
+        return false;
+    }
+    if front[length] == LINE_FEED {
+        return copy_if_no_line_feed(&front[..length], content.as_mut_slice());
+    }
+    if length == LONGEST_CONTENT || length + 1 == front.len() {
+        return false;
+    }
+    if front[length] != CARRIAGE_RETURN || front[length + 1] != LINE_FEED {
+        return false;
+    }
+    let copied = copy_if_no_line_feed(&front[..length], content.as_mut_slice());
+    content.push(CARRIAGE_RETURN);
+    copied
+}
+
+/// Replaces everything after the kept bytes. If the new line has the length of the old one, as records do, nothing is cleared.
+#[inline(never)]
+fn put_after(content: &mut ArrayVec<u8, LONGEST_CONTENT>, kept: usize, bytes: &[u8])
+    requires within { kept ≤ length content.old.items }
+    requires room { kept + length bytes.now ≤ LONGEST_CONTENT }
+    ensures { content.new.items ≡ take kept content.old.items ++ bytes.now }
+{
+    if kept == 0 && content.len() == bytes.len() {
+        content.as_mut_slice().copy_from_slice(bytes);
+        return;
+    }
+    content.truncate(kept);
+    content.try_extend_from_slice(bytes).unwrap();
+}

@@ -1,0 +1,159 @@
+//! Readers and writers that fail once, for testing the code that uses them.
+ghost use Rattle.std.specs.Prelude.{◌≡◌, ◌≤◌, take, true, false, length, IsErr, IfOk};
+ghost use Rattle.std.specs.Io.{ReadsAtMost, WritesAtMost};
+ghost use Rattle.std.specs.Io.KnownBytes.{Keeps, ReadConsumes, WriteAppends};
+ghost use Rattle.counted_io.specs.Counted.{CountsFailure, CountsFlush, CountsWrite};
+
+use crate::counted::{CountedRead, CountedWrite, count_one};
+use std::io;
+use std::io::{ErrorKind, Read, Write};
+
+/// How the failing call fails.
+#[derive(Clone, Copy, PartialEq, Eq)]
+pub enum Burst {
+    /// The call returns an error.
+    Fails(ErrorKind),
+    /// The write takes none of its bytes. A read or a flush returns a `WriteZero` error instead.
+    TakesNothing,
+}
+
+/// A reader or writer that passes a number of calls, or takes a number of bytes, then fails one call and passes every call after it.
+///
+/// A call that passes is one call of the inner reader or writer, and that one's counts show what it did. A call that fails never reaches the inner
+/// reader or writer. The fuse counts its calls, which exposes a caller that retries a failed one.
+#[derive(Drop)]
+pub struct Fuse<T> {
+    pub inner: T,
+    /// The number of calls that still pass.
+    pub calls_left: u64,
+    /// The number of bytes that writes still take.
+    pub bytes_left: usize,
+    pub burst: Burst,
+    pub is_blown: bool,
+    /// The number of calls, modulo 2^64.
+    pub calls: u64,
+}
+
+impl<T> Fuse<T> {
+    ghost use Rattle.counted_io.specs.Fuse.{after_call, is_due, room};
+
+    /// Creates a fuse that passes `calls` calls and then fails one.
+    pub fn after_calls(inner: T, calls: u64, burst: Burst) -> Self
+        ensures { result ≡ record { inner = inner; calls_left = calls; bytes_left = usize.MAX; burst = burst; is_blown = false; calls = 0 } }
+    {
+        Fuse {
+            inner,
+            calls_left: calls,
+            bytes_left: usize::MAX,
+            burst,
+            is_blown: false,
+            calls: 0,
+        }
+    }
+
+    /// Creates a fuse that takes `bytes` bytes and then fails a call.
+    pub fn after_bytes(inner: T, bytes: usize, burst: Burst) -> Self
+        ensures { result ≡ record { inner = inner; calls_left = u64.MAX; bytes_left = bytes; burst = burst; is_blown = false; calls = 0 } }
+    {
+        Fuse {
+            inner,
+            calls_left: u64::MAX,
+            bytes_left: bytes,
+            burst,
+            is_blown: false,
+            calls: 0,
+        }
+    }
+
+    /// Counts a call with `bytes` bytes, and returns whether it must fail.
+    fn blows(&mut self, bytes: usize) -> bool
+        ensures value { result ≡ is_due self.old bytes }
+        ensures counted { self.new ≡ after_call self.old bytes }
+    {
+        let is_spent = self.calls_left == 0 || (self.bytes_left == 0 && bytes > 0);
+        let is_due = !self.is_blown && is_spent;
+        self.is_blown = self.is_blown || is_due;
+        self.calls_left = self.calls_left.saturating_sub(1);
+        count_one(&mut self.calls);
+        is_due
+    }
+
+    /// Returns how many of these bytes a write forwards.
+    fn room(&self, bytes: usize) -> usize
+        ensures { result ≡ room self.now bytes }
+    {
+        if self.is_blown {
+            bytes
+        } else {
+            bytes.min(self.bytes_left)
+        }
+    }
+
+    fn error(&self) -> io::Error {
+        match self.burst {
+            Burst::Fails(kind) => io::Error::from(kind),
+            Burst::TakesNothing => io::Error::from(ErrorKind::WriteZero),
+        }
+    }
+}
+
+impl<T: CountedRead> Read for Fuse<T> {
+    ghost use Rattle.counted_io.specs.Fuse.{after_call, is_due};
+
+    ghost remaining = { λ fuse. T.remaining fuse.inner };
+
+    fn read(&mut self, buf: &mut [u8]) -> io::Result<usize>
+        ensures bound { ReadsAtMost result buf.new }
+        ensures bytes { ReadConsumes (T.remaining self.old.inner) (T.remaining self.new.inner) result buf.new }
+        ensures due { is_due self.old 0 ≡ true → IsErr result × (self.new ≡ after_call self.old 0) }
+        ensures passed { is_due self.old 0 ≡ false
+            → CountsFailure result (T.failed_reads self.old.inner) (T.failed_reads self.new.inner) }
+        ensures counted { self.new ≡ record (after_call self.old 0) { inner = self.new.inner } }
+    {
+        if self.blows(0) {
+            return Err(self.error());
+        }
+        self.inner.read_counted(buf)
+    }
+}
+
+impl<T: CountedWrite> Write for Fuse<T> {
+    ghost use Rattle.counted_io.specs.Fuse.{GoesWrong, after_call, is_due, left_behind, room};
+
+    ghost contents = { λ fuse. T.contents fuse.inner };
+
+    fn write(&mut self, buf: &[u8]) -> io::Result<usize>
+        ensures bound { WritesAtMost result buf.now }
+        ensures bytes { WriteAppends (T.contents self.old.inner) (T.contents self.new.inner) result buf.now }
+        ensures due { is_due self.old (length buf.now) ≡ true
+            → GoesWrong self.old.burst result × (self.new ≡ after_call self.old (length buf.now)) }
+        ensures passed { is_due self.old (length buf.now) ≡ false
+            → CountsWrite result (take (room self.old (length buf.now)) buf.now) (T.counts self.old.inner) (T.counts self.new.inner) }
+        ensures counted { self.new
+            ≡ record (after_call self.old (length buf.now)) { inner = self.new.inner; bytes_left = left_behind self.old result } }
+        ensures room { self.old.is_blown ≡ false → IfOk result (λ taken. taken ≤ self.old.bytes_left) }
+    {
+        if self.blows(buf.len()) {
+            return match self.burst {
+                Burst::TakesNothing => Ok(0),
+                Burst::Fails(_) => Err(self.error()),
+            };
+        }
+        let room = self.room(buf.len());
+        let taken = self.inner.write_counted(&buf[..room])?;
+        self.bytes_left = self.bytes_left.saturating_sub(taken);
+        Ok(taken)
+    }
+
+    fn flush(&mut self) -> io::Result<()>
+        ensures bytes { Keeps (T.contents self.old.inner) (T.contents self.new.inner) }
+        ensures due { is_due self.old 0 ≡ true → IsErr result × (self.new ≡ after_call self.old 0) }
+        ensures passed { is_due self.old 0 ≡ false → CountsFlush result (T.counts self.old.inner) (T.counts self.new.inner) }
+        ensures counted { self.new ≡ record (after_call self.old 0) { inner = self.new.inner } }
+    {
+        if self.blows(0) {
+            return Err(self.error());
+        }
+        self.inner.flush_counted()
+    }
+}

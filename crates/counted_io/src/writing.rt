@@ -1,0 +1,44 @@
+//! Writing a text completely or up to the first fault.
+ghost use Rattle.counted_io.specs.Device.{writer};
+ghost use Rattle.counted_io.specs.Writing.{WritesText};
+
+use crate::counted::CountedWrite;
+use refusals::{Fault, Refusal};
+use thiserror::Error;
+
+/// Why a text wasn't written completely.
+#[derive(Clone, Copy, Debug, PartialEq, Eq, Error)]
+pub enum WriteFault {
+    #[error("a write failed")]
+    Write,
+    #[error("a write took no byte")]
+    WriteZero,
+}
+
+impl Fault for WriteFault {
+    ghost use Rattle.counted_io.specs.Writing.{refusal};
+
+    ghost refusal_of = { refusal };
+
+    fn refusal(&self) -> Refusal {
+        match self {
+            WriteFault::Write => Refusal::device(60, "Write"),
+            WriteFault::WriteZero => Refusal::device(61, "WriteZero"),
+        }
+    }
+}
+
+/// Writes the text, in as many writes as it takes. Nothing is retried, not even after `Interrupted`, and nothing is flushed.
+pub fn write_whole<W: CountedWrite>(out: &mut W, text: &[u8]) -> Result<(), WriteFault>
+    ensures { WritesText text.now result (writer W.contents W.counts out.old) (writer W.contents W.counts out.new) }
+{
+    let mut rest = text;
+    while !rest.is_empty() {
+        match out.write_counted(rest) {
+            Ok(0) => return Err(WriteFault::WriteZero),
+            Ok(count) => rest = &rest[count..],
+            Err(_) => return Err(WriteFault::Write),
+        }
+    }
+    Ok(())
+}
