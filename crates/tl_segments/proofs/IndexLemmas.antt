@@ -6,7 +6,7 @@ use Rattle.std.specs.List.{filter_map, find, flat_map, cons_option}
 use Rattle.std.specs.Option.{option_and_then, option_map_or}
 use Rattle.std.proofs.lemmas.List.{map-append, length-map}
 use Rattle.std.proofs.lemmas.List.Elements.{filter_map-append, All-nil, All-cons}
-use Rattle.tl_fields.specs.Device.{Reader}
+use Rattle.counted_io.specs.Device.{Reader}
 use Rattle.tl_fields.specs.Number.{number_of}
 use Rattle.tl_records.specs.Layout.{field_at}
 use Rattle.tl_records.specs.Lines.{LineParts}

@@ -4,8 +4,8 @@ use Rattle.std.proofs.Common.{length, slice_index, Option, Some, None, is_some, 
 use Rattle.std.proofs.Common.{arith}
 use Rattle.std.proofs.lemmas.Bool.Decides.{nat_tests}
 use Rattle.std.proofs.lemmas.List.Elements.{All-nil, All-head, All-tail, All-push}
-use Rattle.tl_fields.specs.Content.{HasNoLineFeed}
-use Rattle.tl_fields.specs.Device.{Reader}
+use Rattle.counted_io.specs.Content.{HasNoLineFeed}
+use Rattle.counted_io.specs.Device.{Reader}
 use Rattle.tl_fields.specs.Number.{number_of}
 use Rattle.tl_records.specs.Layout.{field_at}
 use Rattle.tl_records.specs.Lines.{LineParts, IsEnded, by_lf, by_cr_lf, missing, IsFirstLine, AreFirstLines, AreLines, WhereKnown}

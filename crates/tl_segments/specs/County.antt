@@ -1,6 +1,6 @@
 -- A county: the segments of its four files.
 use Rattle.std.specs.Prelude.{◌≡◌, ℕ, List, length, map, All, Option, Some, IsSome}
-use Rattle.tl_fields.specs.Device.{Reader}
+use Rattle.counted_io.specs.Device.{Reader}
 use Rattle.tl_fields.specs.Number.{number_of}
 use Rattle.tl_records.specs.Layout.{field_at}
 use Rattle.tl_records.specs.declared.layout.TheConstants.Type1.{TLID}

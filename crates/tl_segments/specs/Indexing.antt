@@ -1,7 +1,7 @@
 -- An index of what is joined to type 1 lines, described by the lines of types 4, 5 and 6 that it was built from.
 use Rattle.std.specs.Prelude.{◌≡◌, ◌⊎◌, ℕ, List, [], Option, Some, None, Result, Ok, Err}
 use Rattle.std.specs.List.{flat_map}
-use Rattle.tl_fields.specs.Device.{Reader}
+use Rattle.counted_io.specs.Device.{Reader}
 use Rattle.tl_records.specs.Lines.{LineParts, IsLineRead}
 use Rattle.tl_records.specs.Records.{IsGoodLine, IsLineFault}
 use Rattle.tl_records.specs.declared.fault.LineFault.{LineFault}

@@ -1,6 +1,7 @@
 pub mod Affixes
 pub mod County
 pub mod CountyFile
+pub mod CountyFiles
 pub mod FullName
 pub mod Indexing
 pub mod Joined

@@ -1,7 +1,7 @@
 -- The effect of loading a county's files on their readers, and the first fault of a file.
 use Rattle.std.specs.Prelude.{◌≡◌, ◌≢◌, ℕ, ◌+◌, ◌^◌, ◌<◌, ◌≤◌, ◌⊎◌, List, [], ◌∷◌, ◌++◌, length, All, Option, Some, IfSome}
 use Rattle.std.specs.Io.KnownBytes.{IsAtEnd}
-use Rattle.tl_fields.specs.Device.{Reader, reader}
+use Rattle.counted_io.specs.Device.{Reader, reader}
 use Rattle.tl_records.specs.Lines.{IsFirstLine, AreFirstLines, AreLines, BeginsTooLong, FailsWithin, HasOneMore, WhereKnown, most_bytes}
 use Rattle.tl_records.specs.Records.{IsGoodLine, line_flaw}
 use Rattle.tl_records.specs.declared.fault.LineFault.{LineFault}

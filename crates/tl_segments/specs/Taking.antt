@@ -1,6 +1,6 @@
 -- How a table takes the lines of a county's file.
 use Rattle.std.specs.Prelude.{◌≡◌, ℕ, Bool, true, false, List, [], ◌∷◌, ◌++◌, Result, Ok, Err}
-use Rattle.tl_fields.specs.Device.{Reader}
+use Rattle.counted_io.specs.Device.{Reader}
 use Rattle.tl_records.specs.Lines.{LineParts}
 use Rattle.tl_records.specs.Records.{IsGoodLine, IsLineFault}
 use Rattle.tl_segments.specs.CountyFile.{layout}

@@ -1,6 +1,6 @@
 //! The segments of a county's files.
 ghost use Rattle.std.specs.Prelude.{◌≡◌, ℕ, ◌^◌, ◌<◌, List, length, IfErr, IfOk, OnOk};
-ghost use Rattle.tl_fields.specs.Device.{reader};
+ghost use Rattle.counted_io.specs.Device.{reader};
 ghost use Rattle.tl_segments.specs.County.{AreTlids, HasTlids, IsCountyFault, KeepsSegments, LoadsCounty};
 ghost use Rattle.tl_segments.specs.Indexing.{IsIndexOf};
 ghost use Rattle.tl_segments.specs.Joining.{JoinedLines, segments_of};
@@ -14,9 +14,9 @@ use crate::fault::LoadFault;
 use crate::index::{Index, rt1_fault};
 use crate::segment::Segment;
 use crate::shared_lists::SharedLists;
+use counted_io::CountedRead;
 use std::alloc::Allocator;
 use std::marker::Model;
-use tl_fields::CountedRead;
 use tl_records::{Line, Type1, read_line};
 
 /// The segments of a county, one for each line of its type 1 file, in file order: fewer than 2^32. Each segment's TLID has a number. Contracts see it

@@ -1,6 +1,6 @@
 //! The lines of a county's file, read to its end.
 ghost use Rattle.std.specs.Prelude.{◌≡◌, ℕ, List, [], ◌∷◌, ◌++◌, IfErr, IfOk, OnOk, refl};
-ghost use Rattle.tl_fields.specs.Device.{reader};
+ghost use Rattle.counted_io.specs.Device.{reader};
 ghost use Rattle.tl_records.specs.Records.{IsGoodLine, IsLineFault};
 ghost use Rattle.tl_records.specs.declared.fault.LineFault.{LineFault};
 ghost use Rattle.tl_segments.specs.CountyFile.{layout};
@@ -11,8 +11,8 @@ ghost use Rattle.tl_segments.specs.declared.fault.CountyFile.TheVariants.{Rt1, R
 ghost use Rattle.tl_segments.specs.declared.fault.LoadFault.TheVariants as load_fault;
 
 use crate::fault::{CountyFile, LoadFault};
+use counted_io::CountedRead;
 use std::alloc::AllocError;
-use tl_fields::CountedRead;
 use tl_records::{Line, Record, RecordType, Type1, Type4, Type5, Type6, read_line};
 
 /// A record type together with the county file that has its lines.

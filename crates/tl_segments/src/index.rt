@@ -1,6 +1,6 @@
 //! What is joined to the type 1 lines of a county, by TLID.
 ghost use Rattle.std.specs.Prelude.{◌≡◌, ◌≤◌, ◌+◌, ℕ, [], ◌++◌, length, IfErr, IfOk, IsTrue, OnErr, OnOk};
-ghost use Rattle.tl_fields.specs.Device.{reader};
+ghost use Rattle.counted_io.specs.Device.{reader};
 ghost use Rattle.tl_segments.specs.FullName.{with_names};
 ghost use Rattle.tl_segments.specs.Joining.{JoinedLines, no_lines, segment_of};
 ghost use Rattle.tl_segments.specs.Loading.{AreFaultless, IsJoinedFault, readers};
@@ -18,8 +18,8 @@ use crate::grouped::Grouped;
 use crate::range::RangeFields;
 use crate::segment::Segment;
 use crate::tables::Features;
+use counted_io::CountedRead;
 use std::alloc::{AllocError, Allocator};
-use tl_fields::CountedRead;
 use tl_records::{LineFault, Rt1, Type4, Type6};
 
 /// The alternate names and further ranges of a county's segments, by TLID: the contents of its files of types 4, 5 and 6.

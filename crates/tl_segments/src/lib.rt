@@ -4,6 +4,7 @@
 mod checked;
 mod county;
 mod county_file;
+mod county_files;
 mod fault;
 mod feature_names;
 mod full_name;
@@ -18,6 +19,7 @@ mod shared_lists;
 mod tables;
 
 pub use county::County;
+pub use county_files::{CountyFiles, JoinedFiles};
 pub use fault::{CountyFile, LoadFault};
 pub use full_name::{DIRECTION_LENGTH, FullName, TYPE_LENGTH};
 pub use index::Index;

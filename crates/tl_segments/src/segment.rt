@@ -1,6 +1,6 @@
 //! Street segments.
 ghost use Rattle.std.specs.Prelude.{◌≡◌, ◌≤◌, ◌<◌, ◌+◌, [], ◌∷◌, ◌++◌, length, replicate, option_copied, option_map, slice_get, Some, IfOk, IfSome, OnOk, OnErr};
-ghost use Rattle.tl_fields.specs.Device.{reader};
+ghost use Rattle.counted_io.specs.Device.{reader};
 ghost use Rattle.tl_records.specs.Records.{IsGoodLine};
 ghost use Rattle.tl_segments.specs.Affixes.{no_affixes};
 ghost use Rattle.tl_segments.specs.CountyFile.{layout};
@@ -18,10 +18,11 @@ use crate::name::NAME_LENGTH;
 use crate::range::{Range, RangeFields, own_range};
 use crate::shared_lists::Joined;
 use arrayvec::ArrayVec;
+use counted_io::{CountedRead, LONGEST_CONTENT};
 use std::alloc::{AllocError, Allocator};
 use std::marker::Model;
 use std::rc::Rc;
-use tl_fields::{CountedRead, LONGEST_CONTENT, number};
+use tl_fields::number;
 use tl_records::{LineFault, Rt1, Type1, read_line_into};
 
 /// The length of a type 1 record in bytes, without its line terminator (TIGER/Line 2006, record type 1).

@@ -1,5 +1,5 @@
 use Rattle.std.proofs.Common.{◌-◌, ◌^◌}
-use Rattle.tl_fields.specs.Device.{reader}
+use Rattle.counted_io.specs.Device.{reader}
 use Rattle.tl_segments.specs.County.{KeepsSegments}
 use Rattle.tl_segments.specs.SharedLists.{KeepsShared}
 use Rattle.tl_segments.specs.declared.fault.CountyFile.TheVariants.{Rt1}

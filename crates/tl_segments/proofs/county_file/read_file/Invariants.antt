@@ -1,5 +1,5 @@
 use Rattle.std.proofs.Common.{◌-◌, ◌^◌}
-use Rattle.tl_fields.specs.Device.{reader}
+use Rattle.counted_io.specs.Device.{reader}
 use Rattle.tl_segments.proofs.ReadingLemmas.{KeepsSoFar}
 use Rattle.tl_segments.proofs.county_file.read_file.Given as goal
 
