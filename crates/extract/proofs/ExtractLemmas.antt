@@ -4,9 +4,9 @@ use Rattle.std.proofs.Common.{subst, arith}
 use Rattle.std.specs.Io.KnownBytes.{Appends}
 use Rattle.std.specs.Prelude.{◌⊎◌, IsTrue, Option, Result}
 use Rattle.std.specs.Option.{option_map_or}
-use Rattle.tl_fields.specs.Device.{Reader, Writer}
-use Rattle.tl_fields.specs.declared.writing.WriteFault.{WriteFault}
-use Rattle.tl_fields.proofs.KnownBytesLemmas.{Appends-refl, Appends-append}
+use Rattle.counted_io.specs.Device.{Reader, Writer}
+use Rattle.counted_io.specs.declared.writing.WriteFault.{WriteFault}
+use Rattle.counted_io.proofs.KnownBytesLemmas.{Appends-refl, Appends-append}
 use Rattle.tl_records.specs.Lines.{LineParts}
 use Rattle.bpf_insn.specs.declared.instruction.Insn.{Insn}
 use Rattle.tl_segments.specs.Indexing.{IsIndexOf, IsSegmentRead}
@@ -24,10 +24,13 @@ use Rattle.bpf_meaning.specs.RecordAlone.{reads_record_alone}
 use Rattle.bpf_meaning.proofs.ExtractLemmas.{extract_push}
 use Rattle.bpf_meaning.proofs.RecordLemmas.{answers_alike}
 use Rattle.extract.specs.ExtractFault.{of_load}
-use Rattle.extract.specs.Extracting.{AnswersAlike, HasWritten, AreUnfailed, ServesCode, before_rt1, in_rt1, IsOutcome}
-use Rattle.extract.specs.Program.{IsSafeProgram}
+use Rattle.extract.specs.Extracting.{AnswersAlike, HasWritten, AreUnfailed, ServesCode, before_rt1, in_rt1, IsOutcome, IsOutcomeOfCode}
+use Rattle.bpf_program.specs.Program.{IsSafeProgram}
+use Rattle.tl_segments.specs.County.{CountyReaders}
 use Rattle.extract.specs.Rows.{WritesRow}
-use Rattle.extract.specs.declared.fault.ExtractFault.TheVariants.{Write}
+use Rattle.bpf_program.specs.declared.program.ProgramFault.{ProgramFault}
+use Rattle.extract.specs.declared.fault.ExtractFault.{ExtractFault}
+use Rattle.extract.specs.declared.fault.ExtractFault.TheVariants.{Program, Load, Write, Memory}
 use Rattle.extract.proofs.RowLemmas.{chosen_count-le, extract_alike, row_alike}
 
 -- The lines read so far are all good, and segments were made of them with what the index has. The complete extract of these segments was written:
@@ -86,12 +89,26 @@ joined_unfailed rt1 old new (in_rt6 rt4 rt5 wants) =
     record { rt1 = refl; rt4 = rt4.1.reads; rt5 = rt5.1.reads; rt6 = wants }
 
 -- a file that is joined to the type 1 file is refused
-pub joined_outcome : {program : List ℕ} {code : List Insn} (fault : LoadFault) (rt1 : Reader) {old new : Readers} (out : Writer)
-    → IsSafeProgram program code → IsJoinedFault fault old new
-    → IsOutcome program (Err (of_load fault)) (record { rt1 = rt1; joined = old }) (record { rt1 = rt1; joined = new }) out out
-joined_outcome load_fault.Memory rt1 {old} {new} out safe is =
+pub joined_outcome : (code : List Insn) (fault : LoadFault) (rt1 : Reader) {old new : Readers} (out : Writer) → IsJoinedFault fault old new
+    → IsOutcomeOfCode code (Err (of_load fault)) (record { rt1 = rt1; joined = old }) (record { rt1 = rt1; joined = new }) out out
+joined_outcome code load_fault.Memory rt1 {old} {new} out is =
     record { written = inl (refl, refl); counts = refl; reads = joined_unfailed rt1 old new is }
-joined_outcome {code} fault rt1 out safe is = before_rt1 (code, safe) (λ e. cc) is refl refl
+joined_outcome code fault rt1 out is = before_rt1 (λ e. cc) is refl refl
+
+-- the outcome of a program is that of its code
+pub program_outcome : {program : List ℕ} {code : List Insn} (result : Result ℕ ExtractFault) (old new : CountyReaders) (out out' : Writer)
+    → IsSafeProgram program code → IsOutcomeOfCode code result old new out out' → IsOutcome program result old new out out'
+program_outcome {code = code} (Ok rows) old new out out' safe is = (code, safe, is)
+program_outcome (Err (Program fault)) old new out out' safe is = absurd is
+program_outcome {code = code} (Err (Load fault)) old new out out' safe is = (code, safe, is)
+program_outcome {code = code} (Err (Write fault)) old new out out' safe is = (code, safe, is)
+program_outcome {code = code} (Err Memory) old new out out' safe is = inr (code, safe, is)
+
+-- accepted code isn't refused
+pub never_program : (code : List Insn) (result : Result ℕ ExtractFault) (old new : CountyReaders) (out out' : Writer) (fault : ProgramFault)
+    → IsOutcomeOfCode code result old new out out' → result ≢ Err (Program fault)
+never_program code result old new out out' fault is = λ same.
+    subst (λ (result : Result ℕ ExtractFault). IsOutcomeOfCode code result old new out out') same is
 
 -- the next segment of a type 1 file was read from a reader, with this result
 pub record ReadsNext {A : Type 0} (index : Index A) (line : LineParts) (now : Reader) (result : Result (Option (Unit {0})) LoadFault)
@@ -127,11 +144,9 @@ module _ {A : Type 0} {index : Index A} {code : List Insn} {rows : ℕ} {line : 
         counts = counts ∙ so_far.counts;
       }
 
-  module _ {program : List ℕ} (safe : IsSafeProgram program code) {old new : Readers} (serves : ServesCode code index old new) where
-    has_written : HasWritten program serves.joined so_far.lines out between
+  module _ {old new : Readers} (serves : ServesCode code index old new) where
+    has_written : HasWritten code serves.joined so_far.lines out between
     has_written = record {
-      code = code;
-      is_program = safe;
       text = so_far.text;
       rows = rows;
       is_extract =
@@ -144,11 +159,9 @@ module _ {A : Type 0} {index : Index A} {code : List Insn} {rows : ℕ} {line : 
 
     -- the file ended
     pub end_outcome : (next : ReadsNext index line now (Ok None))
-        → IsOutcome program (Ok rows) (record { rt1 = rt1; joined = old }) (record { rt1 = next.after; joined = new }) out between
+        → IsOutcomeOfCode code (Ok rows) (record { rt1 = rt1; joined = old }) (record { rt1 = next.after; joined = new }) out between
     unfolding has_written
     end_outcome next = record {
-      code = code;
-      is_program = safe;
       county = record { segments = segments_of serves.joined so_far.lines };
       loads = record {
         joined = serves.joined;
@@ -165,7 +178,7 @@ module _ {A : Type 0} {index : Index A} {code : List Insn} {rows : ℕ} {line : 
 
     -- the next segment can't be made
     pub fault_outcome : (fault : LoadFault) (next : ReadsNext index line now (Err fault))
-        → IsOutcome program (Err (of_load fault)) (record { rt1 = rt1; joined = old }) (record { rt1 = next.after; joined = new })
+        → IsOutcomeOfCode code (Err (of_load fault)) (record { rt1 = rt1; joined = old }) (record { rt1 = next.after; joined = new })
         out between
     fault_outcome (load_fault.Line file fault) next =
         in_rt1 serves.joined so_far.lines fault (ap (λ file. load_fault.Line file fault) next.is.0) serves.reads
@@ -191,8 +204,8 @@ module _ {A : Type 0} {index : Index A} {code : List Insn} {rows : ℕ} {line : 
 
     -- a write fails
     pub write_outcome : (next : ReadsNext index line now (Ok (Some tt))) (fault : WriteFault) (out' : Writer)
-        → WritesRow code next.segment (Err fault) between out' → IsOutcome program (Err (Write fault)) (record { rt1 = rt1; joined = old })
-        (record { rt1 = next.after; joined = new }) out out'
+        → WritesRow code next.segment (Err fault) between out'
+        → IsOutcomeOfCode code (Err (Write fault)) (record { rt1 = rt1; joined = old }) (record { rt1 = next.after; joined = new }) out out'
     unfolding has_written
     write_outcome next fault out' row = record {
       joined = serves.joined;

@@ -1,3 +1,2 @@
 pub mod ExtractLemmas
 pub mod RowLemmas
-pub mod VerdictLemmas

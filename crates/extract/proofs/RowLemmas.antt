@@ -10,8 +10,8 @@ use Rattle.std.proofs.lemmas.Slice.{take-put_mid}
 use borrow.Rule.Slice.PartMut.{put_mid}
 use Rattle.std.proofs.lemmas.Bool.Decides.{nat_tests}
 use Rattle.bpf_insn.specs.declared.instruction.Insn.{Insn}
-use Rattle.tl_fields.specs.Device.{Writer}
-use Rattle.tl_fields.specs.declared.writing.WriteFault.{WriteFault}
+use Rattle.counted_io.specs.Device.{Writer}
+use Rattle.counted_io.specs.declared.writing.WriteFault.{WriteFault}
 use Rattle.tl_segments.specs.Joining.{JoinedLines, segment_of, segments_of}
 use Rattle.bpf_meaning.specs.Extract.{IsExtract, chosen_count}
 use Rattle.extract.specs.Extracting.{AnswersAlike}

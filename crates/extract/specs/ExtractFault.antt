@@ -1,10 +1,10 @@
 -- The refusal for an extract's fault.
 use Rattle.refusals.specs.Refusal.{RefusalParts, memory}
-use Rattle.tl_fields.specs.Writing as write_fault
-use Rattle.extract.specs.ProgramFault as program_fault
+use Rattle.counted_io.specs.Writing as write_fault
+use Rattle.bpf_program.specs.ProgramFault as program_fault
 use Rattle.tl_segments.specs.LoadFault as load_fault
-use Rattle.extract.specs.declared.program.ProgramFault.{ProgramFault}
-use Rattle.extract.specs.declared.program.ProgramFault.TheVariants as program_variant
+use Rattle.bpf_program.specs.declared.program.ProgramFault.{ProgramFault}
+use Rattle.bpf_program.specs.declared.program.ProgramFault.TheVariants as program_variant
 use Rattle.tl_segments.specs.declared.fault.LoadFault.{LoadFault}
 use Rattle.tl_segments.specs.declared.fault.LoadFault.TheVariants as load_variant
 use Rattle.extract.specs.declared.fault.ExtractFault.{ExtractFault}

@@ -1,8 +1,8 @@
 -- What an extract guarantees: one case for each kind of outcome.
 use Rattle.std.specs.Prelude.{◌≡◌, ◌≢◌, ◌⊎◌, ℕ, List, [], ◌∷◌, ◌++◌, Result, Ok, Err}
 use Rattle.std.specs.Io.KnownBytes.{Appends}
-use Rattle.tl_fields.specs.Device.{Writer}
-use Rattle.tl_fields.specs.declared.writing.WriteFault.{WriteFault}
+use Rattle.counted_io.specs.Device.{Writer}
+use Rattle.counted_io.specs.declared.writing.WriteFault.{WriteFault}
 use Rattle.tl_records.specs.declared.fault.LineFault.{LineFault}
 use Rattle.tl_segments.specs.County.{CountyParts, CountyReaders, LoadsCounty}
 use Rattle.tl_segments.specs.Indexing.{IsIndexOf}
@@ -16,18 +16,16 @@ use Rattle.tl_segments.specs.declared.index.Index.{Index}
 use Rattle.bpf_insn.specs.declared.instruction.Insn.{Insn}
 use Rattle.bpf_meaning.specs.Extract.{IsExtract}
 use Rattle.bpf_meaning.specs.Run.{Answers}
-use Rattle.extract.specs.Program.{IsSafeProgram, IsProgramFault}
+use Rattle.bpf_program.specs.Program.{IsSafeProgram, IsProgramFault}
 use Rattle.extract.specs.Rows.{WritesRow}
 use Rattle.extract.specs.declared.fault.ExtractFault.{ExtractFault}
 use Rattle.extract.specs.declared.fault.ExtractFault.TheVariants.{Program, Load, Write, Memory}
-use Rattle.extract.specs.declared.program.ProgramFault.{ProgramFault}
-use Rattle.extract.specs.declared.program.ProgramFault.TheVariants as program_fault
+use Rattle.bpf_program.specs.declared.program.ProgramFault.{ProgramFault}
+use Rattle.bpf_program.specs.declared.program.ProgramFault.TheVariants as program_fault
 
--- The program is safe, and the county's files were all read to their ends. Exactly the rows of the segments that the program's meaning selects were
--- appended to the writer, in file order and with their scores, and `rows` is their count. Nothing failed.
-pub record IsExtracted (program : List ℕ) (rows : ℕ) (old new : CountyReaders) (out out' : Writer) : Type 0 where
-  pub code : List Insn
-  pub is_program : IsSafeProgram program code
+-- The county's files were all read to their ends. Exactly the rows of the segments that the code selects were appended to the writer, in file order
+-- and with their scores, and `rows` is their count. Nothing failed.
+pub record IsExtracted (code : List Insn) (rows : ℕ) (old new : CountyReaders) (out out' : Writer) : Type 0 where
   pub county : CountyParts
   pub loads : LoadsCounty county old new
   pub text : List ℕ
@@ -50,21 +48,8 @@ pub record ServesCode {A : Type 0} (code : List Insn) (index : Index A) (old new
   pub reads : ReadsJoined joined old new
   pub alike : AnswersAlike code own joined
 
--- The program is refused, and nothing was read or written.
-pub record IsProgramRefusal (program : List ℕ) (fault : ProgramFault) (old new : CountyReaders) (out out' : Writer) : Type 0 where
-  pub first : IsProgramFault program fault
-  pub has_number : fault ≢ program_fault.Memory
-  pub unread : new ≡ old
-  pub unwritten : out' ≡ out
-
--- the program has code that is safe
-abbrev pub HasSafeCode : List ℕ → Type 0
-HasSafeCode program = (code : List Insn) × IsSafeProgram program code
-
--- The program is safe, and the extract of these type 1 lines, with the others joined to them, was written completely. No write failed.
-pub record HasWritten (program : List ℕ) (joined : JoinedLines) (lines : List (List ℕ)) (out out' : Writer) : Type 0 where
-  pub code : List Insn
-  pub is_program : IsSafeProgram program code
+-- The extract of these type 1 lines, with the others joined to them, was written completely. No write failed.
+pub record HasWritten (code : List Insn) (joined : JoinedLines) (lines : List (List ℕ)) (out out' : Writer) : Type 0 where
   pub text : List ℕ
   pub rows : ℕ
   pub is_extract : IsExtract code (segments_of joined lines) text rows
@@ -73,35 +58,35 @@ pub record HasWritten (program : List ℕ) (joined : JoinedLines) (lines : List 
 
 -- A file is refused because of the first fault in the county's files, in the order in which they are read. If the file is of type 4, 5 or 6, nothing
 -- was read of type 1 and nothing was written. If it is of type 1, the complete extract of the good lines before the fault was written.
-pub data IsLoadRefusal (program : List ℕ) (fault : LoadFault) (old new : CountyReaders) (out out' : Writer) : Type 0 where
-  before_rt1 : HasSafeCode program → fault ≢ load_fault.Memory → IsJoinedFault fault old.joined new.joined → new.rt1 ≡ old.rt1 → out' ≡ out
-      → IsLoadRefusal program fault old new out out'
+pub data IsLoadRefusal (code : List Insn) (fault : LoadFault) (old new : CountyReaders) (out out' : Writer) : Type 0 where
+  before_rt1 : fault ≢ load_fault.Memory → IsJoinedFault fault old.joined new.joined → new.rt1 ≡ old.rt1 → out' ≡ out
+      → IsLoadRefusal code fault old new out out'
   in_rt1 : (joined : JoinedLines) (lines : List (List ℕ)) (line : LineFault) → fault ≡ load_fault.Line Rt1 line
-      → ReadsJoined joined old.joined new.joined → IsFirstFault Rt1 line lines old.rt1 new.rt1 → HasWritten program joined lines out out'
-      → IsLoadRefusal program fault old new out out'
+      → ReadsJoined joined old.joined new.joined → IsFirstFault Rt1 line lines old.rt1 new.rt1 → HasWritten code joined lines out out'
+      → IsLoadRefusal code fault old new out out'
 
 -- A write failed. The complete extract of some good lines was written, then a beginning of the row of the next line, which is also good. Nothing was
 -- read after that line, and no read failed.
-pub record IsWriteRefusal (program : List ℕ) (fault : WriteFault) (old new : CountyReaders) (out out' : Writer) : Type 0 where
+pub record IsWriteRefusal (code : List Insn) (fault : WriteFault) (old new : CountyReaders) (out out' : Writer) : Type 0 where
   pub joined : JoinedLines
   pub reads_joined : ReadsJoined joined old.joined new.joined
   pub lines : List (List ℕ)
   pub line : List ℕ
   pub reads : ReadsLines Rt1 (lines ++ line ∷ []) old.rt1 new.rt1
   pub between : Writer
-  pub before : HasWritten program joined lines out between
-  pub row : WritesRow before.code (segment_of joined line) (Err fault) between out'
+  pub before : HasWritten code joined lines out between
+  pub row : WritesRow code (segment_of joined line) (Err fault) between out'
 
 -- Memory runs out for the segment of a good type 1 line that has something joined to it. The complete extract of the good lines before it was
 -- written, and nothing was read after it.
-pub record StopsAtLine (program : List ℕ) (old new : CountyReaders) (out out' : Writer) : Type 0 where
+pub record StopsAtLine (code : List Insn) (old new : CountyReaders) (out out' : Writer) : Type 0 where
   pub joined : JoinedLines
   pub reads_joined : ReadsJoined joined old.joined new.joined
   pub lines : List (List ℕ)
   pub line : List ℕ
   pub reads : ReadsLines Rt1 (lines ++ line ∷ []) old.rt1 new.rt1
   pub more : HasJoined (segment_of joined line)
-  pub before : HasWritten program joined lines out out'
+  pub before : HasWritten code joined lines out out'
 
 -- no read of any of the files failed
 pub record AreUnfailed (old new : CountyReaders) : Type 0 where
@@ -111,15 +96,33 @@ pub record AreUnfailed (old new : CountyReaders) : Type 0 where
   pub rt6 : new.joined.rt6.failed ≡ old.joined.rt6.failed
 
 -- Memory runs out. Either nothing was read of type 1 and nothing was written, or the extract stops at a type 1 line. No read or write failed.
-pub record IsMemoryRefusal (program : List ℕ) (old new : CountyReaders) (out out' : Writer) : Type 0 where
-  pub written : (new.rt1 ≡ old.rt1) × (out' ≡ out) ⊎ StopsAtLine program old new out out'
+pub record IsMemoryRefusal (code : List Insn) (old new : CountyReaders) (out out' : Writer) : Type 0 where
+  pub written : (new.rt1 ≡ old.rt1) × (out' ≡ out) ⊎ StopsAtLine code old new out out'
   pub counts : out'.counts ≡ out.counts
   pub reads : AreUnfailed old new
 
--- the effect of an extract on the readers of the county's files and on the writer, by outcome
+-- the effect of an extract by this code on the readers of the county's files and on the writer, by outcome
+abbrev pub IsOutcomeOfCode : List Insn → Result ℕ ExtractFault → CountyReaders → CountyReaders → Writer → Writer → Type 0
+IsOutcomeOfCode code (Ok rows) old new out out' = IsExtracted code rows old new out out'
+IsOutcomeOfCode code (Err (Program fault)) old new out out' = ⊥
+IsOutcomeOfCode code (Err (Load fault)) old new out out' = IsLoadRefusal code fault old new out out'
+IsOutcomeOfCode code (Err (Write fault)) old new out out' = IsWriteRefusal code fault old new out out'
+IsOutcomeOfCode code (Err Memory) old new out out' = IsMemoryRefusal code old new out out'
+
+-- The program is refused, and nothing was read or written.
+pub record IsProgramRefusal (program : List ℕ) (fault : ProgramFault) (old new : CountyReaders) (out out' : Writer) : Type 0 where
+  pub first : IsProgramFault program fault
+  pub has_number : fault ≢ program_fault.Memory
+  pub unread : new ≡ old
+  pub unwritten : out' ≡ out
+
+-- the program has code that is safe, and this holds of the code
+abbrev pub HasSafeCode : List ℕ → (List Insn → Type 0) → Type 0
+HasSafeCode program Holds = (code : List Insn) × IsSafeProgram program code × Holds code
+
+-- the effect of an extract by a program: it is refused, or memory runs out before anything is read, or the extract is that of its code
 abbrev pub IsOutcome : List ℕ → Result ℕ ExtractFault → CountyReaders → CountyReaders → Writer → Writer → Type 0
-IsOutcome program (Ok rows) old new out out' = IsExtracted program rows old new out out'
 IsOutcome program (Err (Program fault)) old new out out' = IsProgramRefusal program fault old new out out'
-IsOutcome program (Err (Load fault)) old new out out' = IsLoadRefusal program fault old new out out'
-IsOutcome program (Err (Write fault)) old new out out' = IsWriteRefusal program fault old new out out'
-IsOutcome program (Err Memory) old new out out' = IsMemoryRefusal program old new out out'
+IsOutcome program (Err Memory) old new out out' =
+    ((new ≡ old) × (out' ≡ out)) ⊎ HasSafeCode program (λ code. IsMemoryRefusal code old new out out')
+IsOutcome program result old new out out' = HasSafeCode program (λ code. IsOutcomeOfCode code result old new out out')

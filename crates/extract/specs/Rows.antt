@@ -1,10 +1,10 @@
 -- Which segments code selects, and the effect of their rows on bytes and on a writer.
 use Rattle.std.specs.Prelude.{◌≡◌, ◌≢◌, ℕ, List, ◌++◌, Option, Some, None, Result, Ok, Err}
 use Rattle.std.specs.Io.KnownBytes.{Appends}
-use Rattle.tl_fields.specs.Counted.{CountsFault}
-use Rattle.tl_fields.specs.Device.{Writer}
-use Rattle.tl_fields.specs.Writing.{AppendsBeginning}
-use Rattle.tl_fields.specs.declared.writing.WriteFault.{WriteFault}
+use Rattle.counted_io.specs.Counted.{CountsFault}
+use Rattle.counted_io.specs.Device.{Writer}
+use Rattle.counted_io.specs.Writing.{AppendsBeginning}
+use Rattle.counted_io.specs.declared.writing.WriteFault.{WriteFault}
 use Rattle.bpf_insn.specs.declared.instruction.Insn.{Insn}
 use Rattle.bpf_meaning.specs.Run.{Answers}
 use Rattle.tl_segments.specs.Segment.{Contents}

@@ -1,20 +1,20 @@
 //! The extract of a county's files.
-ghost use Rattle.std.specs.Prelude.{◌≡◌, ◌≢◌, ℕ, List, Err, IfErr, IfOk};
-ghost use Rattle.tl_fields.specs.Device.{reader, writer};
+ghost use Rattle.std.specs.Prelude.{◌≡◌, Err, IfErr, IfOk};
+ghost use Rattle.counted_io.specs.Device.{reader, writer};
+ghost use Rattle.tl_segments.specs.CountyFiles.{county_readers};
 ghost use Rattle.tl_segments.specs.Loading.{IsJoinedFault, Readers, readers};
-ghost use Rattle.extract.specs.Extracting.{IsOutcome, ServesCode};
-ghost use Rattle.extract.specs.Program.{IsSafeProgram};
-ghost use Rattle.extract.specs.declared.program.ProgramFault.{ProgramFault};
+ghost use Rattle.extract.specs.Extracting.{IsOutcome, IsOutcomeOfCode, ServesCode};
+ghost use Rattle.bpf_program.specs.declared.program.ProgramFault.{ProgramFault};
 
 use crate::fault::ExtractFault;
-use crate::program::accept;
 use crate::rows::write_row_if_chosen;
 use arrayvec::ArrayVec;
 use bpf_machine::Bare;
+use bpf_program::accept;
 use bpf_verify::Verified;
+use counted_io::{CountedRead, CountedWrite};
 use std::alloc::Allocator;
-use tl_fields::{CountedRead, CountedWrite};
-use tl_segments::{Index, LoadFault};
+use tl_segments::{CountyFiles, Index, LoadFault};
 
 /// Writes the rows of a county's segments that a program selects, in the order of the type 1 file, and returns their number.
 ///
@@ -41,14 +41,55 @@ pub fn extract<A: Allocator + Copy, R: CountedRead, W: CountedWrite>(
         → (rt1.new ≡ rt1.old) × (rt4.new ≡ rt4.old) × (rt5.new ≡ rt5.old) × (rt6.new ≡ rt6.old) × (out.new ≡ out.old) }
 {
     let verified = accept(alloc, program)?;
-    let index = load_index(alloc, &verified, rt4, rt5, rt6)?;
-    write_rows(&verified, &index, rt1, out)
+    extract_from(alloc, &verified, rt1, rt4, rt5, rt6, out)
+}
+
+/// Does what [`extract`] does after it has accepted the program. A caller with several counties accepts its program once.
+pub fn extract_verified<A: Allocator + Copy, B: Allocator, R: CountedRead, W: CountedWrite>(
+    alloc: A,
+    verified: &Verified<B>,
+    files: &mut CountyFiles<R>,
+    out: &mut W,
+) -> Result<u64, ExtractFault>
+    ensures { IsOutcomeOfCode verified.now.code result
+        (county_readers R.remaining R.failed_reads files.old) (county_readers R.remaining R.failed_reads files.new)
+        (writer W.contents W.counts out.old) (writer W.contents W.counts out.new) }
+{
+    let joined = &mut files.joined;
+    extract_from(
+        alloc,
+        verified,
+        &mut files.rt1,
+        &mut joined.rt4,
+        &mut joined.rt5,
+        &mut joined.rt6,
+        out,
+    )
+}
+
+/// Writes the rows that an accepted program selects in a county's files.
+fn extract_from<A: Allocator + Copy, B: Allocator, R: CountedRead, W: CountedWrite>(
+    alloc: A,
+    verified: &Verified<B>,
+    rt1: &mut R,
+    rt4: &mut R,
+    rt5: &mut R,
+    rt6: &mut R,
+    out: &mut W,
+) -> Result<u64, ExtractFault>
+    ensures { IsOutcomeOfCode verified.now.code result
+        (record { rt1 = reader R.remaining R.failed_reads rt1.old; joined = readers R.remaining R.failed_reads rt4.old rt5.old rt6.old })
+        (record { rt1 = reader R.remaining R.failed_reads rt1.new; joined = readers R.remaining R.failed_reads rt4.new rt5.new rt6.new })
+        (writer W.contents W.counts out.old) (writer W.contents W.counts out.new) }
+{
+    let index = load_index(alloc, verified, rt4, rt5, rt6)?;
+    write_rows(verified, &index, rt1, out)
 }
 
 /// Reads the files of types 4, 5 and 6 to their ends and keeps what the code uses: nothing if it reads the record alone.
-fn load_index<A: Allocator + Copy, R: CountedRead>(
+fn load_index<A: Allocator + Copy, B: Allocator, R: CountedRead>(
     alloc: A,
-    verified: &Verified<A>,
+    verified: &Verified<B>,
     rt4: &mut R,
     rt5: &mut R,
     rt6: &mut R,
@@ -68,18 +109,16 @@ fn load_index<A: Allocator + Copy, R: CountedRead>(
 
 /// Writes the rows of the selected lines of a type 1 file, each before the next line is read, and returns their number. The index may lack what the
 /// code doesn't use.
-fn write_rows<A: Allocator + Copy, R: CountedRead, W: CountedWrite>(
-    verified: &Verified<A>,
+fn write_rows<A: Allocator + Copy, B: Allocator, R: CountedRead, W: CountedWrite>(
+    verified: &Verified<B>,
     index: &Index<A>,
     rt1: &mut R,
     out: &mut W,
 ) -> Result<u64, ExtractFault>
-    ensures outcome { (program : List ℕ) (old new : Readers) → IsSafeProgram program verified.now.code
-        → ServesCode verified.now.code index.now old new → IsOutcome program result
+    ensures { (old new : Readers) → ServesCode verified.now.code index.now old new → IsOutcomeOfCode verified.now.code result
         (record { rt1 = reader R.remaining R.failed_reads rt1.old; joined = old })
         (record { rt1 = reader R.remaining R.failed_reads rt1.new; joined = new })
         (writer W.contents W.counts out.old) (writer W.contents W.counts out.new) }
-    ensures not_program { (fault : ProgramFault) → result ≢ Err (ExtractFault.Program fault) }
 {
     let mut number = 0;
     let mut segment = index.blank_segment();

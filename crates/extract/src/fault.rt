@@ -5,11 +5,11 @@ ghost use Rattle.extract.specs.declared.fault.ExtractFault.TheVariants.{Write};
 ghost use Rattle.extract.specs.ExtractFault as extract_fault;
 ghost use Rattle.refusals.specs.Refusal.{line as refusal_line};
 
-use crate::program::ProgramFault;
 use arrayvec::ArrayString;
+use bpf_program::ProgramFault;
+use counted_io::WriteFault;
 use refusals::{Fault, Refusal};
 use thiserror::Error;
-use tl_fields::WriteFault;
 use tl_segments::LoadFault;
 
 /// Why there is no complete extract: one variant for each part of the work that can fail, and one for running out of memory.

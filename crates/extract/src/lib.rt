@@ -3,11 +3,9 @@
 
 mod extractor;
 mod fault;
-pub mod laws;
-mod program;
 mod rows;
 
-pub use extractor::extract;
+pub use bpf_program::{ProgramFault, accept};
+pub use extractor::{extract, extract_verified};
 pub use fault::ExtractFault;
-pub use program::{ProgramFault, accept, accept_code, check_code, check_program};
 pub use rows::{LONGEST_ROW, push_row_if_chosen, row, row_text, score_if_chosen};

@@ -1,16 +1,16 @@
 //! Rows, and how they are written.
 ghost use Rattle.std.specs.Prelude.{◌≡◌, ◌≤◌, [], ◌∷◌, ◌++◌, length, OnErr, OnOk};
-ghost use Rattle.tl_fields.specs.Device.{writer};
-ghost use Rattle.tl_fields.specs.Writing.{WritesText};
+ghost use Rattle.counted_io.specs.Device.{writer};
+ghost use Rattle.counted_io.specs.Writing.{WritesText};
 ghost use Rattle.bpf_meaning.specs.Extract.{row_of};
 ghost use Rattle.extract.specs.Rows.{AppendsRow, Chooses, IsChosen, WritesRow};
 
 use arrayvec::ArrayVec;
 use bpf_machine::{Bare, run_in};
 use bpf_verify::Verified;
+use counted_io::{CountedWrite, WriteFault, write_whole};
 use itoa::Buffer;
 use std::alloc::{AllocError, Allocator};
-use tl_fields::{CountedWrite, WriteFault, write_whole};
 use tl_segments::Segment;
 
 /// The maximum length of a row in bytes: a score of 20 digits, a tab, the record, a line feed.

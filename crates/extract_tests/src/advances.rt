@@ -1,7 +1,7 @@
 //! Turns of programs without a table, and the names of a table's faults.
 use crate::segments::{LINE_LENGTH, Selection, counties_of, lines_of, rows_of, sizes_of};
+use bpf_program::accept;
 use bpf_verify::Verified;
-use extract::accept;
 use fixtures::{Refusing, Table, TableFault, cells, program};
 use jobs::{COUNTY_LIMIT, JobFault, advance};
 use std::alloc::{AllocError, Global};

@@ -1,12 +1,13 @@
 //! The calls that make up an extract, each on its own.
 use bpf_machine::Bare;
+use bpf_program::accept;
 use bpf_verify::Verified;
-use extract::{accept, row, row_text, score_if_chosen};
+use counted_io::{Burst, Counting, Fuse, WriteFault};
+use extract::{row, row_text, score_if_chosen};
 use fixtures::{RT1, Refusing, Table, TableFault, bytes, cells, is_refusal, program};
 use refusals::Fault;
 use std::alloc::Global;
 use std::io::ErrorKind;
-use tl_fields::{Burst, Counting, Fuse, WriteFault};
 use tl_segments::Segment;
 
 // A program, its refusal if it isn't accepted, and the row of the record if the program selects it.

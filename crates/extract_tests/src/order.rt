@@ -1,11 +1,11 @@
 //! The order in which lines are read and rows written.
+use counted_io::Counting;
 use extract::extract;
 use fixtures::{bytes, program};
 use std::cell::Cell;
 use std::io;
 use std::io::{Read, Write};
 use std::test::Fail;
-use tl_fields::Counting;
 
 /// A reader of 229-byte lines that checks, before the first byte of each, whether the rows of all earlier lines have been written.
 #[derive(Drop)]

@@ -1,7 +1,7 @@
 //! Counties of numbered segments, and the rows that programs select from them.
+use counted_io::Buffered;
 use fixtures::{TableFault, bytes, size};
 use std::alloc::{AllocError, Allocator, Global};
-use tl_fields::Buffered;
 use tl_segments::County;
 
 // The length of a type 1 record with its line feed.

@@ -1,11 +1,11 @@
 //! Extracts with programs of the maximum number of words, with counties of realistic size, and with little memory.
 use crate::extracts::Case;
+use counted_io::{Buffered, Counting};
 use extract::extract;
 use fixtures::{Table, TableFault, cells, is_outcome, size};
 use linked_list_allocator::LocalHeap;
 use refusals::Fault;
 use std::alloc::Global;
-use tl_fields::{Buffered, Counting};
 
 // A program, the files of types 1, 4, 5 and 6, the outcome, the rows, and the number of bytes of memory.
 //

@@ -10,7 +10,7 @@ use Rattle.bpf_insn.specs.declared.instruction.Insn.{Insn}
 use Rattle.bpf_insn.proofs.CodeLemmas.{one_code}
 use Rattle.bpf_meaning.proofs.ExtractLemmas.{one_extract_lem}
 use Rattle.bpf_meaning.specs.Extract.{IsExtract}
-use Rattle.extract.specs.Program.{IsSafeProgram}
+use Rattle.bpf_program.specs.Program.{IsSafeProgram}
 use Rattle.tl_segments.specs.County.{CountyParts}
 use Rattle.jobs.specs.Run.{Exchange, IsOwn, IsRun, given_id, ids_given, program_of, programs_of, turn_count, turns_of}
 use Rattle.jobs.specs.Segments.{Advances, segments_of}

@@ -1,6 +1,6 @@
 -- Unless an allocation fails, the reply to a submission depends only on the table and the program.
 use Rattle.std.proofs.Common.{◌≡◌, ◌≢◌, ℕ, List, refl, sym, ap, ◌∙◌}
-use Rattle.extract.proofs.VerdictLemmas as verdict
+use Rattle.bpf_program.proofs.VerdictLemmas as verdict
 use Rattle.std.specs.Borrow.{Bor}
 use Rattle.jobs.specs.Table.{Step, Table}
 use Rattle.jobs.specs.declared.event.Event.TheVariants.{Submit}

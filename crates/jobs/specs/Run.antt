@@ -2,7 +2,7 @@
 use Rattle.std.specs.Prelude.{◌≡◌, ℕ, ◌+◌, ◌*◌, List, [], ◌∷◌, length, take, min, Option, Some, None, ◌==◌, if◌then◌else◌}
 use Rattle.std.specs.List.{filter_map}
 use Rattle.bpf_meaning.specs.Extract.{IsExtract}
-use Rattle.extract.specs.Program.{IsSafeProgram}
+use Rattle.bpf_program.specs.Program.{IsSafeProgram}
 use Rattle.tl_segments.specs.County.{CountyParts}
 use Rattle.jobs.specs.Segments.{segments_of}
 use Rattle.jobs.specs.Table.{JobParts, Step, Table}

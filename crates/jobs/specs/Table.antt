@@ -2,8 +2,8 @@
 use Rattle.std.specs.Prelude.{◌≡◌, ◌≢◌, ◌⊎◌, ℕ, ◌+◌, ◌-◌, ◌^◌, ◌<◌, ◌≤◌, nat_eq, List, [], ◌∷◌, ◌++◌, length, All, Option, Some, None}
 use Rattle.std.specs.Map.{lookup, remove_entry, set_value}
 use Rattle.bpf_insn.specs.declared.instruction.Insn.{Insn}
-use Rattle.extract.specs.Program.{IsSafeProgram, IsProgramFault}
-use Rattle.extract.specs.declared.program.ProgramFault.TheVariants as program_fault
+use Rattle.bpf_program.specs.Program.{IsSafeProgram, IsProgramFault}
+use Rattle.bpf_program.specs.declared.program.ProgramFault.TheVariants as program_fault
 use Rattle.tl_segments.specs.County.{CountyParts}
 use Rattle.jobs.specs.Segments.{Advances, WantsRow, segments_of}
 use Rattle.jobs.specs.declared.event.Event.{Event}

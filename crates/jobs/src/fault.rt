@@ -5,7 +5,7 @@ ghost use Rattle.jobs.specs.JobFault.{of_program};
 ghost use Rattle.jobs.specs.declared.fault.JobFault.TheVariants.{Memory};
 
 use arrayvec::ArrayString;
-use extract::ProgramFault;
+use bpf_program::ProgramFault;
 use refusals::{Fault, Refusal};
 use std::alloc::{AllocError, AllocFailed};
 use thiserror::Error;

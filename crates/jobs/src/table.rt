@@ -10,7 +10,7 @@ use crate::event::{Event, Reply};
 use crate::fault::JobFault;
 use crate::job::Job;
 use crate::position::{COUNTY_LIMIT, count_segments};
-use extract::accept;
+use bpf_program::accept;
 use std::alloc::Allocator;
 use std::collections::BTreeMap;
 use std::marker::Model;

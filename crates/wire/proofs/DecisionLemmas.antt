@@ -15,12 +15,12 @@ use Rattle.http_request.proofs.HeadLemmas.{HasHead-append, HasHead-some, HasHead
 use Rattle.http_request.specs.declared.head.TheConstants.{HEAD_LIMIT}
 use Rattle.http_request.proofs.TakeLemmas.{Takes-append}
 use Rattle.http_request.proofs.WholeLemmas.{had_head, had_no_head, had_request, had_short_request, known_whole}
-use Rattle.tl_fields.proofs.KnownBytesLemmas.{Consumes-append}
+use Rattle.counted_io.proofs.KnownBytesLemmas.{Consumes-append}
 use Rattle.http_routes.specs.Routes.{action_of, route_of}
 use Rattle.http_routes.specs.Target.{path_of}
 use Rattle.http_routes.specs.declared.route.Action.{Action}
 use Rattle.http_routes.specs.declared.route.Route.{Route}
-use Rattle.tl_fields.specs.Device.{Reader}
+use Rattle.counted_io.specs.Device.{Reader}
 use Rattle.wire.specs.Decision.{AnnouncesBody, DecisionParts, Refuses, Disallows, Asks, IsDecided, IsEnough, asked_action, asked_by, decide}
 use Rattle.wire.specs.Decision.{decide_action, decide_body, decide_route, length_status, takes_body}
 use Rattle.wire.specs.Reading.{Decides, StopsInBody}

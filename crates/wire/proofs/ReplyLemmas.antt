@@ -13,7 +13,7 @@ use Rattle.bpf_text.specs.Spelled as spelled
 use Rattle.bpf_text.specs.declared.fault.SourceFault.TheVariants.{NotUtf8, Text}
 use Rattle.bpf_text.specs.declared.fault.TextFault.TheVariants as text_fault
 use Rattle.bpf_text.specs.declared.fault.TextFault.TheVariants.{InLine}
-use Rattle.extract.proofs.VerdictLemmas as verdict
+use Rattle.bpf_program.proofs.VerdictLemmas as verdict
 use Rattle.http_reply.specs.Reply.{ReplyParts}
 use Rattle.http_reply.specs.declared.status.Status.TheVariants as status
 use Rattle.http_routes.specs.Target.{job_id}

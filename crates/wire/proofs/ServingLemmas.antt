@@ -2,9 +2,9 @@
 use Rattle.std.proofs.Common.{◌≡◌, inl, inr, refl}
 use Rattle.std.specs.Prelude.{Result, Ok, Err}
 use Rattle.http_reply.specs.Reply.{reply_text}
-use Rattle.tl_fields.specs.Writing.{WritesText}
-use Rattle.tl_fields.specs.declared.writing.WriteFault.{WriteFault}
-use Rattle.tl_fields.specs.declared.writing.WriteFault.TheVariants.{Write, WriteZero}
+use Rattle.counted_io.specs.Writing.{WritesText}
+use Rattle.counted_io.specs.declared.writing.WriteFault.{WriteFault}
+use Rattle.counted_io.specs.declared.writing.WriteFault.TheVariants.{Write, WriteZero}
 use Rattle.wire.specs.Answer.{Answers, memory_reply}
 use Rattle.wire.specs.Decision.{DecisionParts, extent_of}
 use Rattle.wire.specs.Reading.{Decides, StopsInBody, WritesReply, ends_with}

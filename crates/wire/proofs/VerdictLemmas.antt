@@ -3,10 +3,10 @@ use Rattle.std.proofs.Common.{◌≡◌, ◌≢◌, ℕ, List, inl, inr, sym, ap
 use Rattle.bpf_insn.specs.declared.instruction.Insn.{Insn}
 use Rattle.bpf_meaning.proofs.ExtractLemmas.{one_extract_lem}
 use Rattle.bpf_meaning.specs.Extract.{IsExtract}
-use Rattle.extract.proofs.VerdictLemmas as verdict
-use Rattle.extract.specs.ProgramFault as program_fault
-use Rattle.extract.specs.declared.program.ProgramFault.{ProgramFault}
-use Rattle.extract.specs.declared.program.ProgramFault.TheVariants.{Memory}
+use Rattle.bpf_program.proofs.VerdictLemmas as verdict
+use Rattle.bpf_program.specs.ProgramFault as program_fault
+use Rattle.bpf_program.specs.declared.program.ProgramFault.{ProgramFault}
+use Rattle.bpf_program.specs.declared.program.ProgramFault.TheVariants.{Memory}
 use Rattle.http_reply.specs.Reply.{ReplyParts}
 use Rattle.jobs.specs.Segments.{segments_of}
 use Rattle.tl_segments.specs.County.{CountyParts}

@@ -10,9 +10,9 @@ use Rattle.bpf_text.specs.SourceFault.{IsSourceFault}
 use Rattle.bpf_text.specs.TextFault as text_fault
 use Rattle.bpf_text.specs.declared.fault.SourceFault.{SourceFault}
 use Rattle.bpf_text.specs.declared.fault.SourceFault.TheVariants.{NotUtf8, Text}
-use Rattle.extract.specs.Program.{IsProgramFault, IsSafeProgram}
-use Rattle.extract.specs.ProgramFault as program_fault
-use Rattle.extract.specs.declared.program.ProgramFault.{ProgramFault}
+use Rattle.bpf_program.specs.Program.{IsProgramFault, IsSafeProgram}
+use Rattle.bpf_program.specs.ProgramFault as program_fault
+use Rattle.bpf_program.specs.declared.program.ProgramFault.{ProgramFault}
 use Rattle.geocode.specs.HitLine.{hit_lines}
 use Rattle.geocode.specs.Query.{QueryParts, hits_of}
 use Rattle.http_reply.specs.Reply.{ReplyParts}

@@ -5,9 +5,9 @@ use Rattle.http_reply.specs.Reply.{ReplyParts, reply_text}
 use Rattle.http_request.specs.Reading.{IsClosed}
 use Rattle.http_request.specs.declared.head.HeadFault.{HeadFault}
 use Rattle.http_request.specs.declared.head.HeadFault.TheVariants as head_fault
-use Rattle.tl_fields.specs.Device.{Reader, Writer}
-use Rattle.tl_fields.specs.Writing.{WritesText}
-use Rattle.tl_fields.specs.declared.writing.WriteFault.{WriteFault}
+use Rattle.counted_io.specs.Device.{Reader, Writer}
+use Rattle.counted_io.specs.Writing.{WritesText}
+use Rattle.counted_io.specs.declared.writing.WriteFault.{WriteFault}
 use Rattle.wire.specs.Decision.{AnnouncesBody, AskedParts, DecisionParts, IsDecided}
 use Rattle.wire.specs.Decision as parts
 use Rattle.wire.specs.Serving.{FailsUndecided, ReadsEnough}

@@ -3,10 +3,10 @@ use Rattle.std.specs.Prelude.{◌≡◌, ◌<◌, ℕ, List, length, Some, Resul
 use Rattle.std.specs.Io.KnownBytes.{Keeps}
 use Rattle.http_reply.specs.Reply.{ReplyParts, reply_text}
 use Rattle.http_request.specs.Reading.{FailsBehind, IsClosed, Takes}
-use Rattle.tl_fields.specs.Device.{Reader, Writer}
-use Rattle.tl_fields.specs.Writing.{WritesText}
-use Rattle.tl_fields.specs.declared.writing.WriteFault.{WriteFault}
-use Rattle.tl_fields.specs.declared.writing.WriteFault.TheVariants as write_fault
+use Rattle.counted_io.specs.Device.{Reader, Writer}
+use Rattle.counted_io.specs.Writing.{WritesText}
+use Rattle.counted_io.specs.declared.writing.WriteFault.{WriteFault}
+use Rattle.counted_io.specs.declared.writing.WriteFault.TheVariants as write_fault
 use Rattle.wire.specs.Answer.{Replies}
 use Rattle.wire.specs.Decision.{IsEnough, IsUndecided}
 use Rattle.wire.specs.State.{StateParts}

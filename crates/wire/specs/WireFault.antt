@@ -1,8 +1,8 @@
 -- The refusal for a connection.
 use Rattle.std.specs.Prelude.{codes}
 use Rattle.refusals.specs.Refusal.{RefusalParts, device, refused}
-use Rattle.tl_fields.specs.declared.writing.WriteFault.{WriteFault}
-use Rattle.tl_fields.specs.declared.writing.WriteFault.TheVariants as write_fault
+use Rattle.counted_io.specs.declared.writing.WriteFault.{WriteFault}
+use Rattle.counted_io.specs.declared.writing.WriteFault.TheVariants as write_fault
 use Rattle.wire.specs.declared.fault.WireFault.{WireFault}
 use Rattle.wire.specs.declared.fault.WireFault.TheVariants.{Closed, Read, Write, WriteZero}
 

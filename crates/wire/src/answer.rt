@@ -1,19 +1,19 @@
 //! The answers to requests.
 ghost use Rattle.std.specs.Prelude.{◌≡◌, ◌++◌, ◌∷◌, [], codes, decimal};
-ghost use Rattle.tl_fields.specs.Device.{writer};
-ghost use Rattle.tl_fields.specs.Writing.{WritesText};
+ghost use Rattle.counted_io.specs.Device.{writer};
+ghost use Rattle.counted_io.specs.Writing.{WritesText};
 ghost use Rattle.http_reply.specs.Reply.{parts_of, reply_text};
 ghost use Rattle.http_reply.specs.declared.status.Status.TheVariants as status;
 ghost use Rattle.wire.specs.Answer.{class_status, plain};
 ghost use Rattle.wire.specs.Reply.{reply_of};
 
 use arrayvec::{ArrayString, ArrayVec};
+use counted_io::{CountedWrite, WriteFault};
 use http_reply::{LEAD_LIMIT, MediaType, Reply, Status};
 use http_routes::Route;
 use itoa::Buffer;
 use refusals::{Class, Refusal};
 use std::alloc::Allocator;
-use tl_fields::{CountedWrite, WriteFault};
 
 /// The answer to a request, before it's laid out as a reply.
 #[derive(Drop)]

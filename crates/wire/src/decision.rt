@@ -1,16 +1,16 @@
 //! The decision on an input: whether it's a request, and what it asks for.
 ghost use Rattle.std.specs.Prelude.{◌≡◌, IfErr, IfOk, IsTrue};
 ghost use Rattle.http_request.specs.Reading.{ReadsHead};
-ghost use Rattle.tl_fields.specs.Device.{Reader, reader};
+ghost use Rattle.counted_io.specs.Device.{Reader, reader};
 ghost use Rattle.wire.specs.Decision.{asked_action, asked_by, extent_of, length_status, takes_body};
 ghost use Rattle.wire.specs.Reading.{Decides, FailsToDecide, asked_of, decision_of, of_head};
 
 use crate::serving::Extent;
+use counted_io::CountedRead;
 use http_reply::Status;
 use http_request::{BodyFault, HeadBuffer, HeadFault, LengthFault, Request, read_body};
 use http_routes::{Action, Route, Routes, Target};
 use std::alloc::Allocator;
-use tl_fields::CountedRead;
 
 /// An accepted request: its action, the path and the query of its target, and its body.
 #[derive(Drop)]

@@ -2,9 +2,9 @@
 ghost use Rattle.std.specs.Prelude.{◌≡◌};
 ghost use Rattle.wire.specs.WireFault.{of_write};
 
+use counted_io::WriteFault;
 use refusals::{Fault, Refusal};
 use thiserror::Error;
-use tl_fields::WriteFault;
 
 /// Why a connection got no reply, or only a part of one.
 #[derive(Clone, Copy, Debug, PartialEq, Eq, Error)]

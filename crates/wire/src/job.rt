@@ -3,8 +3,8 @@ ghost use Rattle.std.specs.Prelude.{◌≡◌, decimal, false};
 ghost use Rattle.http_reply.specs.Reply.{reply_text};
 ghost use Rattle.http_reply.specs.declared.status.Status.TheVariants.{NotFound};
 ghost use Rattle.http_routes.specs.Target.{job_id};
-ghost use Rattle.tl_fields.specs.Device.{writer};
-ghost use Rattle.tl_fields.specs.Writing.{WritesText};
+ghost use Rattle.counted_io.specs.Device.{writer};
+ghost use Rattle.counted_io.specs.Writing.{WritesText};
 ghost use Rattle.wire.specs.Answer.{AsksJob, TellsTable, job_fault_reply, job_reply, status_reply};
 ghost use Rattle.wire.specs.Reading.{WritesReply};
 ghost use Rattle.wire.specs.Turn.{IsTurn, lends_rows};
@@ -12,13 +12,13 @@ ghost use Rattle.wire.specs.Reply.{reply_of};
 
 use crate::answer::Answer;
 use arrayvec::ArrayString;
+use counted_io::{CountedWrite, WriteFault};
 use http_reply::Status;
 use http_routes::job_id;
 use itoa::Buffer;
 use jobs::{Event, JobFault, Jobs, Reply as JobReply};
 use refusals::{Fault, Refusal};
 use std::alloc::Allocator;
-use tl_fields::{CountedWrite, WriteFault};
 
 /// Applies an event to the table, and writes its reply.
 pub(crate) fn tell<A: Allocator + Copy, W: CountedWrite>(

@@ -7,9 +7,9 @@ ghost use Rattle.wire.specs.Answer.{AssemblesTo, DisassemblesTo, ExtractsTo, IsV
 ghost use Rattle.wire.specs.Reply.{reply_of};
 
 use crate::answer::Answer;
+use bpf_program::{accept, check_program};
 use bpf_text::{SourceFault, assemble_source, disassemble_program};
 use bpf_verify::Verified;
-use extract::{accept, check_program};
 use http_reply::{MediaType, Status};
 use jobs::{SEGMENTS_PER_TURN, advance};
 use refusals::{Fault, Refusal};

@@ -1,7 +1,7 @@
 //! Reading and answering one request.
-ghost use Rattle.tl_fields.specs.Device.{reader, writer};
+ghost use Rattle.counted_io.specs.Device.{reader, writer};
 ghost use Rattle.std.specs.Prelude.{◌≡◌};
-ghost use Rattle.tl_fields.specs.Writing.{WritesText};
+ghost use Rattle.counted_io.specs.Writing.{WritesText};
 ghost use Rattle.http_reply.specs.Reply.{reply_text};
 ghost use Rattle.wire.specs.Answer.{Answers, AnswersAction, memory_reply};
 ghost use Rattle.wire.specs.Reading.{WritesReply, asked_of, decision_of, ends_with};
@@ -14,12 +14,12 @@ use crate::geocoder::geocode;
 use crate::job::{fetch, remove, tell};
 use crate::programs::{assemble, disassemble, extract, verify};
 use crate::state::State;
+use counted_io::{CountedRead, CountedWrite, WriteFault};
 use http_request::HeadBuffer;
 use http_routes::Action;
 use jobs::Event;
 use refusals::Refusal;
 use std::alloc::Allocator;
-use tl_fields::{CountedRead, CountedWrite, WriteFault};
 
 /// How much of a request was read.
 #[derive(Clone, Copy, PartialEq, Eq)]

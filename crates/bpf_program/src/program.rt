@@ -1,9 +1,9 @@
 //! Accepted programs: their bytes encode code that is safe to run.
 ghost use Rattle.std.specs.Prelude.{◌≡◌, List, IfOk, IfErr, OnOk};
 ghost use Rattle.bpf_insn.specs.declared.instruction.Insn.{Insn};
-ghost use Rattle.extract.specs.Program.{IsSafeProgram, IsProgramFault, IsSafeCode, IsFaultOfCode};
-ghost use Rattle.extract.specs.ProgramFault.{of_code, of_flow, of_verify};
-ghost use Rattle.extract.specs.ProgramFault as program_fault;
+ghost use Rattle.bpf_program.specs.Program.{IsSafeProgram, IsProgramFault, IsSafeCode, IsFaultOfCode};
+ghost use Rattle.bpf_program.specs.ProgramFault.{of_code, of_flow, of_verify};
+ghost use Rattle.bpf_program.specs.ProgramFault as program_fault;
 ghost use Rattle.refusals.specs.Refusal.{line as refusal_line};
 
 use arrayvec::ArrayString;
@@ -70,7 +70,7 @@ impl ProgramFault {
 }
 
 impl Fault for ProgramFault {
-    ghost use Rattle.extract.specs.ProgramFault.{refusal};
+    ghost use Rattle.bpf_program.specs.ProgramFault.{refusal};
 
     ghost refusal_of = { refusal };
 

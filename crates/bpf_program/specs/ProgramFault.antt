@@ -8,8 +8,8 @@ use Rattle.bpf_flow.specs.declared.fault.FlowFault.{FlowFault}
 use Rattle.bpf_verify.specs.VerifyFault as verify_fault
 use Rattle.bpf_verify.specs.declared.fault.VerifyFault.{VerifyFault}
 use Rattle.bpf_verify.specs.declared.fault.VerifyFault.TheVariants as verify_variant
-use Rattle.extract.specs.declared.program.ProgramFault.{ProgramFault}
-use Rattle.extract.specs.declared.program.ProgramFault.TheVariants.{Code, Flow, Verify, Memory}
+use Rattle.bpf_program.specs.declared.program.ProgramFault.{ProgramFault}
+use Rattle.bpf_program.specs.declared.program.ProgramFault.TheVariants.{Code, Flow, Verify, Memory}
 
 -- out of memory is a single fault, wherever it came from
 abbrev pub of_code : CodeFault → ProgramFault

@@ -5,9 +5,9 @@ use Rattle.bpf_insn.proofs.CodeLemmas as code_of
 use Rattle.bpf_insn.specs.Code.{IsCodeOf}
 use Rattle.bpf_insn.specs.declared.instruction.Insn.{Insn}
 use Rattle.bpf_verify.proofs.VerdictLemmas as verdict
-use Rattle.extract.specs.Program.{IsSafeCode, IsSafeProgram, IsProgramFault, IsFaultOfCode}
-use Rattle.extract.specs.declared.program.ProgramFault.{ProgramFault}
-use Rattle.extract.specs.declared.program.ProgramFault.TheVariants.{Code, Flow, Verify, Memory}
+use Rattle.bpf_program.specs.Program.{IsSafeCode, IsSafeProgram, IsProgramFault, IsFaultOfCode}
+use Rattle.bpf_program.specs.declared.program.ProgramFault.{ProgramFault}
+use Rattle.bpf_program.specs.declared.program.ProgramFault.TheVariants.{Code, Flow, Verify, Memory}
 
 pub same_code : (program : List ℕ) (a b : List Insn) → IsCodeOf program a → IsCodeOf program b → a ≡ b
 same_code program a b is also = code_of.one_code a b (sym is.words ∙ also.words)

@@ -9,8 +9,8 @@ use Rattle.bpf_flow.specs.Flow.{IsForward}
 use Rattle.bpf_meaning.specs.Run.{IsSafe}
 use Rattle.bpf_verify.specs.Annotation.{HasGoodAnnotation, IsVerifyFault}
 use Rattle.bpf_verify.specs.declared.fault.VerifyFault.TheVariants as verify_fault
-use Rattle.extract.specs.declared.program.ProgramFault.{ProgramFault}
-use Rattle.extract.specs.declared.program.ProgramFault.TheVariants.{Code, Flow, Verify, Memory}
+use Rattle.bpf_program.specs.declared.program.ProgramFault.{ProgramFault}
+use Rattle.bpf_program.specs.declared.program.ProgramFault.TheVariants.{Code, Flow, Verify, Memory}
 
 -- The code is forward: its jumps go forward, and its last instruction is EXIT. It is accepted: what is known before each instruction makes every
 -- check pass. Therefore it is safe: on every segment no run ends stuck, and some run exits in at most as many steps as the code has instructions.
