@@ -3,14 +3,14 @@ use Rattle.std.proofs.Common.{◌≡◌, ◌≢◌, ℕ, List, Option, Result, E
 use Rattle.std.specs.Io.KnownBytes.{Keeps}
 use Rattle.std.specs.declared.io.Error.{Error}
 use Rattle.refusals.specs.Refusal.{RefusalParts}
-use Rattle.tl_fields.specs.Counted.{CountsFault, CountsFlush}
-use Rattle.tl_fields.specs.Device.{WriteCounts, Writer}
-use Rattle.tl_fields.specs.declared.writing.WriteFault.{WriteFault}
+use Rattle.counted_io.specs.Counted.{CountsFault, CountsFlush}
+use Rattle.counted_io.specs.Device.{WriteCounts, Writer}
+use Rattle.counted_io.specs.declared.writing.WriteFault.{WriteFault}
 use Rattle.commands.specs.Command.{CarriesOut, IsTextRefused, IsLackOfLine, IsOutOfMemory, IsRefusal, IsRefusalOf, IsRefusedWith}
 use Rattle.commands.specs.Command.{Writes, of_library, of_other}
-use Rattle.commands.specs.County.{file_name}
+use Rattle.named_files.specs.County.{file_name}
 use Rattle.commands.specs.Failure.{Says, refusal_status, status}
-use Rattle.commands.specs.Files.{Disk}
+use Rattle.named_files.specs.Files.{Disk}
 use Rattle.commands.specs.Command.{IsUnusable, of_county, of_county_file, of_file, of_source, of_write}
 use Rattle.commands.proofs.CarriedLemmas.{refusal_not_usage}
 use Rattle.commands.proofs.ClassLemmas.{address_status, filter_status}

@@ -16,13 +16,13 @@ use Rattle.addresses.proofs.ListingLaws.{all_read_lem, one_more_lem}
 use Rattle.batch.specs.Batch.{BatchParts}
 use Rattle.batch.specs.Lines.{header, lines_of, lines_of_all}
 use Rattle.refusals.specs.Refusal.{memory}
-use Rattle.tl_fields.specs.Device.{WriteCounts, Writer}
-use Rattle.tl_fields.specs.Writing.{WritesText}
+use Rattle.counted_io.specs.Device.{WriteCounts, Writer}
+use Rattle.counted_io.specs.Writing.{WritesText}
 use Rattle.tl_segments.specs.County.{CountyParts}
 use Rattle.commands.specs.Command.{CarriesOut}
 use Rattle.commands.specs.Counties.{AreCountiesOf, HaveRefusedCounty, IsFileOfCounties, TellsLoad}
 use Rattle.commands.specs.Failure.{IsOfAddresses, NamesFile, TellsCounts, WritesAs, refusal_status, status}
-use Rattle.commands.specs.Files.{Disk, IsUnfailed}
+use Rattle.named_files.specs.Files.{Disk, IsUnfailed}
 use Rattle.commands.specs.GeocodeBatch.{AreAddressesOf, Inputs, IsFaultOf, TellsAddresses, WritesBatch, WritesUnlessMemory, codes_of, fault_of}
 use Rattle.commands.specs.GeocodeBatch.{of_county, of_memory, output}
 use Rattle.commands.specs.declared.failure.Failure.{Failure}
@@ -32,7 +32,7 @@ use Rattle.commands.specs.declared.request.Request.TheVariants as request
 use Rattle.commands.proofs.ClassLemmas.{address_status}
 use Rattle.commands.proofs.CarriedLemmas.{fault_unflushed, refused_carried, refusal_not_usage}
 use Rattle.commands.proofs.CountiesLemmas.{texts}
-use Rattle.commands.proofs.FileLemmas.{unfailed_both}
+use Rattle.named_files.proofs.FileLemmas.{unfailed_both}
 use Rattle.commands.proofs.PieceLemmas.{stopped_early, stopped_further, written_further}
 use Rattle.commands.proofs.ReadLemmas.{sound}
 

@@ -3,19 +3,19 @@ use Rattle.std.proofs.Common.{◌≡◌, ◌≢◌, ℕ, List, Option, Bor, Resu
 use Rattle.bpf_insn.specs.CodeFault as code_fault
 use Rattle.bpf_insn.specs.declared.fault.CodeFault.{CodeFault}
 use Rattle.refusals.specs.Refusal.{RefusalParts}
-use Rattle.tl_fields.specs.Counted.{CountsFault}
-use Rattle.tl_fields.specs.Device.{WriteCounts, Writer}
-use Rattle.tl_fields.specs.Writing.{WritesText}
-use Rattle.tl_fields.specs.declared.writing.WriteFault.{WriteFault}
+use Rattle.counted_io.specs.Counted.{CountsFault}
+use Rattle.counted_io.specs.Device.{WriteCounts, Writer}
+use Rattle.counted_io.specs.Writing.{WritesText}
+use Rattle.counted_io.specs.declared.writing.WriteFault.{WriteFault}
 use Rattle.commands.specs.Command.{CarriesOut, IsFileOf, IsRefused, Writes, WritesBefore}
 use Rattle.commands.specs.Failure.{KeepsOnUsage, NamesFile, TellsCounts, WritesAs, of_file, of_program, refusal_status}
-use Rattle.commands.specs.Files.{CountsUse, Disk, IsTooLong, IsUnfailed, TellsProgram, TellsProgramUse}
+use Rattle.named_files.specs.Files.{CountsUse, Disk, IsTooLong, IsUnfailed, TellsProgram, TellsProgramUse}
 use Rattle.commands.specs.Inputs.{HoldTooLong, TellsInputs}
 use Rattle.commands.specs.declared.request.Request.{Request}
 use Rattle.commands.specs.declared.failure.Failure.{Failure}
 use Rattle.commands.specs.declared.failure.Failure.TheVariants.{Refusal}
-use Rattle.commands.specs.declared.files.FileFault.{FileFault}
-use Rattle.commands.specs.declared.files.ProgramInputFault.{ProgramInputFault}
+use Rattle.named_files.specs.declared.files.FileFault.{FileFault}
+use Rattle.named_files.specs.declared.files.ProgramInputFault.{ProgramInputFault}
 use Rattle.commands.proofs.ClassLemmas.{code_status}
 use Rattle.commands.proofs.ReadLemmas.{ReadsAs}
 

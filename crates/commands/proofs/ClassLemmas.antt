@@ -19,8 +19,8 @@ use Rattle.cql2_text.specs.Spelled.{IsFilterText}
 use Rattle.cql2_text.specs.declared.fault.FilterFault.{FilterFault}
 use Rattle.cql2_text.specs.declared.fault.FilterFault.TheVariants as filter
 use Rattle.cql2_text.specs.declared.reader.TheConstants.{TEXT_LIMIT}
-use Rattle.extract.specs.ProgramFault as program_fault
-use Rattle.extract.specs.declared.program.ProgramFault.{ProgramFault}
+use Rattle.bpf_program.specs.ProgramFault as program_fault
+use Rattle.bpf_program.specs.declared.program.ProgramFault.{ProgramFault}
 use Rattle.refusals.specs.Refusal.{RefusalParts}
 use Rattle.commands.specs.Failure.{IsOfCompile, IsOfFilter, refusal_status}
 use Rattle.commands.specs.Filter.{IsFilterFailure, IsFilterRefusal, of_program, of_text}

@@ -6,7 +6,7 @@ use Rattle.cql2.specs.declared.column.NumericColumn.{NumericColumn}
 use Rattle.cql2_text.specs.declared.fault.FilterFault.{FilterFault}
 use Rattle.cql2_text.specs.declared.reader.TheConstants.{TEXT_LIMIT}
 use Rattle.commands.specs.Failure.{IsOfFilter, status}
-use Rattle.commands.specs.Files.{IsFront}
+use Rattle.named_files.specs.Files.{IsFront}
 use Rattle.commands.specs.Filter.{IsFilterFailure, IsProgramOf, length_fault, of_text}
 use Rattle.commands.specs.declared.failure.Failure.{Failure}
 use Rattle.commands.specs.declared.failure.Failure.TheVariants.{Noted, Memory}

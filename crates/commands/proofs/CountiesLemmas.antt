@@ -8,12 +8,12 @@ use Rattle.std.proofs.lemmas.Slice.Zip.{all_zipped_more}
 use Rattle.tl_segments.specs.County.{CountyParts}
 use Rattle.refusals.specs.Refusal.{RefusalParts}
 use Rattle.commands.specs.Counties.{AreCountiesOf, HaveRefusedCounty, IsCountyOf, IsFileOfCounties, IsRefusedCounty, TellsLoad}
-use Rattle.commands.specs.County.{IsFileOfCounty, file_name}
+use Rattle.named_files.specs.County.{IsFileOfCounty, file_name}
 use Rattle.commands.specs.Failure.{NamesFile, of_county_file, status}
-use Rattle.commands.specs.Files.{CountsFileFault, Disk, IsUnfailed}
+use Rattle.named_files.specs.Files.{CountsFileFault, Disk, IsUnfailed}
 use Rattle.tl_segments.specs.declared.fault.CountyFile as county_file
-use Rattle.commands.specs.declared.files.FileFault.{FileFault}
-use Rattle.commands.specs.declared.files.FileFault.TheVariants as fault
+use Rattle.named_files.specs.declared.files.FileFault.{FileFault}
+use Rattle.named_files.specs.declared.files.FileFault.TheVariants as fault
 use Rattle.commands.specs.declared.failure.Failure.{Failure}
 use Rattle.commands.specs.declared.failure.Failure.TheVariants.{Memory, File, CountyFile}
 use Rattle.commands.proofs.CarriedLemmas.{refusal_not_usage}

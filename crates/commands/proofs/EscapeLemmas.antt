@@ -11,10 +11,10 @@ use Rattle.std.proofs.lemmas.Grind.{flat_map-append}
 use Rattle.std.proofs.lemmas.List.{append-nil, take_all}
 use Rattle.std.proofs.lemmas.List.Sums.{passes_at_first, split_at_first}
 use Rattle.bpf_text.proofs.WordLemmas.{position-found, position-missing}
-use Rattle.tl_fields.specs.Device.{Writer}
-use Rattle.tl_fields.specs.Writing.{WritesText}
-use Rattle.tl_fields.specs.declared.writing.WriteFault.{WriteFault}
-use Rattle.tl_fields.proofs.KnownBytesLemmas.{Appends-refl}
+use Rattle.counted_io.specs.Device.{Writer}
+use Rattle.counted_io.specs.Writing.{WritesText}
+use Rattle.counted_io.specs.declared.writing.WriteFault.{WriteFault}
+use Rattle.counted_io.proofs.KnownBytesLemmas.{Appends-refl}
 use Rattle.commands.specs.Escape.{escaped, escaped_byte}
 use Rattle.commands.proofs.PieceLemmas.{stopped_further, written_further}
 

@@ -8,26 +8,26 @@ use Rattle.bpf_explain.specs.SourceLines.{SourceLine, lines_in}
 use Rattle.bpf_explain.specs.declared.source_lines.LinesFault.{LinesFault}
 use Rattle.bpf_insn.specs.Code.{IsCodeOf}
 use Rattle.bpf_insn.specs.declared.instruction.Insn.{Insn}
-use Rattle.extract.specs.ProgramFault as program_fault
-use Rattle.extract.specs.declared.program.ProgramFault.{ProgramFault}
-use Rattle.extract.specs.declared.program.ProgramFault.TheVariants as program
+use Rattle.bpf_program.specs.ProgramFault as program_fault
+use Rattle.bpf_program.specs.declared.program.ProgramFault.{ProgramFault}
+use Rattle.bpf_program.specs.declared.program.ProgramFault.TheVariants as program
 use Rattle.bpf_meaning.specs.declared.cause.Cause.{Cause}
 use Rattle.refusals.specs.Refusal.{RefusalParts, memory}
 use Rattle.bpf_verify.specs.VerifyFault as verify_fault
 use Rattle.bpf_verify.specs.declared.fault.VerifyFault.{VerifyFault}
 use Rattle.bpf_verify.specs.declared.fault.VerifyFault.TheVariants as verify
-use Rattle.tl_fields.specs.Device.{WriteCounts, Writer}
-use Rattle.tl_fields.specs.Writing.{WritesText}
+use Rattle.counted_io.specs.Device.{WriteCounts, Writer}
+use Rattle.counted_io.specs.Writing.{WritesText}
 use Rattle.commands.specs.Command.{CarriesOut}
 use Rattle.commands.specs.Explain.{HoldsLines, Inputs, IsFlowFault, WritesExplained, of_lines, of_memory, of_program, of_verdict}
 use Rattle.commands.specs.Failure.{NamesFile, TellsCounts, refusal_status}
-use Rattle.commands.specs.Files.{Disk, IsUnfailed}
+use Rattle.named_files.specs.Files.{Disk, IsUnfailed}
 use Rattle.commands.specs.declared.explain.Explain.{Explain}
 use Rattle.commands.specs.declared.failure.Failure.{Failure}
 use Rattle.commands.specs.declared.failure.Failure.TheVariants as failure
 use Rattle.commands.specs.declared.request.Request.TheVariants as request
 use Rattle.commands.proofs.CarriedLemmas.{fault_unflushed}
-use Rattle.commands.proofs.FileLemmas.{unfailed_both}
+use Rattle.named_files.proofs.FileLemmas.{unfailed_both}
 
 -- the files hold the same bytes after the program was read
 pub holds_before : {known later : List ℕ → Option (List ℕ)} (lines : Option (Bor (List ℕ))) (file : List ℕ)

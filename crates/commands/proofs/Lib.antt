@@ -1,10 +1,8 @@
 mod ClassLemmas
 mod CompileLemmas
 mod ExplainLemmas
-mod FileLemmas
 mod ReadLemmas
 mod CarriedLemmas
-mod ProgramLemmas
 mod PieceLemmas
 mod EscapeLemmas
 mod CountiesLemmas

@@ -7,11 +7,11 @@ use Rattle.std.proofs.Math.Nat.{min-le_right}
 use Rattle.std.proofs.lemmas.Grind.{flat_map-append, take_at_read}
 use Rattle.std.proofs.lemmas.List.{flat_map_more, take-append-drop, take-append-le, take_all, take_min}
 use Rattle.std.specs.Io.KnownBytes.{Appends}
-use Rattle.tl_fields.specs.Counted.{CountsFault}
-use Rattle.tl_fields.specs.Device.{WriteCounts, Writer}
-use Rattle.tl_fields.specs.Writing.{AppendsBeginning, WritesText}
-use Rattle.tl_fields.specs.declared.writing.WriteFault.{WriteFault}
-use Rattle.tl_fields.proofs.KnownBytesLemmas.{Appends-append, AppendsBeginning-further}
+use Rattle.counted_io.specs.Counted.{CountsFault}
+use Rattle.counted_io.specs.Device.{WriteCounts, Writer}
+use Rattle.counted_io.specs.Writing.{AppendsBeginning, WritesText}
+use Rattle.counted_io.specs.declared.writing.WriteFault.{WriteFault}
+use Rattle.counted_io.proofs.KnownBytesLemmas.{Appends-append, AppendsBeginning-further}
 
 -- a prefix of a text is a prefix of a longer text
 beginning_longer : (a b : Option (List ℕ)) (text more : List ℕ) → AppendsBeginning a b text → AppendsBeginning a b (text ++ more)

@@ -1,6 +1,7 @@
 -- Which refusals are for a failed read, and what closing a county's readers then counts.
 use Rattle.std.proofs.Common.{◌≡◌, ◌≢◌, ℕ, List, Option, refl, ap, sym, subst, ◌∙◌, arith}
-use Rattle.tl_fields.specs.Device.{Reader, Writer}
+use Rattle.bpf_insn.specs.declared.instruction.Insn.{Insn}
+use Rattle.counted_io.specs.Device.{Reader, Writer}
 use Rattle.tl_records.specs.LineFlaw as line_flaw
 use Rattle.tl_records.specs.declared.fault.LineFlaw.{LineFlaw}
 use Rattle.tl_segments.specs.County.{CountyParts, CountyReaders, IsCountyFault, LoadsCounty, before_rt1, in_rt1}
@@ -11,10 +12,10 @@ use Rattle.tl_segments.specs.declared.fault.CountyFile.TheVariants.{Rt1, Rt4, Rt
 use Rattle.tl_segments.specs.declared.fault.LoadFault.{LoadFault}
 use Rattle.extract.specs.Extracting.{AreUnfailed, IsLoadRefusal}
 use Rattle.extract.specs.Extracting as extracting
-use Rattle.commands.specs.County.{ClosesCounty, HoldCounty}
+use Rattle.named_files.specs.County.{ClosesCounty, HoldCounty}
 use Rattle.commands.specs.Failure.{refusal_status}
-use Rattle.commands.specs.Files.{Closes, CountsClose, Disk, IsUnfailed}
-use Rattle.commands.proofs.FileLemmas.{broken_close, sound_close}
+use Rattle.named_files.specs.Files.{Closes, CountsClose, Disk, IsUnfailed}
+use Rattle.named_files.proofs.FileLemmas.{broken_close, sound_close}
 
 -- a count has changed if the status is 3, and only then
 pub record ReadsAs (status failed failed' : ℕ) : Type 0 where
@@ -105,8 +106,8 @@ module _ {known : List ℕ → Option (List ℕ)} {folder code : List ℕ} {old 
       ∙ sound_close was_rt4.failed closes.rt4 joined.rt4.reads)
 
 -- an extract refused for a county's file is refused for the county's fault
-pub load_refusal : (of : LoadFault) (program : List ℕ) (old new : CountyReaders) (out out' : Writer)
-    → IsLoadRefusal program of old new out out' → IsCountyFault of old new
-load_refusal of program old new out out' (extracting.before_rt1 safe has joined rt1 unwritten) = before_rt1 joined rt1
-load_refusal of program old new out out' (extracting.in_rt1 joined lines line is reads first written) =
+pub load_refusal : (of : LoadFault) (code : List Insn) (old new : CountyReaders) (out out' : Writer)
+    → IsLoadRefusal code of old new out out' → IsCountyFault of old new
+load_refusal of code old new out out' (extracting.before_rt1 has joined rt1 unwritten) = before_rt1 joined rt1
+load_refusal of code old new out out' (extracting.in_rt1 joined lines line is reads first written) =
     in_rt1 joined reads (subst (λ (of : LoadFault). IsFileFault Rt1 of old.rt1 new.rt1) (sym is) (refl, lines, first))

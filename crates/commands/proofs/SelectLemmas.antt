@@ -3,15 +3,16 @@ use Rattle.std.proofs.Common.{◌≡◌, ◌<◌, ◌+◌, ℕ, suc, List, lengt
 use Rattle.std.proofs.Common.{refl, ap, sym, subst, ◌∙◌}
 use Rattle.std.proofs.Math.Path.{fun_ext}
 use Rattle.std.proofs.lemmas.List.{map_more}
+use Rattle.bpf_insn.specs.declared.instruction.Insn.{Insn}
 use Rattle.cql2.specs.declared.column.NumericColumn.{NumericColumn}
 use Rattle.extract.specs.declared.fault.ExtractFault.TheVariants as extract
-use Rattle.tl_fields.specs.Device.{Writer}
+use Rattle.counted_io.specs.Device.{Writer}
 use Rattle.refusals.specs.Refusal.{RefusalParts}
 use Rattle.commands.specs.Command.{CarriesOut, IsTextRefused}
 use Rattle.commands.specs.Counties.{IsFileOfCounties}
 use Rattle.commands.specs.Failure.{NamesFile, TellsCounts}
-use Rattle.commands.specs.Files.{Disk, IsUnfailed}
-use Rattle.commands.specs.Filter.{IsFilterFailure, IsFilterRefusal, IsProgramOf}
+use Rattle.named_files.specs.Files.{Disk, IsUnfailed}
+use Rattle.commands.specs.Filter.{IsCodeOfText, IsFilterFailure, IsFilterRefusal}
 use Rattle.commands.specs.Select.{FailsAs, IsCountyOutcome, IsCountyRefusal, Selecting, SelectsCounties, SelectsCounty, StopsAt}
 use Rattle.commands.specs.Select.{WritesCounties, WritesCounty, codes_of, more, none, selecting}
 use Rattle.commands.specs.declared.request.Request.{Request}
@@ -28,7 +29,7 @@ counties_counts none = refl
 counties_counts (more code before wrote) = wrote.1.outcome.counts ∙ counties_counts before
 
 -- after the counties of the codes before it
-module _ (known later : List ℕ → Option (List ℕ)) (same : (name : List ℕ) → later name ≡ known name) {folder program : List ℕ}
+module _ (known later : List ℕ → Option (List ℕ)) (same : (name : List ℕ) → later name ≡ known name) {folder : List ℕ} {program : List Insn}
     (codes : List (Bor (List ℕ))) (i : ℕ) (d : Bor (List ℕ)) (inside : i < length codes) {out between : Writer}
     (so_far : WritesCounties (selecting known folder program) out (texts (take i codes)) between) where
   earlier : (IsSo : Selecting → Type 0) → IsSo (selecting later folder program) → IsSo (selecting known folder program)
@@ -84,8 +85,8 @@ filter_carried text score Memory is each counts =
 filter_carried text score failure is each counts = absurd is
 
 -- the extracts of its program
-module _ {disk disk' : Disk} {out out' : Writer} (asked : Select) {program : List ℕ}
-    (is_program : IsProgramOf asked.filter.now asked.compiling.score program) where
+module _ {disk disk' : Disk} {out out' : Writer} (asked : Select) {program : List Insn}
+    (is_program : IsCodeOfText asked.filter.now asked.compiling.score program) where
   pub select_carried : (result : Result (Unit {0}) Failure)
       → SelectsCounties (selecting disk.known asked.«data».now program) (codes_of asked) result out out'
       → IfErr result (λ failure. FailsAs failure disk disk')
@@ -101,18 +102,17 @@ module _ {disk disk' : Disk} {out out' : Writer} (asked : Select) {program : Lis
       record { outcome = ((program, is_program, is), fails); names = names; counts = counts; unflushed = unflushed }
   select_carried (Err failure) is fails names counts unflushed = absurd is
 
--- the same for the call's arguments: the text, the program and the codes are borrowed
-pub select_lent : {disk disk' : Disk} {out out' : Writer} (asked : Select) {text lent program : List ℕ} {codes : List (Bor (List ℕ))}
-    (result : Result (Unit {0}) Failure) → text ≡ asked.filter.now → lent ≡ program → codes ≡ asked.codes.items
-    → IsProgramOf text asked.compiling.score program
-    → SelectsCounties (selecting disk.known asked.«data».now lent) (texts codes) result out out'
+-- the same for the call's arguments: the text and the codes are borrowed
+pub select_lent : {disk disk' : Disk} {out out' : Writer} (asked : Select) {text : List ℕ} {program : List Insn} {codes : List (Bor (List ℕ))}
+    (result : Result (Unit {0}) Failure) → text ≡ asked.filter.now → codes ≡ asked.codes.items
+    → IsCodeOfText text asked.compiling.score program
+    → SelectsCounties (selecting disk.known asked.«data».now program) (texts codes) result out out'
     → IfErr result (λ failure. FailsAs failure disk disk')
     → IfErr result (NamesFile (IsFileOfCounties asked.«data».now (texts codes))) → TellsCounts result disk disk'
     → out'.counts.flushes ≡ out.counts.flushes → CarriesOut (request.Select asked) result disk disk' out out'
-select_lent {disk} {disk'} {out} {out'} asked {program = program} {codes = codes} result same_text same same_codes is selects fails names =
-    select_carried asked (subst (λ (text : List ℕ). IsProgramOf text asked.compiling.score program) same_text is) result
+select_lent {disk} {disk'} {out} {out'} asked {program = program} {codes = codes} result same_text same_codes is selects fails names =
+    select_carried asked (subst (λ (text : List ℕ). IsCodeOfText text asked.compiling.score program) same_text is) result
     (subst (λ (codes : List (Bor (List ℕ))).
-    SelectsCounties (selecting disk.known asked.«data».now program) (texts codes) result out out') same_codes
-    (subst (λ (program : List ℕ). SelectsCounties (selecting disk.known asked.«data».now program) (texts codes) result out out') same selects))
+    SelectsCounties (selecting disk.known asked.«data».now program) (texts codes) result out out') same_codes selects)
     fails
     (subst (λ (codes : List (Bor (List ℕ))). IfErr result (NamesFile (IsFileOfCounties asked.«data».now (texts codes)))) same_codes names)

@@ -2,12 +2,12 @@
 use Rattle.std.proofs.Common.{◌≡◌, ℕ, List, Option, Result, Err, refl, ap, sym, subst, ◌∙◌}
 use Rattle.bpf_meaning.specs.declared.outcome.Outcome.{Outcome}
 use Rattle.refusals.specs.Refusal.{RefusalParts}
-use Rattle.tl_fields.specs.Device.{Writer}
+use Rattle.counted_io.specs.Device.{Writer}
 use Rattle.tl_segments.specs.County.{CountyReaders}
 use Rattle.commands.specs.Command.{CarriesOut}
-use Rattle.commands.specs.County.{ClosesCounty, HoldCounty}
+use Rattle.named_files.specs.County.{ClosesCounty, HoldCounty}
 use Rattle.commands.specs.Failure.{WritesAs, refusal_status}
-use Rattle.commands.specs.Files.{Closes, Disk, IsUnfailed}
+use Rattle.named_files.specs.Files.{Closes, Disk, IsUnfailed}
 use Rattle.commands.specs.Inputs.{HoldTooLong}
 use Rattle.commands.specs.Trace.{EndsAs, HoldAsked, IsOutcomeOn, IsRefused, IsTraceFault, of_code, of_county, outcome_line}
 use Rattle.commands.specs.declared.failure.Failure.{Failure}

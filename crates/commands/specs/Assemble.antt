@@ -7,9 +7,9 @@ use Rattle.bpf_text.specs.Text.{IsFirstFault, Means}
 use Rattle.bpf_text.specs.TextFault as text_fault
 use Rattle.bpf_text.specs.declared.fault.TextFault.{TextFault}
 use Rattle.refusals.specs.Refusal.{RefusalParts}
-use Rattle.tl_fields.specs.Device.{Writer}
-use Rattle.tl_fields.specs.Writing.{WritesText}
-use Rattle.tl_fields.specs.declared.writing.WriteFault.{WriteFault}
+use Rattle.counted_io.specs.Device.{Writer}
+use Rattle.counted_io.specs.Writing.{WritesText}
+use Rattle.counted_io.specs.declared.writing.WriteFault.{WriteFault}
 use Rattle.commands.specs.declared.assemble.Assemble.{Assemble}
 
 -- The source, whose bytes agree with what is known of them, is UTF-8 and assembles to a code. The code's words were written, completely or until

@@ -3,17 +3,18 @@ use Rattle.std.specs.Prelude.{◌≡◌, ◌≢◌, ℕ, List, [], ◌∷◌, �
 use Rattle.std.specs.Io.KnownBytes.{Keeps}
 use Rattle.std.specs.declared.io.Error.{Error}
 use Rattle.refusals.specs.Refusal.{RefusalParts, line}
-use Rattle.tl_fields.specs.Counted.{CountsFault, CountsFlush}
-use Rattle.tl_fields.specs.Device.{Writer}
-use Rattle.tl_fields.specs.Writing as write_fault
-use Rattle.tl_fields.specs.declared.writing.WriteFault.{WriteFault}
+use Rattle.counted_io.specs.Counted.{CountsFault, CountsFlush}
+use Rattle.counted_io.specs.Device.{Writer}
+use Rattle.counted_io.specs.Writing as write_fault
+use Rattle.counted_io.specs.declared.writing.WriteFault.{WriteFault}
 use Rattle.commands.specs.Assemble as assemble
 use Rattle.commands.specs.Compile as compile
 use Rattle.commands.specs.Counties.{IsFileOfCounties}
 use Rattle.commands.specs.Disassemble as disassemble
 use Rattle.commands.specs.Explain as explain
-use Rattle.commands.specs.Failure.{NamesFile, Says, SaysFile, SaysLine, SaysMemory, SaysNotUtf8, SaysOutput, SaysText, TellsCounts, refusal_status, status as status_of}
-use Rattle.commands.specs.Files.{Disk, IsFailed}
+use Rattle.commands.specs.Failure.{NamesFile, Says, SaysFile, SaysLine, SaysMemory, SaysNotUtf8, SaysOutput, SaysText, TellsCounts, refusal_status}
+use Rattle.commands.specs.Failure.{status as status_of}
+use Rattle.named_files.specs.Files.{Disk, IsFailed}
 use Rattle.commands.specs.Filter.{IsFilterRefusal}
 use Rattle.commands.specs.Geocode as geocode
 use Rattle.commands.specs.GeocodeBatch as geocode_batch

@@ -2,9 +2,9 @@
 use Rattle.std.specs.Prelude.{ℕ, List, Option, Some, Result}
 use Rattle.std.specs.Io.KnownBytes.{Keeps}
 use Rattle.refusals.specs.Refusal.{RefusalParts}
-use Rattle.tl_fields.specs.Device.{Writer}
-use Rattle.tl_fields.specs.Writing.{WritesText}
-use Rattle.tl_fields.specs.declared.writing.WriteFault.{WriteFault}
+use Rattle.counted_io.specs.Device.{Writer}
+use Rattle.counted_io.specs.Writing.{WritesText}
+use Rattle.counted_io.specs.declared.writing.WriteFault.{WriteFault}
 use Rattle.commands.specs.Filter.{IsFilterRefusal, IsProgramOf}
 use Rattle.commands.specs.declared.compile.Compile.{Compile}
 

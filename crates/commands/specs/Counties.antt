@@ -5,9 +5,9 @@ use Rattle.tl_segments.specs.County.{CountyParts, CountyReaders, IsCountyFault, 
 use Rattle.refusals.specs.Refusal.{RefusalParts}
 use Rattle.tl_segments.specs.LoadFault as load_fault
 use Rattle.tl_segments.specs.declared.fault.LoadFault.{LoadFault}
-use Rattle.commands.specs.County.{HoldCounty, IsFileOfCounty}
+use Rattle.named_files.specs.County.{HoldCounty, IsFileOfCounty}
 use Rattle.commands.specs.Failure.{refusal_status}
-use Rattle.commands.specs.Files.{Disk}
+use Rattle.named_files.specs.Files.{Disk}
 use Rattle.commands.specs.declared.failure.Failure.{Failure}
 use Rattle.commands.specs.declared.failure.Failure.TheVariants.{Refusal, Memory, CountyFile}
 

@@ -21,18 +21,18 @@ use Rattle.extract.specs.declared.fault.ExtractFault.TheVariants as extract
 use Rattle.refusals.specs.Refusal.{RefusalParts, line, memory}
 use Rattle.refusals.specs.declared.refusal.Class.{Class}
 use Rattle.refusals.specs.declared.refusal.Class.TheVariants as class
-use Rattle.tl_fields.specs.Device.{Writer}
-use Rattle.tl_fields.specs.Writing as write_fault
-use Rattle.tl_fields.specs.Writing.{WritesText}
-use Rattle.tl_fields.specs.declared.writing.WriteFault.{WriteFault}
+use Rattle.counted_io.specs.Device.{Writer}
+use Rattle.counted_io.specs.Writing as write_fault
+use Rattle.counted_io.specs.Writing.{WritesText}
+use Rattle.counted_io.specs.declared.writing.WriteFault.{WriteFault}
 use Rattle.tl_segments.specs.declared.fault.CountyFile as county_file
-use Rattle.commands.specs.County.{file_name}
+use Rattle.named_files.specs.County.{file_name}
 use Rattle.commands.specs.Escape.{escaped}
-use Rattle.commands.specs.Files.{Disk, IsUnfailed}
-use Rattle.commands.specs.declared.files.FileFault.{FileFault}
-use Rattle.commands.specs.declared.files.FileFault.TheVariants as fault
-use Rattle.commands.specs.declared.files.ProgramInputFault.{ProgramInputFault}
-use Rattle.commands.specs.declared.files.ProgramInputFault.TheVariants as program_input
+use Rattle.named_files.specs.Files.{Disk, IsUnfailed}
+use Rattle.named_files.specs.declared.files.FileFault.{FileFault}
+use Rattle.named_files.specs.declared.files.FileFault.TheVariants as fault
+use Rattle.named_files.specs.declared.files.ProgramInputFault.{ProgramInputFault}
+use Rattle.named_files.specs.declared.files.ProgramInputFault.TheVariants as program_input
 use Rattle.commands.specs.declared.failure.Failure.{Failure}
 use Rattle.commands.specs.declared.failure.Failure.TheVariants.{Refusal, Memory, Write, File, CountyFile, NotUtf8, NoLine, Noted, County, Output}
 use Rattle.commands.specs.declared.failure.Piece.{Piece}

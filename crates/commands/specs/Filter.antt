@@ -22,16 +22,19 @@ use Rattle.refusals.specs.Refusal.{RefusalParts}
 use Rattle.commands.specs.declared.failure.Failure.{Failure}
 use Rattle.commands.specs.declared.failure.Failure.TheVariants.{Noted, Memory}
 
--- The text spells a filter. The program has a code that selects the segments for which the filter is true, with their scores, and the verifier
--- accepts it.
-pub record IsProgramOf (text : List ℕ) (score : Option NumericColumn) (program : List ℕ) : Type 0 where
+-- The text spells a filter. The code selects the segments for which the filter is true, with their scores, and the verifier accepts it.
+pub record IsCodeOfText (text : List ℕ) (score : Option NumericColumn) (code : List Insn) : Type 0 where
   pub filter : Filter Global
   pub is_text : IsFilterText text filter
-  pub code : List Insn
-  pub is_code : IsCodeOf program code
   pub chooses : Chooses code filter score
   pub forward : IsForward code
   pub accepted : HasGoodAnnotation code
+
+-- the program's bytes are those of such a code
+pub record IsProgramOf (text : List ℕ) (score : Option NumericColumn) (program : List ℕ) : Type 0 where
+  pub code : List Insn
+  pub is_code : IsCodeOf program code
+  pub of_text : IsCodeOfText text score code
 
 -- the text doesn't spell a filter, provided that it is UTF-8 and within the limit of bytes
 abbrev pub IsNoFilter : List ℕ → Type 0

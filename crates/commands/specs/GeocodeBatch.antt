@@ -8,9 +8,9 @@ use Rattle.addresses.specs.declared.fault.AddressFault.{AddressFault}
 use Rattle.addresses.specs.declared.fault.AddressFault.TheVariants as fault
 use Rattle.batch.specs.Lines.{lines_of_all}
 use Rattle.refusals.specs.Refusal.{RefusalParts, memory}
-use Rattle.tl_fields.specs.Device.{Writer}
-use Rattle.tl_fields.specs.Writing.{WritesText}
-use Rattle.tl_fields.specs.declared.writing.WriteFault.{WriteFault}
+use Rattle.counted_io.specs.Device.{Writer}
+use Rattle.counted_io.specs.Writing.{WritesText}
+use Rattle.counted_io.specs.declared.writing.WriteFault.{WriteFault}
 use Rattle.tl_segments.specs.County.{CountyParts}
 use Rattle.commands.specs.Counties.{AreCountiesOf, HaveRefusedCounty, IsFileOfCounties}
 use Rattle.commands.specs.declared.failure.Failure.{Failure}

@@ -5,8 +5,8 @@ use Rattle.bpf_insn.specs.CodeFault as code_fault
 use Rattle.bpf_insn.specs.declared.fault.CodeFault.{CodeFault}
 use Rattle.refusals.specs.Refusal.{RefusalParts}
 use Rattle.tl_segments.specs.County.{CountyReaders}
-use Rattle.commands.specs.County.{HoldCounty, IsFileOfCounty}
-use Rattle.commands.specs.Files.{Disk, IsFailed, IsTooLong}
+use Rattle.named_files.specs.County.{HoldCounty, IsFileOfCounty}
+use Rattle.named_files.specs.Files.{Disk, IsFailed, IsTooLong}
 use Rattle.commands.specs.declared.failure.Failure.{Failure}
 use Rattle.commands.specs.declared.failure.Failure.TheVariants.{Refusal, Memory, File, CountyFile}
 

@@ -1,7 +1,5 @@
-pub mod Files
 pub mod Escape
 pub mod Failure
-pub mod County
 pub mod Counties
 pub mod Inputs
 pub mod Run

@@ -1,17 +1,18 @@
 -- What `select` writes, and why it is refused.
 use Rattle.std.specs.Prelude.{◌≡◌, ◌⊎◌, ℕ, List, [], ◌∷◌, ◌++◌, map, Option, Result, Ok, Err, ◌≢◌, ⊤}
 use Rattle.extract.specs.ExtractFault as extract_fault
-use Rattle.extract.specs.Extracting.{IsOutcome}
+use Rattle.bpf_insn.specs.declared.instruction.Insn.{Insn}
+use Rattle.extract.specs.Extracting.{IsOutcomeOfCode}
 use Rattle.extract.specs.declared.fault.ExtractFault.{ExtractFault}
 use Rattle.extract.specs.declared.fault.ExtractFault.TheVariants as extract
 use Rattle.refusals.specs.Refusal.{RefusalParts, memory}
-use Rattle.tl_fields.specs.Device.{Writer}
-use Rattle.tl_fields.specs.declared.writing.WriteFault.{WriteFault}
+use Rattle.counted_io.specs.Device.{Writer}
+use Rattle.counted_io.specs.declared.writing.WriteFault.{WriteFault}
 use Rattle.tl_segments.specs.County.{CountyReaders}
-use Rattle.commands.specs.County.{HoldCounty}
+use Rattle.named_files.specs.County.{HoldCounty}
 use Rattle.commands.specs.Failure.{refusal_status}
-use Rattle.commands.specs.Files.{Disk}
-use Rattle.commands.specs.Filter.{IsProgramOf}
+use Rattle.named_files.specs.Files.{Disk}
+use Rattle.commands.specs.Filter.{IsCodeOfText}
 use Rattle.commands.specs.declared.select.Select.{Select}
 use Rattle.commands.specs.declared.failure.Failure.{Failure}
 use Rattle.commands.specs.declared.failure.Failure.TheVariants.{Write, CountyFile, County}
@@ -20,13 +21,13 @@ use Rattle.commands.specs.declared.failure.Failure.TheVariants.{Write, CountyFil
 abbrev pub codes_of : Select → List (List ℕ)
 codes_of select = map (λ code. code.now) select.codes.items
 
--- a program and the folder of the counties that it runs over, with what is known of the files' bytes by name
+-- a program's instructions and the folder of the counties that it runs over, with what is known of the files' bytes by name
 pub record Selecting : Type 0 where
   pub known : List ℕ → Option (List ℕ)
   pub folder : List ℕ
-  pub program : List ℕ
+  pub program : List Insn
 
-abbrev pub selecting : (List ℕ → Option (List ℕ)) → List ℕ → List ℕ → Selecting
+abbrev pub selecting : (List ℕ → Option (List ℕ)) → List ℕ → List Insn → Selecting
 selecting known folder program = record { known = known; folder = folder; program = program }
 
 -- the outcome of the extract from the files of the county of this code
@@ -34,7 +35,7 @@ pub record IsCountyOutcome (over : Selecting) (code : List ℕ) (result : Result
   pub old : CountyReaders
   pub hold : HoldCounty over.known over.folder code old
   pub new : CountyReaders
-  pub outcome : IsOutcome over.program result old new out out'
+  pub outcome : IsOutcomeOfCode over.program result old new out out'
 
 -- a county's extract was written
 abbrev pub WritesCounty : Selecting → List ℕ → Writer → Writer → Type 0
@@ -90,7 +91,7 @@ FailsAs failure disk disk' = ⊤
 
 -- the filter has a program, and its run over the requested counties is as `Selects` describes
 abbrev pub SelectsSo : Select → (List ℕ → Option (List ℕ)) → (Selecting → Type 0) → Type 0
-SelectsSo select known Selects = (program : List ℕ) × IsProgramOf select.filter.now select.compiling.score program
+SelectsSo select known Selects = (program : List Insn) × IsCodeOfText select.filter.now select.compiling.score program
     × Selects (selecting known select.«data».now program)
 
 -- the extracts of the counties were written in order, completely or until the output failed

@@ -11,9 +11,9 @@ use Rattle.bpf_meaning.specs.Run.{IsTraced}
 use Rattle.bpf_meaning.specs.declared.outcome.Outcome.{Outcome}
 use Rattle.bpf_meaning.specs.declared.outcome.Outcome.TheVariants.{Running, Exit, Stuck}
 use Rattle.refusals.specs.Refusal.{RefusalParts}
-use Rattle.tl_fields.specs.Device.{Writer}
-use Rattle.tl_fields.specs.Writing.{WritesText}
-use Rattle.tl_fields.specs.declared.writing.WriteFault.{WriteFault}
+use Rattle.counted_io.specs.Device.{Writer}
+use Rattle.counted_io.specs.Writing.{WritesText}
+use Rattle.counted_io.specs.declared.writing.WriteFault.{WriteFault}
 use Rattle.tl_segments.specs.County.{CountyParts, CountyReaders, IsCountyFault, LoadsCounty}
 use Rattle.tl_segments.specs.LoadFault as load_fault
 use Rattle.tl_segments.specs.Segment.{Contents}

@@ -1,17 +1,17 @@
 //! `compile`: compiles a filter to a program.
 ghost use Rattle.std.specs.Prelude.{◌≢◌, IfErr};
-ghost use Rattle.tl_fields.specs.Device.{writer};
+ghost use Rattle.counted_io.specs.Device.{writer};
 ghost use Rattle.commands.specs.Command.{CarriesOut};
 ghost use Rattle.commands.specs.Failure.{status};
-ghost use Rattle.commands.specs.Files.{disk};
+ghost use Rattle.named_files.specs.Files.{disk};
 ghost use Rattle.commands.specs.declared.request.Request.{Request};
 
 use crate::failure::{Failure, write};
-use crate::files::{Files, read_file_front};
 use crate::filter::Compiling;
+use counted_io::CountedWrite;
 use cql2_text::TEXT_LIMIT;
+use named_files::{Files, read_file_front};
 use std::alloc::Allocator;
-use tl_fields::CountedWrite;
 
 // One byte more than the limit shows that a filter's text is too long.
 const MOST_READ: usize = TEXT_LIMIT + 1;

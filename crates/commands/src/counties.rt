@@ -1,16 +1,15 @@
 //! Counties, loaded one after the other.
 ghost use Rattle.std.specs.Prelude.{◌≡◌, ◌≢◌, ℕ, List, map, IfErr, IfOk};
 ghost use Rattle.commands.specs.Counties.{AreCountiesOf, HaveRefusedCounty, IsCountyOf, IsFileOfCounties, IsRefusedCounty, TellsLoad};
-ghost use Rattle.commands.specs.County.{IsFileOfCounty};
+ghost use Rattle.named_files.specs.County.{IsFileOfCounty};
 ghost use Rattle.commands.specs.Failure.{NamesFile, TellsCounts, status};
-ghost use Rattle.commands.specs.Files.{disk};
+ghost use Rattle.named_files.specs.Files.{disk};
 
-use crate::county::{close_county, open_county};
 use crate::failure::Failure;
-use crate::files::Files;
+use named_files::{Files, close_county, open_county};
 use refusals::Fault;
 use std::alloc::Allocator;
-use tl_segments::County;
+use tl_segments::{County, CountyFiles};
 
 /// Loads the counties of these codes, in order. Reads the files of each county to their ends before opening those of the next.
 pub fn load_counties<'a, A: Allocator + Copy, F: Files>(
@@ -57,7 +56,7 @@ fn load_county<'a, A: Allocator + Copy, F: Files>(
         Ok(inputs) => inputs,
         Err(fault) => return Err(Failure::of_county_file(folder, code, fault)),
     };
-    let loaded = inputs.load(alloc);
+    let loaded = CountyFiles::load(&mut inputs, alloc);
     close_county(files, inputs);
     match loaded {
         Ok(county) => Ok(county),

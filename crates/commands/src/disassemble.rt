@@ -1,17 +1,17 @@
 //! `dis`: disassembles instruction words to a program text.
 ghost use Rattle.std.specs.Prelude.{◌≢◌, IfErr};
-ghost use Rattle.tl_fields.specs.Device.{writer};
+ghost use Rattle.counted_io.specs.Device.{writer};
 ghost use Rattle.commands.specs.Command.{CarriesOut};
 ghost use Rattle.commands.specs.Failure.{status};
-ghost use Rattle.commands.specs.Files.{disk};
+ghost use Rattle.named_files.specs.Files.{disk};
 ghost use Rattle.commands.specs.declared.request.Request.{Request};
 
 use crate::failure::{Failure, write};
-use crate::files::{Files, read_program_file};
 use bpf_text::disassemble_program;
+use counted_io::CountedWrite;
+use named_files::{Files, read_program_file};
 use refusals::Fault;
 use std::alloc::Allocator;
-use tl_fields::CountedWrite;
 
 /// The arguments of `dis`.
 #[derive(Clone, Copy)]

@@ -2,11 +2,11 @@
 ghost use Rattle.std.specs.Prelude.{◌≡◌, ◌<◌, length, true, IfSome};
 ghost use Rattle.std.specs.Char.{digit_char, is_ascii_control};
 ghost use Rattle.std.specs.List.{position};
-ghost use Rattle.tl_fields.specs.Device.{writer};
-ghost use Rattle.tl_fields.specs.Writing.{WritesText};
+ghost use Rattle.counted_io.specs.Device.{writer};
+ghost use Rattle.counted_io.specs.Writing.{WritesText};
 ghost use Rattle.commands.specs.Escape.{escaped, escaped_byte};
 
-use tl_fields::{CountedWrite, WriteFault, write_whole};
+use counted_io::{CountedWrite, WriteFault, write_whole};
 
 /// Writes a text with its control characters escaped, or up to the fault of the writer. Nothing is tried again.
 pub fn write_escaped<W: CountedWrite>(out: &mut W, text: &str) -> Result<(), WriteFault>

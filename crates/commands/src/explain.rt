@@ -2,22 +2,22 @@
 ghost use Rattle.std.specs.Prelude.{◌≢◌, IfOk, IfErr};
 ghost use Rattle.bpf_insn.specs.Code.{IsCodeOf};
 ghost use Rattle.bpf_explain.specs.SourceLines.{parts_of};
-ghost use Rattle.tl_fields.specs.Device.{writer};
+ghost use Rattle.counted_io.specs.Device.{writer};
 ghost use Rattle.commands.specs.Command.{CarriesOut};
 ghost use Rattle.commands.specs.Explain.{HoldsLines, IsFlowFault, TellsLines, WritesExplained};
 ghost use Rattle.commands.specs.Failure.{TellsCounts, status};
-ghost use Rattle.commands.specs.Files.{disk};
+ghost use Rattle.named_files.specs.Files.{disk};
 ghost use Rattle.commands.specs.declared.request.Request.{Request};
 
 use crate::failure::{Failure, write};
-use crate::files::{Files, read_file, read_program_file};
 use bpf_explain::{Explanation, SourceLines, explain};
 use bpf_flow::Flow;
 use bpf_insn::decode;
-use extract::ProgramFault;
+use bpf_program::ProgramFault;
+use counted_io::CountedWrite;
+use named_files::{Files, read_file, read_program_file};
 use refusals::{Fault, Refusal};
 use std::alloc::Allocator;
-use tl_fields::CountedWrite;
 
 /// The arguments of `explain`.
 #[derive(Clone, Copy)]

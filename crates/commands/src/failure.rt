@@ -1,29 +1,28 @@
 //! Why a command fails: what it reports, and its exit status.
 ghost use Rattle.std.specs.Prelude.{◌≡◌, [], ◌∷◌, ◌++◌, codes};
 ghost use Rattle.std.specs.List.{flat_map};
-ghost use Rattle.tl_fields.specs.Device.{writer};
-ghost use Rattle.tl_fields.specs.Writing.{WritesText};
+ghost use Rattle.counted_io.specs.Device.{writer};
+ghost use Rattle.counted_io.specs.Writing.{WritesText};
 ghost use Rattle.commands.specs.Escape.{escaped};
 ghost use Rattle.commands.specs.Failure.{IsOfAddresses, IsOfCompile, IsOfFilter, Says, SaysFile, SaysLine, SaysText, WritesAs, class_status, of_county_extract, of_county_file, of_extract, of_file, of_opening, of_program, of_source, said, status};
 ghost use Rattle.commands.specs.declared.failure.Failure.TheVariants.{Memory};
 
-use crate::county::{CountyFileFault, name_end};
 use crate::escape::write_escaped;
 use crate::failure::Piece::{Echo, Text};
-use crate::files::{FileFault, ProgramInputFault};
 use addresses::AddressFault;
 use arrayvec::ArrayString;
 use bpf_text::{SourceFault, TextFault};
+use counted_io::{CountedWrite, WriteFault, write_whole};
 use cql2_code::CompileFault;
 use cql2_text::FilterFault;
 use extract::ExtractFault;
 use itoa::Buffer;
+use named_files::{CountyFileFault, FileFault, ProgramInputFault, name_end};
 use refusals::{Class, Fault, Refusal};
 use std::alloc::{AllocError, AllocFailed};
 use std::fmt::Write as WriteText;
 use std::io;
 use std::io::ErrorKind;
-use tl_fields::{CountedWrite, WriteFault, write_whole};
 use tl_segments::CountyFile;
 
 pub const DONE: u8 = 0;

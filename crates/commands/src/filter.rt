@@ -2,10 +2,12 @@
 ghost use Rattle.std.specs.Prelude.{◌<◌, length, IfErr, IfOk, IsErrAnd};
 ghost use Rattle.cql2_text.specs.declared.reader.TheConstants.{TEXT_LIMIT};
 ghost use Rattle.commands.specs.Failure.{IsOfFilter};
-ghost use Rattle.commands.specs.Filter.{IsFilterFailure, IsProgramOf, length_fault};
+ghost use Rattle.commands.specs.Filter.{IsCodeOfText, IsFilterFailure, IsProgramOf, length_fault};
 
 use crate::failure::Failure;
-use bpf_insn::encode;
+use bpf_insn::{Code, encode};
+use bpf_program::accept_code;
+use bpf_verify::Verified;
 use cql2::NumericColumn;
 use cql2_code::compile;
 use cql2_text::read;
@@ -31,17 +33,42 @@ impl Compiling {
         ensures err { IfErr result (IsFilterFailure text.now self.score) }
         ensures too_long { TEXT_LIMIT < length text.now → IsErrAnd result (IsOfFilter (length_fault text.now)) }
     {
+        match self.code(text) {
+            Ok(code) => Ok(encode(alloc, &code)?),
+            Err(failure) => Err(failure),
+        }
+    }
+
+    /// Compiles the filter in a text for `bpf_machine::run`.
+    pub fn verified<'a>(self, text: &[u8]) -> Result<Verified<Global>, Failure<'a>>
+        ensures ok { IfOk result (λ verified. IsCodeOfText text.now self.score verified.code) }
+        ensures err { IfErr result (IsFilterFailure text.now self.score) }
+        ensures too_long { TEXT_LIMIT < length text.now → IsErrAnd result (IsOfFilter (length_fault text.now)) }
+    {
+        let code = match self.code(text) {
+            Ok(code) => code,
+            Err(failure) => return Err(failure),
+        };
+        match accept_code(self.filters, code) {
+            Ok(verified) => Ok(verified),
+            // The compiler's code is safe, so only memory can be lacking.
+            Err(_fault) => Err(Failure::Memory),
+        }
+    }
+
+    /// Compiles the filter in a text.
+    fn code<'a>(self, text: &[u8]) -> Result<Code<Global>, Failure<'a>>
+        ensures ok { IfOk result (IsCodeOfText text.now self.score) }
+        ensures err { IfErr result (IsFilterFailure text.now self.score) }
+        ensures too_long { TEXT_LIMIT < length text.now → IsErrAnd result (IsOfFilter (length_fault text.now)) }
+    {
         let filter = match read(self.filters, text) {
             Ok(filter) => filter,
             Err(fault) => return Err(Failure::of_filter(text, fault)),
         };
-        let code = match compile(self.filters, &filter, self.score) {
-            Ok(code) => code,
-            Err(fault) => return Err(Failure::of_compile(fault)),
-        };
-        match encode(alloc, &code) {
-            Ok(program) => Ok(program),
-            Err(_) => Err(Failure::Memory),
+        match compile(self.filters, &filter, self.score) {
+            Ok(code) => Ok(code),
+            Err(fault) => Err(Failure::of_compile(fault)),
         }
     }
 }

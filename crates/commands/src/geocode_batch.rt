@@ -2,21 +2,21 @@
 ghost use Rattle.std.specs.Prelude.{◌≡◌, ◌≢◌, List, IfErr, IfOk};
 ghost use Rattle.addresses.specs.Address.{AddressParts, address_in};
 ghost use Rattle.batch.specs.Lines.{lines_of, lines_of_all};
-ghost use Rattle.tl_fields.specs.Device.{writer};
+ghost use Rattle.counted_io.specs.Device.{writer};
 ghost use Rattle.commands.specs.Command.{CarriesOut};
 ghost use Rattle.commands.specs.Failure.{status};
-ghost use Rattle.commands.specs.Files.{disk};
+ghost use Rattle.named_files.specs.Files.{disk};
 ghost use Rattle.commands.specs.GeocodeBatch.{AreAddressesOf, TellsAddresses, WritesBatch, WritesUnlessMemory};
 ghost use Rattle.commands.specs.declared.request.Request.{Request};
 
 use crate::counties::load_counties;
 use crate::failure::{Failure, write};
-use crate::files::{Files, read_file};
 use addresses::{AddressFault, Addresses, Row};
 use batch::{Batch, Lines, header};
+use counted_io::CountedWrite;
+use named_files::{Files, read_file};
 use refusals::{Fault, Refusal};
 use std::alloc::{Allocator, Global};
-use tl_fields::CountedWrite;
 
 /// The arguments of `geocode-batch`.
 #[derive(Drop)]

@@ -1,18 +1,18 @@
 //! `geocode`: finds where a house number is, over counties.
 ghost use Rattle.std.specs.Prelude.{◌≢◌, IfErr};
-ghost use Rattle.tl_fields.specs.Device.{writer};
+ghost use Rattle.counted_io.specs.Device.{writer};
 ghost use Rattle.commands.specs.Command.{CarriesOut};
-ghost use Rattle.commands.specs.Files.{disk};
+ghost use Rattle.named_files.specs.Files.{disk};
 ghost use Rattle.commands.specs.declared.request.Request.{Request};
 ghost use Rattle.commands.specs.Failure.{WritesAs, status};
 ghost use Rattle.geocode.specs.HitLine.{hit_lines};
 
 use crate::counties::load_counties;
 use crate::failure::{Failure, write};
-use crate::files::Files;
+use counted_io::CountedWrite;
 use geocode::{Hit, Query};
+use named_files::Files;
 use std::alloc::Allocator;
-use tl_fields::CountedWrite;
 
 /// The arguments of `geocode`.
 #[derive(Drop)]

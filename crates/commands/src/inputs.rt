@@ -1,13 +1,12 @@
 //! The inputs of `run` and `trace`: a program and a county.
 ghost use Rattle.std.specs.Prelude.{IfErr, IfOk};
-ghost use Rattle.commands.specs.County.{IsOpened, county_readers};
+ghost use Rattle.named_files.specs.County.{IsOpened, county_readers};
 ghost use Rattle.commands.specs.Failure.{NamesFile, TellsCounts};
-ghost use Rattle.commands.specs.Files.{disk};
+ghost use Rattle.named_files.specs.Files.{disk};
 ghost use Rattle.commands.specs.Inputs.{HoldInputs, IsInput, TellsInputs};
 
-use crate::county::{CountyInputs, close_county, open_county};
 use crate::failure::Failure;
-use crate::files::{Files, open, read_program};
+use named_files::{CountyInputs, Files, close_county, open, open_county, read_program};
 use std::alloc::Allocator;
 
 /// A program's bytes and a county's inputs.

@@ -4,12 +4,10 @@
 mod assemble;
 mod compile;
 mod counties;
-mod county;
 mod disassemble;
 mod escape;
 mod explain;
 mod failure;
-mod files;
 mod filter;
 mod geocode_batch;
 mod geocoder;
@@ -27,9 +25,6 @@ pub use counties::load_counties;
 pub use disassemble::Disassemble;
 pub use explain::Explain;
 pub use failure::{Failure, OUT_OF_MEMORY, UNUSABLE, USAGE};
-pub use files::{
-    FileFault, Files, INPUT_BUFFER, ProgramInputFault, SystemFiles, read_program, read_to_end,
-};
 pub use filter::Compiling;
 pub use geocode_batch::GeocodeBatch;
 pub use geocoder::Geocode;

@@ -4,8 +4,8 @@ ghost use Rattle.std.specs.Io.KnownBytes.{Appends};
 ghost use Rattle.commands.specs.Escape.{escaped};
 
 use crate::escape::write_escaped;
+use counted_io::{CountedWrite, write_whole};
 use std::fmt;
-use tl_fields::{CountedWrite, write_whole};
 
 /// A line for people, written piece by piece. A write that fails or takes no byte isn't retried, not even after `Interrupted`, unlike `write!` on
 /// a writer, and nothing is written after it.

@@ -1,24 +1,24 @@
 //! A request, its execution, and its exit status.
 ghost use Rattle.std.specs.Prelude.{◌≡◌, ◌≢◌, ◌≤◌, ◌⊎◌};
-ghost use Rattle.tl_fields.specs.Device.{writer};
+ghost use Rattle.counted_io.specs.Device.{writer};
 ghost use Rattle.commands.specs.Command.{CarriesOut, FailsFlush, IsDone, IsFlushed, IsLackOfLine, IsOutOfMemory, IsRefusal, IsUnusable};
 ghost use Rattle.commands.specs.Failure.{KeepsOnUsage};
-ghost use Rattle.commands.specs.Files.{disk};
+ghost use Rattle.named_files.specs.Files.{disk};
 
 use crate::assemble::Assemble;
 use crate::compile::Compile;
 use crate::disassemble::Disassemble;
 use crate::explain::Explain;
 use crate::failure::{DONE, Failure, USAGE};
-use crate::files::Files;
 use crate::geocode_batch::GeocodeBatch;
 use crate::geocoder::Geocode;
 use crate::run::Run;
 use crate::select::Select;
 use crate::trace::Trace;
 use crate::verify::Verify;
+use counted_io::CountedWrite;
+use named_files::Files;
 use std::alloc::Allocator;
-use tl_fields::CountedWrite;
 
 /// A command and its arguments.
 #[derive(Drop)]

@@ -1,17 +1,20 @@
 //! `run`: writes the rows of the segments that a program selects in a county's files.
 ghost use Rattle.std.specs.Prelude.{◌≢◌, IfErr};
-ghost use Rattle.tl_fields.specs.Device.{writer};
+ghost use Rattle.counted_io.specs.Device.{writer};
 ghost use Rattle.commands.specs.Command.{CarriesOut};
+ghost use Rattle.named_files.specs.County.{county_readers};
+ghost use Rattle.extract.specs.Extracting.{IsOutcome};
 ghost use Rattle.commands.specs.Failure.{status};
-ghost use Rattle.commands.specs.Files.{disk};
+ghost use Rattle.named_files.specs.Files.{disk};
 ghost use Rattle.commands.specs.declared.request.Request.{Request};
 
-use crate::county::close_county;
 use crate::failure::Failure;
-use crate::files::Files;
 use crate::inputs::{Inputs, open_inputs};
+use bpf_program::accept;
+use counted_io::{CountedRead, CountedWrite};
+use extract::{ExtractFault, extract_verified};
+use named_files::{CountyInputs, Files, close_county};
 use std::alloc::Allocator;
-use tl_fields::CountedWrite;
 
 /// The arguments of `run`.
 #[derive(Clone, Copy)]
@@ -45,11 +48,26 @@ impl<'a> Run<'a> {
             program,
             mut county,
         } = inputs;
-        let extracted = county.extract(alloc, program.as_slice(), out);
+        let extracted = extract_county(alloc, program.as_slice(), &mut county, out);
         close_county(files, county);
         match extracted {
             Ok(_) => Ok(()),
             Err(fault) => Err(Failure::of_extract(fault)),
         }
     }
+}
+
+/// Accepts the program and writes the extract of a county.
+fn extract_county<A: Allocator + Copy, R: CountedRead, W: CountedWrite>(
+    alloc: A,
+    program: &[u8],
+    county: &mut CountyInputs<R>,
+    out: &mut W,
+) -> Result<u64, ExtractFault>
+    ensures { IsOutcome program.now result (county_readers R.remaining R.failed_reads county.old)
+        (county_readers R.remaining R.failed_reads county.new)
+        (writer W.contents W.counts out.old) (writer W.contents W.counts out.new) }
+{
+    let verified = accept(alloc, program)?;
+    extract_verified(alloc, &verified, county, out)
 }

@@ -1,20 +1,21 @@
 //! `select`: writes the rows of the segments for which a filter is true, over counties.
 ghost use Rattle.std.specs.Prelude.{◌≡◌, ◌≢◌, ℕ, List, map, IfErr};
-ghost use Rattle.tl_fields.specs.Device.{writer};
+ghost use Rattle.counted_io.specs.Device.{writer};
 ghost use Rattle.commands.specs.Command.{CarriesOut};
 ghost use Rattle.commands.specs.Counties.{IsFileOfCounties};
-ghost use Rattle.commands.specs.County.{IsFileOfCounty};
+ghost use Rattle.named_files.specs.County.{IsFileOfCounty};
 ghost use Rattle.commands.specs.Failure.{NamesFile, TellsCounts, status};
-ghost use Rattle.commands.specs.Files.{disk};
+ghost use Rattle.named_files.specs.Files.{disk};
 ghost use Rattle.commands.specs.Select.{FailsAs, SelectsCounties, SelectsCounty, selecting};
 ghost use Rattle.commands.specs.declared.request.Request.{Request};
 
-use crate::county::{close_county, open_county};
 use crate::failure::Failure;
-use crate::files::Files;
 use crate::filter::Compiling;
-use std::alloc::Allocator;
-use tl_fields::CountedWrite;
+use bpf_verify::Verified;
+use counted_io::CountedWrite;
+use extract::extract_verified;
+use named_files::{Files, close_county, open_county};
+use std::alloc::{Allocator, Global};
 
 /// The arguments of `select`.
 #[derive(Drop)]
@@ -29,7 +30,7 @@ pub struct Select<'a> {
 }
 
 impl<'a> Select<'a> {
-    /// Compiles the filter and then writes each county's extract, up to the first fault.
+    /// Compiles the filter once, and then writes each county's extract, up to the first fault.
     pub fn carry_out<A: Allocator + Copy, F: Files, W: CountedWrite>(
         self,
         alloc: A,
@@ -41,14 +42,14 @@ impl<'a> Select<'a> {
             (writer W.contents W.counts out.old) (writer W.contents W.counts out.new) }
         ensures usage { IfErr result (λ failure. status failure ≢ 2) }
     {
-        let program = match self.compiling.program(alloc, self.filter.as_bytes()) {
+        let program = match self.compiling.verified(self.filter.as_bytes()) {
             Ok(program) => program,
             Err(failure) => return Err(failure),
         };
         select_counties(
             alloc,
             files,
-            program.as_slice(),
+            &program,
             self.data,
             self.codes.as_slice(),
             out,
@@ -60,12 +61,12 @@ impl<'a> Select<'a> {
 fn select_counties<'a, A: Allocator + Copy, F: Files, W: CountedWrite>(
     alloc: A,
     files: &mut F,
-    program: &[u8],
+    program: &Verified<Global>,
     folder: &'a str,
     codes: &[&'a str],
     out: &mut W,
 ) -> Result<(), Failure<'a>>
-    ensures outcome { SelectsCounties (selecting (F.bytes files.old) folder.now program.now) (map (λ code. code.now) codes.now) result
+    ensures outcome { SelectsCounties (selecting (F.bytes files.old) folder.now program.now.code) (map (λ code. code.now) codes.now) result
         (writer W.contents W.counts out.old) (writer W.contents W.counts out.new) }
     ensures fails { IfErr result (λ failure. FailsAs failure
         (disk F.bytes F.failed_opens F.failed_reads files.old) (disk F.bytes F.failed_opens F.failed_reads files.new)) }
@@ -87,12 +88,12 @@ fn select_counties<'a, A: Allocator + Copy, F: Files, W: CountedWrite>(
 fn select_county<'a, A: Allocator + Copy, F: Files, W: CountedWrite>(
     alloc: A,
     files: &mut F,
-    program: &[u8],
+    program: &Verified<Global>,
     folder: &'a str,
     code: &'a str,
     out: &mut W,
 ) -> Result<(), Failure<'a>>
-    ensures outcome { SelectsCounty (selecting (F.bytes files.old) folder.now program.now) code.now result
+    ensures outcome { SelectsCounty (selecting (F.bytes files.old) folder.now program.now.code) code.now result
         (writer W.contents W.counts out.old) (writer W.contents W.counts out.new) }
     ensures fails { IfErr result (λ failure. FailsAs failure
         (disk F.bytes F.failed_opens F.failed_reads files.old) (disk F.bytes F.failed_opens F.failed_reads files.new)) }
@@ -106,7 +107,7 @@ fn select_county<'a, A: Allocator + Copy, F: Files, W: CountedWrite>(
         Ok(inputs) => inputs,
         Err(fault) => return Err(Failure::of_opening(folder, code, fault)),
     };
-    let extracted = inputs.extract(alloc, program, out);
+    let extracted = extract_verified(alloc, program, &mut inputs, out);
     close_county(files, inputs);
     match extracted {
         Ok(_) => Ok(()),

@@ -1,24 +1,23 @@
 //! `trace`: runs a program on one segment of a county.
-ghost use Rattle.tl_fields.specs.Device.{writer};
+ghost use Rattle.counted_io.specs.Device.{writer};
 ghost use Rattle.commands.specs.Command.{CarriesOut};
 ghost use Rattle.commands.specs.Failure.{KeepsOnUsage};
-ghost use Rattle.commands.specs.Files.{disk};
+ghost use Rattle.named_files.specs.Files.{disk};
 ghost use Rattle.commands.specs.declared.request.Request.{Request};
 ghost use Rattle.std.specs.Prelude.{◌≡◌, ◌≤◌, ◌+◌, ◌∷◌, ◌++◌, [], decimal, length, MatchOption};
-ghost use Rattle.commands.specs.County.{county_readers};
+ghost use Rattle.named_files.specs.County.{county_readers};
 ghost use Rattle.commands.specs.Trace.{EndsAs, HasNoLine, IsSegmentOfLine, outcome_line};
 
-use crate::county::{CountyInputs, close_county};
 use crate::failure::{Failure, write};
-use crate::files::Files;
 use crate::inputs::{Inputs, open_inputs};
 use arrayvec::ArrayString;
 use bpf_insn::decode;
 use bpf_meaning::{Outcome, trace};
+use counted_io::{CountedRead, CountedWrite};
 use itoa::Buffer;
+use named_files::{CountyInputs, Files, close_county};
 use refusals::Fault;
 use std::alloc::Allocator;
-use tl_fields::{CountedRead, CountedWrite};
 use tl_segments::{County, Segment};
 
 /// The arguments of `trace`.

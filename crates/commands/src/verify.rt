@@ -1,20 +1,20 @@
 //! `verify`: checks whether a program is accepted.
-ghost use Rattle.tl_fields.specs.Device.{writer};
+ghost use Rattle.counted_io.specs.Device.{writer};
 ghost use Rattle.commands.specs.Command.{CarriesOut};
 ghost use Rattle.commands.specs.Failure.{status};
-ghost use Rattle.commands.specs.Files.{disk};
+ghost use Rattle.named_files.specs.Files.{disk};
 ghost use Rattle.commands.specs.declared.request.Request.{Request};
 ghost use Rattle.bpf_insn.specs.declared.instruction.Insn.{Insn};
-ghost use Rattle.extract.specs.Program.{IsSafeProgram, IsProgramFault};
+ghost use Rattle.bpf_program.specs.Program.{IsSafeProgram, IsProgramFault};
 ghost use Rattle.std.specs.Prelude.{◌≢◌, List, OnOk, IfErr};
 
 use crate::failure::{Failure, write};
-use crate::files::{Files, read_program_file};
 use bpf_insn::decode;
-use extract::{ProgramFault, check_code};
+use bpf_program::{ProgramFault, check_code};
+use counted_io::CountedWrite;
+use named_files::{Files, read_program_file};
 use refusals::Fault;
 use std::alloc::Allocator;
-use tl_fields::CountedWrite;
 
 /// The arguments of `verify`.
 #[derive(Clone, Copy)]

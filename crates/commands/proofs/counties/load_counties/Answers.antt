@@ -1,8 +1,8 @@
 use Rattle.std.proofs.Common.{◌∙◌, subst, sym}
 use Rattle.commands.specs.Counties.{AreCountiesOf}
-use Rattle.commands.specs.Files.{disk}
+use Rattle.named_files.specs.Files.{disk}
 use Rattle.commands.proofs.CountiesLemmas.{counties_more, load_told, load_usage, memory_told, named_behind, refused_behind}
-use Rattle.commands.proofs.FileLemmas.{unfailed_both}
+use Rattle.named_files.proofs.FileLemmas.{unfailed_both}
 use Rattle.commands.proofs.counties.load_counties.Goals as goal
 
 pub returns-in-Err-clause-err : goal.returns-in-Err-clause-err

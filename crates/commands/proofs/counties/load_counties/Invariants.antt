@@ -1,6 +1,6 @@
 use Rattle.std.proofs.Common.{◌≡◌, ℕ, List, map, take}
 use Rattle.commands.specs.Counties.{AreCountiesOf}
-use Rattle.commands.specs.Files.{IsUnfailed, disk}
+use Rattle.named_files.specs.Files.{IsUnfailed, disk}
 use Rattle.commands.proofs.counties.load_counties.Given as goal
 
 -- the counties of the codes so far are loaded; what is known of the files stays the same, and no open and no read failed

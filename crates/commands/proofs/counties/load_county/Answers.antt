@@ -1,4 +1,4 @@
-use Rattle.commands.specs.Files.{disk}
+use Rattle.named_files.specs.Files.{disk}
 use Rattle.commands.proofs.CountiesLemmas.{open_counts, open_named, open_told}
 use Rattle.commands.proofs.counties.load_county.Goals as goal
 

@@ -1,8 +1,8 @@
 use Rattle.std.proofs.Common.{ℕ, List, Ok, subst}
 use Rattle.bpf_explain.specs.Explanation.{IsExplained}
 use Rattle.bpf_explain.specs.SourceLines.{parts_of}
-use Rattle.tl_fields.specs.Device.{writer}
-use Rattle.tl_fields.specs.Writing.{WritesText}
+use Rattle.counted_io.specs.Device.{writer}
+use Rattle.counted_io.specs.Writing.{WritesText}
 use Rattle.commands.proofs.ExplainLemmas.{refusal_written}
 use Rattle.commands.proofs.explain.write_explained.Goals as goal
 

@@ -1,7 +1,7 @@
 use Rattle.std.proofs.Common.{Ok, take}
 use Rattle.std.specs.List.{flat_map}
-use Rattle.tl_fields.specs.Device.{writer}
-use Rattle.tl_fields.specs.Writing.{WritesText}
+use Rattle.counted_io.specs.Device.{writer}
+use Rattle.counted_io.specs.Writing.{WritesText}
 use Rattle.commands.specs.Failure.{said}
 use Rattle.commands.proofs.failure.say.Given as goal
 

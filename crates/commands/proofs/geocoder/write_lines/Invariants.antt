@@ -1,7 +1,7 @@
 use Rattle.std.proofs.Common.{Ok, take}
 use Rattle.geocode.specs.HitLine.{hit_lines}
-use Rattle.tl_fields.specs.Device.{writer}
-use Rattle.tl_fields.specs.Writing.{WritesText}
+use Rattle.counted_io.specs.Device.{writer}
+use Rattle.counted_io.specs.Writing.{WritesText}
 use Rattle.commands.proofs.geocoder.write_lines.Given as goal
 
 -- the lines of the hits so far are written

@@ -2,15 +2,15 @@ use Rattle.std.proofs.Common.{◌∙◌, ℕ, List, Option, Bor, Err, inl, refl,
 use Rattle.std.specs.Io.KnownBytes.{Keeps}
 use Rattle.std.proofs.Math.Path.{fun_ext}
 use Rattle.tl_segments.specs.County.{CountyReaders}
-use Rattle.commands.specs.County.{HoldCounty, county_readers}
+use Rattle.named_files.specs.County.{HoldCounty, county_readers}
 use Rattle.commands.specs.Failure.{NamesFile, of_program}
-use Rattle.commands.specs.Files.{Disk, TellsProgram, TellsProgramUse, disk}
+use Rattle.named_files.specs.Files.{Disk, TellsProgram, TellsProgramUse, disk}
 use Rattle.commands.specs.Inputs.{IsInput, TellsInputs}
-use Rattle.commands.specs.declared.files.FileFault.TheVariants as fault
-use Rattle.commands.specs.declared.files.ProgramInputFault.{ProgramInputFault}
-use Rattle.commands.specs.declared.files.ProgramInputFault.TheVariants as input
-use Rattle.commands.proofs.FileLemmas.{used_program}
-use Rattle.commands.proofs.ProgramLemmas.{too_long_as}
+use Rattle.named_files.specs.declared.files.FileFault.TheVariants as fault
+use Rattle.named_files.specs.declared.files.ProgramInputFault.{ProgramInputFault}
+use Rattle.named_files.specs.declared.files.ProgramInputFault.TheVariants as input
+use Rattle.named_files.proofs.FileLemmas.{used_program}
+use Rattle.named_files.proofs.ProgramLemmas.{too_long_as}
 use Rattle.commands.proofs.ReadLemmas.{fresh_closed}
 use Rattle.commands.proofs.inputs.open_inputs.Goals as goal
 

@@ -1,9 +1,9 @@
 use Rattle.std.proofs.Common.{ap, refl, ◌∙◌}
-use Rattle.tl_fields.specs.Device.{WriteCounts, writer}
-use Rattle.commands.specs.Files.{disk}
+use Rattle.counted_io.specs.Device.{WriteCounts, writer}
+use Rattle.named_files.specs.Files.{disk}
 use Rattle.commands.specs.Select.{none}
 use Rattle.commands.proofs.CountiesLemmas.{named_behind}
-use Rattle.commands.proofs.FileLemmas.{unfailed_both}
+use Rattle.named_files.proofs.FileLemmas.{unfailed_both}
 use Rattle.commands.proofs.SelectLemmas.{counties_counts, counties_stopped, fails_behind, written_more}
 use Rattle.commands.proofs.select.select_counties.Goals as goal
 

@@ -1,6 +1,6 @@
 use Rattle.std.proofs.Common.{List, ℕ, subst}
 use Rattle.bpf_insn.specs.Code.{IsCodeOf}
-use Rattle.extract.proofs.VerdictLemmas.{refused_by_code}
+use Rattle.bpf_program.proofs.VerdictLemmas.{refused_by_code}
 use Rattle.commands.proofs.verify.check_owned.Goals as goal
 
 pub returns-clause-err : goal.returns-clause-err

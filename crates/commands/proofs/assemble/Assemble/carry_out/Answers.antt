@@ -5,10 +5,10 @@ use Rattle.bpf_text.specs.TextFault as text_fault
 use Rattle.bpf_text.specs.declared.fault.SourceFault.{SourceFault}
 use Rattle.bpf_text.specs.declared.fault.SourceFault.TheVariants as source
 use Rattle.bpf_text.specs.declared.fault.TextFault.TheVariants as text
-use Rattle.tl_fields.specs.Device.{Writer}
+use Rattle.counted_io.specs.Device.{Writer}
 use Rattle.commands.specs.Command.{CarriesOut}
 use Rattle.commands.specs.Failure.{of_source}
-use Rattle.commands.specs.Files.{Disk, IsUnfailed}
+use Rattle.named_files.specs.Files.{Disk, IsUnfailed}
 use Rattle.commands.specs.declared.assemble.Assemble.{Assemble}
 use Rattle.commands.specs.declared.request.Request.TheVariants as request
 use Rattle.commands.proofs.CarriedLemmas.{refused_carried}

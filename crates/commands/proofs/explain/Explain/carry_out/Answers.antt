@@ -1,6 +1,6 @@
 use Rattle.std.proofs.Common.{refl, inl, subst, ℕ, List, Ok, Err, ◌≡◌}
 use Rattle.bpf_explain.specs.SourceLines.{lines_in, parts_of}
-use Rattle.extract.specs.declared.program.ProgramFault.TheVariants as program
+use Rattle.bpf_program.specs.declared.program.ProgramFault.TheVariants as program
 use Rattle.commands.specs.Explain.{of_program}
 use Rattle.commands.proofs.CarriedLemmas.{program_carried}
 use Rattle.commands.proofs.ExplainLemmas.{explained_carried, flow_refused, holds_before, lines_refused}

@@ -1,8 +1,8 @@
 use Rattle.std.proofs.Common.{ℕ, List, ap, map, subst, sym, ◌∙◌}
-use Rattle.tl_fields.specs.Device.{writer}
+use Rattle.counted_io.specs.Device.{writer}
 use Rattle.commands.specs.GeocodeBatch.{AreAddressesOf, TellsAddresses}
 use Rattle.commands.proofs.BatchLemmas.{addresses_failed, batch_lent, batch_usage, counties_failed, inputs_of}
-use Rattle.commands.proofs.FileLemmas.{unfailed_both}
+use Rattle.named_files.proofs.FileLemmas.{unfailed_both}
 use Rattle.commands.proofs.geocode_batch.GeocodeBatch.carry_out.Goals as goal
 
 pub returns-in-Err-load_counties-clause-carried : goal.returns-in-Err-load_counties-clause-carried

@@ -1,5 +1,5 @@
 use Rattle.std.proofs.Common.{refl}
-use Rattle.extract.specs.declared.program.ProgramFault.TheVariants as program
+use Rattle.bpf_program.specs.declared.program.ProgramFault.TheVariants as program
 use Rattle.commands.proofs.CarriedLemmas.{program_carried}
 use Rattle.commands.proofs.verify.Verify.carry_out.Goals as goal
 

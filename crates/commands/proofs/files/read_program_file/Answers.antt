@@ -1,8 +1,0 @@
-use Rattle.std.proofs.Common.{◌∙◌}
-use Rattle.commands.proofs.FileLemmas.{used_program}
-use Rattle.commands.proofs.files.read_program_file.Goals as goal
-
-pub returns-in-Ok-clause-uses : goal.returns-in-Ok-clause-uses
-returns-in-Ok-clause-uses g c =
-    used_program _ _ (c.close.ensures.opens ∙ c.in-Ok.ensures.opens.opens) c.in-Ok.ensures.known.failed c.in-Ok.ensures.opens.reads
-    c.read_program-read.result c.read_program-read.ensures.reads c.close.ensures.reads

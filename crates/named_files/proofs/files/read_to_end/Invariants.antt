@@ -1,0 +1,10 @@
+use Rattle.std.proofs.Common.{◌≡◌}
+use Rattle.std.specs.Io.KnownBytes.{Consumes}
+use Rattle.named_files.proofs.files.read_to_end.Given as goal
+
+-- the bytes are what was read, and no read failed
+abbrev pub invariant-loop : goal.invariant-loop
+invariant-loop g l = record {
+  read : Consumes (g.R.Read.remaining l.initial.reader) (g.R.Read.remaining l.reader) l.bytes.items;
+  reads : g.R.CountedRead.failed_reads l.reader ≡ g.R.CountedRead.failed_reads l.initial.reader;
+}

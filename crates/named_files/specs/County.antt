@@ -1,0 +1,59 @@
+-- The files of a county in a folder, by name, and the bytes that their readers hold.
+use Rattle.std.specs.Prelude.{◌≡◌, ℕ, List, ◌++◌, codes, Option, ⊤}
+use Rattle.tl_segments.specs.County.{CountyReaders}
+use Rattle.tl_segments.specs.CountyFiles as county_files
+use Rattle.tl_segments.specs.Loading.{Readers}
+use Rattle.tl_segments.specs.declared.county_files.CountyFiles.{CountyFiles}
+use Rattle.tl_segments.specs.declared.county_files.JoinedFiles.{JoinedFiles}
+use Rattle.tl_segments.specs.declared.fault.CountyFile.{CountyFile}
+use Rattle.tl_segments.specs.declared.fault.CountyFile.TheVariants.{Rt1, Rt4, Rt5, Rt6}
+use Rattle.named_files.specs.Files.{CountsClose, IsUnread, input_failed_reads, input_remaining}
+use Rattle.named_files.specs.declared.files.Input.{Input}
+use Rattle.named_files.specs.declared.files.Input.TheVariants as input
+
+-- the extension of a county's file
+abbrev pub name_end : CountyFile → List ℕ
+name_end Rt1 = codes ".RT1"
+name_end Rt4 = codes ".RT4"
+name_end Rt5 = codes ".RT5"
+name_end Rt6 = codes ".RT6"
+
+-- the name of a county's file in the folder of the data (TIGER/Line 2006: `TGR`, the state, the county, and the record type)
+abbrev pub file_name : List ℕ → List ℕ → CountyFile → List ℕ
+file_name folder code file = folder ++ codes "/TGR" ++ code ++ name_end file
+
+-- this is the name of one of the county's files in the folder
+abbrev pub IsFileOfCounty : List ℕ → List ℕ → List ℕ → Type 0
+IsFileOfCounty folder code name = (file : CountyFile) × (name ≡ file_name folder code file)
+
+-- The readers hold the files of types 4, 5 and 6 of a county in the folder; below, all files of the county.
+pub record HoldJoined (known : List ℕ → Option (List ℕ)) (folder code : List ℕ) (readers : Readers) : Type 0 where
+  pub rt4 : IsUnread (known (file_name folder code Rt4)) readers.rt4
+  pub rt5 : IsUnread (known (file_name folder code Rt5)) readers.rt5
+  pub rt6 : IsUnread (known (file_name folder code Rt6)) readers.rt6
+
+pub record HoldCounty (known : List ℕ → Option (List ℕ)) (folder code : List ℕ) (readers : CountyReaders) : Type 0 where
+  pub rt1 : IsUnread (known (file_name folder code Rt1)) readers.rt1
+  pub joined : HoldJoined known folder code readers.joined
+
+-- the readers that a county's inputs hold
+abbrev pub joined_readers : {R : Type 0} → (R → Option (List ℕ)) → (R → ℕ) → JoinedFiles (Input R) → Readers
+joined_readers remaining failed_reads inputs = county_files.joined_readers (input_remaining remaining) (input_failed_reads failed_reads) inputs
+
+abbrev pub county_readers : {R : Type 0} → (R → Option (List ℕ)) → (R → ℕ) → CountyFiles (Input R) → CountyReaders
+county_readers remaining failed_reads inputs = county_files.county_readers (input_remaining remaining) (input_failed_reads failed_reads) inputs
+
+-- the input has a file
+abbrev pub IsOpened : {R : Type 0} → Input R → Type 0
+IsOpened (input.Opened reader) = ⊤
+IsOpened input.Nothing = ⊥
+
+-- what closing the county's readers counts, one after the other
+pub record ClosesCounty (readers : CountyReaders) (failed failed' : ℕ) : Type 0 where
+  pub after_rt1 : ℕ
+  pub rt1 : CountsClose readers.rt1.failed failed after_rt1
+  pub after_rt4 : ℕ
+  pub rt4 : CountsClose readers.joined.rt4.failed after_rt1 after_rt4
+  pub after_rt5 : ℕ
+  pub rt5 : CountsClose readers.joined.rt5.failed after_rt4 after_rt5
+  pub rt6 : CountsClose readers.joined.rt6.failed after_rt5 failed'

@@ -1,0 +1,140 @@
+-- The files that a command reads: what opening, reading and closing them counts, and what an input has left.
+use Rattle.std.specs.Prelude.{◌≡◌, ◌≢◌, ◌⊎◌, ◌<◌, ◌*◌, ℕ, List, [], length, take, Option, Some, None, ⊤, Result, Ok, Err, MatchResult}
+use Rattle.std.specs.Io.KnownBytes.{Keeps}
+use Rattle.std.specs.Option.{option_map_or}
+use Rattle.std.specs.IoError.{error_kind}
+use Rattle.std.specs.declared.io.Error.{Error}
+use Rattle.std.specs.declared.io.ErrorKind.TheVariants.{NotFound, OutOfMemory}
+use Rattle.bpf_insn.specs.Code.{IsFirstFault}
+use Rattle.bpf_insn.specs.declared.fault.CodeFault.{CodeFault}
+use Rattle.bpf_insn.specs.declared.fault.CodeFault.TheVariants as code_fault
+use Rattle.bpf_insn.specs.declared.code.TheConstants.{WORD_LIMIT}
+use Rattle.counted_io.specs.Device.{Reader, reader}
+use Rattle.named_files.specs.declared.files.FileFault.{FileFault}
+use Rattle.named_files.specs.declared.files.FileFault.TheVariants.{Unusable, Memory}
+use Rattle.named_files.specs.declared.files.ProgramInputFault.{ProgramInputFault}
+use Rattle.named_files.specs.declared.files.ProgramInputFault.TheVariants.{File, Code}
+use Rattle.named_files.specs.declared.files.Input.{Input}
+use Rattle.named_files.specs.declared.files.Input.TheVariants as input
+
+-- a failed open changes the count, unless memory ran out; a successful one doesn't
+abbrev pub CountsOpen : {R : Type 0} → Result R Error → ℕ → ℕ → Type 0
+CountsOpen (Ok reader) failed failed' = failed' ≡ failed
+CountsOpen (Err error) failed failed' =
+    (error_kind error ≡ OutOfMemory → failed' ≡ failed) × (error_kind error ≢ OutOfMemory → failed' ≢ failed)
+
+-- closing a reader changes the count if any of its reads failed, and leaves it otherwise
+abbrev pub CountsClose : ℕ → ℕ → ℕ → Type 0
+CountsClose reads failed failed' = (reads ≡ 0 → failed' ≡ failed) × (reads ≢ 0 → failed' ≢ failed)
+
+-- an open that fails because the file doesn't exist yields nothing; any other error is kept
+abbrev pub IsIfThere : {T : Type 0} → Result T Error → Result (Option T) Error → Type 0
+IsIfThere (Ok value) opened = opened ≡ Ok (Some value)
+IsIfThere (Err error) opened = (error_kind error ≡ NotFound → opened ≡ Ok None) × (error_kind error ≢ NotFound → opened ≡ Err error)
+
+-- the bytes that an opened reader has left, if they are known; none if there is no file
+abbrev pub remaining_if_there : {R : Type 0} → (R → Option (List ℕ)) → Option R → Option (List ℕ)
+remaining_if_there remaining opened = option_map_or remaining opened (Some [])
+
+-- the number of its failed reads; none if there is no file
+abbrev pub failed_if_there : {R : Type 0} → (R → ℕ) → Option R → ℕ
+failed_if_there failed_reads opened = option_map_or failed_reads opened 0
+
+-- a file is unusable exactly if a call on it failed, which its count shows
+abbrev pub CountsFileFault : FileFault → ℕ → ℕ → Type 0
+CountsFileFault (Unusable error) failed failed' = failed' ≢ failed
+CountsFileFault Memory failed failed' = failed' ≡ failed
+
+abbrev pub TellsFailure : {T : Type 0} → Result T FileFault → ℕ → ℕ → Type 0
+TellsFailure (Ok value) failed failed' = failed' ≡ failed
+TellsFailure (Err fault) failed failed' = CountsFileFault fault failed failed'
+
+-- the bytes that an input has left, if they are known
+abbrev pub input_remaining : {R : Type 0} → (R → Option (List ℕ)) → Input R → Option (List ℕ)
+input_remaining remaining (input.Opened reader) = remaining reader
+input_remaining remaining input.Nothing = Some []
+
+-- the number of an input's failed reads; none for an empty input
+abbrev pub input_failed_reads : {R : Type 0} → (R → ℕ) → Input R → ℕ
+input_failed_reads failed_reads (input.Opened reader) = failed_reads reader
+input_failed_reads failed_reads input.Nothing = 0
+
+-- the reader of an input
+abbrev pub input_reader : {R : Type 0} → (R → Option (List ℕ)) → (R → ℕ) → Input R → Reader
+input_reader remaining failed_reads input = reader (input_remaining remaining) (input_failed_reads failed_reads) input
+
+-- a reader whose remaining bytes agree with what is known of them, and none of whose reads has failed
+pub record IsUnread (known : Option (List ℕ)) (reader : Reader) : Type 0 where
+  pub left : Keeps known reader.left
+  pub failed : reader.failed ≡ 0
+
+-- the files: what is known of their bytes, by name, and the counts of failed opens and of closed readers with a failed read
+pub record Disk : Type 0 where
+  pub known : List ℕ → Option (List ℕ)
+  pub failed_opens : ℕ
+  pub failed_reads : ℕ
+
+-- the value of the files, from the members of their trait
+abbrev pub disk : {F : Type 0} → (F → List ℕ → Option (List ℕ)) → (F → ℕ) → (F → ℕ) → F → Disk
+disk bytes failed_opens failed_reads files =
+    record { known = bytes files; failed_opens = failed_opens files; failed_reads = failed_reads files }
+
+-- no open and no read failed
+pub record IsUnfailed (disk disk' : Disk) : Type 0 where
+  pub opens : disk'.failed_opens ≡ disk.failed_opens
+  pub reads : disk'.failed_reads ≡ disk.failed_reads
+
+-- an open or a read failed
+abbrev pub IsFailed : Disk → Disk → Type 0
+IsFailed disk disk' = (disk'.failed_opens ≢ disk.failed_opens) ⊎ (disk'.failed_reads ≢ disk.failed_reads)
+
+-- What is known of the files stays the same. A failed open is counted if it makes a file unusable; nothing else is counted.
+pub record Opens {T E : Type 0} (result : Result T E) (fault_of : E → FileFault) (disk disk' : Disk) : Type 0 where
+  pub stays : (name : List ℕ) → disk'.known name ≡ disk.known name
+  pub opens : MatchResult result (λ _. disk'.failed_opens ≡ disk.failed_opens)
+      (λ fault. CountsFileFault (fault_of fault) disk.failed_opens disk'.failed_opens)
+  pub reads : disk'.failed_reads ≡ disk.failed_reads
+
+-- What is known of the files stays the same. Closing readers counts those with a failed read as `CountsReads` says, and counts no open.
+pub record Closes (CountsReads : ℕ → ℕ → Type 0) (disk disk' : Disk) : Type 0 where
+  pub stays : (name : List ℕ) → disk'.known name ≡ disk.known name
+  pub opens : disk'.failed_opens ≡ disk.failed_opens
+  pub reads : CountsReads disk.failed_reads disk'.failed_reads
+
+-- a file is unusable if its open or a read of it failed
+abbrev pub CountsUse : FileFault → Disk → Disk → Type 0
+CountsUse (Unusable error) disk disk' = IsFailed disk disk'
+CountsUse Memory disk disk' = IsUnfailed disk disk'
+
+abbrev pub TellsUse : {T : Type 0} → Result T FileFault → Disk → Disk → Type 0
+TellsUse (Ok value) disk disk' = IsUnfailed disk disk'
+TellsUse (Err fault) disk disk' = CountsUse fault disk disk'
+
+-- These are the first `most` bytes of a file, or all if it has fewer, consistent with what is known of its bytes.
+pub record IsFront (most : ℕ) (known : Option (List ℕ)) (front : List ℕ) : Type 0 where
+  pub whole : List ℕ
+  pub is_whole : Keeps known (Some whole)
+  pub is_front : front ≡ take most whole
+
+-- The program is longer than the limit of words, and is refused for its length alone.
+pub record IsTooLong (known : Option (List ℕ)) (fault : CodeFault) : Type 0 where
+  pub program : List ℕ
+  pub is_program : Keeps known (Some program)
+  pub long : 8 * WORD_LIMIT < length program
+  pub first : IsFirstFault program fault
+  pub has_number : fault ≢ code_fault.Memory
+
+-- what a fault implies for a program, given what is known of its bytes
+abbrev pub TellsProgram : Option (List ℕ) → ProgramInputFault → Type 0
+TellsProgram known (Code fault) = IsTooLong known fault
+TellsProgram known (File fault) = ⊤
+
+-- a program that is refused was read to its end, and no read failed
+abbrev pub CountsProgramFault : ProgramInputFault → ℕ → ℕ → Type 0
+CountsProgramFault (File fault) failed failed' = CountsFileFault fault failed failed'
+CountsProgramFault (Code fault) failed failed' = failed' ≡ failed
+
+abbrev pub TellsProgramUse : {T : Type 0} → Result T ProgramInputFault → Disk → Disk → Type 0
+TellsProgramUse (Ok program) disk disk' = IsUnfailed disk disk'
+TellsProgramUse (Err (File fault)) disk disk' = CountsUse fault disk disk'
+TellsProgramUse (Err (Code fault)) disk disk' = IsUnfailed disk disk'

@@ -1,0 +1,2 @@
+pub mod County
+pub mod Files

@@ -1,0 +1,150 @@
+//! The files of a county (TIGER/Line 2006, record types 1, 4, 5 and 6), opened by name.
+ghost use Rattle.std.specs.Prelude.{◌≡◌, IfErr, IfOk, string_bytes};
+ghost use Rattle.named_files.specs.County.{ClosesCounty, HoldCounty, HoldJoined, IsOpened, county_readers, file_name, joined_readers, name_end};
+ghost use Rattle.named_files.specs.Files.{Closes, IsUnread, Opens, disk, input_reader};
+ghost use Rattle.named_files.specs.declared.files.FileFault.TheVariants.{Memory};
+
+use crate::files::{FileFault, Files, Input, close, open, open_if_there};
+use std::alloc::{AllocError, Allocator};
+use tl_segments::{CountyFile, CountyFiles, JoinedFiles};
+
+/// The inputs for a county's four files.
+pub type CountyInputs<R> = CountyFiles<Input<R>>;
+
+/// Why a county's file can't be opened.
+#[derive(Clone, Copy)]
+pub struct CountyFileFault {
+    pub file: CountyFile,
+    pub fault: FileFault,
+}
+
+/// Opens the files of a county in the data folder, those of types 1, 4, 5 and 6, in this order. The type 1 file must exist. Each of the others is
+/// an empty input if it doesn't exist.
+pub fn open_county<A: Allocator + Copy, F: Files>(
+    alloc: A,
+    files: &mut F,
+    folder: &str,
+    code: &str,
+) -> Result<CountyInputs<F::Reader>, CountyFileFault>
+    ensures hold { IfOk result (λ inputs. HoldCounty (F.bytes files.old) folder.now code.now
+        (county_readers F.Reader.remaining F.Reader.failed_reads inputs)) }
+    ensures there { IfOk result (λ inputs. IsOpened inputs.rt1) }
+    ensures opens { Opens result (λ fault. fault.fault) (disk F.bytes F.failed_opens F.failed_reads files.old)
+        (disk F.bytes F.failed_opens F.failed_reads files.new) }
+{
+    let rt1 = match open_file(alloc, files, folder, code, CountyFile::Rt1) {
+        Ok(input) => input,
+        Err(fault) => return Err(fault),
+    };
+    match open_joined(alloc, files, folder, code) {
+        Ok(joined) => Ok(CountyFiles { rt1, joined }),
+        Err(fault) => {
+            close(files, rt1);
+            Err(fault)
+        }
+    }
+}
+
+/// Opens the files whose lines are joined to those of type 1. If one of them can't be opened, closes those that are open.
+fn open_joined<A: Allocator + Copy, F: Files>(
+    alloc: A,
+    files: &mut F,
+    folder: &str,
+    code: &str,
+) -> Result<JoinedFiles<Input<F::Reader>>, CountyFileFault>
+    ensures hold { IfOk result (λ inputs. HoldJoined (F.bytes files.old) folder.now code.now
+        (joined_readers F.Reader.remaining F.Reader.failed_reads inputs)) }
+    ensures opens { Opens result (λ fault. fault.fault) (disk F.bytes F.failed_opens F.failed_reads files.old)
+        (disk F.bytes F.failed_opens F.failed_reads files.new) }
+{
+    let rt4 = match open_file(alloc, files, folder, code, CountyFile::Rt4) {
+        Ok(input) => input,
+        Err(fault) => return Err(fault),
+    };
+    let rt5 = match open_file(alloc, files, folder, code, CountyFile::Rt5) {
+        Ok(input) => input,
+        Err(fault) => {
+            close(files, rt4);
+            return Err(fault);
+        }
+    };
+    match open_file(alloc, files, folder, code, CountyFile::Rt6) {
+        Ok(rt6) => Ok(JoinedFiles { rt4, rt5, rt6 }),
+        Err(fault) => {
+            close(files, rt4);
+            close(files, rt5);
+            Err(fault)
+        }
+    }
+}
+
+/// Opens a county's file. The type 1 file must exist. Another file is an empty input if it doesn't exist.
+fn open_file<A: Allocator + Copy, F: Files>(
+    alloc: A,
+    files: &mut F,
+    folder: &str,
+    code: &str,
+    file: CountyFile,
+) -> Result<Input<F::Reader>, CountyFileFault>
+    ensures known { IfOk result (λ input. IsUnread (F.bytes files.old (file_name folder.now code.now file))
+        (input_reader F.Reader.remaining F.Reader.failed_reads input)) }
+    ensures there { IfOk result (λ input. file ≡ CountyFile.Rt1 → IsOpened input) }
+    ensures opens { Opens result (λ fault. fault.fault) (disk F.bytes F.failed_opens F.failed_reads files.old)
+        (disk F.bytes F.failed_opens F.failed_reads files.new) }
+{
+    let Ok(name) = file_name(alloc, folder, code, file) else {
+        let fault = FileFault::Memory;
+        return Err(CountyFileFault { file, fault });
+    };
+    match file {
+        CountyFile::Rt1 => match open(files, name.as_str()) {
+            Ok(reader) => Ok(Input::Opened(reader)),
+            Err(fault) => Err(CountyFileFault { file, fault }),
+        },
+        _ => match open_if_there(files, name.as_str()) {
+            Ok(input) => Ok(input),
+            Err(fault) => Err(CountyFileFault { file, fault }),
+        },
+    }
+}
+
+/// Closes the inputs of a county.
+pub fn close_county<F: Files>(files: &mut F, inputs: CountyInputs<F::Reader>)
+    ensures { Closes (ClosesCounty (county_readers F.Reader.remaining F.Reader.failed_reads inputs))
+        (disk F.bytes F.failed_opens F.failed_reads files.old) (disk F.bytes F.failed_opens F.failed_reads files.new) }
+{
+    let CountyFiles { rt1, joined } = inputs;
+    let JoinedFiles { rt4, rt5, rt6 } = joined;
+    close(files, rt1);
+    close(files, rt4);
+    close(files, rt5);
+    close(files, rt6);
+}
+
+/// Returns the path of a county's file in the data folder.
+fn file_name<A: Allocator>(
+    alloc: A,
+    folder: &str,
+    code: &str,
+    file: CountyFile,
+) -> Result<String<A>, AllocError>
+    ensures { IfOk result (λ name. string_bytes name ≡ file_name folder.now code.now file) }
+{
+    let mut name = String::from_str(alloc, folder)?;
+    name.push_str("/TGR")?;
+    name.push_str(code)?;
+    name.push_str(name_end(file))?;
+    Ok(name)
+}
+
+/// Returns the extension of a county's file.
+pub fn name_end(file: CountyFile) -> &'static str
+    ensures { result.now ≡ name_end file }
+{
+    match file {
+        CountyFile::Rt1 => ".RT1",
+        CountyFile::Rt4 => ".RT4",
+        CountyFile::Rt5 => ".RT5",
+        CountyFile::Rt6 => ".RT6",
+    }
+}

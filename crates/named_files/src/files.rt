@@ -1,0 +1,447 @@
+//! The files that a command reads, by name.
+ghost use Rattle.std.specs.Prelude.{◌≡◌, ◌≤◌, ◌*◌, ◌%◌, ℕ, List, ◌++◌, length, take, Option, IfOk, IfErr, MatchResult, None, Ok, Err, Some};
+ghost use Rattle.std.specs.Io.{ReadsAtMost};
+ghost use Rattle.std.specs.Io.KnownBytes.{Keeps, ReadConsumes};
+ghost use Rattle.counted_io.specs.Counted.{CountsFailure};
+ghost use Rattle.counted_io.specs.Device.{reader};
+ghost use Rattle.named_files.specs.Files.{Closes, CountsClose, CountsOpen, CountsProgramFault, IsFront, IsIfThere, IsTooLong, IsUnread, Opens, TellsFailure, TellsProgram, TellsProgramUse, TellsUse, disk, input_failed_reads, input_reader, input_remaining};
+ghost use Rattle.named_files.specs.declared.files.FileFault.TheVariants.{Memory};
+ghost use Rattle.named_files.specs.declared.files.ProgramInputFault.TheVariants.{File};
+ghost use Rattle.named_files.specs.declared.files.TheConstants.{MOST_KEPT};
+ghost use Rattle.bpf_insn.specs.declared.code.TheConstants.{WORD_LIMIT};
+
+use arrayvec::ArrayVec;
+use bpf_insn::{CodeFault, WORD_LIMIT};
+use counted_io::{Buffered, CountedRead, LONGEST_CONTENT, Stop, count_one};
+use std::alloc::{AllocError, Allocator};
+use std::fs::File;
+use std::io::{BufReader, ErrorKind, Read};
+use std::{io, rt};
+
+/// Why a file's bytes can't be read.
+#[derive(Clone, Copy)]
+pub enum FileFault {
+    /// The file can't be opened or read.
+    Unusable(io::Error),
+    Memory,
+}
+
+impl From<AllocError> for FileFault {
+    ghost from_gives = { λ _ fault. fault ≡ Memory };
+
+    fn from(_error: AllocError) -> FileFault {
+        FileFault::Memory
+    }
+}
+
+/// Why a program's bytes can't be read.
+#[derive(Clone, Copy)]
+pub enum ProgramInputFault {
+    /// Its file can't be opened or read, or an allocation fails.
+    File(FileFault),
+    /// The program is longer than the limit. Its first fault is that it has too many words, or that its last word is incomplete.
+    Code(CodeFault),
+}
+
+impl From<AllocError> for ProgramInputFault {
+    ghost from_gives = { λ _ fault. fault ≡ File Memory };
+
+    fn from(_error: AllocError) -> ProgramInputFault {
+        ProgramInputFault::File(FileFault::Memory)
+    }
+}
+
+/// Files, opened by name.
+pub trait Files {
+    ghost use Rattle.named_files.specs.Files.{CountsClose, CountsOpen, failed_if_there, remaining_if_there};
+
+    // It can't be dropped: each opened reader must be closed, so no failed read goes unnoticed.
+    type Reader: CountedRead;
+
+    // The bytes of the file of this name, if they are known; none for a file that doesn't exist.
+    ghost bytes: { Self → List ℕ → Option (List ℕ) } = { λ _ _. None };
+
+    // The number of failed opens, except those that ran out of memory, modulo 2^64.
+    ghost failed_opens: { Self → ℕ };
+
+    // The number of closed readers with a failed read, modulo 2^64.
+    ghost failed_reads: { Self → ℕ };
+
+    /// Opens a file for reading and returns a reader with its own buffer.
+    fn open(&mut self, name: &str) -> io::Result<Self::Reader>
+        ensures known { IfOk result (λ reader. Keeps (bytes self.old name.now) (Self.Reader.remaining reader)) }
+        ensures unread { IfOk result (λ reader. Self.Reader.failed_reads reader ≡ 0) }
+        ensures stay { (other : List ℕ) → bytes self.new other ≡ bytes self.old other }
+        ensures failures { CountsOpen result (failed_opens self.old) (failed_opens self.new) }
+        ensures reads { failed_reads self.new ≡ failed_reads self.old };
+
+    /// Opens a file for reading. Returns `None` if it doesn't exist; any other failure is an error.
+    fn open_if_there(&mut self, name: &str) -> io::Result<Option<Self::Reader>>
+        ensures known { IfOk result (λ opened. Keeps (bytes self.old name.now) (remaining_if_there Self.Reader.remaining opened)) }
+        ensures unread { IfOk result (λ opened. failed_if_there Self.Reader.failed_reads opened ≡ 0) }
+        ensures stay { (other : List ℕ) → bytes self.new other ≡ bytes self.old other }
+        ensures failures { CountsOpen result (failed_opens self.old) (failed_opens self.new) }
+        ensures reads { failed_reads self.new ≡ failed_reads self.old };
+
+    /// Closes a file's reader.
+    fn close(&mut self, reader: Self::Reader)
+        ensures stay { (other : List ℕ) → bytes self.new other ≡ bytes self.old other }
+        ensures opens { failed_opens self.new ≡ failed_opens self.old }
+        ensures reads { CountsClose (Self.Reader.failed_reads reader) (failed_reads self.old) (failed_reads self.new) };
+}
+
+/// The system's files.
+#[derive(Drop)]
+pub struct SystemFiles<'a, R> {
+    runtime: &'a R,
+    failed_opens: u64,
+    failed_reads: u64,
+}
+
+// The number of bytes that a reader fetches at once.
+pub const INPUT_BUFFER: usize = 65536;
+
+impl<'a, R> SystemFiles<'a, R> {
+    pub fn new(runtime: &'a R) -> Self
+        ensures opens { result.failed_opens ≡ 0 }
+        ensures reads { result.failed_reads ≡ 0 }
+    {
+        SystemFiles {
+            runtime,
+            failed_opens: 0,
+            failed_reads: 0,
+        }
+    }
+
+    fn count_open(&mut self, error: io::Error)
+        ensures opens { CountsOpen {R = ℕ} (Err error) self.old.failed_opens self.new.failed_opens }
+        ensures reads { self.new.failed_reads ≡ self.old.failed_reads }
+    {
+        if error.kind() != ErrorKind::OutOfMemory {
+            count_one(&mut self.failed_opens);
+        }
+    }
+}
+
+impl<R: rt::Files + AllocGlobal> Files for SystemFiles<'_, R> {
+    type Reader = Buffered<BufReader<R::File>>;
+
+    ghost failed_opens = { λ files. files.failed_opens };
+
+    ghost failed_reads = { λ files. files.failed_reads };
+
+    fn open(&mut self, name: &str) -> io::Result<Buffered<BufReader<R::File>>> {
+        match open_buffered(self.runtime, name) {
+            Ok(reader) => Ok(reader),
+            Err(error) => {
+                self.count_open(error);
+                Err(error)
+            }
+        }
+    }
+
+    fn open_if_there(&mut self, name: &str) -> io::Result<Option<Buffered<BufReader<R::File>>>> {
+        match if_there(open_buffered(self.runtime, name)) {
+            Ok(opened) => Ok(opened),
+            Err(error) => {
+                self.count_open(error);
+                Err(error)
+            }
+        }
+    }
+
+    fn close(&mut self, reader: Buffered<BufReader<R::File>>) {
+        if reader.failed_reads() != 0 {
+            count_one(&mut self.failed_reads);
+        }
+    }
+}
+
+fn open_buffered<R: rt::Files + AllocGlobal>(
+    runtime: &R,
+    name: &str,
+) -> io::Result<Buffered<BufReader<R::File>>>
+    ensures { IfOk result (λ reader. reader.failed_reads ≡ 0) }
+{
+    let file = File::open(runtime, name)?;
+    let reader = BufReader::with_capacity(runtime.alloc(), INPUT_BUFFER, file)?;
+    Ok(Buffered::new(reader))
+}
+
+/// Returns the opened value, or `None` if the file doesn't exist. Any other failure is an error.
+fn if_there<T>(opened: io::Result<T>) -> io::Result<Option<T>>
+    ensures { IsIfThere opened result }
+{
+    match opened {
+        Ok(reader) => Ok(Some(reader)),
+        Err(error) if error.kind() == ErrorKind::NotFound => Ok(None),
+        Err(error) => Err(error),
+    }
+}
+
+/// Opens a file.
+pub fn open<F: Files>(files: &mut F, name: &str) -> Result<F::Reader, FileFault>
+    ensures known { IfOk result (λ opened. IsUnread (F.bytes files.old name.now)
+        (reader F.Reader.remaining F.Reader.failed_reads opened)) }
+    ensures opens { Opens result (λ fault. fault) (disk F.bytes F.failed_opens F.failed_reads files.old)
+        (disk F.bytes F.failed_opens F.failed_reads files.new) }
+{
+    match files.open(name) {
+        Ok(reader) => Ok(reader),
+        Err(error) if error.kind() == ErrorKind::OutOfMemory => Err(FileFault::Memory),
+        Err(error) => Err(FileFault::Unusable(error)),
+    }
+}
+
+/// Opens a file, or returns an empty input if it doesn't exist.
+pub fn open_if_there<F: Files>(files: &mut F, name: &str) -> Result<Input<F::Reader>, FileFault>
+    ensures known { IfOk result (λ input. IsUnread (F.bytes files.old name.now)
+        (input_reader F.Reader.remaining F.Reader.failed_reads input)) }
+    ensures opens { Opens result (λ fault. fault) (disk F.bytes F.failed_opens F.failed_reads files.old)
+        (disk F.bytes F.failed_opens F.failed_reads files.new) }
+{
+    match files.open_if_there(name) {
+        Ok(Some(reader)) => Ok(Input::Opened(reader)),
+        Ok(None) => Ok(Input::Nothing),
+        Err(error) if error.kind() == ErrorKind::OutOfMemory => Err(FileFault::Memory),
+        Err(error) => Err(FileFault::Unusable(error)),
+    }
+}
+
+/// Closes an input's reader.
+pub fn close<F: Files>(files: &mut F, input: Input<F::Reader>)
+    ensures { Closes (CountsClose (input_failed_reads F.Reader.failed_reads input))
+        (disk F.bytes F.failed_opens F.failed_reads files.old) (disk F.bytes F.failed_opens F.failed_reads files.new) }
+{
+    match input {
+        Input::Opened(reader) => files.close(reader),
+        Input::Nothing => {}
+    }
+}
+
+// The size of the pieces in which a file is read.
+const PIECE: usize = 4096;
+
+/// Reads the rest of the reader's bytes, to its end. No read is retried.
+pub fn read_to_end<A: Allocator, R: CountedRead>(
+    alloc: A,
+    reader: &mut R,
+) -> Result<Vec<u8, A>, FileFault>
+    ensures bytes { IfOk result (λ bytes. Keeps (R.remaining reader.old) (Some bytes.items)) }
+    ensures reads { TellsFailure result (R.failed_reads reader.old) (R.failed_reads reader.new) }
+{
+    let mut bytes = Vec::new(alloc);
+    for _ in 0..u64::MAX {
+        let mut piece = [0; PIECE];
+        match reader.read_counted(&mut piece) {
+            Ok(0) => return Ok(bytes),
+            Ok(count) => bytes.extend_from_slice(&piece[..count])?,
+            Err(error) => return Err(FileFault::Unusable(error)),
+        }
+    }
+    // No memory holds this many bytes.
+    Err(FileFault::Memory)
+}
+
+/// Opens a file and reads it to its end.
+pub fn read_file<A: Allocator, F: Files>(
+    alloc: A,
+    files: &mut F,
+    name: &str,
+) -> Result<Vec<u8, A>, FileFault>
+    ensures known { IfOk result (λ bytes. Keeps (F.bytes files.old name.now) (Some bytes.items)) }
+    ensures stay { (other : List ℕ) → F.bytes files.new other ≡ F.bytes files.old other }
+    ensures uses { TellsUse result (disk F.bytes F.failed_opens F.failed_reads files.old)
+        (disk F.bytes F.failed_opens F.failed_reads files.new) }
+{
+    match open(files, name) {
+        Ok(mut reader) => {
+            let read = read_to_end(alloc, &mut reader);
+            files.close(reader);
+            read
+        }
+        Err(fault) => Err(fault),
+    }
+}
+
+/// Appends what was read, as long as no more than `most` bytes are kept in all.
+fn keep<A: Allocator>(kept: &mut Vec<u8, A>, read: &[u8], most: usize) -> Result<(), AllocError>
+    ensures { (before : List ℕ) → kept.old.items ≡ take most before
+        → IfOk result (λ _. kept.new.items ≡ take most (before ++ read.now)) }
+{
+    let room = most.saturating_sub(kept.len());
+    kept.extend_from_slice(&read[..room.min(read.len())])
+}
+
+/// Reads the reader's next `most` bytes, or all that it has if these are fewer. Doesn't retry a failed read, keeps no further byte, and stops reading
+/// once it has these bytes.
+pub fn read_front<A: Allocator, R: CountedRead>(
+    alloc: A,
+    reader: &mut R,
+    most: usize,
+) -> Result<Vec<u8, A>, FileFault>
+    ensures front { IfOk result (λ front. IsFront most (R.remaining reader.old) front.items) }
+    ensures reads { TellsFailure result (R.failed_reads reader.old) (R.failed_reads reader.new) }
+{
+    let mut front = Vec::new(alloc);
+    for _ in 0..u64::MAX {
+        let mut piece = [0; PIECE];
+        match reader.read_counted(&mut piece) {
+            Ok(0) => return Ok(front),
+            Ok(count) => {
+                keep(&mut front, &piece[..count], most)?;
+                if front.len() == most {
+                    return Ok(front);
+                }
+            }
+            Err(error) => return Err(FileFault::Unusable(error)),
+        }
+    }
+    // More bytes than there is memory.
+    Err(FileFault::Memory)
+}
+
+/// Opens a file and reads its first `most` bytes, or all if it has fewer.
+pub fn read_file_front<A: Allocator, F: Files>(
+    alloc: A,
+    files: &mut F,
+    name: &str,
+    most: usize,
+) -> Result<Vec<u8, A>, FileFault>
+    ensures front { IfOk result (λ front. IsFront most (F.bytes files.old name.now) front.items) }
+    ensures stay { (other : List ℕ) → F.bytes files.new other ≡ F.bytes files.old other }
+    ensures uses { TellsUse result (disk F.bytes F.failed_opens F.failed_reads files.old)
+        (disk F.bytes F.failed_opens F.failed_reads files.new) }
+{
+    match open(files, name) {
+        Ok(mut reader) => {
+            let read = read_front(alloc, &mut reader, most);
+            files.close(reader);
+            read
+        }
+        Err(fault) => Err(fault),
+    }
+}
+
+// The largest number of bytes of a program that are kept: one word past the limit shows that the program is too long.
+pub const MOST_KEPT: usize = 8 * (WORD_LIMIT + 1);
+
+/// Returns the kept bytes of a program, or its first fault if it is too long. `remainder` is the program's length modulo 8.
+fn complete<A: Allocator>(kept: Vec<u8, A>, remainder: usize) -> Result<Vec<u8, A>, CodeFault>
+    ensures ok { (program : List ℕ) → kept.items ≡ take MOST_KEPT program
+        → IfOk result (λ whole. (whole.items ≡ program) × (length whole.items ≤ 8 * WORD_LIMIT)) }
+    ensures err { (program : List ℕ) → kept.items ≡ take MOST_KEPT program → remainder ≡ length program % 8
+        → IfErr result (IsTooLong (Some program)) }
+{
+    if kept.len() <= 8 * WORD_LIMIT {
+        return Ok(kept);
+    }
+    if remainder == 0 {
+        return Err(CodeFault::TooLong);
+    }
+    Err(CodeFault::NotWhole)
+}
+
+/// Reads a program from the reader's position to its end. No read is retried.
+///
+/// A program that is too long is refused for its length. Its bytes past the limit are read but not kept, so a file of any length takes no more
+/// memory than one word over the limit.
+pub fn read_program<A: Allocator, R: CountedRead>(
+    alloc: A,
+    input: &mut R,
+) -> Result<Vec<u8, A>, ProgramInputFault>
+    ensures program { IfOk result (λ program. Keeps (R.remaining input.old) (Some program.items)
+        × (length program.items ≤ 8 * WORD_LIMIT)) }
+    ensures refused { IfErr result (TellsProgram (R.remaining input.old)) }
+    ensures reads { MatchResult result (λ _. R.failed_reads input.new ≡ R.failed_reads input.old)
+        (λ fault. CountsProgramFault fault (R.failed_reads input.old) (R.failed_reads input.new)) }
+{
+    let mut kept = Vec::with_capacity(alloc, MOST_KEPT)?;
+    let mut remainder = 0;
+    for _ in 0..u64::MAX {
+        let mut piece = [0; PIECE];
+        match input.read_counted(&mut piece) {
+            Ok(0) => {
+                return match complete(kept, remainder) {
+                    Ok(program) => Ok(program),
+                    Err(fault) => Err(ProgramInputFault::Code(fault)),
+                };
+            }
+            Ok(count) => {
+                keep(&mut kept, &piece[..count], MOST_KEPT)?;
+                remainder = (remainder + count) % 8;
+            }
+            Err(error) => return Err(ProgramInputFault::File(FileFault::Unusable(error))),
+        }
+    }
+    // No file has this many bytes.
+    Err(ProgramInputFault::File(FileFault::Memory))
+}
+
+/// Opens a program's file and reads it to its end.
+pub fn read_program_file<A: Allocator, F: Files>(
+    alloc: A,
+    files: &mut F,
+    name: &str,
+) -> Result<Vec<u8, A>, ProgramInputFault>
+    ensures known { IfOk result (λ program. Keeps (F.bytes files.old name.now) (Some program.items)) }
+    ensures stay { (other : List ℕ) → F.bytes files.new other ≡ F.bytes files.old other }
+    ensures refused { IfErr result (TellsProgram (F.bytes files.old name.now)) }
+    ensures uses { TellsProgramUse result (disk F.bytes F.failed_opens F.failed_reads files.old)
+        (disk F.bytes F.failed_opens F.failed_reads files.new) }
+{
+    match open(files, name) {
+        Ok(mut reader) => {
+            let read = read_program(alloc, &mut reader);
+            files.close(reader);
+            read
+        }
+        Err(fault) => Err(ProgramInputFault::File(fault)),
+    }
+}
+
+/// An opened reader, or an empty input.
+pub enum Input<R> {
+    Opened(R),
+    Nothing,
+}
+
+impl<R: CountedRead> Read for Input<R> {
+    ghost use Rattle.named_files.specs.Files.{input_remaining, input_failed_reads};
+
+    ghost remaining = { input_remaining R.remaining };
+
+    #[inline]
+    fn read(&mut self, buf: &mut [u8]) -> io::Result<usize>
+        ensures bound { ReadsAtMost result buf.new }
+        ensures bytes { ReadConsumes (input_remaining R.remaining self.old) (input_remaining R.remaining self.new) result buf.new }
+        ensures failures { CountsFailure result (input_failed_reads R.failed_reads self.old) (input_failed_reads R.failed_reads self.new) }
+    {
+        match self {
+            Input::Opened(reader) => reader.read_counted(buf),
+            Input::Nothing => Ok(0),
+        }
+    }
+}
+
+impl<R: CountedRead> CountedRead for Input<R> {
+    ghost use Rattle.named_files.specs.Files.{input_remaining, input_failed_reads};
+
+    ghost failed_reads = { input_failed_reads R.failed_reads };
+
+    #[inline]
+    fn read_counted(&mut self, buf: &mut [u8]) -> io::Result<usize> {
+        self.read(buf)
+    }
+
+    #[inline(always)]
+    fn read_content(&mut self, content: &mut ArrayVec<u8, LONGEST_CONTENT>) -> Stop {
+        match self {
+            Input::Opened(reader) => reader.read_content(content),
+            Input::Nothing => {
+                content.clear();
+                Stop::EndOfInput
+            }
+        }
+    }
+}

@@ -1,0 +1,11 @@
+//! Files opened by name: a program's or a text's bytes, and the files of a county (TIGER/Line 2006).
+#![tactic(auto)]
+
+mod county;
+mod files;
+
+pub use county::{CountyFileFault, CountyInputs, close_county, name_end, open_county};
+pub use files::{
+    FileFault, Files, INPUT_BUFFER, ProgramInputFault, SystemFiles, open, read_file,
+    read_file_front, read_program, read_program_file, read_to_end,
+};
