@@ -25,6 +25,7 @@ mod geocoder;
 mod run;
 mod select;
 mod serve;
+mod subcommand;
 mod trace;
 mod verify;
 
@@ -32,31 +33,43 @@ use crate::fault::ArgumentsFault;
 use clap::error::ErrorKind;
 use clap::{ArgMatches, Command, Error};
 use commands::{Line, Request};
+use counted_io::Counting;
 pub use serve::Serve;
 use std::alloc::{AllocError, Global};
-use tl_fields::Counting;
+pub use subcommand::Subcommand;
 
-/// The invocation that the arguments request.
-#[derive(Drop)]
-pub enum Invocation<'a> {
-    /// A command over files.
-    Request(Request<'a>),
-    Serve(Serve<'a>),
-}
-
-/// Reads the arguments that follow the program's name.
-pub fn read_arguments<'a>(
+/// Reads the arguments, after the program's name, of a command over files.
+pub fn read_request<'a>(
     alloc: Global,
     arguments: &'a [&'a str],
-) -> Result<Invocation<'a>, ArgumentsFault<'a>> {
-    let matches = match program_command(alloc)?.try_get_matches_from(arguments) {
-        Ok(matches) => matches,
-        Err(error) => return Err(ArgumentsFault::from(echoed(alloc, arguments, error)?)),
-    };
+) -> Result<Request<'a>, ArgumentsFault<'a>> {
+    let matches = matched(alloc, arguments)?;
     match matches.subcommand() {
-        Some(("serve", matches)) => Ok(Invocation::Serve(serve::request(alloc, matches)?)),
-        Some((name, matches)) => Ok(Invocation::Request(request(alloc, name, matches)?)),
+        Some((name, matches)) => request(alloc, name, matches),
         None => Err(ArgumentsFault::Missing("COMMAND")),
+    }
+}
+
+/// Reads the arguments, after the program's name, of `serve`.
+pub fn read_serve<'a>(
+    alloc: Global,
+    arguments: &'a [&'a str],
+) -> Result<Serve<'a>, ArgumentsFault<'a>> {
+    let matches = matched(alloc, arguments)?;
+    match matches.subcommand_matches(Subcommand::Serve.name()) {
+        Some(matches) => serve::request(alloc, matches),
+        None => Err(ArgumentsFault::Missing("COMMAND")),
+    }
+}
+
+/// Matches arguments with those that the commands take.
+fn matched<'a>(
+    alloc: Global,
+    arguments: &'a [&'a str],
+) -> Result<ArgMatches<'a>, ArgumentsFault<'a>> {
+    match program_command(alloc)?.try_get_matches_from(arguments) {
+        Ok(matches) => Ok(matches),
+        Err(error) => Err(ArgumentsFault::from(echoed(alloc, arguments, error)?)),
     }
 }
 
@@ -90,30 +103,36 @@ fn escaped<'a>(alloc: Global, argument: &str) -> Result<String, ArgumentsFault<'
     Ok(String::from_utf8_lossy(alloc, bytes.get_ref().as_slice())?)
 }
 
-/// Returns the request of the command over files with this name.
+/// Returns the request of the command with this name.
 fn request<'a>(
     alloc: Global,
     name: &str,
     matches: &ArgMatches<'a>,
 ) -> Result<Request<'a>, ArgumentsFault<'a>> {
-    match name {
-        "run" => Ok(Request::Run(run::request(matches)?)),
-        "trace" => Ok(Request::Trace(trace::request(matches)?)),
-        "geocode" => Ok(Request::Geocode(geocoder::request(alloc, matches)?)),
-        "geocode-batch" => Ok(Request::GeocodeBatch(geocode_batch::request(alloc, matches)?)),
-        "verify" => Ok(Request::Verify(verify::request(matches)?)),
-        "explain" => Ok(Request::Explain(explain::request(matches)?)),
-        "asm" => Ok(Request::Assemble(assemble::request(matches)?)),
-        "compile" => Ok(Request::Compile(compile::request(alloc, matches)?)),
-        "select" => Ok(Request::Select(select::request(alloc, matches)?)),
-        "dis" => Ok(Request::Disassemble(disassemble::request(matches)?)),
-        _ => Err(ArgumentsFault::Missing("COMMAND")),
+    match Subcommand::named(name).ok_or(ArgumentsFault::Missing("COMMAND"))? {
+        Subcommand::Select => Ok(Request::Select(select::request(alloc, matches)?)),
+        Subcommand::Compile => Ok(Request::Compile(compile::request(alloc, matches)?)),
+        Subcommand::Run => Ok(Request::Run(run::request(matches)?)),
+        Subcommand::Trace => Ok(Request::Trace(trace::request(matches)?)),
+        Subcommand::Geocode => Ok(Request::Geocode(geocoder::request(alloc, matches)?)),
+        Subcommand::GeocodeBatch => Ok(Request::GeocodeBatch(geocode_batch::request(
+            alloc, matches,
+        )?)),
+        Subcommand::Verify => Ok(Request::Verify(verify::request(matches)?)),
+        Subcommand::Explain => Ok(Request::Explain(explain::request(matches)?)),
+        Subcommand::Assemble => Ok(Request::Assemble(assemble::request(matches)?)),
+        Subcommand::Disassemble => Ok(Request::Disassemble(disassemble::request(matches)?)),
+        Subcommand::Serve => {
+            // A fault in its arguments comes first.
+            let _serve = serve::request(alloc, matches)?;
+            Err(ArgumentsFault::Serve)
+        }
     }
 }
 
 /// Returns the program and its commands for the argument parser.
 fn program_command<'a>(alloc: Global) -> Result<Command<'a>, AllocError> {
-    Command::new(alloc, "extractd")
+    let mut program = Command::new(alloc, "extractd")
         .bin_name("extractd")?
         .about(
             "Selects TIGER/Line street segments by a filter or a BPF program, finds house numbers, verifies and converts programs, and does so over HTTP",
@@ -135,16 +154,27 @@ fn program_command<'a>(alloc: Global) -> Result<Command<'a>, AllocError> {
         ))
         .no_binary_name(true)
         .disable_help_subcommand(true)
-        .subcommand_required(true)
-        .subcommand(select::command(alloc)?)?
-        .subcommand(compile::command(alloc)?)?
-        .subcommand(run::command(alloc)?)?
-        .subcommand(trace::command(alloc)?)?
-        .subcommand(geocoder::command(alloc)?)?
-        .subcommand(geocode_batch::command(alloc)?)?
-        .subcommand(verify::command(alloc)?)?
-        .subcommand(explain::command(alloc)?)?
-        .subcommand(assemble::command(alloc)?)?
-        .subcommand(disassemble::command(alloc)?)?
-        .subcommand(serve::command(alloc)?)
+        .subcommand_required(true);
+    for subcommand in Subcommand::ALL {
+        program = program.subcommand(arguments_of(alloc, subcommand)?)?;
+    }
+    Ok(program)
+}
+
+/// Returns the arguments of a command for the argument parser.
+fn arguments_of<'a>(alloc: Global, subcommand: Subcommand) -> Result<Command<'a>, AllocError> {
+    let name = subcommand.name();
+    match subcommand {
+        Subcommand::Select => select::command(alloc, name),
+        Subcommand::Compile => compile::command(alloc, name),
+        Subcommand::Run => run::command(alloc, name),
+        Subcommand::Trace => trace::command(alloc, name),
+        Subcommand::Geocode => geocoder::command(alloc, name),
+        Subcommand::GeocodeBatch => geocode_batch::command(alloc, name),
+        Subcommand::Verify => verify::command(alloc, name),
+        Subcommand::Explain => explain::command(alloc, name),
+        Subcommand::Assemble => assemble::command(alloc, name),
+        Subcommand::Disassemble => disassemble::command(alloc, name),
+        Subcommand::Serve => serve::command(alloc, name),
+    }
 }

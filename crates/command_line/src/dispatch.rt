@@ -1,16 +1,15 @@
 //! A command, from its arguments to its exit status.
 ghost use Rattle.std.specs.Prelude.{◌≡◌, ◌≢◌, ◌≤◌, ◌⊎◌};
-ghost use Rattle.tl_fields.specs.Device.{writer};
+ghost use Rattle.counted_io.specs.Device.{writer};
 ghost use Rattle.commands.specs.Command.{IsDone, IsOutOfMemory, IsRefusal, IsUnusable};
 ghost use Rattle.commands.specs.Failure.{SaysMemory};
-ghost use Rattle.commands.specs.Files.{disk};
+ghost use Rattle.named_files.specs.Files.{disk};
 ghost use Rattle.commands.specs.declared.request.Request.{Request};
 
-use crate::arguments::{Invocation, read_arguments};
-use crate::fault::ArgumentsFault;
-use commands::{Files, Request};
+use crate::arguments::read_request;
+use counted_io::CountedWrite;
+use named_files::Files;
 use std::alloc::Global;
-use tl_fields::CountedWrite;
 
 /// Carries out what the arguments after the program's name request, and returns the exit status.
 ///
@@ -51,16 +50,5 @@ pub fn command<F: Files, W: CountedWrite, E: CountedWrite>(
             fault.report(errors);
             fault.status()
         }
-    }
-}
-
-/// Reads the arguments of a command over files.
-fn read_request<'a>(
-    alloc: Global,
-    arguments: &'a [&'a str],
-) -> Result<Request<'a>, ArgumentsFault<'a>> {
-    match read_arguments(alloc, arguments)? {
-        Invocation::Request(request) => Ok(request),
-        Invocation::Serve(_) => Err(ArgumentsFault::Serve),
     }
 }

@@ -2,21 +2,23 @@
 ghost use Rattle.std.specs.Prelude.{◌≡◌, ◌≢◌};
 ghost use Rattle.std.specs.IoError.{error_kind};
 ghost use Rattle.std.specs.declared.io.ErrorKind.TheVariants as io_kind;
-ghost use Rattle.tl_fields.specs.Device.{writer};
+ghost use Rattle.counted_io.specs.Device.{writer};
 ghost use Rattle.commands.specs.Failure.{SaysMemory};
 ghost use Rattle.clap.specs.Values.{kind_of};
 ghost use Rattle.clap.specs.declared.error.kind.ErrorKind.TheVariants as usage_kind;
 ghost use Rattle.command_line.specs.declared.fault.ArgumentsFault.TheVariants.{Memory, NotUtf8, Usage};
 
-use crate::options::MOST_CODES;
 use clap::error::ErrorKind as UsageKind;
 use commands::{Failure, Line, OUT_OF_MEMORY, USAGE};
+use counted_io::CountedWrite;
 use std::alloc::{AllocError, AllocFailed};
 use std::fmt::Write;
 use std::io::ErrorKind;
 use std::{fmt, io};
-use tl_fields::CountedWrite;
 use tl_segments::NAME_LENGTH;
+
+/// The greatest number of counties that a command takes.
+pub(crate) const CODE_LIMIT: usize = 100_000;
 
 /// Why the arguments don't form a request.
 #[derive(Drop)]
@@ -86,7 +88,7 @@ impl ArgumentsFault<'_> {
             ArgumentsFault::TooManyCodes(count) => {
                 write!(
                     line,
-                    "error: {MOST_CODES} CODEs are taken at most, and {count} are given\n"
+                    "error: {CODE_LIMIT} CODEs are taken at most, and {count} are given\n"
                 )
             }
             ArgumentsFault::Number {

@@ -6,6 +6,6 @@ mod dispatch;
 mod fault;
 mod options;
 
-pub use arguments::{Invocation, Serve, read_arguments};
+pub use arguments::{Serve, Subcommand, read_request, read_serve};
 pub use dispatch::command;
 pub use fault::ArgumentsFault;

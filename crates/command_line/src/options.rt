@@ -1,7 +1,7 @@
 //! Options and other arguments shared by several commands.
 ghost use Rattle.std.specs.Prelude.{◌≤◌, IfOk, vec_len};
 
-use crate::fault::ArgumentsFault;
+use crate::fault::{ArgumentsFault, CODE_LIMIT};
 use clap::{Arg, ArgAction, ArgMatches};
 use commands::Compiling;
 use cql2::{Column, NumericColumn};
@@ -64,21 +64,18 @@ pub fn counties_option<'a>(alloc: Global) -> Arg<'a> {
         .action(ArgAction::Append)
 }
 
-/// The maximum number of counties.
-pub const MOST_CODES: usize = 100000;
-
 /// Returns the counties' codes: at least one, five digits each.
 pub fn codes<'a>(
     alloc: Global,
     matches: &ArgMatches<'a>,
 ) -> Result<Vec<&'a str>, ArgumentsFault<'a>>
-    ensures { IfOk result (λ codes. vec_len codes ≤ MOST_CODES) }
+    ensures { IfOk result (λ codes. vec_len codes ≤ CODE_LIMIT) }
 {
     let given = matches.get_strs("code").unwrap_or(&[]);
     if given.is_empty() {
         return Err(ArgumentsFault::Missing("CODE"));
     }
-    if given.len() > MOST_CODES {
+    if given.len() > CODE_LIMIT {
         return Err(ArgumentsFault::TooManyCodes(given.len()));
     }
     let mut codes = Vec::new(alloc);

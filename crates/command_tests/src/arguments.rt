@@ -1,7 +1,7 @@
 //! Arguments that don't form a request: usage errors and calls for help.
 use super::cases::{Ending, Faults, ended, status_of};
 use super::files::failing;
-use command_line::{ArgumentsFault, Invocation, Serve, read_arguments};
+use command_line::{ArgumentsFault, Serve, read_request, read_serve};
 use fixtures::{Device, Table, TableFault, bytes, cells, number, size, taken, writer};
 use std::alloc::Global;
 
@@ -225,9 +225,8 @@ fn is_serve(alloc: Global, row: &str) -> Result<bool, TableFault> {
     let (line, port, counties) = cells(row)?.three()?;
     let (port, counties) = (number(port)?, size(counties)?);
     let words: Vec<&str> = line.split(' ').collect(alloc)?;
-    Ok(match read_arguments(alloc, &words) {
-        Ok(Invocation::Serve(serve)) => is_asked(&serve, port, counties),
-        Ok(Invocation::Request(_request)) => false,
+    Ok(match read_serve(alloc, &words) {
+        Ok(serve) => is_asked(&serve, port, counties),
         Err(_fault) => false,
     })
 }
@@ -242,9 +241,17 @@ fn is_fault(alloc: Global, row: &str) -> Result<bool, TableFault> {
     let status = status_of(status)?;
     let text = bytes(alloc, text)?;
     let words: Vec<&str> = line.split(' ').collect(alloc)?;
-    match read_arguments(alloc, &words) {
-        Ok(_invocation) => Ok(false),
-        Err(fault) => Ok(fault.status() == status && is_said(alloc, &fault, &text)?),
+    match fault_of(alloc, &words) {
+        Some(fault) => Ok(fault.status() == status && is_said(alloc, &fault, &text)?),
+        None => Ok(false),
+    }
+}
+
+/// Returns the fault in the arguments of `serve` or of another command, if they have one.
+fn fault_of<'a>(alloc: Global, words: &'a [&'a str]) -> Option<ArgumentsFault<'a>> {
+    match words {
+        ["serve", ..] => read_serve(alloc, words).err(),
+        _ => read_request(alloc, words).err(),
     }
 }
 

@@ -1,8 +1,8 @@
 //! Commands over files in memory, as rows of tables.
 use super::files::{Access, MemoryFile, MemoryFiles, failing_call, file_named};
-use super::requests::answer;
 use arrayvec::ArrayString;
-use command_line::command;
+use command_line::{command, read_request};
+use commands::Request;
 use fixtures::{Device, Refusing, TableFault, Writer, bytes, number, taken, writer};
 use std::alloc::{AllocError, Global};
 
@@ -98,7 +98,7 @@ impl<'a> Case<'a> {
         }
     }
 
-    /// Runs the command to its end: as a request in this memory, or as its command line if there is none.
+    /// Runs the command to its end, its request in this memory, or all of it in the system's if there is none.
     pub fn ended(
         &self,
         alloc: Global,
@@ -151,7 +151,7 @@ impl Ending {
     }
 }
 
-/// Runs a command line over these files to its end: as a request in this memory, or as a command line if there is none.
+/// Runs a command line over these files to its end, its request in this memory, or all of it in the system's if there is none.
 pub fn ended(
     alloc: Global,
     heap: Option<&Refusing<Global>>,
@@ -181,6 +181,24 @@ pub fn ended(
         errors,
         opened: files.opened,
     })
+}
+
+/// Carries out the request of a command line in this memory, and returns the status. The arguments themselves are read in the memory of the system.
+fn answer(
+    alloc: Global,
+    heap: &Refusing<Global>,
+    words: &[&str],
+    files: &mut MemoryFiles<'_>,
+    out: &mut Writer,
+    errors: &mut Writer,
+) -> u8 {
+    match read_request(alloc, words) {
+        Ok(request) => Request::answer(request, heap, files, out, errors),
+        Err(fault) => {
+            fault.report(errors);
+            fault.status()
+        }
+    }
 }
 
 /// Puts separators between the words of a command line, the first of which is the program's name. `\n`, `\r`, `\t` and `\x7f` in a word are escapes,

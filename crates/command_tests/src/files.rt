@@ -1,10 +1,10 @@
 //! Files in memory.
 use arrayvec::ArrayString;
-use commands::Files;
+use counted_io::count_one;
 use fixtures::{Device, Reader, TableFault, error_kind, reader, size};
+use named_files::Files;
 use std::io;
 use std::io::ErrorKind;
-use tl_fields::count_one;
 
 /// A file in memory.
 #[derive(Drop)]

@@ -33,7 +33,6 @@ mod listings;
 #[cfg(test)]
 mod reads;
 #[cfg(test)]
-mod requests;
 #[cfg(test)]
 mod runs;
 #[cfg(test)]

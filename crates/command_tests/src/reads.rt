@@ -1,8 +1,8 @@
 //! Injects a failure into each read and refuses each growth while a program or another file is read: no read is retried.
 use super::files::failing;
 use bpf_insn::CodeFault;
-use commands::{FileFault, ProgramInputFault, read_program, read_to_end};
 use fixtures::{Device, Refusing, Table, TableFault, bytes, cells, number, reader, size};
+use named_files::{FileFault, ProgramInputFault, read_program, read_to_end};
 use std::alloc::Global;
 use std::test::Fail;
 

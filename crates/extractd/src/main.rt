@@ -1,97 +1,87 @@
 //! The program: extracts the street segments that a BPF program selects, finds house numbers, and verifies and converts programs.
 #![tactic(auto)]
 
-ghost use Rattle.std.specs.Prelude.{◌≡◌, ◌≢◌, IfErr, IfOk};
-ghost use Rattle.command_line.specs.declared.fault.ArgumentsFault.TheVariants.{Memory};
-
 mod progress;
 mod serving;
 
-use command_line::{ArgumentsFault, Invocation, read_arguments};
-use commands::{Request, SystemFiles};
+use command_line::{ArgumentsFault, Subcommand, command, read_serve};
+use counted_io::{CountedWrite, Counting};
+use named_files::SystemFiles;
 use progress::{Progress, terminal_start};
 use serving::serve;
 use std::io::{BufWriter, Write};
 use std::process::ExitCode;
 use std::{env, io};
-use tl_fields::{CountedWrite, Counting};
 
 // The size of the pieces in which rows are written to the system.
 const OUTPUT_BUFFER: usize = 65536;
 
 fn main(rt: HostRuntime) -> ExitCode {
-    ExitCode::from(start(&rt))
-}
-
-fn start(rt: &HostRuntime) -> u8 {
     let mut errors = Counting::new(rt.stderr());
-    let answered = answer(rt, &mut errors);
-    if let Err(fault) = &answered {
-        fault.report(&mut errors);
-    }
-    status_of(&answered)
-}
-
-/// Returns the exit status: the command's, or that of a fault in the arguments.
-fn status_of(answered: &Result<u8, ArgumentsFault<'_>>) -> u8
-    ensures ok { IfOk answered.now (λ status. result ≡ status) }
-    ensures usage { IfErr answered.now (λ fault. fault ≢ Memory → result ≡ 2) }
-    ensures memory { IfErr answered.now (λ fault. fault ≡ Memory → result ≡ 4) }
-{
-    match answered {
-        Ok(status) => *status,
-        Err(fault) => fault.status(),
+    match start(&rt, &mut errors) {
+        Ok(status) => ExitCode::from(status),
+        Err(fault) => {
+            fault.report(&mut errors);
+            ExitCode::from(fault.status())
+        }
     }
 }
 
-/// Reads the arguments after the program's name and carries out their request.
-fn answer<E: CountedWrite>(
-    rt: &HostRuntime,
-    errors: &mut E,
-) -> Result<u8, ArgumentsFault<'static>> {
+/// Reads the arguments after the program's name, carries out what they request, and returns the exit status.
+fn start<E: CountedWrite>(rt: &HostRuntime, errors: &mut E) -> Result<u8, ArgumentsFault<'static>> {
     let given: Vec<String> = env::args(rt)?.skip(1).collect(rt.alloc())?;
     let arguments: Vec<&str> = given
         .iter()
         .map(|argument| argument.as_str())
         .collect(rt.alloc())?;
-    match read_arguments(rt.alloc(), arguments.as_slice()) {
-        Ok(Invocation::Request(request)) => answer_request(rt, request, errors),
-        Ok(Invocation::Serve(asked)) => Ok(serve(rt, &asked, errors)),
+    let arguments = arguments.as_slice();
+    match arguments.first().and_then(|name| Subcommand::named(name)) {
+        Some(Subcommand::Serve) => Ok(start_server(rt, arguments, errors)),
+        subcommand => run_command(rt, subcommand, arguments, errors),
+    }
+}
+
+/// Reads the arguments of `serve`, serves until a fault occurs, and returns the exit status.
+fn start_server<E: CountedWrite>(rt: &HostRuntime, arguments: &[&str], errors: &mut E) -> u8 {
+    match read_serve(rt.alloc(), arguments) {
+        Ok(asked) => serve(rt, &asked, errors),
         Err(fault) => {
             fault.report(errors);
-            Ok(fault.status())
+            fault.status()
         }
     }
 }
 
-/// Opens the output and carries out the request over the system's files.
-fn answer_request<E: CountedWrite>(
+/// Opens the output, carries out a command over the system's files, and returns the exit status. On a terminal, `geocode-batch` shows how far it is.
+fn run_command<E: CountedWrite>(
     rt: &HostRuntime,
-    request: Request<'_>,
+    subcommand: Option<Subcommand>,
+    arguments: &[&str],
     errors: &mut E,
 ) -> Result<u8, ArgumentsFault<'static>> {
     let out = BufWriter::with_capacity(rt.alloc(), OUTPUT_BUFFER, io::writer(rt)).map_err(
-        |_wanting| ArgumentsFault::Memory,
+        |_error| ArgumentsFault::Memory,
     )?;
-    let start = match &request {
-        Request::GeocodeBatch(_) => terminal_start(rt),
+    let start = match subcommand {
+        Some(Subcommand::GeocodeBatch) => terminal_start(rt),
         _ => None,
     };
     Ok(match start {
-        Some(start) => answer_to(rt, request, Progress::new(rt, start, out), errors),
-        None => answer_to(rt, request, out, errors),
+        Some(start) => command_to(rt, arguments, Progress::new(rt, start, out), errors),
+        None => command_to(rt, arguments, out, errors),
     })
 }
 
-/// Carries out the request over the system's files.
-fn answer_to<W: Write + Drop, E: CountedWrite>(
+/// Carries out a command over the system's files, with this output, and returns the exit status.
+fn command_to<W: Write + Drop, E: CountedWrite>(
     rt: &HostRuntime,
-    request: Request<'_>,
+    arguments: &[&str],
     out: W,
     errors: &mut E,
 ) -> u8 {
-    request.answer(
+    command(
         rt.alloc(),
+        arguments,
         &mut SystemFiles::new(rt),
         &mut Counting::new(out),
         errors,

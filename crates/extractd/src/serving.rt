@@ -1,18 +1,19 @@
 //! `serve`: serves counties over HTTP.
 ghost use Rattle.std.specs.Prelude.{◌≡◌, IfErr, IfOk, map};
 ghost use Rattle.commands.specs.Counties.{AreCountiesOf, HaveRefusedCounty, TellsLoad};
-ghost use Rattle.commands.specs.Files.{disk};
+ghost use Rattle.named_files.specs.Files.{disk};
 ghost use Rattle.wire.specs.State.{counties_of, new_state};
 
 use command_line::Serve;
-use commands::{Failure, Files, Line, SystemFiles, UNUSABLE, load_counties};
+use commands::{Failure, Line, UNUSABLE, load_counties};
+use counted_io::CountedWrite;
+use named_files::{Files, SystemFiles};
 use server::{Acceptor, Limits, Tally, serve_all};
 use std::alloc::Global;
 use std::fmt::Write as WriteText;
 use std::io;
 use std::io::Write;
 use std::net::{Ipv4Addr, TcpListener};
-use tl_fields::CountedWrite;
 use wire::State;
 
 /// Why a server doesn't start, or stops.

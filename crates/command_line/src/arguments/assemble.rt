@@ -5,8 +5,8 @@ use clap::{ArgMatches, Command};
 use commands::Assemble;
 use std::alloc::{AllocError, Global};
 
-pub fn command<'a>(alloc: Global) -> Result<Command<'a>, AllocError> {
-    Command::new(alloc, "asm")
+pub fn command<'a>(alloc: Global, name: &'a str) -> Result<Command<'a>, AllocError> {
+    Command::new(alloc, name)
         .about("Assembles a program's text into BPF instruction words")
         .after_help(help_end!("Example:\n  extractd asm --source street.s > street.bpf"))
         .arg(option(alloc, "source", "FILE", "The program, as text"))

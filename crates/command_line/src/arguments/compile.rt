@@ -5,8 +5,8 @@ use clap::{ArgMatches, Command};
 use commands::Compile;
 use std::alloc::{AllocError, Global};
 
-pub fn command<'a>(alloc: Global) -> Result<Command<'a>, AllocError> {
-    Command::new(alloc, "compile")
+pub fn command<'a>(alloc: Global, name: &'a str) -> Result<Command<'a>, AllocError> {
+    Command::new(alloc, name)
         .about("Writes the BPF program of a filter")
         .after_help(help_end!(
             "Example:

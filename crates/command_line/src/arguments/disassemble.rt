@@ -5,8 +5,8 @@ use clap::{ArgMatches, Command};
 use commands::Disassemble;
 use std::alloc::{AllocError, Global};
 
-pub fn command<'a>(alloc: Global) -> Result<Command<'a>, AllocError> {
-    Command::new(alloc, "dis")
+pub fn command<'a>(alloc: Global, name: &'a str) -> Result<Command<'a>, AllocError> {
+    Command::new(alloc, name)
         .about("Disassembles a program into text")
         .after_help(help_end!("Example:\n  extractd dis --program street.bpf"))
         .arg(option(

@@ -5,8 +5,8 @@ use clap::{ArgMatches, Command};
 use commands::Explain;
 use std::alloc::{AllocError, Global};
 
-pub fn command<'a>(alloc: Global) -> Result<Command<'a>, AllocError> {
-    Command::new(alloc, "explain")
+pub fn command<'a>(alloc: Global, name: &'a str) -> Result<Command<'a>, AllocError> {
+    Command::new(alloc, name)
         .about("Lists a program with what the verifier knows before each instruction")
         .after_help(help_end!(
             "Output, up to the end of the program or the instruction that is refused:

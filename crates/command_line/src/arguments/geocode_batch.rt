@@ -5,8 +5,8 @@ use clap::{ArgMatches, Command};
 use commands::GeocodeBatch;
 use std::alloc::{AllocError, Global};
 
-pub fn command<'a>(alloc: Global) -> Result<Command<'a>, AllocError> {
-    Command::new(alloc, "geocode-batch")
+pub fn command<'a>(alloc: Global, name: &'a str) -> Result<Command<'a>, AllocError> {
+    Command::new(alloc, name)
         .about("Finds each address of a file")
         .after_help(help_end!(
             "Input, CSV with a header: the columns number and name, and optionally id, zip, predir, type and sufdir.

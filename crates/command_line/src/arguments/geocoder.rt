@@ -6,8 +6,8 @@ use commands::Geocode;
 use geocode::{MOST_DIGITS, Query, QueryFault};
 use std::alloc::{AllocError, Global};
 
-pub fn command<'a>(alloc: Global) -> Result<Command<'a>, AllocError> {
-    Command::new(alloc, "geocode")
+pub fn command<'a>(alloc: Global, name: &'a str) -> Result<Command<'a>, AllocError> {
+    Command::new(alloc, name)
         .about("Finds a house number on the streets with a name")
         .after_help(help_end!(
             "Output, one line for each side of a street that has the number:

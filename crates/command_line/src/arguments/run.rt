@@ -5,8 +5,8 @@ use clap::{ArgMatches, Command};
 use commands::Run;
 use std::alloc::{AllocError, Global};
 
-pub fn command<'a>(alloc: Global) -> Result<Command<'a>, AllocError> {
-    Command::new(alloc, "run")
+pub fn command<'a>(alloc: Global, name: &'a str) -> Result<Command<'a>, AllocError> {
+    Command::new(alloc, name)
         .about("Writes the rows of the segments that a program selects")
         .after_help(help_end!(
             "Example:\n  extractd run --program street.bpf --data tiger 01001 > rows.tsv"

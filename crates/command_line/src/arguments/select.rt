@@ -5,8 +5,8 @@ use clap::{ArgMatches, Command};
 use commands::Select;
 use std::alloc::{AllocError, Global};
 
-pub fn command<'a>(alloc: Global) -> Result<Command<'a>, AllocError> {
-    Command::new(alloc, "select")
+pub fn command<'a>(alloc: Global, name: &'a str) -> Result<Command<'a>, AllocError> {
+    Command::new(alloc, name)
         .about("Writes the rows of the street segments for which a filter is true")
         .after_help(help_end!(
             "Output, one row for each segment, as run writes it: county by county, up to the first fault.

@@ -19,8 +19,8 @@ pub struct Serve<'a> {
     ghost few: { vec_len codes ≤ 100_000 },
 }
 
-pub fn command<'a>(alloc: Global) -> Result<Command<'a>, AllocError> {
-    Command::new(alloc, "serve")
+pub fn command<'a>(alloc: Global, name: &'a str) -> Result<Command<'a>, AllocError> {
+    Command::new(alloc, name)
         .about("Answers requests over HTTP on 127.0.0.1, one connection at a time")
         .after_help(help_end!(
             "Output, once it listens:

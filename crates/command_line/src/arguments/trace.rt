@@ -5,8 +5,8 @@ use clap::{ArgMatches, Command};
 use commands::Trace;
 use std::alloc::{AllocError, Global};
 
-pub fn command<'a>(alloc: Global) -> Result<Command<'a>, AllocError> {
-    Command::new(alloc, "trace")
+pub fn command<'a>(alloc: Global, name: &'a str) -> Result<Command<'a>, AllocError> {
+    Command::new(alloc, name)
         .about("Runs a program on one segment, step by step, even one that run would refuse")
         .after_help(help_end!(
             "Output:

@@ -5,8 +5,8 @@ use clap::{ArgMatches, Command};
 use commands::Verify;
 use std::alloc::{AllocError, Global};
 
-pub fn command<'a>(alloc: Global) -> Result<Command<'a>, AllocError> {
-    Command::new(alloc, "verify")
+pub fn command<'a>(alloc: Global, name: &'a str) -> Result<Command<'a>, AllocError> {
+    Command::new(alloc, name)
         .about("Reports whether run would accept a program")
         .after_help(help_end!("Example:\n  extractd verify --program street.bpf"))
         .arg(option(
