@@ -6,7 +6,7 @@ use Rattle.csv.specs.declared.parser.State.{State}
 use Rattle.csv.specs.declared.parser.State.TheVariants.{StartRecord}
 use Rattle.addresses.specs.Record.{Fields}
 
--- after these bytes in this state, the next record is the next one of the file
+-- in this state, before these bytes, the next record is the first one of the file that follows them
 abbrev pub Skips : State → List ℕ → Type 0
 Skips state left = (file : List ℕ) → next_record default_config state [] [] (left ++ file) ≡ next_record default_config StartRecord [] [] file
 

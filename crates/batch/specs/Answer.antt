@@ -6,8 +6,8 @@ use Rattle.addresses.specs.Address.{AddressParts}
 use Rattle.batch.specs.Question.{QuestionParts, question_of, street_in}
 use Rattle.batch.specs.declared.answer.Answer.{Answer}
 use Rattle.batch.specs.declared.answer.Answer.TheVariants as answer
-use Rattle.batch.specs.declared.answer.Reason.{Reason}
-use Rattle.batch.specs.declared.answer.Reason.TheVariants.{NoSuchStreet, NoSuchNumber, OtherZip}
+use Rattle.batch.specs.declared.reason.Reason.{Reason}
+use Rattle.batch.specs.declared.reason.Reason.TheVariants.{NoSuchStreet, NoSuchNumber, OtherZip}
 use Rattle.batch.specs.declared.answer.Status.{Status}
 use Rattle.batch.specs.declared.answer.Status.TheVariants.{Match, Tie, NoMatch}
 use Rattle.geocode.specs.Matches.{MatchParts, has_street, match_of, matches}

@@ -7,8 +7,8 @@ use Rattle.addresses.specs.Address.{AddressParts}
 use Rattle.addresses.specs.Columns.{trimmed}
 use Rattle.batch.specs.Answer.{AnswerParts, Found, Nowhere, answer_of, status_of}
 use Rattle.batch.specs.Degrees.{degrees}
-use Rattle.batch.specs.declared.answer.Reason.{Reason}
-use Rattle.batch.specs.declared.answer.Reason.TheVariants as reason
+use Rattle.batch.specs.declared.reason.Reason.{Reason}
+use Rattle.batch.specs.declared.reason.Reason.TheVariants as reason
 use Rattle.batch.specs.declared.answer.Status.{Status}
 use Rattle.batch.specs.declared.answer.Status.TheVariants.{Match, Tie, NoMatch}
 use Rattle.batch.specs.declared.row.Cells.{Cells}

@@ -1,8 +1,8 @@
 -- The question that an address asks: where a house number is on a street, optionally in a ZIP code.
 use Rattle.std.specs.Prelude.{ℕ, Bool, ◌||◌, ◌==◌, List, length, if◌then◌else◌, Option, Some, None, option_map, Result, Ok, Err}
 use Rattle.addresses.specs.Address.{AddressParts}
-use Rattle.batch.specs.declared.answer.Reason.{Reason}
-use Rattle.batch.specs.declared.answer.Reason.TheVariants.{Missing, NotANumber, NameTooLong}
+use Rattle.batch.specs.declared.reason.Reason.{Reason}
+use Rattle.batch.specs.declared.reason.Reason.TheVariants.{Missing, NotANumber, NameTooLong}
 use Rattle.batch.specs.declared.question.Question.{Question}
 use Rattle.geocode.specs.Query.{QueryParts, query_of}
 use Rattle.geocode.specs.Query as query

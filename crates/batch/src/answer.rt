@@ -7,6 +7,7 @@ ghost use Rattle.geocode.specs.Matches.{match_of};
 ghost use Rattle.geocode.specs.Street as looked_for;
 
 use crate::question::Question;
+use crate::reason::Reason;
 use geocode::{Gazetteer, Match, Place, Street};
 use std::alloc::{AllocError, Allocator};
 use tl_segments::County;
@@ -20,23 +21,6 @@ pub enum Status {
     Tie,
     /// It wasn't found.
     NoMatch,
-}
-
-/// Why an address wasn't found.
-#[derive(Clone, Copy, PartialEq, Eq)]
-pub enum Reason {
-    /// No segment has the street among its names.
-    NoSuchStreet,
-    /// The number isn't in any range of the street.
-    NoSuchNumber,
-    /// The number is on the street, but not in the ZIP code.
-    OtherZip,
-    /// The house number or the ZIP code isn't 1 to 11 digits.
-    NotANumber,
-    /// The name has more than 30 characters.
-    NameTooLong,
-    /// There is no house number or no name.
-    Missing,
 }
 
 /// The matches of an address, at least one, or why there are none.

@@ -5,9 +5,10 @@ ghost use Rattle.batch.specs.Answer as answered;
 ghost use Rattle.batch.specs.Lines.{header, latitude_cell, code_at, line, lines_with, longitude_cell, match_cells, none_cells, reason_text, status_text};
 ghost use Rattle.geocode.specs.Matches.{match_of};
 
-use crate::answer::{Answer, Reason, Status, status_of};
+use crate::answer::{Answer, Status, status_of};
 use crate::degrees::{DEGREES_LENGTH, degrees};
 use crate::lines::Lines;
+use crate::reason::Reason;
 use crate::row::Cells;
 use arrayvec::ArrayVec;
 use geocode::{Match, Place};

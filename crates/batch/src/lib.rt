@@ -7,9 +7,11 @@ mod cells;
 mod degrees;
 mod lines;
 mod question;
+mod reason;
 mod row;
 
-pub use answer::{Reason, Status};
+pub use answer::Status;
 pub use batch::Batch;
 pub use cells::header;
 pub use lines::Lines;
+pub use reason::Reason;

@@ -5,7 +5,7 @@ ghost use Rattle.batch.specs.Question.{is_missing, question_of, reason_of, stree
 ghost use Rattle.batch.specs.Question as question;
 ghost use Rattle.geocode.specs.Street as looked_for;
 
-use crate::answer::Reason;
+use crate::reason::Reason;
 use addresses::Address;
 use geocode::{Query, QueryFault, Street};
 
