@@ -1,4 +1,5 @@
 pub mod LoopLemmas
+pub mod SplitLemmas
 pub mod TextLemmas
 pub mod SourceLemmas
 pub mod ListingLemmas

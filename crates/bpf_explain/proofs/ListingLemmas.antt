@@ -1,5 +1,6 @@
 -- Listings, visit by visit.
-use Rattle.std.proofs.Common.{◌≡◌, ◌⊎◌, inl, inr, ℕ, suc, ◌+◌, ◌-◌, ◌<◌, ◌≤◌, Bool, true, false, List, [], ◌∷◌, ◌++◌, length, get_or, take, drop, refl, sym, ap, ◌∙◌, append_assoc, arith, rules, drop-cons, length-drop}
+use Rattle.std.proofs.Common.{◌≡◌, ◌⊎◌, inl, inr, ℕ, suc, ◌+◌, ◌-◌, ◌<◌, ◌≤◌, Bool, true, false, List, [], ◌∷◌, ◌++◌, length, get_or, take, drop, refl, sym, ap}
+use Rattle.std.proofs.Common.{◌∙◌, append_assoc, arith, rules, drop-cons, length-drop}
 use Rattle.std.specs.Prelude.{Option, Some, None, is_some, nat_lt, not, cond, unwrap_or, codes, Err}
 use Rattle.std.specs.List.{position, position_or_len}
 use Rattle.std.proofs.lemmas.Bool.{cases_lt, true≢false}
@@ -12,106 +13,82 @@ use Rattle.bpf_insn.proofs.PlaceLemmas.{instruction_at-middle, instruction_withi
 use Rattle.bpf_insn.specs.Code.{instruction_at, spelling, word_count}
 use Rattle.bpf_insn.specs.declared.instruction.Insn.{Insn}
 use Rattle.bpf_meaning.specs.declared.cause.Cause.{Cause}
+use Rattle.bpf_text.proofs.WordLemmas.{position-missing}
 use Rattle.bpf_verify.proofs.StateLaws as laws
 use Rattle.bpf_verify.specs.AbstractState.{AbstractState, Unreached, Reached}
 use Rattle.bpf_verify.specs.Annotation.{Annotation, IsLeastUpTo, IsRefusedAt}
 use Rattle.bpf_verify.specs.Transfer.{transfer}
-use Rattle.bpf_verify.specs.Visit.{Visit, IsShown, IsShownUpTo, visit_at, visited_all, visits_from}
+use Rattle.bpf_verify.specs.Visit.{Visit, IsShownUpTo, visit_at, visited_all, visits_from}
 use Rattle.bpf_verify.specs.declared.known.Known.{Known}
 use Rattle.bpf_explain.specs.Facts.{note_text, noted, prefix_text}
-use Rattle.bpf_explain.specs.Explanation.{ExplainsAcceptance, ExplainsRefusal}
-use Rattle.bpf_explain.specs.Listing.{ListingParts, accepted_text, first, known_after, lines_after, lines_until, listing, refusal_line, refused_text, source_text, sources_text, visit_text, visited}
+use Rattle.bpf_explain.specs.Explanation.{ExplainsRefusal}
+use Rattle.bpf_explain.specs.Listing.{ListingParts, empty, known_after, lines_after, lines_until, listing, refusal_line, refused_text, source_text}
+use Rattle.bpf_explain.specs.Listing.{sources_text, visit_text, visited}
 use Rattle.bpf_explain.specs.SourceLines.{SourceLine, line_of}
-use Rattle.bpf_explain.specs.declared.source_lines.Line.{Line}
+use Rattle.bpf_explain.specs.declared.source_lines.PlacedLine.{PlacedLine}
 
--- the number of lines up to a place
-pub count-found : {X : Type 0} (p : X → Bool) (xs : List X) (count : ℕ) → Some count ≡ position p xs → count ≡ position_or_len p xs
-count-found p xs count is = by-test (nat_lt (position_or_len p xs) (length xs)) refl
-  where
-    by-test : (test : Bool) → nat_lt (position_or_len p xs) (length xs) ≡ test → count ≡ position_or_len p xs
-    by-test true within =
-        let found : Some count ≡ Some (position_or_len p xs) = is ∙ ap (λ (b : Bool). cond b (Some (position_or_len p xs)) None) within in
-        ap (λ (o : Option ℕ). unwrap_or o 0) found
-    by-test false beyond =
-        let found : Some count ≡ None = is ∙ ap (λ (b : Bool). cond b (Some (position_or_len p xs)) None) beyond in
-        absurd (true≢false (ap is_some found))
-
+-- the number of lines up to a place, if none is after it
 pub count-missing : {X : Type 0} (p : X → Bool) (xs : List X) → None ≡ position p xs → length xs ≡ position_or_len p xs
-count-missing p xs is = by-test (nat_lt (position_or_len p xs) (length xs)) refl
-  where
-    by-test : (test : Bool) → nat_lt (position_or_len p xs) (length xs) ≡ test → length xs ≡ position_or_len p xs
-    by-test true within =
-        let found : Some (position_or_len p xs) ≡ None = sym (is ∙ ap (λ (b : Bool). cond b (Some (position_or_len p xs)) None) within) in
-        absurd (true≢false (ap is_some found))
-    by-test false beyond =
-        let most = prefix_len-le-length (λ x. not (p x)) xs in
-        let least : length xs ≤ position_or_len p xs = grind (arith, nat_tests) in
-        omega arith
-
--- two listings are equal if their parts are
-pub same-parts : (text other : List ℕ) (known now : Known) (insn : Option Insn) (left more : List SourceLine) → text ≡ other → known ≡ now → left ≡ more
-    → ◌≡◌ {A = ListingParts} (record { text = text; known = known; insn = insn; left = left })
-    (record { text = other; known = now; insn = insn; left = more })
-same-parts text other known now insn left more texts knowns lefts = cc
+count-missing p xs missing =
+    let least = position-missing p xs (sym missing) in
+    let most = prefix_len-le-length (λ x. not (p x)) xs in
+    omega arith
 
 -- lines of the program, and lines of the definitions
-pub position-map : (p : SourceLine → Bool) (lines : List Line) → position_or_len (λ line. p (line_of line)) lines ≡ position_or_len p (map line_of lines)
+pub position-map : (p : SourceLine → Bool) (lines : List PlacedLine) → position_or_len (λ line. p (line_of line)) lines ≡ position_or_len p (map line_of lines)
 position-map p [] = refl
 position-map p (line ∷ lines) = ap (λ (n : ℕ). cond (not (p (line_of line))) (1 + n) 0) (position-map p lines)
 
-pub sources-map : (lines : List Line) → flat_map (λ line. source_text (line_of line)) lines ≡ sources_text (map line_of lines)
+pub sources-map : (lines : List PlacedLine) → flat_map (λ line. source_text (line_of line)) lines ≡ sources_text (map line_of lines)
 unfolding sources_text
 sources-map [] = refl
 sources-map (line ∷ lines) = ap (λ (text : List ℕ). source_text (line_of line) ++ text) (sources-map lines)
 
-drop-map : (n : ℕ) (lines : List Line) → map line_of (drop n lines) ≡ drop n (map line_of lines)
+drop-map : (n : ℕ) (lines : List PlacedLine) → map line_of (drop n lines) ≡ drop n (map line_of lines)
 drop-map zero lines = refl
 drop-map (suc n) [] = refl
 drop-map (suc n) (line ∷ lines) = drop-map n lines
 
--- the lines of a visit are written
-pub visit-written : (old before middle new line : List ℕ) (lines : List Line) (left : List SourceLine) (count place : ℕ) → before ≡ old
-    → map line_of lines ≡ left → count ≡ position_or_len (λ line. nat_lt place line.place) (map line_of lines)
-    → middle ≡ before ++ sources_text (map line_of (take count lines)) → new ≡ middle ++ line
-    → new ≡ old ++ (sources_text (lines_until place left) ++ line)
+-- the lines up to a place, and those after it
+pub until-taken : (lines : List PlacedLine) (count place : ℕ) → count ≡ position_or_len (λ line. nat_lt place line.place) (map line_of lines)
+    → sources_text (map line_of (take count lines)) ≡ sources_text (lines_until place (map line_of lines))
 unfolding lines_until
-visit-written old before middle new line lines left count place text lefts counted first_is then_is =
-    then_is ∙ ap (λ (xs : List ℕ). xs ++ line) (first_is ∙ ap (λ (xs : List ℕ). xs ++ sources_text (map line_of (take count lines))) text)
-    ∙ append_assoc old (sources_text (map line_of (take count lines))) line
-    ∙ ap (λ (ls : List SourceLine). old ++ (sources_text ls ++ line)) (sym (take-map line_of count lines))
-    ∙ ap (λ (n : ℕ). old ++ (sources_text (take n (map line_of lines)) ++ line)) counted
-    ∙ ap (λ (ls : List SourceLine). old ++ (sources_text (take (position_or_len (λ line. nat_lt place line.place) ls) ls) ++ line)) lefts
+until-taken lines count place counted =
+    ap sources_text (sym (take-map line_of count lines) ∙ ap (λ (n : ℕ). take n (map line_of lines)) counted)
 
-pub lines-left : (lines : List Line) (left : List SourceLine) (count place : ℕ) → map line_of lines ≡ left
-    → count ≡ position_or_len (λ line. nat_lt place line.place) (map line_of lines)
-    → map line_of (take (length lines - count) (drop count lines)) ≡ lines_after place left
+pub after-dropped : (lines : List PlacedLine) (count place : ℕ) → count ≡ position_or_len (λ line. nat_lt place line.place) (map line_of lines)
+    → map line_of (take (length lines - count) (drop count lines)) ≡ lines_after place (map line_of lines)
 unfolding lines_after
-lines-left lines left count place lefts counted =
+after-dropped lines count place counted =
     let long = length-drop count lines in
     ap (map line_of) (take_all (length lines - count) (drop count lines) (omega arith)) ∙ drop-map count lines
     ∙ ap (λ (n : ℕ). drop n (map line_of lines)) counted
-    ∙ ap (λ (ls : List SourceLine). drop (position_or_len (λ line. nat_lt place line.place) ls) ls) lefts
+
+-- two listings with the same state and instruction are equal if their other parts are
+pub same-parts : {known : Known} {insn : Option Insn} {text other : List ℕ} {remaining more : List SourceLine} → text ≡ other → remaining ≡ more
+    → ◌≡◌ {A = ListingParts} (record { text = text; known = known; insn = insn; remaining = remaining })
+    (record { text = other; known = known; insn = insn; remaining = more })
+same-parts texts lines = cc
 
 -- the listing with one more visit
 abbrev pub pushed : ListingParts → ℕ → Insn → List ℕ → ListingParts
 pushed old place insn note = record {
-  text = old.text ++ (sources_text (lines_until place old.left) ++ (noted (prefix_text place insn) note ++ codes "\n"));
+  text = old.text ++ (sources_text (lines_until place old.remaining) ++ (noted (prefix_text place insn) note ++ codes "\n"));
   known = old.known;
   insn = Some insn;
-  left = lines_after place old.left;
+  remaining = lines_after place old.remaining;
 }
 
 with-known : (x y : ListingParts) (known now : Known) → x ≡ y → known ≡ now → record x { known = known } ≡ record y { known = now }
 with-known x y known now same knowns =
     ap (λ (k : Known). record x { known = k }) knowns ∙ ap (λ (z : ListingParts). record z { known = now }) same
 
-pub reached-is : (old new : ListingParts) (place : ℕ) (insn : Insn) (known copy : Known) (note : List ℕ) → new ≡ pushed old place insn note
-    → note ≡ note_text old.known (Reached known) insn → copy ≡ known
+pub reached-is : (old new : ListingParts) (place : ℕ) (insn : Insn) (known copy : Known)
+    → new ≡ pushed old place insn (note_text old.known (Reached known) insn) → copy ≡ known
     → record new { known = copy } ≡ visited old (record { place = place; insn = insn; state = Reached known })
 unfolding visit_text
-reached-is old new place insn known copy note pushes is same =
-    with-known new (pushed old place insn note) copy known pushes same
-    ∙ ap (λ (text : List ℕ). record (pushed old place insn text) { known = known }) is
+reached-is old new place insn known copy pushes same =
+    with-known new (pushed old place insn (note_text old.known (Reached known) insn)) copy known pushes same
 
 -- the visits of consecutive instructions, and of one more
 visits-more : (annotation : Annotation) (place : ℕ) (code : List Insn) (insn : Insn)
@@ -131,8 +108,8 @@ visited-more before (next ∷ visits) visit = visited-more (visited before next)
 -- the instruction at a place comes right after those before the place
 take-one : (code : List Insn) (index place : ℕ) (insn : Insn) → place ≡ word_count (take index code) → instruction_at code place ≡ Some insn
     → take (index + 1) code ≡ take index code ++ insn ∷ []
-take-one code index place insn at stands =
-    let below : place < word_count code = instruction_within code place (ap is_some stands) in
+take-one code index place insn at insn_is =
+    let below : place < word_count code = instruction_within code place (ap is_some insn_is) in
     let within : index < length code = inside (cases_lt index (length code)) below in
     let y : Insn = get_or code index insn in
     let parts : take index code ++ y ∷ drop (suc index) code ≡ code =
@@ -140,7 +117,7 @@ take-one code index place insn at stands =
     let there : instruction_at code place ≡ Some y =
     ap (instruction_at code) at ∙ ap (λ (c : List Insn). instruction_at c (word_count (take index code))) (sym parts)
     ∙ instruction_at-middle (take index code) y (drop (suc index) code) in
-    let same : y ≡ insn = ap (λ (o : Option Insn). unwrap_or o insn) (sym there ∙ stands) in
+    let same : y ≡ insn = ap (λ (o : Option Insn). unwrap_or o insn) (sym there ∙ insn_is) in
     take_more code index insn within ∙ ap (λ (x : Insn). take index code ++ x ∷ []) same
   where
     inside : (index < length code) ⊎ (length code ≤ index) → place < word_count code → index < length code
@@ -164,18 +141,9 @@ refused-last : (before : ListingParts) (visit : Visit) (known : Known) (cause : 
 refused-last before visit known cause is =
     ap (λ (state : AbstractState). (visited before visit).text ++ refusal_line (known_after before.known state) cause visit.insn) is
 
-pub accepts : (code : List Insn) (lines : List SourceLine) (old new : ListingParts) (text : List ℕ) → old ≡ first lines → IsShown visited code old new
-    → text ≡ accepted_text new → ExplainsAcceptance code lines text
-accepts code lines old new text old_is shown is = record {
-  annotation = shown.annotation;
-  is_least = shown.is_least;
-  is = is ∙ ap accepted_text (shown.shown ∙ ap (λ (o : ListingParts). visited_all visited o (visits_from shown.annotation 0 code)) old_is);
-}
-
-pub refuses : (code : List Insn) (lines : List SourceLine) (old new : ListingParts) (place : ℕ) (cause : Cause) (text : List ℕ) → old ≡ first lines
-    → IsRefusedAt code place cause → IsShownUpTo visited code place old new → text ≡ refused_text new cause
-    → ExplainsRefusal code lines place cause text
-refuses code lines old new place cause text old_is refused shown is =
+pub refuses : (code : List Insn) (lines : List SourceLine) (new : ListingParts) (place : ℕ) (cause : Cause)
+    → IsRefusedAt code place cause → IsShownUpTo visited code place (empty lines) new → ExplainsRefusal code lines place cause (refused_text new cause)
+refuses code lines new place cause refused shown =
     let a : Annotation = shown.annotation in
     let insn : Insn = refused.insn in
     let same : refused.annotation place ≡ a place = one-least code place refused.annotation a refused.is_least shown.is_least in
@@ -187,20 +155,19 @@ refuses code lines old new place cause text old_is refused shown is =
     ap (visits_from a 0) (take-one code shown.index place insn shown.at refused.stands) ∙ visits-more a 0 (take shown.index code) insn
     ∙ ap (λ (p : ℕ). visits_from a 0 (take shown.index code) ++ visit_at a p insn ∷ []) there in
     let all : listing lines (visits_from a 0 (take (shown.index + 1) code)) ≡ visited before (visit_at a place insn) =
-    ap (listing lines) last ∙ visited-more (first lines) (visits_from a 0 (take shown.index code)) (visit_at a place insn) in
-    let new_is : new ≡ listing lines (visits_from a 0 (take (shown.index + 1) code)) =
-    shown.shown ∙ ap (λ (o : ListingParts). visited_all visited o (visits_from a 0 (take (shown.index + 1) code))) old_is in
+    ap (listing lines) last ∙ visited-more (empty lines) (visits_from a 0 (take shown.index code)) (visit_at a place insn) in
+    let new_is : new ≡ listing lines (visits_from a 0 (take (shown.index + 1) code)) = shown.shown in
     record {
       annotation = a;
       is_least = shown.is_least;
       index = shown.index;
       at = shown.at;
       insn = insn;
-      stands = refused.stands;
+      insn_is = refused.stands;
       known = reached.0;
       state = reached.1;
       fails = fails;
-      is = is ∙ ap (λ (l : ListingParts). refused_text l cause) (new_is ∙ all)
+      is = ap (λ (l : ListingParts). refused_text l cause) (new_is ∙ all)
           ∙ refused-last before (visit_at a place insn) reached.0 cause reached.1
           ∙ ap (λ (l : ListingParts). l.text ++ refusal_line reached.0 cause insn) (sym all);
     }

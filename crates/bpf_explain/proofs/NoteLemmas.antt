@@ -1,5 +1,6 @@
 -- A note determines what is known, given what was known last: two states with the same note are equal.
-use Rattle.std.proofs.Common.{◌≡◌, ◌≢◌, ◌⊎◌, inl, inr, ℕ, zero, suc, ◌+◌, ◌-◌, ◌*◌, ◌^◌, ◌<◌, ◌≤◌, ℤ, pos, negsuc, Bool, true, false, List, [], ◌∷◌, ◌++◌, length, map, refl, sym, ap, subst, ◌∙◌, append_assoc, arith}
+use Rattle.std.proofs.Common.{◌≡◌, ◌≢◌, ◌⊎◌, inl, inr, ℕ, zero, suc, ◌+◌, ◌-◌, ◌*◌, ◌^◌, ◌<◌, ◌≤◌, ℤ, pos, negsuc, Bool, true, false, List, [], ◌∷◌, ◌++◌}
+use Rattle.std.proofs.Common.{length, map, refl, sym, ap, subst, ◌∙◌, append_assoc, arith}
 use Rattle.std.specs.Prelude.{codes, decimal, not, ◌==◌, ◌&&◌, ◌||◌, nat_lt, cond, if◌then◌else◌, FitsSigned}
 use Rattle.std.specs.Fmt.{signed_decimal}
 use Rattle.std.specs.Int.{w16}
@@ -25,173 +26,139 @@ use Rattle.bpf_kinds.specs.declared.offsets.Offsets.{Offsets}
 use Rattle.bpf_meaning.specs.declared.state.TheConstants.{REGISTERS}
 use Rattle.bpf_verify.specs.AbstractState.{AbstractState, IsProper, IsProperKnown, Reached, Unreached, kind_of}
 use Rattle.bpf_verify.specs.declared.known.Known.{Known}
-use Rattle.bpf_explain.proofs.TextLemmas.{AreDigits, decimal-digits, differs, first, names-differ, rest, states-equal}
+use Rattle.bpf_explain.proofs.SplitLemmas.{BeginsWith, decimal-excludes, excludes, excludes-append, first, fronts-equal, rest}
+use Rattle.bpf_explain.proofs.TextLemmas.{differs, names-differ, states-equal}
 use Rattle.bpf_explain.specs.Facts.{facts_text, is_changed, is_shown, joined, note_text, shown_parts}
-use Rattle.bpf_explain.specs.Notation.{IsPart, begins_negative, end_text, fact_text, held_text, interval_text, is_any, kind_text, marks_text, offsets_text, part_name, part_text, range_text, slot_marks}
+use Rattle.bpf_explain.specs.Notation.{IsPart, begins_negative, end_text, fact_text, held_text, interval_text, is_any, kind_text, marks_text, offsets_text}
+use Rattle.bpf_explain.specs.Notation.{part_name, part_text, range_text, slot_marks}
 use Rattle.bpf_explain.specs.Reads.{part_at, parts_from, reads}
 use Rattle.bpf_explain.specs.declared.notation.Part.{Part}
 use Rattle.bpf_explain.specs.declared.notation.Part.TheVariants.{Register, Slot}
 
--- a text doesn't have a byte
-abbrev lacks : ℕ → List ℕ → Bool
-lacks byte text = list_all (λ x. not (x == byte)) text
-
-lacks-append : (byte : ℕ) (xs ys : List ℕ) → lacks byte xs ≡ true → lacks byte ys ≡ true → lacks byte (xs ++ ys) ≡ true
-lacks-append byte xs ys first_lacks then_lacks =
-    list_all-append (λ x. not (x == byte)) xs ys ∙ and_from (lacks byte xs) (lacks byte ys) first_lacks then_lacks
-
-digits-lack : (byte : ℕ) (xs : List ℕ) → byte < 48 → AreDigits xs → lacks byte xs ≡ true
-digits-lack byte [] small digits = refl
-digits-lack byte (x ∷ xs) small digits =
-    let above = digits.0.above in
-    let differs : not (x == byte) ≡ true = grind (arith, nat_tests) in
-    and_from (not (x == byte)) (lacks byte xs) differs (digits-lack byte xs small digits.1)
-
-decimal-lacks : (byte n : ℕ) → byte < 48 → n < 2 ^ 64 → lacks byte (decimal n) ≡ true
-decimal-lacks byte n small fits = digits-lack byte (decimal n) small (decimal-digits n fits)
-
--- the text before a byte
-abbrev IsTail : ℕ → List ℕ → Type 0
-IsTail byte [] = Unit {0}
-IsTail byte (x ∷ xs) = x ≡ byte
-
-not-it : (x byte : ℕ) → not (x == byte) ≡ true → x ≢ byte
-not-it x byte test is = absurd (grind (arith, nat_tests))
-
-lead : (byte : ℕ) (a c s t : List ℕ) → lacks byte a ≡ true → lacks byte c ≡ true → IsTail byte s → IsTail byte t → a ++ s ≡ c ++ t → a ≡ c
-lead byte [] [] s t none other tail end same = refl
-lead byte [] (y ∷ c) [] t none other tail end same = let n : 0 ≡ suc (length (c ++ t)) = ap length same in absurd (omega arith)
-lead byte [] (y ∷ c) (x ∷ s) t none other tail end same =
-    absurd (not-it y byte (and_parts (not (y == byte)) (lacks byte c) other).0 (sym (ap first same) ∙ tail))
-lead byte (x ∷ a) [] s [] none other tail end same = let n : suc (length (a ++ s)) ≡ 0 = ap length same in absurd (omega arith)
-lead byte (x ∷ a) [] s (y ∷ t) none other tail end same =
-    absurd (not-it x byte (and_parts (not (x == byte)) (lacks byte a) none).0 (ap first same ∙ end))
-lead byte (x ∷ a) (y ∷ c) s t none other tail end same =
-    let head : x ≡ y = ap first same in
-    let more : a ≡ c = lead byte a c s t (and_parts (not (x == byte)) (lacks byte a) none).1 (and_parts (not (y == byte)) (lacks byte c) other).1
-    tail end (ap rest same) in
-    cc
-
 -- a joined text determines its texts, if none of them is empty or has a comma
 abbrev AreTexts : List (List ℕ) → Type 0
 AreTexts [] = Unit {0}
-AreTexts (text ∷ texts) = (0 < length text) × (lacks 44 text ≡ true) × AreTexts texts
+AreTexts (text ∷ texts) = (0 < length text) × (excludes 44 text ≡ true) × AreTexts texts
 
 abbrev commas : List (List ℕ) → List ℕ
 commas texts = flat_map (λ text. codes ", " ++ text) texts
 
-commas-tail : (texts : List (List ℕ)) → IsTail 44 (commas texts)
-commas-tail [] = tt
-commas-tail (text ∷ texts) = refl
+commas-begin : (texts : List (List ℕ)) → BeginsWith 44 (commas texts)
+commas-begin [] = tt
+commas-begin (text ∷ texts) = refl
 
-commas-tell : (xs ys : List (List ℕ)) → AreTexts xs → AreTexts ys → commas xs ≡ commas ys → xs ≡ ys
-commas-tell [] [] are others same = refl
-commas-tell [] (y ∷ ys) are others same = let n : 0 ≡ suc (suc (length (y ++ commas ys))) = ap length same in absurd (omega arith)
-commas-tell (x ∷ xs) [] are others same = let n : suc (suc (length (x ++ commas xs))) ≡ 0 = ap length same in absurd (omega arith)
-commas-tell (x ∷ xs) (y ∷ ys) are others same =
+commas-injective : (xs ys : List (List ℕ)) → AreTexts xs → AreTexts ys → commas xs ≡ commas ys → xs ≡ ys
+commas-injective [] [] are others same = refl
+commas-injective [] (y ∷ ys) are others same = let n : 0 ≡ suc (suc (length (y ++ commas ys))) = ap length same in absurd (omega arith)
+commas-injective (x ∷ xs) [] are others same = let n : suc (suc (length (x ++ commas xs))) ≡ 0 = ap length same in absurd (omega arith)
+commas-injective (x ∷ xs) (y ∷ ys) are others same =
     let both : x ++ commas xs ≡ y ++ commas ys = ap rest (ap rest same) in
-    let head : x ≡ y = lead 44 x y (commas xs) (commas ys) are.1 others.1 (commas-tail xs) (commas-tail ys) both in
+    let head : x ≡ y = fronts-equal 44 x y (commas xs) (commas ys) (record { excluded = are.1; begins = commas-begin xs })
+    (record { excluded = others.1; begins = commas-begin ys }) both in
     let tails : commas xs ≡ commas ys = append_cancel_left x _ _ (both ∙ ap (λ (z : List ℕ). z ++ commas ys) (sym head)) in
-    let more : xs ≡ ys = commas-tell xs ys are.2 others.2 tails in
+    let more : xs ≡ ys = commas-injective xs ys are.2 others.2 tails in
     cc
 
-joined-tell : (xs ys : List (List ℕ)) → AreTexts xs → AreTexts ys → joined xs ≡ joined ys → xs ≡ ys
-joined-tell [] [] are others same = refl
-joined-tell [] ([] ∷ ys) are others same = absurd (omega (arith, others.0))
-joined-tell [] ((b ∷ y) ∷ ys) are others same = let n : 0 ≡ suc (length (y ++ commas ys)) = ap length same in absurd (omega arith)
-joined-tell ([] ∷ xs) [] are others same = absurd (omega (arith, are.0))
-joined-tell ((b ∷ x) ∷ xs) [] are others same = let n : suc (length (x ++ commas xs)) ≡ 0 = ap length same in absurd (omega arith)
-joined-tell (x ∷ xs) (y ∷ ys) are others same =
-    let head : x ≡ y = lead 44 x y (commas xs) (commas ys) are.1 others.1 (commas-tail xs) (commas-tail ys) same in
+joined-injective : (xs ys : List (List ℕ)) → AreTexts xs → AreTexts ys → joined xs ≡ joined ys → xs ≡ ys
+joined-injective [] [] are others same = refl
+joined-injective [] ([] ∷ ys) are others same = absurd (omega (arith, others.0))
+joined-injective [] ((b ∷ y) ∷ ys) are others same = let n : 0 ≡ suc (length (y ++ commas ys)) = ap length same in absurd (omega arith)
+joined-injective ([] ∷ xs) [] are others same = absurd (omega (arith, are.0))
+joined-injective ((b ∷ x) ∷ xs) [] are others same = let n : suc (length (x ++ commas xs)) ≡ 0 = ap length same in absurd (omega arith)
+joined-injective (x ∷ xs) (y ∷ ys) are others same =
+    let head : x ≡ y = fronts-equal 44 x y (commas xs) (commas ys) (record { excluded = are.1; begins = commas-begin xs })
+    (record { excluded = others.1; begins = commas-begin ys }) same in
     let tails : commas xs ≡ commas ys = append_cancel_left x _ _ (same ∙ ap (λ (z : List ℕ). z ++ commas ys) (sym head)) in
-    let more : xs ≡ ys = commas-tell xs ys are.2 others.2 tails in
+    let more : xs ≡ ys = commas-injective xs ys are.2 others.2 tails in
     cc
 
 -- no fact contains a comma
-end-lacks : (negative : Bool) (n : ℕ) → n < 2 ^ 64 → (negative ≡ true → 0 < n) → lacks 44 (end_text negative n) ≡ true
-end-lacks false n fits some = decimal-lacks 44 n (omega arith) fits
-end-lacks true n fits some = let above = some refl in decimal-lacks 44 (2 ^ 64 - n) (omega arith) (omega arith)
+end-excludes : (negative : Bool) (n : ℕ) → n < 2 ^ 64 → (negative ≡ true → 0 < n) → excludes 44 (end_text negative n) ≡ true
+end-excludes false n fits some = decimal-excludes 44 n (omega arith) fits
+end-excludes true n fits some = let above = some refl in decimal-excludes 44 (2 ^ 64 - n) (omega arith) (omega arith)
 
-range-lacks : (single : Bool) (low high : List ℕ) → lacks 44 low ≡ true → lacks 44 high ≡ true → lacks 44 (range_text single low high) ≡ true
-range-lacks true low high first_lacks then_lacks = first_lacks
-range-lacks false low high first_lacks then_lacks =
-    lacks-append 44 (low ++ codes "..") high (lacks-append 44 low (codes "..") first_lacks refl) then_lacks
+range-excludes : (single : Bool) (low high : List ℕ) → excludes 44 low ≡ true → excludes 44 high ≡ true → excludes 44 (range_text single low high) ≡ true
+range-excludes true low high first_excludes then_excludes = first_excludes
+range-excludes false low high first_excludes then_excludes =
+    excludes-append 44 (low ++ codes "..") high (excludes-append 44 low (codes "..") first_excludes refl) then_excludes
 
-shown-lacks : (any single negative : Bool) (low high : ℕ) → low ≤ high → high < 2 ^ 64 → (negative ≡ true → 0 < low)
-    → lacks 44 (if any then codes "any number" else range_text single (end_text negative low) (end_text negative high)) ≡ true
-shown-lacks true single negative low high ordered fits some = refl
-shown-lacks false single negative low high ordered fits some =
-    range-lacks single (end_text negative low) (end_text negative high) (end-lacks negative low (omega arith) some)
-    (end-lacks negative high fits (λ is. let above = some is in omega arith))
+shown-excludes : (any single negative : Bool) (low high : ℕ) → low ≤ high → high < 2 ^ 64 → (negative ≡ true → 0 < low)
+    → excludes 44 (if any then codes "any number" else range_text single (end_text negative low) (end_text negative high)) ≡ true
+shown-excludes true single negative low high ordered fits some = refl
+shown-excludes false single negative low high ordered fits some =
+    range-excludes single (end_text negative low) (end_text negative high) (end-excludes negative low (omega arith) some)
+    (end-excludes negative high fits (λ is. let above = some is in omega arith))
 
 negative-some : (x : Interval) → begins_negative x ≡ true → 0 < x.low
 negative-some x test = grind (arith, nat_tests)
 
-interval-lacks : (x : Interval) → interval.IsProper x → lacks 44 (interval_text x) ≡ true
-interval-lacks x proper = shown-lacks (is_any x) (x.low == x.high) (begins_negative x) x.low x.high proper.ordered proper.fits (negative-some x)
+interval-excludes : (x : Interval) → interval.IsProper x → excludes 44 (interval_text x) ≡ true
+interval-excludes x proper = shown-excludes (is_any x) (x.low == x.high) (begins_negative x) x.low x.high proper.ordered proper.fits (negative-some x)
 
-signed-lacks : (z : ℤ) → FitsSigned w16 z → lacks 44 (signed_decimal z) ≡ true
-signed-lacks (pos n) fits = decimal-lacks 44 n (omega arith) (omega (arith, ints))
-signed-lacks (negsuc n) fits = decimal-lacks 44 (suc n) (omega arith) (omega (arith, ints))
+signed-excludes : (z : ℤ) → FitsSigned w16 z → excludes 44 (signed_decimal z) ≡ true
+signed-excludes (pos n) fits = decimal-excludes 44 n (omega arith) (omega (arith, ints))
+signed-excludes (negsuc n) fits = decimal-excludes 44 (suc n) (omega arith) (omega (arith, ints))
 
-offsets-lack : (x : Offsets) → offsets.IsProper x → lacks 44 (offsets_text x) ≡ true
-offsets-lack x proper = range-lacks (int_eq x.low x.high) _ _ (signed-lacks x.low proper.low) (signed-lacks x.high proper.high)
+offsets-exclude : (x : Offsets) → offsets.IsProper x → excludes 44 (offsets_text x) ≡ true
+offsets-exclude x proper = range-excludes (int_eq x.low x.high) _ _ (signed-excludes x.low proper.low) (signed-excludes x.high proper.high)
 
-kind-lacks : (k : Kind) → kind.IsProper k → lacks 44 (kind_text k) ≡ true
-kind-lacks (Number x) proper = interval-lacks x proper
-kind-lacks (Record x) proper = offsets-lack x proper
-kind-lacks (Frame x) proper = offsets-lack x proper
-kind-lacks Nothing proper = refl
+kind-excludes : (k : Kind) → kind.IsProper k → excludes 44 (kind_text k) ≡ true
+kind-excludes (Number x) proper = interval-excludes x proper
+kind-excludes (Record x) proper = offsets-exclude x proper
+kind-excludes (Frame x) proper = offsets-exclude x proper
+kind-excludes Nothing proper = refl
 
-marks-lack : (marks : List Bool) → lacks 44 (marks_text marks) ≡ true
-marks-lack [] = refl
-marks-lack (true ∷ marks) = marks-lack marks
-marks-lack (false ∷ marks) = marks-lack marks
+marks-exclude : (marks : List Bool) → excludes 44 (marks_text marks) ≡ true
+marks-exclude [] = refl
+marks-exclude (true ∷ marks) = marks-exclude marks
+marks-exclude (false ∷ marks) = marks-exclude marks
 
-held-lacks : (k : Kind) (marks : List Bool) → kind.IsProper k → lacks 44 (held_text k marks) ≡ true
-held-lacks (Number x) marks proper = kind-lacks (Number x) proper
-held-lacks (Record x) marks proper = kind-lacks (Record x) proper
-held-lacks (Frame x) marks proper = kind-lacks (Frame x) proper
-held-lacks Nothing marks proper = marks-lack marks
+held-excludes : (k : Kind) (marks : List Bool) → kind.IsProper k → excludes 44 (held_text k marks) ≡ true
+held-excludes (Number x) marks proper = kind-excludes (Number x) proper
+held-excludes (Record x) marks proper = kind-excludes (Record x) proper
+held-excludes (Frame x) marks proper = kind-excludes (Frame x) proper
+held-excludes Nothing marks proper = marks-exclude marks
 
-part-lacks : (known : Known) (part : Part) → IsProperKnown known → lacks 44 (part_text known part) ≡ true
-part-lacks known (Register register) proper = kind-lacks (kind_of known register) (proper.kinds register)
-part-lacks known (Slot slot) proper = held-lacks (slot_kind known.frame slot) (slot_marks known.frame.marks slot) (proper.frame.kinds slot)
+part-excludes : (known : Known) (part : Part) → IsProperKnown known → excludes 44 (part_text known part) ≡ true
+part-excludes known (Register register) proper = kind-excludes (kind_of known register) (proper.kinds register)
+part-excludes known (Slot slot) proper = held-excludes (slot_kind known.frame slot) (slot_marks known.frame.marks slot) (proper.frame.kinds slot)
 
 -- a name contains neither a comma nor a blank
-name-plain : (byte : ℕ) (part : Part) → (lacks byte (codes "r") && lacks byte (codes "[r10-") && lacks byte (codes "]")) ≡ true → byte < 48 → IsPart part
-    → lacks byte (part_name part) ≡ true
+name-plain : (byte : ℕ) (part : Part) → (excludes byte (codes "r") && excludes byte (codes "[r10-") && excludes byte (codes "]")) ≡ true → byte < 48
+    → IsPart part → excludes byte (part_name part) ≡ true
 name-plain byte (Register register) tests small within =
-    let both = and_parts (lacks byte (codes "r") && lacks byte (codes "[r10-")) (lacks byte (codes "]")) tests in
-    let head = (and_parts (lacks byte (codes "r")) (lacks byte (codes "[r10-")) both.0).0 in
-    lacks-append byte (codes "r") (decimal register) head (decimal-lacks byte register small (omega arith))
+    let both = and_parts (excludes byte (codes "r") && excludes byte (codes "[r10-")) (excludes byte (codes "]")) tests in
+    let head = (and_parts (excludes byte (codes "r")) (excludes byte (codes "[r10-")) both.0).0 in
+    excludes-append byte (codes "r") (decimal register) head (decimal-excludes byte register small (omega arith))
 name-plain byte (Slot slot) tests small within =
-    let both = and_parts (lacks byte (codes "r") && lacks byte (codes "[r10-")) (lacks byte (codes "]")) tests in
-    let head = (and_parts (lacks byte (codes "r")) (lacks byte (codes "[r10-")) both.0).1 in
-    lacks-append byte (codes "[r10-" ++ decimal (FRAME_LENGTH - SLOT_LENGTH * slot)) (codes "]")
-    (lacks-append byte (codes "[r10-") (decimal (FRAME_LENGTH - SLOT_LENGTH * slot)) head (decimal-lacks byte (FRAME_LENGTH - SLOT_LENGTH * slot) small (omega arith)))
+    let both = and_parts (excludes byte (codes "r") && excludes byte (codes "[r10-")) (excludes byte (codes "]")) tests in
+    let head = (and_parts (excludes byte (codes "r")) (excludes byte (codes "[r10-")) both.0).1 in
+    excludes-append byte (codes "[r10-" ++ decimal (FRAME_LENGTH - SLOT_LENGTH * slot)) (codes "]")
+    (excludes-append byte (codes "[r10-") (decimal (FRAME_LENGTH - SLOT_LENGTH * slot)) head
+    (decimal-excludes byte (FRAME_LENGTH - SLOT_LENGTH * slot) small (omega arith)))
     both.1
 
 fact-is : (known : Known) (part : Part) → fact_text known part ≡ part_name part ++ (codes " = " ++ part_text known part)
 fact-is known part = append_assoc (part_name part) (codes " = ") (part_text known part)
 
-fact-lacks : (known : Known) (part : Part) → IsProperKnown known → IsPart part → lacks 44 (fact_text known part) ≡ true
-fact-lacks known part proper is =
-    lacks-append 44 (part_name part ++ codes " = ") (part_text known part)
-    (lacks-append 44 (part_name part) (codes " = ") (name-plain 44 part refl (omega arith) is) refl) (part-lacks known part proper)
+fact-excludes : (known : Known) (part : Part) → IsProperKnown known → IsPart part → excludes 44 (fact_text known part) ≡ true
+fact-excludes known part proper is =
+    excludes-append 44 (part_name part ++ codes " = ") (part_text known part)
+    (excludes-append 44 (part_name part) (codes " = ") (name-plain 44 part refl (omega arith) is) refl) (part-excludes known part proper)
 
 fact-some : (known : Known) (part : Part) → 0 < length (fact_text known part)
 fact-some known (Register register) = omega arith
 fact-some known (Slot slot) = omega arith
 
 -- a fact determines its part and what is known about it
-fact-tells : (known other : Known) (part there : Part) → IsPart part → IsPart there → fact_text known part ≡ fact_text other there
+fact-injective : (known other : Known) (part there : Part) → IsPart part → IsPart there → fact_text known part ≡ fact_text other there
     → (part ≡ there) × (part_text known part ≡ part_text other there)
-fact-tells known other part there is other_is same =
+fact-injective known other part there is other_is same =
     let both : part_name part ++ (codes " = " ++ part_text known part) ≡ part_name there ++ (codes " = " ++ part_text other there) =
     sym (fact-is known part) ∙ same ∙ fact-is other there in
-    let names : part_name part ≡ part_name there = lead 32 (part_name part) (part_name there) (codes " = " ++ part_text known part)
-    (codes " = " ++ part_text other there) (name-plain 32 part refl (omega arith) is) (name-plain 32 there refl (omega arith) other_is) refl refl both in
+    let names : part_name part ≡ part_name there = fronts-equal 32 (part_name part) (part_name there) (codes " = " ++ part_text known part)
+    (codes " = " ++ part_text other there) (record { excluded = name-plain 32 part refl (omega arith) is; begins = refl })
+    (record { excluded = name-plain 32 there refl (omega arith) other_is; begins = refl }) both in
     let tails : codes " = " ++ part_text known part ≡ codes " = " ++ part_text other there =
     append_cancel_left (part_name part) _ _ (both ∙ ap (λ (z : List ℕ). z ++ (codes " = " ++ part_text other there)) (sym names)) in
     (names-differ part there is other_is names, append_cancel_left (codes " = ") _ _ tails)
@@ -201,20 +168,20 @@ abbrev IsIn : {X : Type 0} → X → List X → Type 0
 IsIn x [] = ⊥
 IsIn x (y ∷ ys) = (x ≡ y) ⊎ IsIn x ys
 
-keep-in : (f : Part → List ℕ) (text : List ℕ) (next : Part) (parts : List Part) (kept : Bool) → IsIn text (map f parts)
-    → IsIn text (map f (cond kept (next ∷ parts) parts))
-keep-in f text next parts true there = inr there
-keep-in f text next parts false there = there
+in-more : (f : Part → List ℕ) (text : List ℕ) (next : Part) (parts : List Part) (chosen : Bool) → IsIn text (map f parts)
+    → IsIn text (map f (cond chosen (next ∷ parts) parts))
+in-more f text next parts true there = inr there
+in-more f text next parts false there = there
 
 fact-in : (known : Known) (shown : Part → Bool) (part : Part) (parts : List Part) → shown part ≡ true → IsIn part parts
     → IsIn (fact_text known part) (map (fact_text known) (filter shown parts))
 fact-in known shown part [] test none = absurd none
 fact-in known shown part (next ∷ parts) test (inl here) =
-    let kept : shown next ≡ true = ap shown (sym here) ∙ test in
-    subst (λ (b : Bool). IsIn (fact_text known part) (map (fact_text known) (cond b (next ∷ filter shown parts) (filter shown parts)))) (sym kept)
+    let chosen : shown next ≡ true = ap shown (sym here) ∙ test in
+    subst (λ (b : Bool). IsIn (fact_text known part) (map (fact_text known) (cond b (next ∷ filter shown parts) (filter shown parts)))) (sym chosen)
     (inl (ap (fact_text known) here))
 fact-in known shown part (next ∷ parts) test (inr later) =
-    keep-in (fact_text known) (fact_text known part) next (filter shown parts) (shown next) (fact-in known shown part parts test later)
+    in-more (fact_text known) (fact_text known part) next (filter shown parts) (shown next) (fact-in known shown part parts test later)
 
 record IsFactOf (known : Known) (shown : Part → Bool) (parts : List Part) (text : List ℕ) : Type 0 where
   part : Part
@@ -222,23 +189,23 @@ record IsFactOf (known : Known) (shown : Part → Bool) (parts : List Part) (tex
   is_shown : shown part ≡ true
   is : text ≡ fact_text known part
 
-fact-later : (known : Known) (shown : Part → Bool) (text : List ℕ) (next : Part) (parts : List Part) → IsFactOf known shown parts text
+fact-later : (known : Known) (shown : Part → Bool) {text : List ℕ} (next : Part) (parts : List Part) → IsFactOf known shown parts text
     → IsFactOf known shown (next ∷ parts) text
-fact-later known shown text next parts found =
+fact-later known shown next parts found =
     record { part = found.part; is_in = inr found.is_in; is_shown = found.is_shown; is = found.is }
 
-fact-next : (known : Known) (shown : Part → Bool) (text : List ℕ) (next : Part) (parts : List Part) (kept : Bool) → shown next ≡ kept
+fact-next : (known : Known) (shown : Part → Bool) {text : List ℕ} (next : Part) (parts : List Part) (chosen : Bool) → shown next ≡ chosen
     → (IsIn text (map (fact_text known) (filter shown parts)) → IsFactOf known shown parts text)
-    → IsIn text (map (fact_text known) (cond kept (next ∷ filter shown parts) (filter shown parts))) → IsFactOf known shown (next ∷ parts) text
-fact-next known shown text next parts true test later (inl here) = record { part = next; is_in = inl refl; is_shown = test; is = here }
-fact-next known shown text next parts true test later (inr more) = fact-later known shown text next parts (later more)
-fact-next known shown text next parts false test later more = fact-later known shown text next parts (later more)
+    → IsIn text (map (fact_text known) (cond chosen (next ∷ filter shown parts) (filter shown parts))) → IsFactOf known shown (next ∷ parts) text
+fact-next known shown next parts true test later (inl here) = record { part = next; is_in = inl refl; is_shown = test; is = here }
+fact-next known shown next parts true test later (inr more) = fact-later known shown next parts (later more)
+fact-next known shown next parts false test later more = fact-later known shown next parts (later more)
 
 fact-of : (known : Known) (shown : Part → Bool) (text : List ℕ) (parts : List Part) → IsIn text (map (fact_text known) (filter shown parts))
     → IsFactOf known shown parts text
 fact-of known shown text [] none = absurd none
 fact-of known shown text (next ∷ parts) there =
-    fact-next known shown text next parts (shown next) refl (λ more. fact-of known shown text parts more) there
+    fact-next known shown next parts (shown next) refl (λ more. fact-of known shown text parts more) there
 
 -- all parts are among those that may be shown
 is-part : (place : ℕ) → place < REGISTERS + SLOTS → IsPart (part_at place)
@@ -286,9 +253,9 @@ unfolding parts_from
 all-parts part there = are-parts 0 (REGISTERS + SLOTS) part (omega arith) there
 
 -- the facts are texts that can be distinguished
-facts-next : (known : Known) (next : Part) (parts : List Part) (kept : Bool) → IsProperKnown known → IsPart next
-    → AreTexts (map (fact_text known) parts) → AreTexts (map (fact_text known) (cond kept (next ∷ parts) parts))
-facts-next known next parts true proper is more = (fact-some known next, fact-lacks known next proper is, more)
+facts-next : (known : Known) (next : Part) (parts : List Part) (chosen : Bool) → IsProperKnown known → IsPart next
+    → AreTexts (map (fact_text known) parts) → AreTexts (map (fact_text known) (cond chosen (next ∷ parts) parts))
+facts-next known next parts true proper is more = (fact-some known next, fact-excludes known next proper is, more)
 facts-next known next parts false proper is more = more
 
 facts-are : (known : Known) (shown : Part → Bool) (parts : List Part) → IsProperKnown known → ((part : Part) → IsIn part parts → IsPart part)
@@ -299,8 +266,8 @@ facts-are known shown (next ∷ parts) proper are =
     (facts-are known shown parts proper (λ part there. are part (inr there)))
 
 -- a part that isn't shown is unchanged
-stayed : (last known : Known) (insn : Insn) (part : Part) → is_shown last known insn part ≡ false → part_text last part ≡ part_text known part
-stayed last known insn part hidden = by-test (reads known insn part) hidden
+unchanged : (last known : Known) (insn : Insn) (part : Part) → is_shown last known insn part ≡ false → part_text last part ≡ part_text known part
+unchanged last known insn part hidden = by-test (reads known insn part) hidden
   where
     same : (equal : Bool) → not equal ≡ false → bytes_eq (part_text last part) (part_text known part) ≡ equal → part_text last part ≡ part_text known part
     same true test is = (bytes_eq-Decides (part_text last part) (part_text known part)).0 is
@@ -321,8 +288,8 @@ shown-too last known other insn part same is shown =
     subst (λ (texts : List (List ℕ)). IsIn (fact_text known part) texts) same
     (fact-in known (is_shown last known insn) part (parts_from 0 (REGISTERS + SLOTS)) shown (each-in part is)) in
     let found = fact-of other (is_shown last other insn) (fact_text known part) (parts_from 0 (REGISTERS + SLOTS)) there in
-    let tells = fact-tells known other part found.part is (all-parts found.part found.is_in) found.is in
-    (ap (is_shown last other insn) tells.0 ∙ found.is_shown, tells.1 ∙ ap (part_text other) (sym tells.0))
+    let found_is = fact-injective known other part found.part is (all-parts found.part found.is_in) found.is in
+    (ap (is_shown last other insn) found_is.0 ∙ found.is_shown, found_is.1 ∙ ap (part_text other) (sym found_is.0))
 
 texts-same : (last known other : Known) (insn : Insn) (part : Part) → shown_facts last known insn ≡ shown_facts last other insn → IsPart part
     → part_text known part ≡ part_text other part
@@ -333,12 +300,12 @@ texts-same last known other insn part same is = by-test (is_shown last known ins
     by-test false hidden =
         let hidden_too : is_shown last other insn part ≡ false = false_from_ne_true (is_shown last other insn part)
         (λ shown. true≢false (sym (shown-too last other known insn part (sym same) is shown).0 ∙ hidden)) in
-        sym (stayed last known insn part hidden) ∙ stayed last other insn part hidden_too
+        sym (unchanged last known insn part hidden) ∙ unchanged last other insn part hidden_too
 
-known-told : (last known other : Known) (insn : Insn) → IsProperKnown known → IsProperKnown other
+known-injective : (last known other : Known) (insn : Insn) → IsProperKnown known → IsProperKnown other
     → facts_text known (shown_parts last known insn) ≡ facts_text other (shown_parts last other insn) → known ≡ other
-known-told last known other insn proper proper_other same =
-    let facts : shown_facts last known insn ≡ shown_facts last other insn = joined-tell (shown_facts last known insn) (shown_facts last other insn)
+known-injective last known other insn proper proper_other same =
+    let facts : shown_facts last known insn ≡ shown_facts last other insn = joined-injective (shown_facts last known insn) (shown_facts last other insn)
     (facts-are known (is_shown last known insn) (parts_from 0 (REGISTERS + SLOTS)) proper all-parts)
     (facts-are other (is_shown last other insn) (parts_from 0 (REGISTERS + SLOTS)) proper_other all-parts) same in
     states-equal known other proper proper_other (λ part is. texts-same last known other insn part facts is)
@@ -349,9 +316,9 @@ reached-note known [] same = absurd (differs 0 9 refl (ap length same))
 reached-note known (Register register ∷ parts) same = absurd (differs 114 117 refl (ap first same))
 reached-note known (Slot slot ∷ parts) same = absurd (differs 91 117 refl (ap first same))
 
-pub notes-tell : (last : Known) (insn : Insn) (state other : AbstractState) → IsProper state → IsProper other
+pub notes-injective : (last : Known) (insn : Insn) (state other : AbstractState) → IsProper state → IsProper other
     → note_text last state insn ≡ note_text last other insn → state ≡ other
-notes-tell last insn Unreached Unreached proper proper_other same = refl
-notes-tell last insn Unreached (Reached other) proper proper_other same = absurd (reached-note other (shown_parts last other insn) (sym same))
-notes-tell last insn (Reached known) Unreached proper proper_other same = absurd (reached-note known (shown_parts last known insn) same)
-notes-tell last insn (Reached known) (Reached other) proper proper_other same = ap Reached (known-told last known other insn proper proper_other same)
+notes-injective last insn Unreached Unreached proper proper_other same = refl
+notes-injective last insn Unreached (Reached other) proper proper_other same = absurd (reached-note other (shown_parts last other insn) (sym same))
+notes-injective last insn (Reached known) Unreached proper proper_other same = absurd (reached-note known (shown_parts last known insn) same)
+notes-injective last insn (Reached known) (Reached other) proper proper_other same = ap Reached (known-injective last known other insn proper proper_other same)

@@ -11,14 +11,16 @@ use Rattle.bpf_insn.specs.Arithmetic.{wide_number}
 use Rattle.bpf_insn.specs.declared.instruction.ByteOrder.{ByteOrder}
 use Rattle.bpf_insn.specs.declared.instruction.ByteOrder.TheVariants.{LittleEndian, BigEndian, Swapped}
 use Rattle.bpf_insn.specs.declared.instruction.Condition.{Condition}
-use Rattle.bpf_insn.specs.declared.instruction.Condition.TheVariants.{Equal, Greater, GreaterOrEqual, SharesBit, NotEqual, SignedGreater, SignedGreaterOrEqual, Less, LessOrEqual, SignedLess, SignedLessOrEqual}
+use Rattle.bpf_insn.specs.declared.instruction.Condition.TheVariants.{Equal, Greater, GreaterOrEqual, SharesBit, NotEqual, SignedGreater, SignedGreaterOrEqual}
+use Rattle.bpf_insn.specs.declared.instruction.Condition.TheVariants.{Less, LessOrEqual, SignedLess, SignedLessOrEqual}
 use Rattle.bpf_insn.specs.declared.instruction.Insn.{Insn}
 use Rattle.bpf_insn.specs.declared.instruction.Insn.TheVariants as insn
 use Rattle.bpf_insn.specs.declared.instruction.JumpDistance.TheVariants as distance
 use Rattle.bpf_insn.specs.declared.instruction.LoadFormat.{LoadFormat}
 use Rattle.bpf_insn.specs.declared.instruction.LoadFormat.TheVariants as load
 use Rattle.bpf_insn.specs.declared.instruction.Operation.{Operation}
-use Rattle.bpf_insn.specs.declared.instruction.Operation.TheVariants.{Add, Subtract, Multiply, Divide, SignedDivide, Or, And, ShiftLeft, ShiftRight, Modulo, SignedModulo, ExclusiveOr, Move, ArithmeticShiftRight}
+use Rattle.bpf_insn.specs.declared.instruction.Operation.TheVariants.{Add, Subtract, Multiply, Divide, SignedDivide, Or, And, ShiftLeft, ShiftRight, Modulo}
+use Rattle.bpf_insn.specs.declared.instruction.Operation.TheVariants.{SignedModulo, ExclusiveOr, Move, ArithmeticShiftRight}
 use Rattle.bpf_insn.specs.declared.instruction.SignExtension.{SignExtension}
 use Rattle.bpf_insn.specs.declared.instruction.SignExtension.TheVariants.{Bits8To32, Bits16To32, Bits8To64, Bits16To64, Bits32To64}
 use Rattle.bpf_insn.specs.declared.instruction.Source.{Source}
@@ -30,10 +32,11 @@ use Rattle.bpf_insn.specs.declared.instruction.SwapWidth.TheVariants as swap
 use Rattle.bpf_insn.specs.declared.instruction.Width.{Width}
 use Rattle.bpf_insn.specs.declared.instruction.Width.TheVariants.{Bits32, Bits64}
 use Rattle.bpf_insn.specs.declared.register.Register.{Register}
+use Rattle.bpf_text.proofs.ReadWideLemmas.{hexadecimal-length}
 use Rattle.bpf_text.specs.Mnemonic.{condition_name, extension_name, load_name, name_of, operation_name, order_name, size_name, swap_name, width_name}
 use Rattle.bpf_text.specs.Number.{IsWithin, limit_of_16_bits, limit_of_32_bits}
 use Rattle.bpf_text.specs.Operand.{register_name, register_names}
-use Rattle.bpf_text.specs.Spelled.{NumbersFit, SourceFits, form_of, hexadecimal, line_text, memory_text, operands_text, signed_text, source_text, three, two, wide_text}
+use Rattle.bpf_text.specs.CodeText.{NumbersFit, SourceFits, form_of, line_text, memory_text, operands_text, signed_text, source_text, three, two, wide_text}
 use Rattle.bpf_explain.specs.Facts.{prefix_text}
 use Rattle.bpf_explain.specs.declared.source_lines.TheConstants.{GREATEST_PLACE}
 
@@ -65,11 +68,6 @@ distance-short (negsuc n) within = let few = length-decimal-le 10 (suc n) (omega
 source-short : (x : Source) → SourceFits x → length (source_text x) ≤ 11
 source-short (source.Register register) fits = let short = register-short register.number in omega arith
 source-short (source.Immediate value) fits = decimal-short value fits
-
-length-hexadecimal : (count number : ℕ) → length (hexadecimal count number) ≡ count
-unfolding hexadecimal
-length-hexadecimal zero number = refl
-length-hexadecimal (suc more) number = ap suc (length-hexadecimal more number)
 
 -- names
 operation-short : (x : Operation) → length (operation_name x) ≤ 4
@@ -142,8 +140,8 @@ two-short : (a b : List ℕ) (m n : ℕ) → length a ≤ m → length b ≤ n �
 two-short a b m n first_short then_short =
     let inner = length-append a (codes ", ") in let outer = length-append (a ++ codes ", ") b in omega arith
 
-three-short : (a b c : List ℕ) (l m n : ℕ) → length a ≤ l → length b ≤ m → length c ≤ n → length (three a b c) ≤ l + m + n + 5
-three-short a b c l m n first_short then_short last_short =
+three-length : (a b c : List ℕ) → length (three a b c) ≡ length a + length b + length c + 5
+three-length a b c =
     let e = length-append a (codes ", ") in let f = length-append (a ++ codes ", ") b in
     let g = length-append ((a ++ codes ", ") ++ b) (codes ", ") in let h = length-append (((a ++ codes ", ") ++ b) ++ codes ", ") c in omega arith
 
@@ -169,7 +167,8 @@ line-short (insn.Alu operation width destination from) fits = at-most _
     (two-short (register_name destination.number) (source_text from) 3 11 (register-short destination.number) (source-short from fits))) (omega arith)
 line-short (insn.MoveSignExtended extension destination from) fits = at-most _
     (line-is (insn.MoveSignExtended extension destination from) 10 9 (extension-short extension)
-    (two-short (register_name destination.number) (register_name from.number) 3 3 (register-short destination.number) (register-short from.number))) (omega arith)
+    (two-short (register_name destination.number) (register_name from.number) 3 3 (register-short destination.number)
+    (register-short from.number))) (omega arith)
 line-short (insn.Negate width destination) fits = at-most _
     (line-is (insn.Negate width destination) 5 4 (names-short (codes "neg") (width_name width) 3 2 (omega arith) (width-short width))
     (let short = register-short destination.number in omega arith)) (omega arith)
@@ -179,8 +178,9 @@ line-short (insn.ByteSwap order width destination) fits = at-most _
 line-short (insn.JumpIf condition width left right offset) fits =
     line-is (insn.JumpIf condition width left right offset) 6 25
     (names-short (condition_name condition) (width_name width) 4 2 (condition-short condition) (width-short width))
-    (three-short (register_name left.number) (source_text right) (signed_text offset) 3 11 6 (register-short left.number) (source-short right fits.0)
-    (signed-short offset fits.1))
+    (let sum = three-length (register_name left.number) (source_text right) (signed_text offset) in
+    let first_short = register-short left.number in let then_short = source-short right fits.0 in let last_short = signed-short offset fits.1 in
+    omega arith)
 line-short (insn.Jump (distance.Short offset)) fits = at-most _
     (line-is (insn.Jump (distance.Short offset)) 2 7 (omega arith) (let short = signed-short offset fits in omega arith)) (omega arith)
 line-short (insn.Jump (distance.Long offset)) fits = at-most _
@@ -190,7 +190,8 @@ line-short (insn.Call helper) fits = at-most _
 line-short insn.Exit fits = omega arith
 line-short (insn.Load format destination base offset) fits = at-most _
     (line-is (insn.Load format destination base offset) 5 17 (load-short format)
-    (two-short (register_name destination.number) (memory_text base offset) 3 11 (register-short destination.number) (memory-short base offset fits))) (omega arith)
+    (two-short (register_name destination.number) (memory_text base offset) 3 11 (register-short destination.number)
+    (memory-short base offset fits))) (omega arith)
 line-short (insn.StoreImmediate size base offset value) fits = at-most _
     (line-is (insn.StoreImmediate size base offset value) 4 25 (names-short (codes "st") (size_name size) 2 2 (omega arith) (size-short size))
     (two-short (memory_text base offset) (signed_decimal value) 11 11 (memory-short base offset fits.0) (decimal-short value fits.1))) (omega arith)
@@ -200,7 +201,7 @@ line-short (insn.Store size base offset from) fits = at-most _
 line-short (insn.WideLoad destination value next) fits = at-most _
     (line-is (insn.WideLoad destination value next) 4 24 (omega arith)
     (two-short (register_name destination.number) (wide_text (wide_number value next)) 3 18 (register-short destination.number)
-    (let digits = length-hexadecimal 16 (wide_number value next) in omega arith))) (omega arith)
+    (let digits = hexadecimal-length 16 (wide_number value next) in omega arith))) (omega arith)
 
 pub prefix-short : (place : ℕ) (x : Insn) → place ≤ GREATEST_PLACE → NumbersFit x → length (prefix_text place x) ≤ 38
 prefix-short place x within fits =

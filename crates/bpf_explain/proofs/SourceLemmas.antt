@@ -1,6 +1,6 @@
 -- Source lines are read one by one.
-use Rattle.std.proofs.Common.{◌≡◌, ℕ, ◌+◌, ◌<◌, ◌≤◌, true, false, List, [], ◌∷◌, ◌++◌, length, get_or, drop, map, refl, sym, ap, subst, ◌∙◌, append_assoc, arith}
-use Rattle.std.proofs.Common.{add-one, drop-cons}
+use Rattle.std.proofs.Common.{◌≡◌, ℕ, ◌+◌, ◌<◌, ◌≤◌, true, false, List, [], ◌∷◌, ◌++◌, length, get_or, drop, map, refl, sym, ap, subst, ◌∙◌, append_assoc}
+use Rattle.std.proofs.Common.{arith}
 use Rattle.std.specs.Prelude.{Option, Some, None, option_and_then, Result, Ok, Err, nat_lt}
 use Rattle.std.specs.Str.{IsUtf8, is_utf8}
 use Rattle.std.specs.Str.Lines.{lines}
@@ -8,19 +8,16 @@ use Rattle.std.proofs.lemmas.Str.{IsUtf8-from_is_utf8, is_utf8-from_IsUtf8}
 use Rattle.std.proofs.lemmas.List.{append-nil, map-append}
 use Rattle.std.proofs.lemmas.Bool.{false_from_ne_true}
 use Rattle.std.proofs.lemmas.Bool.Decides.{nat_tests}
-use Rattle.bpf_explain.specs.SourceLines.{SourceLine, IsChecked, checked, fault_at, followed, in_order, line_in, line_of, lines_from, lines_in, lines_or_none, next_place, place_from, preceded}
+use Rattle.bpf_explain.specs.SourceLines.{SourceLine, IsChecked, checked, fault_at, followed, in_order, line_in, line_of, lines_from, lines_in, lines_or_none}
+use Rattle.bpf_explain.specs.SourceLines.{next_place, place_from, preceded}
 use Rattle.bpf_explain.specs.declared.source_lines.LinesFault.{LinesFault}
 use Rattle.bpf_explain.specs.declared.source_lines.LineFlaw.{LineFlaw}
 use Rattle.bpf_explain.specs.declared.source_lines.LineFlaw.TheVariants.{NotText, WithoutPlace, OutOfOrder}
-use Rattle.bpf_explain.specs.declared.source_lines.Line.{Line}
-
--- the digits that are left after one more is read
-pub digits-left : (digits : List ℕ) (i place : ℕ) → i < length digits
-    → place_from place (drop i digits) ≡ option_and_then (λ next. place_from next (drop (i + 1) digits)) (next_place place (get_or digits i 0))
-digits-left digits i place inside = rw (add-one, drop-cons digits i 0) refl
+use Rattle.bpf_explain.specs.declared.source_lines.PlacedLine.{PlacedLine}
 
 -- lines before lines before other lines
-pub preceded-all : (lines more : List SourceLine) (later : Result (List SourceLine) LinesFault) → preceded lines (preceded more later) ≡ preceded (lines ++ more) later
+pub preceded-all : (lines more : List SourceLine) (later : Result (List SourceLine) LinesFault)
+    → preceded lines (preceded more later) ≡ preceded (lines ++ more) later
 preceded-all lines more (Ok later) = ap Ok (sym (append_assoc lines more later))
 preceded-all lines more (Err fault) = refl
 
@@ -55,40 +52,56 @@ pub order-fault : (last : ℕ) (found : Option SourceLine) (line : SourceLine) �
 order-fault last found line is before =
     let test : nat_lt line.place last ≡ true = grind (arith, nat_tests) in subst (λ o. in_order last o ≡ Err OutOfOrder) is (rw test refl)
 
-pub order-kept : (last : ℕ) (found : Option SourceLine) (line : SourceLine) → Some line ≡ found → last ≤ line.place → in_order last found ≡ Ok line
-order-kept last found line is after =
+pub order-ok : (last : ℕ) (found : Option SourceLine) (line : SourceLine) → Some line ≡ found → last ≤ line.place → in_order last found ≡ Ok line
+order-ok last found line is after =
     let test : nat_lt line.place last ≡ false = grind (arith, nat_tests) in subst (λ o. in_order last o ≡ Ok line) is (rw test refl)
 
 pub order-missing : (last : ℕ) (found : Option SourceLine) → None ≡ found → in_order last found ≡ Err WithoutPlace
 order-missing last found is = subst (λ o. in_order last o ≡ Err WithoutPlace) is refl
 
--- one more line is read, or has a fault, or there is none
-pub lines-kept : (file rest text after : List ℕ) (before : List SourceLine) (number last : ℕ) (read : Line)
-    → lines_in file ≡ preceded before (lines_from number last (lines rest)) → lines rest ≡ text ∷ lines after
-    → IsChecked number (checked last text) (Ok read)
-    → lines_in file ≡ preceded (before ++ (line_of read ∷ [])) (lines_from (number + 1) read.place (lines after))
-lines-kept file rest text after before number last read so_far cut is =
-    so_far ∙ ap (preceded before) (ap (lines_from number last) cut ∙ lines-next number last text (lines after) (line_of read) is)
-    ∙ preceded-all before (line_of read ∷ []) (lines_from (number + 1) read.place (lines after))
+-- a reader's state: the remaining text, the number of its first line, and the place of the line above it
+pub record ReadState : Type 0 where
+  pub rest : List ℕ
+  pub number : ℕ
+  pub last : ℕ
 
-pub lines-kept-all : (file rest text after : List ℕ) (xs new : List Line) (number last : ℕ) (read : Line)
-    → lines_in file ≡ preceded (map line_of xs) (lines_from number last (lines rest)) → lines rest ≡ text ∷ lines after
-    → IsChecked number (checked last text) (Ok read) → new ≡ xs ++ (read ∷ [])
-    → lines_in file ≡ preceded (map line_of new) (lines_from (number + 1) read.place (lines after))
-lines-kept-all file rest text after xs new number last read so_far cut is adds =
-    lines-kept file rest text after (map line_of xs) number last read so_far cut is
-    ∙ ap (λ (ys : List SourceLine). preceded ys (lines_from (number + 1) read.place (lines after)))
-    (sym (ap (map line_of) adds ∙ map-append line_of xs (read ∷ [])))
+abbrev pub state : List ℕ → ℕ → ℕ → ReadState
+state rest number last = record { rest = rest; number = number; last = last }
+
+-- the lines before the state are read
+abbrev pub AreRead : List ℕ → List SourceLine → ReadState → Type 0
+AreRead file before at = lines_in file ≡ preceded before (lines_from at.number at.last (lines at.rest))
+
+-- the first remaining line, with the result of reading it
+pub record ReadsLine (at : ReadState) (after : List ℕ) (result : Result PlacedLine LinesFault) : Type 0 where
+  pub text : List ℕ
+  pub cut : lines at.rest ≡ text ∷ lines after
+  pub is : IsChecked at.number (checked at.last text) result
+
+-- one more line is read, or has a fault, or there is none
+pub lines-more : (file : List ℕ) (before : List SourceLine) (at : ReadState) (after : List ℕ) (line : PlacedLine)
+    → AreRead file before at → ReadsLine at after (Ok line) → AreRead file (before ++ (line_of line ∷ [])) (state after (at.number + 1) line.place)
+lines-more file before at after line so_far reads =
+    so_far ∙ ap (preceded before) (ap (lines_from at.number at.last) reads.cut
+    ∙ lines-next at.number at.last reads.text (lines after) (line_of line) reads.is)
+    ∙ preceded-all before (line_of line ∷ []) (lines_from (at.number + 1) line.place (lines after))
+
+pub lines-more-all : (file : List ℕ) (before : List PlacedLine) (at : ReadState) (after : List ℕ) (line : PlacedLine)
+    → AreRead file (map line_of before) at → ReadsLine at after (Ok line)
+    → AreRead file (map line_of (before ++ (line ∷ []))) (state after (at.number + 1) line.place)
+lines-more-all file before at after line so_far reads =
+    lines-more file (map line_of before) at after line so_far reads
+    ∙ ap (λ (ys : List SourceLine). preceded ys (lines_from (at.number + 1) line.place (lines after))) (sym (map-append line_of before (line ∷ [])))
 
 same-fault : (fault : LinesFault) (number : ℕ) → fault.line ≡ number → fault_at number fault.flaw ≡ fault
 same-fault fault number is = ap (λ (n : ℕ). fault_at n fault.flaw) (sym is)
 
-pub lines-refused : (file rest text after : List ℕ) (before : List SourceLine) (number last : ℕ) (fault : LinesFault)
-    → lines_in file ≡ preceded before (lines_from number last (lines rest)) → lines rest ≡ text ∷ lines after
-    → IsChecked number (checked last text) (Err fault) → lines_in file ≡ Err fault
-lines-refused file rest text after before number last fault so_far cut is =
-    so_far ∙ ap (preceded before) (ap (lines_from number last) cut ∙ lines-fault number last text (lines after) fault.flaw is.1)
-    ∙ ap Err (same-fault fault number is.0)
+pub lines-refused : (file : List ℕ) (before : List SourceLine) (at : ReadState) (after : List ℕ) (fault : LinesFault)
+    → AreRead file before at → ReadsLine at after (Err fault) → lines_in file ≡ Err fault
+lines-refused file before at after fault so_far reads =
+    so_far ∙ ap (preceded before) (ap (lines_from at.number at.last) reads.cut
+    ∙ lines-fault at.number at.last reads.text (lines after) fault.flaw reads.is.1)
+    ∙ ap Err (same-fault fault at.number reads.is.0)
 
 pub lines-read : (file rest : List ℕ) (before : List SourceLine) (number last : ℕ) → length rest ≡ 0
     → lines_in file ≡ preceded before (lines_from number last (lines rest)) → lines_in file ≡ Ok before

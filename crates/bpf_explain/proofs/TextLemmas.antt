@@ -1,12 +1,13 @@
 -- The text of what is known determines it: kinds with the same text are equal.
-use Rattle.std.proofs.Common.{◌≡◌, ◌≢◌, ℕ, suc, ◌+◌, ◌-◌, ◌*◌, ◌/◌, ◌%◌, ◌^◌, ◌<◌, ◌≤◌, ℤ, pos, negsuc, Bool, true, false, List, [], ◌∷◌, ◌++◌, length, get_or, nat_le, ◌==◌, ◌&&◌, if◌then◌else◌, refl, sym, ap, subst, ◌∙◌, arith}
+use Rattle.std.proofs.Common.{◌≡◌, ◌≢◌, ℕ, suc, ◌+◌, ◌-◌, ◌*◌, ◌/◌, ◌%◌, ◌^◌, ◌<◌, ◌≤◌, ℤ, pos, negsuc, Bool, true, false, List, [], ◌∷◌, ◌++◌, length, get_or}
+use Rattle.std.proofs.Common.{nat_le, ◌==◌, ◌&&◌, if◌then◌else◌, refl, sym, ap, subst, ◌∙◌, arith}
 use Rattle.std.proofs.Common.{rules, append_assoc, Decides}
 use Rattle.std.proofs.lemmas.Int.{ints}
 use Rattle.std.specs.Prelude.{codes, decimal, FitsSigned}
 use Rattle.std.specs.Int.{w16}
 use Rattle.std.specs.Ordering.{int_eq}
 use Rattle.std.specs.Fmt.{signed_decimal}
-use Rattle.std.proofs.lemmas.Fmt.{decimal_by_steps, decimal_injective, decimal_nonempty, signed_decimal_injective}
+use Rattle.std.proofs.lemmas.Fmt.{decimal_injective, decimal_nonempty, signed_decimal_injective}
 use Rattle.std.proofs.lemmas.Bool.{true≢false, and_parts, and_from}
 use Rattle.std.specs.Str.{bytes_eq}
 use Rattle.std.proofs.lemmas.Slice.Eq.{bytes_eq-Decides, slice_eq-Decides}
@@ -17,7 +18,7 @@ use Rattle.std.proofs.lemmas.Bool.Decides.{nat_tests, Decides-int_eq}
 use Rattle.std.proofs.lemmas.List.{append_cancel_left, append_cancel_right, append-nil, ext_get_or}
 use Rattle.std.proofs.lemmas.List.FromFn.{get_or-map-range_with_len, length-map-range_with_len}
 use Rattle.bpf_kinds.specs.Interval as interval
-use Rattle.bpf_kinds.specs.Interval.{between}
+use Rattle.bpf_kinds.specs.Interval.{between, is_single}
 use Rattle.bpf_kinds.specs.declared.interval.Interval.{Interval}
 use Rattle.bpf_kinds.specs.Kind as kind
 use Rattle.bpf_kinds.specs.Offsets as offsets
@@ -30,46 +31,15 @@ use Rattle.bpf_frame.specs.FrameMap.{Contents, FitsKind, slot_kind}
 use Rattle.bpf_frame.specs.OrderLaws.{same_maps, same_tests}
 use Rattle.bpf_verify.specs.AbstractState.{IsProperKnown}
 use Rattle.bpf_verify.specs.declared.known.Known.{Known}
-use Rattle.bpf_explain.specs.Notation.{IsPart, end_text, held_text, interval_text, kind_text, mark_code, marks_text, offsets_text, part_name, part_text, range_text, slot_marks, slot_text}
+use Rattle.bpf_explain.proofs.SplitLemmas.{BeginsWith, IsDigit, AreDigits, decimal-digits, decimal-excludes, excludes, first, fronts-equal, rest}
+use Rattle.bpf_explain.specs.Notation.{IsPart, begins_negative, end_text, held_text, interval_text, is_any, kind_text, mark_code, marks_text, offsets_text}
+use Rattle.bpf_explain.specs.Notation.{part_name, part_text, range_text, slot_marks, slot_text}
 use Rattle.bpf_explain.specs.declared.notation.Part.{Part}
 use Rattle.bpf_explain.specs.declared.notation.Part.TheVariants.{Register, Slot}
-
--- a digit's code, and texts that consist of digits
-pub record IsDigit (byte : ℕ) : Type 0 where
-  pub above : 48 ≤ byte
-  pub below : byte ≤ 57
-
-abbrev pub HasNoPoint : List ℕ → Type 0
-HasNoPoint [] = Unit {0}
-HasNoPoint (x ∷ xs) = (x ≢ 46) × HasNoPoint xs
-
-abbrev pub AreDigits : List ℕ → Type 0
-AreDigits [] = Unit {0}
-AreDigits (x ∷ xs) = IsDigit x × AreDigits xs
-
-digit : (n : ℕ) → n < 10 → IsDigit (48 + n)
-digit n small = record { above = omega arith; below = omega arith }
-
-more-digits : (xs : List ℕ) (n : ℕ) → n < 10 → AreDigits xs → AreDigits (xs ++ (48 + n) ∷ [])
-more-digits [] n small digits = (digit n small, tt)
-more-digits (x ∷ xs) n small digits = (digits.0, more-digits xs n small digits.1)
-
-pub decimal-digits : (n : ℕ) → n < 2 ^ 64 → AreDigits (decimal n)
-decimal-digits n small =
-    decimal_by_steps (λ m xs. AreDigits xs) (λ m less. (digit m less, tt)) (λ m xs _ digits. more-digits xs (m % 10) (omega arith) digits) n small
-
-no-point : (xs : List ℕ) → AreDigits xs → HasNoPoint xs
-no-point [] digits = tt
-no-point (x ∷ xs) digits = let above = digits.0.above in ((λ point. absurd (omega arith)), no-point xs digits.1)
 
 -- numbers differ if the test says so
 pub differs : (m n : ℕ) → (m == n) ≡ false → m ≡ n → ⊥
 differs m n test same = grind (arith, nat_tests)
-
--- the first byte of a text
-abbrev pub first : List ℕ → ℕ
-first [] = 0
-first (x ∷ xs) = x
 
 first-digit : (xs : List ℕ) → 0 < length xs → AreDigits xs → IsDigit (first xs)
 first-digit [] some digits = absurd (omega arith)
@@ -78,52 +48,45 @@ first-digit (x ∷ xs) some digits = digits.0
 decimal-first : (n : ℕ) → n < 2 ^ 64 → IsDigit (first (decimal n))
 decimal-first n small = first-digit (decimal n) (decimal_nonempty n small) (decimal-digits n small)
 
--- the text up to a point is determined
-abbrev pub rest : List ℕ → List ℕ
-rest [] = []
-rest (x ∷ xs) = xs
+-- a range's text determines its parts
+pub record RangeParts : Type 0 where
+  pub single : Bool
+  pub low : List ℕ
+  pub high : List ℕ
 
-abbrev IsTail : List ℕ → Type 0
-IsTail [] = Unit {0}
-IsTail (x ∷ xs) = x ≡ 46
+abbrev written : RangeParts → List ℕ
+written x = range_text x.single x.low x.high
 
-lead : (a c s t : List ℕ) → HasNoPoint a → HasNoPoint c → IsTail s → IsTail t → a ++ s ≡ c ++ t → a ≡ c
-lead [] [] s t none other tail end same = refl
-lead [] (y ∷ c) [] t none other tail end same = let n : 0 ≡ suc (length (c ++ t)) = ap length same in absurd (omega arith)
-lead [] (y ∷ c) (x ∷ s) t none other tail end same = absurd (other.0 (sym (ap first same) ∙ tail))
-lead (x ∷ a) [] s [] none other tail end same = let n : suc (length (a ++ s)) ≡ 0 = ap length same in absurd (omega arith)
-lead (x ∷ a) [] s (y ∷ t) none other tail end same = absurd (none.0 (ap first same ∙ end))
-lead (x ∷ a) (y ∷ c) s t none other tail end same =
-    let head : x ≡ y = ap first same in
-    let more : a ≡ c = lead a c s t none.1 other.1 tail end (ap rest same) in
-    cc
+abbrev after_low : Bool → List ℕ → List ℕ
+after_low true high = []
+after_low false high = codes ".." ++ high
 
-abbrev after : Bool → List ℕ → List ℕ
-after true high = []
-after false high = codes ".." ++ high
+after_low-begins : (single : Bool) (high : List ℕ) → BeginsWith 46 (after_low single high)
+after_low-begins true high = tt
+after_low-begins false high = refl
 
-after-tail : (p : Bool) (high : List ℕ) → IsTail (after p high)
-after-tail true high = tt
-after-tail false high = refl
-
-range-is : (p : Bool) (low high : List ℕ) → range_text p low high ≡ low ++ after p high
+range-is : (single : Bool) (low high : List ℕ) → range_text single low high ≡ low ++ after_low single high
 range-is true low high = sym (append-nil low)
 range-is false low high = append_assoc low (codes "..") high
 
-after-same : (p q : Bool) (b d : List ℕ) → after p b ≡ after q d → (p ≡ q) × (p ≡ false → b ≡ d)
-after-same true true b d same = (refl, λ no. absurd (true≢false no))
-after-same true false b d same = let n : 0 ≡ suc (suc (length d)) = ap length same in absurd (omega arith)
-after-same false true b d same = let n : suc (suc (length b)) ≡ 0 = ap length same in absurd (omega arith)
-after-same false false b d same = (refl, λ _. ap rest (ap rest same))
+after_low-injective : (p q : Bool) (b d : List ℕ) → after_low p b ≡ after_low q d → (p ≡ q) × (p ≡ false → b ≡ d)
+after_low-injective true true b d same = (refl, λ no. absurd (true≢false no))
+after_low-injective true false b d same = let n : 0 ≡ suc (suc (length d)) = ap length same in absurd (omega arith)
+after_low-injective false true b d same = let n : suc (suc (length b)) ≡ 0 = ap length same in absurd (omega arith)
+after_low-injective false false b d same = (refl, λ _. ap rest (ap rest same))
 
-pub range-injective : (p q : Bool) (a b c d : List ℕ) → HasNoPoint a → HasNoPoint c → range_text p a b ≡ range_text q c d
-    → (p ≡ q) × (a ≡ c) × (p ≡ false → b ≡ d)
-range-injective p q a b c d none other same =
-    let parts : a ++ after p b ≡ c ++ after q d = sym (range-is p a b) ∙ same ∙ range-is q c d in
-    let leads : a ≡ c = lead a c (after p b) (after q d) none other (after-tail p b) (after-tail q d) parts in
-    let tails : after p b ≡ after q d = append_cancel_left a _ _ (parts ∙ ap (λ (xs : List ℕ). xs ++ after q d) (sym leads)) in
-    let both = after-same p q b d tails in
-    (both.0, leads, both.1)
+range-injective : (x y : RangeParts) → excludes 46 x.low ≡ true → excludes 46 y.low ≡ true → written x ≡ written y
+    → (x.single ≡ y.single) × (x.low ≡ y.low) × (x.single ≡ false → x.high ≡ y.high)
+range-injective x y excluded excluded_other same =
+    let both : x.low ++ after_low x.single x.high ≡ y.low ++ after_low y.single y.high =
+    sym (range-is x.single x.low x.high) ∙ same ∙ range-is y.single y.low y.high in
+    let lows : x.low ≡ y.low = fronts-equal 46 x.low y.low (after_low x.single x.high) (after_low y.single y.high)
+    (record { excluded = excluded; begins = after_low-begins x.single x.high })
+    (record { excluded = excluded_other; begins = after_low-begins y.single y.high }) both in
+    let tails : after_low x.single x.high ≡ after_low y.single y.high =
+    append_cancel_left x.low _ _ (both ∙ ap (λ (xs : List ℕ). xs ++ after_low y.single y.high) (sym lows)) in
+    let others = after_low-injective x.single y.single x.high y.high tails in
+    (others.0, lows, others.1)
 
 -- the first byte of a number's text begins no other text
 pub record StartsNumber (byte : ℕ) : Type 0 where
@@ -150,10 +113,9 @@ abbrev IsEnd : Bool → ℕ → Type 0
 IsEnd false number = number < 2 ^ 64
 IsEnd true number = (2 ^ 63 ≤ number) × (number < 2 ^ 64)
 
-end-plain : (p : Bool) (n : ℕ) → IsEnd p n → HasNoPoint (end_text p n)
-end-plain false n is = no-point _ (decimal-digits n is)
-end-plain true n is = let small : 2 ^ 64 - n < 2 ^ 64 = omega (arith, is.0) in
-    ((λ point. absurd (omega arith)), no-point _ (decimal-digits (2 ^ 64 - n) small))
+end-plain : (p : Bool) (n : ℕ) → IsEnd p n → excludes 46 (end_text p n) ≡ true
+end-plain false n is = decimal-excludes 46 n (omega arith) is
+end-plain true n is = let small : 2 ^ 64 - n < 2 ^ 64 = omega (arith, is.0) in decimal-excludes 46 (2 ^ 64 - n) (omega arith) small
 
 end-some : (p : Bool) (n : ℕ) → IsEnd p n → 0 < length (end_text p n)
 end-some false n is = decimal_nonempty n is
@@ -178,100 +140,110 @@ is-end : (p : Bool) (low n : ℕ) → nat_le (2 ^ 63) low ≡ p → low ≤ n �
 is-end false low n test above fits = fits
 is-end true low n test above fits = let begins : 2 ^ 63 ≤ low = grind (arith, nat_tests) in (omega arith, fits)
 
--- intervals, by whether they contain all numbers
-abbrev shown : Bool → Bool → ℕ → ℕ → List ℕ
-shown any negative low high =
-    if any then codes "any number" else range_text (low == high) (end_text negative low) (end_text negative high)
+low-end : (x : Interval) → interval.IsProper x → IsEnd (begins_negative x) x.low
+low-end x proper =
+    let ordered = proper.ordered in let fits = proper.fits in is-end (begins_negative x) x.low x.low refl (omega arith) (omega arith)
 
-shown-first : (any p : Bool) (low high : ℕ) → IsEnd p low → StartsNumber (first (shown any p low high))
-shown-first true p low high is = record {
+-- intervals, by whether they contain all numbers
+abbrev range_of : Interval → RangeParts
+range_of x = record { single = is_single x; low = end_text (begins_negative x) x.low; high = end_text (begins_negative x) x.high }
+
+abbrev shown : Bool → Interval → List ℕ
+shown any x = if any then codes "any number" else written (range_of x)
+
+first-of-interval : (x : Interval) → interval.IsProper x → first (written (range_of x)) ≡ first (end_text (begins_negative x) x.low)
+first-of-interval x proper =
+    let high : List ℕ = end_text (begins_negative x) x.high in
+    first-of-range (is_single x) (end_text (begins_negative x) x.low) high (end-some (begins_negative x) x.low (low-end x proper))
+
+shown-first : (any : Bool) (x : Interval) → interval.IsProper x → StartsNumber (first (shown any x))
+shown-first true x proper = record {
   not_unknown = λ is. absurd (omega arith);
   not_frame = λ is. absurd (omega arith);
   not_mark = λ is. absurd (omega arith);
   not_record = λ is. absurd (omega arith);
 }
-shown-first false p low high is =
-    starts _ (subst (λ (byte : ℕ). byte ≤ 57) (sym (first-of-range (low == high) (end_text p low) (end_text p high) (end-some p low is))) (end-first p low is))
+shown-first false x proper =
+    starts _ (subst (λ (byte : ℕ). byte ≤ 57) (sym (first-of-interval x proper)) (end-first (begins_negative x) x.low (low-end x proper)))
 
-any-differs : (p : Bool) (low high : ℕ) → IsEnd p low → codes "any number" ≢ range_text (low == high) (end_text p low) (end_text p high)
-any-differs p low high is same =
-    let byte : 97 ≡ first (end_text p low) = ap first same ∙ first-of-range (low == high) (end_text p low) (end_text p high) (end-some p low is) in
-    let below = end-first p low is in
+any-differs : (x : Interval) → interval.IsProper x → codes "any number" ≢ written (range_of x)
+any-differs x proper same =
+    let byte : 97 ≡ first (end_text (begins_negative x) x.low) = ap first same ∙ first-of-interval x proper in
+    let below = end-first (begins_negative x) x.low (low-end x proper) in
     absurd (omega arith)
 
-ends-equal : (p : Bool) (low high l h : ℕ) → IsEnd p high → IsEnd p h → low ≡ l → (low == high) ≡ (l == h)
-    → ((low == high) ≡ false → end_text p high ≡ end_text p h) → high ≡ h
-ends-equal p low high l h is other same alike more = by-test (low == high) refl
+ends-equal : (p : Bool) (x y : Interval) → IsEnd p x.high → IsEnd p y.high → x.low ≡ y.low → is_single x ≡ is_single y
+    → (is_single x ≡ false → end_text p x.high ≡ end_text p y.high) → x.high ≡ y.high
+ends-equal p x y is other same alike more = by-test (is_single x) refl
   where
-    by-test : (single : Bool) → (low == high) ≡ single → high ≡ h
-    by-test true one = let other_one : (l == h) ≡ true = sym alike ∙ one in grind (arith, nat_tests)
-    by-test false several = (end-injective p p high h is other (more several)).1
+    by-test : (single : Bool) → is_single x ≡ single → x.high ≡ y.high
+    by-test true one = let other_one : is_single y ≡ true = sym alike ∙ one in grind (arith, nat_tests)
+    by-test false several = (end-injective p p x.high y.high is other (more several)).1
 
-ends-of-all : (low high : ℕ) → (low == 0 && high == 2 ^ 64 - 1) ≡ true → (low ≡ 0) × (high ≡ 2 ^ 64 - 1)
-ends-of-all low high all =
-    let both = and_parts (low == 0) (high == 2 ^ 64 - 1) all in
-    let first_is : (low == 0) ≡ true = both.0 in
-    let last_is : (high == 2 ^ 64 - 1) ≡ true = both.1 in
+ends-of-all : (x : Interval) → is_any x ≡ true → (x.low ≡ 0) × (x.high ≡ 2 ^ 64 - 1)
+ends-of-all x all =
+    let both = and_parts (x.low == 0) (x.high == 2 ^ 64 - 1) all in
+    let first_is : (x.low == 0) ≡ true = both.0 in
+    let last_is : (x.high == 2 ^ 64 - 1) ≡ true = both.1 in
     (grind (arith, nat_tests), grind (arith, nat_tests))
-
-shown-ends : (any other p q : Bool) (low high l h : ℕ) → low ≤ high → high < 2 ^ 64 → l ≤ h → h < 2 ^ 64
-    → (low == 0 && high == 2 ^ 64 - 1) ≡ any → (l == 0 && h == 2 ^ 64 - 1) ≡ other → nat_le (2 ^ 63) low ≡ p → nat_le (2 ^ 63) l ≡ q
-    → shown any p low high ≡ shown other q l h → (low ≡ l) × (high ≡ h)
-shown-ends true true p q low high l h ordered fits ordered_other fits_other is_any is_other is is_q same =
-    let all = ends-of-all low high is_any in
-    let others = ends-of-all l h is_other in
-    (all.0 ∙ sym others.0, all.1 ∙ sym others.1)
-shown-ends true false p q low high l h ordered fits ordered_other fits_other is_any is_other is is_q same =
-    absurd (any-differs q l h (is-end q l l is_q (omega arith) (omega arith)) same)
-shown-ends false true p q low high l h ordered fits ordered_other fits_other is_any is_other is is_q same =
-    absurd (any-differs p low high (is-end p low low is (omega arith) (omega arith)) (sym same))
-shown-ends false false p q low high l h ordered fits ordered_other fits_other is_any is_other is is_q same =
-    let end = is-end p low low is (omega arith) (omega arith) in
-    let end_other = is-end q l l is_q (omega arith) (omega arith) in
-    let parts = range-injective (low == high) (l == h) _ _ _ _ (end-plain p low end) (end-plain q l end_other) same in
-    let lows = end-injective p q low l end end_other parts.1 in
-    let signs : p ≡ q = lows.0 in
-    let more : (low == high) ≡ false → end_text p high ≡ end_text p h =
-    λ several. parts.2 several ∙ ap (λ (b : Bool). end_text b h) (sym signs) in (
-      lows.1,
-      ends-equal p low high l h (is-end p low high is ordered fits)
-          (is-end p l h (is_q ∙ sym signs) ordered_other fits_other) lows.1 parts.0 more,
-    )
 
 same-interval : (low high l h : ℕ) → low ≡ l → high ≡ h → between low high ≡ between l h
 same-interval low high l h lows highs = cc
 
+ranges-equal : (x y : Interval) → interval.IsProper x → interval.IsProper y → written (range_of x) ≡ written (range_of y) → x ≡ y
+ranges-equal x y proper other same =
+    let p : Bool = begins_negative x in
+    let end = low-end x proper in
+    let end_other = low-end y other in
+    let parts = range-injective (range_of x) (range_of y) (end-plain p x.low end) (end-plain (begins_negative y) y.low end_other) same in
+    let lows = end-injective p (begins_negative y) x.low y.low end end_other parts.1 in
+    let signs : p ≡ begins_negative y = lows.0 in
+    let more : is_single x ≡ false → end_text p x.high ≡ end_text p y.high =
+    λ several. parts.2 several ∙ ap (λ (b : Bool). end_text b y.high) (sym signs) in
+    same-interval x.low x.high y.low y.high lows.1
+    (ends-equal p x y (is-end p x.low x.high refl proper.ordered proper.fits) (is-end p y.low y.high (sym signs) other.ordered other.fits) lows.1
+    parts.0 more)
+
 pub interval-injective : (x y : Interval) → interval.IsProper x → interval.IsProper y → interval_text x ≡ interval_text y → x ≡ y
-interval-injective x y proper other same =
-    let ends = shown-ends _ _ _ _ x.low x.high y.low y.high proper.ordered proper.fits other.ordered other.fits refl refl refl refl same in
-    same-interval x.low x.high y.low y.high ends.0 ends.1
+interval-injective x y proper other same = by-test (is_any x) (is_any y) refl refl same
+  where
+    by-test : (any all : Bool) → is_any x ≡ any → is_any y ≡ all → shown any x ≡ shown all y → x ≡ y
+    by-test true true is_any is_all same =
+        let ends = ends-of-all x is_any in
+        let ends_other = ends-of-all y is_all in
+        same-interval x.low x.high y.low y.high (ends.0 ∙ sym ends_other.0) (ends.1 ∙ sym ends_other.1)
+    by-test true false is_any is_all same = absurd (any-differs y other same)
+    by-test false true is_any is_all same = absurd (any-differs x proper (sym same))
+    by-test false false is_any is_all same = ranges-equal x y proper other same
 
 interval-first : (x : Interval) → interval.IsProper x → StartsNumber (first (interval_text x))
-interval-first x proper =
-    let ordered = proper.ordered in let fits = proper.fits in
-    shown-first _ _ x.low x.high (is-end _ x.low x.low refl (omega arith) (omega arith))
+interval-first x proper = shown-first (is_any x) x proper
 
 -- offsets
-signed-plain : (z : ℤ) → FitsSigned w16 z → HasNoPoint (signed_decimal z)
-signed-plain (pos n) fits = no-point _ (decimal-digits n (omega (arith, ints)))
-signed-plain (negsuc n) fits = ((λ point. absurd (omega arith)), no-point _ (decimal-digits (suc n) (omega (arith, ints))))
+signed-plain : (z : ℤ) → FitsSigned w16 z → excludes 46 (signed_decimal z) ≡ true
+signed-plain (pos n) fits = decimal-excludes 46 n (omega arith) (omega (arith, ints))
+signed-plain (negsuc n) fits = decimal-excludes 46 (suc n) (omega arith) (omega (arith, ints))
 
 signed-injective : (y z : ℤ) → FitsSigned w16 y → FitsSigned w16 z → signed_decimal y ≡ signed_decimal z → y ≡ z
 signed-injective y z fits other same = signed_decimal_injective y z (omega (arith, ints)) (omega (arith, ints)) same
 
-highs-equal : (low high l h : ℤ) (single : Bool) → int_eq low high ≡ single → low ≡ l → int_eq low high ≡ int_eq l h
-    → (int_eq low high ≡ false → high ≡ h) → high ≡ h
-highs-equal low high l h true one same alike more = let other : int_eq l h ≡ true = sym alike ∙ one in grind (arith, ints, Decides-int_eq)
-highs-equal low high l h false several same alike more = more several
+highs-equal : (x y : Offsets) (single : Bool) → int_eq x.low x.high ≡ single → x.low ≡ y.low → int_eq x.low x.high ≡ int_eq y.low y.high
+    → (int_eq x.low x.high ≡ false → x.high ≡ y.high) → x.high ≡ y.high
+highs-equal x y true one same alike more =
+    let other : int_eq y.low y.high ≡ true = sym alike ∙ one in grind (arith, ints, Decides-int_eq)
+highs-equal x y false several same alike more = more several
 
 same-offsets : (low high l h : ℤ) → low ≡ l → high ≡ h → offsets.between low high ≡ offsets.between l h
 same-offsets low high l h lows highs = cc
 
+abbrev offset_range_of : Offsets → RangeParts
+offset_range_of x = record { single = int_eq x.low x.high; low = signed_decimal x.low; high = signed_decimal x.high }
+
 pub offsets-injective : (x y : Offsets) → offsets.IsProper x → offsets.IsProper y → offsets_text x ≡ offsets_text y → x ≡ y
 offsets-injective x y proper other same =
-    let parts = range-injective (int_eq x.low x.high) (int_eq y.low y.high) _ _ _ _ (signed-plain x.low proper.low) (signed-plain y.low other.low) same in
+    let parts = range-injective (offset_range_of x) (offset_range_of y) (signed-plain x.low proper.low) (signed-plain y.low other.low) same in
     let lows : x.low ≡ y.low = signed-injective x.low y.low proper.low other.low parts.1 in
-    let highs : x.high ≡ y.high = highs-equal x.low x.high y.low y.high _ refl lows parts.0
+    let highs : x.high ≡ y.high = highs-equal x y _ refl lows parts.0
     (λ several. signed-injective x.high y.high proper.high other.high (parts.2 several)) in
     same-offsets x.low x.high y.low y.high lows highs
 
@@ -321,35 +293,39 @@ marks-first : (marks : List Bool) → 0 < length marks → IsMarkCode (first (ma
 marks-first [] some = absurd (omega arith)
 marks-first (mark ∷ marks) some = mark-is mark
 
-pub held-injective : (k l : Kind) (marks others : List Bool) → kind.IsProper k → kind.IsProper l → 0 < length marks → 0 < length others
+-- a slot of a kind, with the marks of its bytes
+abbrev CanHold : Kind → List Bool → Type 0
+CanHold k marks = kind.IsProper k × (0 < length marks)
+
+pub held-injective : (k l : Kind) (marks others : List Bool) → CanHold k marks → CanHold l others
     → held_text k marks ≡ held_text l others → (k ≡ l) × (k ≡ Nothing → marks_text marks ≡ marks_text others)
-held-injective Nothing Nothing marks others proper other some more same = (refl, λ _. same)
-held-injective Nothing (Number y) marks others proper other some more same =
-    absurd (not-number _ (marks-first marks some) (subst StartsNumber (sym (ap first same)) (interval-first y other)))
-held-injective Nothing (Record y) marks others proper other some more same = absurd (not-record _ (marks-first marks some) (ap first same))
-held-injective Nothing (Frame y) marks others proper other some more same = absurd (not-frame _ (marks-first marks some) (ap first same))
-held-injective (Number x) Nothing marks others proper other some more same =
-    absurd (not-number _ (marks-first others more) (subst StartsNumber (ap first same) (interval-first x proper)))
-held-injective (Record x) Nothing marks others proper other some more same = absurd (not-record _ (marks-first others more) (sym (ap first same)))
-held-injective (Frame x) Nothing marks others proper other some more same = absurd (not-frame _ (marks-first others more) (sym (ap first same)))
-held-injective (Number x) (Number y) marks others proper other some more same =
-    (kind-injective (Number x) (Number y) proper other same, λ no. absurd (search rules))
-held-injective (Number x) (Record y) marks others proper other some more same =
-    (kind-injective (Number x) (Record y) proper other same, λ no. absurd (search rules))
-held-injective (Number x) (Frame y) marks others proper other some more same =
-    (kind-injective (Number x) (Frame y) proper other same, λ no. absurd (search rules))
-held-injective (Record x) (Number y) marks others proper other some more same =
-    (kind-injective (Record x) (Number y) proper other same, λ no. absurd (search rules))
-held-injective (Record x) (Record y) marks others proper other some more same =
-    (kind-injective (Record x) (Record y) proper other same, λ no. absurd (search rules))
-held-injective (Record x) (Frame y) marks others proper other some more same =
-    (kind-injective (Record x) (Frame y) proper other same, λ no. absurd (search rules))
-held-injective (Frame x) (Number y) marks others proper other some more same =
-    (kind-injective (Frame x) (Number y) proper other same, λ no. absurd (search rules))
-held-injective (Frame x) (Record y) marks others proper other some more same =
-    (kind-injective (Frame x) (Record y) proper other same, λ no. absurd (search rules))
-held-injective (Frame x) (Frame y) marks others proper other some more same =
-    (kind-injective (Frame x) (Frame y) proper other same, λ no. absurd (search rules))
+held-injective Nothing Nothing marks others slot other same = (refl, λ _. same)
+held-injective Nothing (Number y) marks others slot other same =
+    absurd (not-number _ (marks-first marks slot.1) (subst StartsNumber (sym (ap first same)) (interval-first y other.0)))
+held-injective Nothing (Record y) marks others slot other same = absurd (not-record _ (marks-first marks slot.1) (ap first same))
+held-injective Nothing (Frame y) marks others slot other same = absurd (not-frame _ (marks-first marks slot.1) (ap first same))
+held-injective (Number x) Nothing marks others slot other same =
+    absurd (not-number _ (marks-first others other.1) (subst StartsNumber (ap first same) (interval-first x slot.0)))
+held-injective (Record x) Nothing marks others slot other same = absurd (not-record _ (marks-first others other.1) (sym (ap first same)))
+held-injective (Frame x) Nothing marks others slot other same = absurd (not-frame _ (marks-first others other.1) (sym (ap first same)))
+held-injective (Number x) (Number y) marks others slot other same =
+    (kind-injective (Number x) (Number y) slot.0 other.0 same, λ no. absurd (search rules))
+held-injective (Number x) (Record y) marks others slot other same =
+    (kind-injective (Number x) (Record y) slot.0 other.0 same, λ no. absurd (search rules))
+held-injective (Number x) (Frame y) marks others slot other same =
+    (kind-injective (Number x) (Frame y) slot.0 other.0 same, λ no. absurd (search rules))
+held-injective (Record x) (Number y) marks others slot other same =
+    (kind-injective (Record x) (Number y) slot.0 other.0 same, λ no. absurd (search rules))
+held-injective (Record x) (Record y) marks others slot other same =
+    (kind-injective (Record x) (Record y) slot.0 other.0 same, λ no. absurd (search rules))
+held-injective (Record x) (Frame y) marks others slot other same =
+    (kind-injective (Record x) (Frame y) slot.0 other.0 same, λ no. absurd (search rules))
+held-injective (Frame x) (Number y) marks others slot other same =
+    (kind-injective (Frame x) (Number y) slot.0 other.0 same, λ no. absurd (search rules))
+held-injective (Frame x) (Record y) marks others slot other same =
+    (kind-injective (Frame x) (Record y) slot.0 other.0 same, λ no. absurd (search rules))
+held-injective (Frame x) (Frame y) marks others slot other same =
+    (kind-injective (Frame x) (Frame y) slot.0 other.0 same, λ no. absurd (search rules))
 
 same-mark : (a b : Bool) → mark_code a ≡ mark_code b → a ≡ b
 same-mark true true same = refl
@@ -392,22 +368,22 @@ same-fit (Frame x) a b fit other same = fit ∙ sym other
 same-fit Nothing a b fit other same = same refl
 
 -- a slot's text determines its kind and the marks of its bytes
-slot-tells : (x y : Contents) (slot : ℕ) → map.IsProper x → map.IsProper y → slot_text x slot ≡ slot_text y slot
+slot-injective : (x y : Contents) (slot : ℕ) → map.IsProper x → map.IsProper y → slot_text x slot ≡ slot_text y slot
     → (slot_kind x slot ≡ slot_kind y slot) × (slot_kind x slot ≡ Nothing → marks_text (slot_marks x.marks slot) ≡ marks_text (slot_marks y.marks slot))
-slot-tells x y slot proper other same =
-    held-injective (slot_kind x slot) (slot_kind y slot) (slot_marks x.marks slot) (slot_marks y.marks slot) (proper.kinds slot) (other.kinds slot)
-    (some-marks x.marks slot) (some-marks y.marks slot) same
+slot-injective x y slot proper other same =
+    held-injective (slot_kind x slot) (slot_kind y slot) (slot_marks x.marks slot) (slot_marks y.marks slot)
+    (proper.kinds slot, some-marks x.marks slot) (other.kinds slot, some-marks y.marks slot) same
 
 pub slot-kinds : (x y : Contents) (slot : ℕ) → map.IsProper x → map.IsProper y → slot_text x slot ≡ slot_text y slot
     → slot_kind x slot ≡ slot_kind y slot
-slot-kinds x y slot proper other same = (slot-tells x y slot proper other same).0
+slot-kinds x y slot proper other same = (slot-injective x y slot proper other same).0
 
 pub mark-at : (x y : Contents) (at : ℕ) → map.IsProper x → map.IsProper y → slot_text x (at / SLOT_LENGTH) ≡ slot_text y (at / SLOT_LENGTH)
     → get_or x.marks at false ≡ get_or y.marks at false
 mark-at x y at proper other same =
     let slot : ℕ = at / SLOT_LENGTH in
     let byte : ℕ = at % SLOT_LENGTH in
-    let held = slot-tells x y slot proper other same in
+    let held = slot-injective x y slot proper other same in
     let place : SLOT_LENGTH * slot + byte ≡ at = omega arith in
     same-fit (slot_kind x slot) _ _ (proper.fit at) (subst (λ (k : Kind). FitsKind k (get_or y.marks at false)) (sym held.0) (other.fit at))
     (λ nothing. subst (λ (n : ℕ). get_or x.marks n false ≡ get_or y.marks n false) place
@@ -455,7 +431,7 @@ names-differ (Slot x) (Slot y) is other same =
     decimal_injective (FRAME_LENGTH - SLOT_LENGTH * x) (FRAME_LENGTH - SLOT_LENGTH * y) (omega arith) (omega arith) numbers in
     ap Slot (omega arith)
 
--- the tests of what is known decide whether the texts are the same
+-- whether the texts are the same is whether what is known is the same
 pub kinds-same : (k l : Kind) (test : Bool) → kind.IsProper k → kind.IsProper l → Decides test (k ≡ l)
     → test ≡ bytes_eq (kind_text k) (kind_text l)
 kinds-same k l test proper other decides = same_tests test (bytes_eq (kind_text k) (kind_text l))
@@ -465,16 +441,20 @@ kinds-same k l test proper other decides = same_tests test (bytes_eq (kind_text 
 held-same : (k l : Kind) (marks others : List Bool) → k ≡ l → marks ≡ others → held_text k marks ≡ held_text l others
 held-same k l marks others kinds_same marks_same = ap (λ (kind : Kind). held_text kind marks) kinds_same ∙ ap (held_text l) marks_same
 
-pub slots-same : (x y : Contents) (slot : ℕ) (kinds marks : Bool) → map.IsProper x → map.IsProper y
-    → Decides kinds (slot_kind x slot ≡ slot_kind y slot) → Decides marks (slot_marks x.marks slot ≡ slot_marks y.marks slot)
-    → (kinds && marks) ≡ bytes_eq (slot_text x slot) (slot_text y slot)
-slots-same x y slot kinds marks proper other decides decides_marks =
-    same_tests (kinds && marks) (bytes_eq (slot_text x slot) (slot_text y slot))
-    (λ same. let texts = (bytes_eq-Decides (slot_text x slot) (slot_text y slot)).0 same in
-    and_from kinds marks (decides.1 (slot-kinds x y slot proper other texts)) (decides_marks.1 (slot-marks x y slot proper other texts)))
-    (λ same. let both = and_parts kinds marks same in
-    (bytes_eq-Decides (slot_text x slot) (slot_text y slot)).1
-    (held-same (slot_kind x slot) (slot_kind y slot) (slot_marks x.marks slot) (slot_marks y.marks slot) (decides.0 both.0) (decides_marks.0 both.1)))
+pub slot-texts-same : (x y : Contents) (slot : ℕ) → map.IsProper x → map.IsProper y
+    → Decides (bytes_eq (slot_text x slot) (slot_text y slot)) ((slot_kind x slot ≡ slot_kind y slot) × (slot_marks x.marks slot ≡ slot_marks y.marks slot))
+slot-texts-same x y slot proper other = (
+  (λ same. let texts = (bytes_eq-Decides (slot_text x slot) (slot_text y slot)).0 same in
+      (slot-kinds x y slot proper other texts, slot-marks x y slot proper other texts)),
+  (λ both. (bytes_eq-Decides (slot_text x slot) (slot_text y slot)).1
+      (held-same (slot_kind x slot) (slot_kind y slot) (slot_marks x.marks slot) (slot_marks y.marks slot) both.0 both.1)),
+)
+
+-- two tests of the same are equal
+pub both-decide : {A B : Type 0} (first second test : Bool) → Decides first A → Decides second B → Decides test (A × B) → (first && second) ≡ test
+both-decide first second test decides_first decides_second decides = same_tests (first && second) test
+    (λ same. let both = decides.0 same in and_from first second (decides_first.1 both.0) (decides_second.1 both.1))
+    (λ same. let both = and_parts first second same in decides.1 (decides_first.0 both.0, decides_second.0 both.1))
 
 pub decides-same : (test : Bool) (k l m n : Kind) → k ≡ m → l ≡ n → Decides test (k ≡ l) → Decides test (m ≡ n)
 decides-same test k l m n first_is second_is decides =

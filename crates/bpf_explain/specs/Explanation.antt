@@ -28,7 +28,7 @@ pub record ExplainsRefusal (code : List Insn) (lines : List SourceLine) (place :
   pub index : ℕ
   pub at : place ≡ word_count (take index code)
   pub insn : Insn
-  pub stands : instruction_at code place ≡ Some insn
+  pub insn_is : instruction_at code place ≡ Some insn
   pub known : Known
   pub state : annotation place ≡ Reached known
   pub fails : transfer (annotation place) insn ≡ Err cause

@@ -5,7 +5,7 @@ use Rattle.std.specs.Str.{bytes_eq}
 use Rattle.bpf_insn.specs.declared.instruction.Insn.{Insn}
 use Rattle.bpf_meaning.specs.declared.state.TheConstants.{REGISTERS}
 use Rattle.bpf_insn.specs.declared.memory.TheConstants.{SLOTS}
-use Rattle.bpf_text.specs.Spelled.{line_text}
+use Rattle.bpf_text.specs.CodeText.{line_text}
 use Rattle.bpf_verify.specs.AbstractState.{AbstractState, Unreached, Reached}
 use Rattle.bpf_verify.specs.declared.known.Known.{Known}
 use Rattle.bpf_explain.specs.Notation.{fact_text, part_text}

@@ -34,23 +34,23 @@ called_number (Call immediate) = decimal (cast_unsigned w32 immediate)
 called_number insn = []
 
 -- the helper function's requirement on its argument with this number, counted from 1
-abbrev pub wanted_by : Option Helper → ℕ → Argument
-wanted_by None number = argument.Unused
-wanted_by (Some helper) number = get_or (argument.Unused ∷ (signature helper).arguments) number argument.Unused
+abbrev pub requirement_of : Option Helper → ℕ → Argument
+requirement_of None number = argument.Unused
+requirement_of (Some helper) number = get_or (argument.Unused ∷ (signature helper).arguments) number argument.Unused
 
-unfoldable pub wanted : Insn → ℕ → Argument
-wanted (Call immediate) number = wanted_by (helper_of immediate) number
-wanted insn number = argument.Unused
+unfoldable pub requirement : Insn → ℕ → Argument
+requirement (Call immediate) number = requirement_of (helper_of immediate) number
+requirement insn number = argument.Unused
 
-unfoldable pub wanted_text : Argument → List ℕ
-wanted_text argument.Unused = codes "anything"
-wanted_text (argument.Number x) = codes "a number from " ++ decimal x.low ++ codes " to " ++ decimal x.high
-wanted_text argument.Frame = codes "a pointer into the frame"
+unfoldable pub requirement_text : Argument → List ℕ
+requirement_text argument.Unused = codes "anything"
+requirement_text (argument.Number x) = codes "a number from " ++ decimal x.low ++ codes " to " ++ decimal x.high
+requirement_text argument.Frame = codes "a pointer into the frame"
 
 -- an argument that doesn't meet the helper function's signature
 unfoldable pub argument_text : Known → Insn → ℕ → List ℕ
 argument_text known insn number =
-    decimal number ++ codes " must be " ++ wanted_text (wanted insn number) ++ codes ": " ++ register_fact known number
+    decimal number ++ codes " must be " ++ requirement_text (requirement insn number) ++ codes ": " ++ register_fact known number
 
 -- The words of the check that fails, by its cause. The first two causes occur only in runs: no check of the verifier fails with them. Bytes that
 -- are outside an area or aren't written have words of their own.

@@ -16,11 +16,11 @@ pub record ListingParts : Type 0 where
   pub text : List ℕ
   pub known : Known
   pub insn : Option Insn
-  pub left : List SourceLine
+  pub remaining : List SourceLine
 
 -- at first nothing is known
-abbrev pub first : List SourceLine → ListingParts
-first lines = record { text = []; known = unknown; insn = None; left = lines }
+abbrev pub empty : List SourceLine → ListingParts
+empty lines = record { text = []; known = unknown; insn = None; remaining = lines }
 
 -- the source lines up to a place, and those after it
 unfoldable pub lines_until : ℕ → List SourceLine → List SourceLine
@@ -43,7 +43,7 @@ known_after last (Reached known) = known
 -- the lines of a visit: the source lines up to its place, and the instruction's
 unfoldable pub visit_text : ListingParts → Visit → List ℕ
 visit_text listing visit =
-    sources_text (lines_until visit.place listing.left) ++ instruction_line listing.known visit.place visit.insn visit.state
+    sources_text (lines_until visit.place listing.remaining) ++ instruction_line listing.known visit.place visit.insn visit.state
 
 -- the listing with one more visit
 abbrev pub visited : ListingParts → Visit → ListingParts
@@ -51,16 +51,16 @@ visited listing visit = record {
   text = listing.text ++ visit_text listing visit;
   known = known_after listing.known visit.state;
   insn = Some visit.insn;
-  left = lines_after visit.place listing.left;
+  remaining = lines_after visit.place listing.remaining;
 }
 
 -- the listing of visits
 abbrev pub listing : List SourceLine → List Visit → ListingParts
-listing lines visits = visited_all visited (first lines) visits
+listing lines visits = visited_all visited (empty lines) visits
 
 -- the text of a listing whose program is accepted
 abbrev pub accepted_text : ListingParts → List ℕ
-accepted_text listing = listing.text ++ (sources_text listing.left ++ codes "accepted\n")
+accepted_text listing = listing.text ++ (sources_text listing.remaining ++ codes "accepted\n")
 
 -- the line of a refusal
 abbrev pub refusal_line : Known → Cause → Insn → List ℕ

@@ -51,7 +51,7 @@ outside_text writes of_area bytes = bytes_text writes of_area bytes ++ limit_tex
 unfoldable pub unwritten_text : Bytes → List ℕ
 unwritten_text bytes = bytes_text false area.Frame bytes ++ codes ", not all of which are written: "
 
--- what is known about the two registers that give the bytes of the frame that a call reads or writes
+-- what is known about registers 2 and 3, the pointer and the number of the bytes that a call reads or writes
 unfoldable pub lent_facts : Known → List ℕ
 lent_facts known = register_fact known 2 ++ codes ", " ++ register_fact known 3
 

@@ -1,12 +1,14 @@
 -- Lines of source code, each with the place in the program that it belongs to.
-use Rattle.std.specs.Prelude.{◌≡◌, ℕ, ◌+◌, ◌-◌, ◌*◌, Bool, ◌&&◌, ◌==◌, nat_lt, nat_le, if◌then◌else◌, List, [], ◌∷◌, ◌++◌, length, Option, Some, None, option_map, option_and_then, Result, Ok, Err}
+use Rattle.std.specs.Prelude.{◌≡◌, ℕ, ◌+◌, ◌-◌, ◌*◌, Bool, ◌&&◌, ◌==◌, nat_lt, nat_le, if◌then◌else◌, List, [], ◌∷◌, ◌++◌, length, Option, Some, None}
+use Rattle.std.specs.Prelude.{option_map, option_and_then, Result, Ok, Err}
+use Rattle.std.specs.Char.{is_ascii_digit}
 use Rattle.std.specs.List.{after_first, before_first, position_or_len}
 use Rattle.std.specs.Str.{is_utf8}
 use Rattle.std.specs.Str.Lines.{lines}
 use Rattle.bpf_explain.specs.declared.source_lines.LinesFault.{LinesFault}
 use Rattle.bpf_explain.specs.declared.source_lines.LineFlaw.{LineFlaw}
 use Rattle.bpf_explain.specs.declared.source_lines.LineFlaw.TheVariants.{NotText, WithoutPlace, OutOfOrder}
-use Rattle.bpf_explain.specs.declared.source_lines.Line.{Line}
+use Rattle.bpf_explain.specs.declared.source_lines.PlacedLine.{PlacedLine}
 use Rattle.bpf_explain.specs.declared.source_lines.SourceLines.{SourceLines}
 use Rattle.bpf_explain.specs.declared.source_lines.TheConstants.{GREATEST_PLACE, PLACE_DIGITS}
 
@@ -15,16 +17,13 @@ pub record SourceLine : Type 0 where
   pub place : ℕ
   pub text : List ℕ
 
-abbrev pub line_of : Line → SourceLine
+abbrev pub line_of : PlacedLine → SourceLine
 line_of line = record { place = line.place; text = line.text.now }
 
 -- a place with one more decimal digit, up to the greatest place
-abbrev pub is_digit : ℕ → Bool
-is_digit byte = nat_le 48 byte && nat_le byte 57
-
 unfoldable pub next_place : ℕ → ℕ → Option ℕ
 next_place place digit =
-    if is_digit digit && nat_le (10 * place + (digit - 48)) GREATEST_PLACE then Some (10 * place + (digit - 48)) else None
+    if is_ascii_digit digit && nat_le (10 * place + (digit - 48)) GREATEST_PLACE then Some (10 * place + (digit - 48)) else None
 
 abbrev pub place_from : ℕ → List ℕ → Option ℕ
 place_from place [] = Some place
@@ -83,6 +82,6 @@ abbrev pub parts_of : SourceLines → List SourceLine
 parts_of lines = lines_or_none (lines_in lines.file.now)
 
 -- the result of reading the line with a number
-abbrev pub IsChecked : ℕ → Result SourceLine LineFlaw → Result Line LinesFault → Type 0
+abbrev pub IsChecked : ℕ → Result SourceLine LineFlaw → Result PlacedLine LinesFault → Type 0
 IsChecked number held (Ok line) = held ≡ Ok (line_of line)
 IsChecked number held (Err fault) = (fault.line ≡ number) × (held ≡ Err fault.flaw)

@@ -29,7 +29,7 @@ pub fn explain<A: Allocator + Copy>(
     ensures only { HasGoodAnnotation flow.code → IfOk result (λ explanation. IfErr explanation.verdict (λ fault. ⊥)) }
 {
     let lines = lines.read(alloc)?;
-    let mut listing = Listing::first(alloc, lines.as_slice());
+    let mut listing = Listing::new(alloc, lines.as_slice());
     match verify_with(alloc, flow, &mut listing) {
         Ok(_) => {
             let text = listing.into_accepted()?;

@@ -72,8 +72,7 @@ fn is_shown(last: &Known, known: &Known, insn: Insn, part: Part) -> bool
     reads(known, insn, part) || is_changed(last, known, part)
 }
 
-/// Returns whether something else is known about a part than in the last state. The part's text then differs too, because texts show all that is
-/// known.
+/// Returns whether a part differs from the last state. Its text then differs too, because texts show all that is known.
 fn is_changed(last: &Known, known: &Known, part: Part) -> bool
     requires last { IsProperKnown last.now }
     requires known { IsProperKnown known.now }
@@ -89,7 +88,7 @@ fn is_changed(last: &Known, known: &Known, part: Part) -> bool
     }
 }
 
-/// Returns whether the same is known about two registers, that is, whether their texts are the same.
+/// Kinds are equal exactly if their texts are.
 fn is_same_kind(kind: Kind, other: Kind) -> bool
     requires kind { kinds.IsProper kind }
     requires other { kinds.IsProper other }
@@ -99,7 +98,6 @@ fn is_same_kind(kind: Kind, other: Kind) -> bool
     kind == other
 }
 
-/// Returns whether the same is known about a slot in two states.
 fn is_same_slot(frame: &FrameMap, other: &FrameMap, slot: usize) -> bool
     requires frame { map.IsProper frame.now }
     requires other { map.IsProper other.now }
@@ -142,7 +140,6 @@ fn push_note<A: Allocator + Copy>(
     push_facts(text, known, &parts)
 }
 
-/// Returns the note of an instruction that is reached.
 pub(crate) fn note<A: Allocator + Copy>(
     alloc: A,
     last: &Known,
@@ -158,7 +155,6 @@ pub(crate) fn note<A: Allocator + Copy>(
     Ok(text)
 }
 
-/// Returns the place and the instruction.
 fn prefix<A: Allocator>(alloc: A, place: usize, insn: Insn) -> Result<String<A>, AllocError>
     ensures { IfOk result (λ text. string_bytes text ≡ prefix_text place insn) }
 {
@@ -170,7 +166,7 @@ fn prefix<A: Allocator>(alloc: A, place: usize, insn: Insn) -> Result<String<A>,
     Ok(text)
 }
 
-/// Pushes an instruction's line: its place, the instruction, and the note, if there is one.
+/// Pushes a place, its instruction, and the note unless it is empty.
 pub(crate) fn push_instruction_line<A: Allocator + Copy>(
     alloc: A,
     text: &mut String<A>,
@@ -185,7 +181,7 @@ pub(crate) fn push_instruction_line<A: Allocator + Copy>(
     text.push_str("\n")
 }
 
-/// Pushes a text, and its note, if there is one, at the notes' column.
+/// Pushes a text, and its note at the notes' column unless it is empty.
 fn push_noted<A: Allocator>(
     text: &mut String<A>,
     prefix: &str,

@@ -3,7 +3,8 @@ ghost use Rattle.std.specs.Prelude.{◌≡◌, ◌++◌, OnOk, codes, decimal};
 ghost use Rattle.std.specs.List.{All};
 ghost use Rattle.std.specs.String.{string_bytes};
 ghost use Rattle.bpf_verify.specs.AbstractState.{IsProperKnown};
-ghost use Rattle.bpf_explain.specs.Failure.{argument_text, called_number, failure_facts, failure_text, failure_words, more_facts, registers_text, slots_text, wanted, wanted_by, wanted_text};
+ghost use Rattle.bpf_explain.specs.Failure.{argument_text, called_number, failure_facts, failure_text, failure_words, more_facts, registers_text, slots_text};
+ghost use Rattle.bpf_explain.specs.Failure.{requirement, requirement_of, requirement_text};
 ghost use Rattle.bpf_explain.specs.Notation.{IsPart};
 
 use crate::access::{push_access_if, push_base, push_number, push_offset_if, push_register};
@@ -33,7 +34,6 @@ pub(crate) fn push_failure<A: Allocator + Copy>(
     push_failure_facts(alloc, text, known, insn, cause)
 }
 
-/// Returns the words of the check that fails.
 fn failure_words(cause: Cause) -> &'static str
     ensures { result.now ≡ failure_words cause }
 {
@@ -111,7 +111,7 @@ fn push_argument<A: Allocator>(
 {
     push_number(text, u64::from(number))?;
     text.push_str(" must be ")?;
-    push_wanted(text, wanted(insn, number))?;
+    push_requirement(text, requirement(insn, number))?;
     text.push_str(": ")?;
     push_register(text, known, number)
 }
@@ -175,18 +175,18 @@ fn push_called_number<A: Allocator>(text: &mut String<A>, insn: Insn) -> Result<
 }
 
 /// Returns a call's requirement on its argument with this number, counted from 1.
-#[tactic(auto, unfolding(crate::specs::Failure::wanted))]
-fn wanted(insn: Insn, number: u8) -> Argument
-    ensures { result ≡ wanted insn number }
+#[tactic(auto, unfolding(crate::specs::Failure::requirement))]
+fn requirement(insn: Insn, number: u8) -> Argument
+    ensures { result ≡ requirement insn number }
 {
     match insn {
-        Insn::Call { immediate } => wanted_by(helper_of(immediate), number),
+        Insn::Call { immediate } => requirement_of(helper_of(immediate), number),
         _ => Argument::Unused,
     }
 }
 
-fn wanted_by(helper: Option<Helper>, number: u8) -> Argument
-    ensures { result ≡ wanted_by helper number }
+fn requirement_of(helper: Option<Helper>, number: u8) -> Argument
+    ensures { result ≡ requirement_of helper number }
 {
     let Some(helper) = helper else {
         return Argument::Unused;
@@ -200,11 +200,14 @@ fn wanted_by(helper: Option<Helper>, number: u8) -> Argument
     }
 }
 
-#[tactic(auto, unfolding(crate::specs::Failure::wanted_text))]
-fn push_wanted<A: Allocator>(text: &mut String<A>, wanted: Argument) -> Result<(), AllocError>
-    ensures { OnOk result (string_bytes text.new ≡ string_bytes text.old ++ wanted_text wanted) }
+#[tactic(auto, unfolding(crate::specs::Failure::requirement_text))]
+fn push_requirement<A: Allocator>(
+    text: &mut String<A>,
+    requirement: Argument,
+) -> Result<(), AllocError>
+    ensures { OnOk result (string_bytes text.new ≡ string_bytes text.old ++ requirement_text requirement) }
 {
-    match wanted {
+    match requirement {
         Argument::Unused => text.push_str("anything"),
         Argument::Number(x) => {
             text.push_str("a number from ")?;

@@ -2,7 +2,7 @@
 ghost use Rattle.std.specs.Prelude.{◌≡◌, ◌≤◌, ◌++◌, Some, nat_lt, length, ◌<◌, IfOk, IfSome, OnOk};
 ghost use Rattle.std.specs.List.{position, position_or_len};
 ghost use Rattle.std.specs.String.{string_bytes};
-ghost use Rattle.bpf_explain.specs.Listing.{accepted_text, first, lines_after, lines_until, refusal_line, refused_text, source_text, sources_text};
+ghost use Rattle.bpf_explain.specs.Listing.{accepted_text, empty, lines_after, lines_until, refusal_line, refused_text, source_text, sources_text};
 ghost use Rattle.bpf_verify.specs.AbstractState.{IsProperKnown};
 ghost use Rattle.bpf_explain.specs.Facts.{noted, prefix_text};
 ghost use Rattle.std.specs.Prelude.{codes, map};
@@ -10,7 +10,7 @@ ghost use Rattle.bpf_explain.specs.SourceLines.{line_of};
 
 use crate::facts::{note, push_instruction_line};
 use crate::failure::push_failure;
-use crate::source_lines::Line;
+use crate::source_lines::PlacedLine;
 use bpf_insn::Insn;
 use bpf_meaning::Cause;
 use bpf_verify::{Known, Visitor};
@@ -27,7 +27,7 @@ pub(crate) struct Listing<'a, A: Allocator> {
     /// The last instruction.
     insn: Option<Insn>,
     /// The remaining source lines.
-    left: &'a [Line<'a>],
+    remaining: &'a [PlacedLine<'a>],
 }
 
 impl<'a, A: Allocator> Model for Listing<'a, A> {
@@ -39,22 +39,27 @@ impl<'a, A: Allocator> Model for Listing<'a, A> {
 
     ghost Value = { ListingParts };
 
-    ghost view = { λ listing. record { text = string_bytes listing.text; known = listing.known; insn = listing.insn; left = map line_of listing.left.now } };
+    ghost view = { λ listing. record {
+      text = string_bytes listing.text;
+      known = listing.known;
+      insn = listing.insn;
+      remaining = map line_of listing.remaining.now;
+    } };
 
     ghost invariant = { λ listing. IsProperKnown listing.known };
 }
 
 impl<'a, A: Allocator + Copy> Listing<'a, A> {
-    /// Returns an empty listing.
-    pub fn first(alloc: A, lines: &'a [Line<'a>]) -> Self
-        ensures { result ≡ first (map line_of lines.now) }
+    /// Begins a listing, with the source lines to be shown in it.
+    pub fn new(alloc: A, lines: &'a [PlacedLine<'a>]) -> Self
+        ensures { result ≡ empty (map line_of lines.now) }
     {
         Listing {
             alloc,
             text: String::new(alloc),
             known: Known::unknown(),
             insn: None,
-            left: lines,
+            remaining: lines,
         }
     }
 
@@ -63,7 +68,7 @@ impl<'a, A: Allocator + Copy> Listing<'a, A> {
         ensures { IfOk result (λ text. text.items ≡ accepted_text self.entry) }
     {
         let mut text = self.text;
-        push_sources(&mut text, self.left)?;
+        push_sources(&mut text, self.remaining)?;
         text.push_str("accepted\n")?;
         Ok(text.into_bytes())
     }
@@ -82,16 +87,16 @@ impl<'a, A: Allocator + Copy> Listing<'a, A> {
     /// Pushes the source lines up to an instruction's place, then the instruction's line.
     fn push_visit(&mut self, place: usize, insn: Insn, note: &str) -> Result<(), AllocError>
         ensures { OnOk result (self.new ≡ record {
-          text = self.old.text ++ (sources_text (lines_until place self.old.left) ++ (noted (prefix_text place insn) note.now ++ codes "\n"));
+          text = self.old.text ++ (sources_text (lines_until place self.old.remaining) ++ (noted (prefix_text place insn) note.now ++ codes "\n"));
           known = self.old.known;
           insn = Some insn;
-          left = lines_after place self.old.left;
+          remaining = lines_after place self.old.remaining;
         }) }
     {
-        let count = count_until(self.left, place);
-        push_sources(&mut self.text, &self.left[..count])?;
+        let count = count_until(self.remaining, place);
+        push_sources(&mut self.text, &self.remaining[..count])?;
         push_instruction_line(self.alloc, &mut self.text, place, insn, note)?;
-        self.left = &self.left[count..];
+        self.remaining = &self.remaining[count..];
         self.insn = Some(insn);
         Ok(())
     }
@@ -115,8 +120,7 @@ impl<'a, A: Allocator + Copy> Visitor for Listing<'a, A> {
     }
 }
 
-/// Returns the number of source lines up to a place.
-fn count_until(lines: &[Line<'_>], place: usize) -> usize
+fn count_until(lines: &[PlacedLine<'_>], place: usize) -> usize
     ensures value { result ≡ position_or_len (λ line. nat_lt place line.place) (map line_of lines.now) }
     ensures within { result ≤ length lines.now }
 {
@@ -126,16 +130,18 @@ fn count_until(lines: &[Line<'_>], place: usize) -> usize
     }
 }
 
-fn first_after(lines: &[Line<'_>], place: usize) -> Option<usize>
+fn first_after(lines: &[PlacedLine<'_>], place: usize) -> Option<usize>
     ensures value { result ≡ position (λ line. nat_lt place line.place) lines.now }
     ensures within { IfSome result (λ index. index < length lines.now) }
 {
     lines.iter().position(|line| place < line.place)
 }
 
-/// Pushes source lines.
 #[tactic(auto, unfolding(crate::specs::Listing::sources_text))]
-fn push_sources<A: Allocator>(text: &mut String<A>, lines: &[Line<'_>]) -> Result<(), AllocError>
+fn push_sources<A: Allocator>(
+    text: &mut String<A>,
+    lines: &[PlacedLine<'_>],
+) -> Result<(), AllocError>
     ensures { OnOk result (string_bytes text.new ≡ string_bytes text.old ++ sources_text (map line_of lines.now)) }
 {
     for line in lines {
@@ -144,7 +150,7 @@ fn push_sources<A: Allocator>(text: &mut String<A>, lines: &[Line<'_>]) -> Resul
     Ok(())
 }
 
-fn push_source<A: Allocator>(text: &mut String<A>, line: &Line<'_>) -> Result<(), AllocError>
+fn push_source<A: Allocator>(text: &mut String<A>, line: &PlacedLine<'_>) -> Result<(), AllocError>
     ensures { OnOk result (string_bytes text.new ≡ string_bytes text.old ++ source_text (line_of line.now)) }
 {
     text.push_str("; ")?;

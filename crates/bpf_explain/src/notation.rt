@@ -5,7 +5,8 @@ ghost use Rattle.std.specs.String.{string_bytes};
 ghost use Rattle.bpf_frame.specs.FrameMap as map;
 ghost use Rattle.bpf_insn.specs.declared.memory.TheConstants.{FRAME_LENGTH, SLOTS};
 ghost use Rattle.bpf_verify.specs.AbstractState.{IsProperKnown};
-ghost use Rattle.bpf_explain.specs.Notation.{IsPart, end_text, fact_text, interval_text, kind_text, mark_code, marks_text, offsets_text, part_name, part_text, slot_marks, slot_text};
+ghost use Rattle.bpf_explain.specs.Notation.{IsPart, end_text, fact_text, interval_text, kind_text, mark_code, marks_text, offsets_text, part_name, part_text};
+ghost use Rattle.bpf_explain.specs.Notation.{slot_marks, slot_text};
 
 use bpf_frame::FrameMap;
 use bpf_insn::{FRAME_LENGTH, SLOT_LENGTH};
@@ -109,7 +110,6 @@ fn push_slot<A: Allocator>(
     }
 }
 
-/// Pushes the marks of bytes.
 fn push_marks<A: Allocator>(text: &mut String<A>, marks: &[bool]) -> Result<(), AllocError>
     ensures { OnOk result (string_bytes text.new ≡ string_bytes text.old ++ marks_text marks.now) }
 {
@@ -144,7 +144,6 @@ pub(crate) fn slot_marks(frame: &FrameMap, slot: usize) -> [bool; SLOT_LENGTH]
     ]
 }
 
-/// Returns whether a byte of the frame is written.
 fn is_written(frame: &FrameMap, at: usize) -> bool
     requires proper { map.IsProper frame.now }
     requires within { at < FRAME_LENGTH }
@@ -153,7 +152,6 @@ fn is_written(frame: &FrameMap, at: usize) -> bool
     frame.all_written(at, at)
 }
 
-/// Pushes the name of a part.
 pub(crate) fn push_name<A: Allocator>(text: &mut String<A>, part: Part) -> Result<(), AllocError>
     requires { IsPart part }
     ensures { OnOk result (string_bytes text.new ≡ string_bytes text.old ++ part_name part) }
@@ -172,7 +170,6 @@ pub(crate) fn push_name<A: Allocator>(text: &mut String<A>, part: Part) -> Resul
     }
 }
 
-/// Pushes what is known about a part.
 fn push_part<A: Allocator>(
     text: &mut String<A>,
     known: &Known,

@@ -2,7 +2,9 @@
 ghost use Rattle.std.specs.Prelude.{◌≡◌, ◌++◌, OnOk, decimal};
 ghost use Rattle.std.specs.String.{string_bytes};
 ghost use Rattle.bpf_verify.specs.AbstractState.{IsProperKnown};
-ghost use Rattle.bpf_explain.specs.Reach.{access_outside, access_unwritten, area_name, bytes_text, call_outside, call_unwritten, ends_text, is_write, last_of, lent_facts, lent_outside, lent_unwritten, limit_text, outside, outside_from, outside_text, unwritten, unwritten_from, unwritten_text, verb, writes_frame};
+ghost use Rattle.bpf_explain.specs.Reach.{access_outside, access_unwritten, area_name, bytes_text, call_outside, call_unwritten, ends_text, is_write, last_of};
+ghost use Rattle.bpf_explain.specs.Reach.{lent_facts, lent_outside, lent_unwritten, limit_text, outside, outside_from, outside_text, unwritten, unwritten_from};
+ghost use Rattle.bpf_explain.specs.Reach.{unwritten_text, verb, writes_frame};
 
 use crate::access::{Access, access_of, push_access, push_number, push_register, push_signed};
 use crate::reads::{Bytes, bytes_from, helper_of, lent_bytes};
@@ -242,7 +244,6 @@ fn area_name(area: Area) -> &'static str
     }
 }
 
-/// Returns an area's last byte.
 #[tactic(auto, unfolding(crate::specs::Reach::last_of))]
 fn last_of(area: Area) -> u64
     ensures { result ≡ last_of area }
@@ -253,7 +254,6 @@ fn last_of(area: Area) -> u64
     }
 }
 
-/// Returns whether a call writes to the frame.
 #[tactic(auto, unfolding(crate::specs::Reach::writes_frame))]
 fn writes_frame(helper: Option<Helper>) -> bool
     ensures { result ≡ writes_frame helper }
@@ -273,7 +273,7 @@ fn is_write(frame_use: FrameUse) -> bool
     }
 }
 
-/// Pushes what is known about the two registers that give the bytes of the frame that a call reads or writes.
+/// Pushes what is known about registers 2 and 3, the pointer and the number of the bytes that a call reads or writes.
 #[tactic(auto, unfolding(crate::specs::Reach::lent_facts))]
 fn push_lent<A: Allocator>(text: &mut String<A>, known: &Known) -> Result<(), AllocError>
     requires { IsProperKnown known.now }

@@ -7,7 +7,8 @@ ghost use Rattle.bpf_explain.specs.declared.reads.TheConstants.{PARTS};
 ghost use Rattle.bpf_insn.specs.declared.memory.TheConstants.{SLOTS};
 ghost use Rattle.bpf_meaning.specs.declared.state.TheConstants.{REGISTERS};
 ghost use Rattle.bpf_explain.specs.Notation.{IsPart};
-ghost use Rattle.bpf_explain.specs.Reads.{bytes_from, called_bytes, has_one_if, has_one_of, helper_of, is_move, is_used, lent_bytes, loaded_bytes, part_at, read_bytes, read_if, reads, reads_register, parts_from, registers_read, slots_read, uses_register};
+ghost use Rattle.bpf_explain.specs.Reads.{bytes_from, called_bytes, has_one_if, has_one_of, helper_of, is_move, is_used, lent_bytes, loaded_bytes, part_at};
+ghost use Rattle.bpf_explain.specs.Reads.{read_bytes, read_if, reads, reads_register, parts_from, registers_read, slots_read, uses_register};
 
 use crate::notation::Part;
 use bpf_helpers::{Argument, FrameUse, Helper};
@@ -28,7 +29,6 @@ pub struct Bytes {
     pub last: i128,
 }
 
-/// Returns whether an instruction reads a part.
 pub(crate) fn reads(known: &Known, insn: Insn, part: Part) -> bool
     requires known { IsProperKnown known.now }
     requires part { IsPart part }
@@ -43,7 +43,6 @@ pub(crate) fn reads(known: &Known, insn: Insn, part: Part) -> bool
     }
 }
 
-/// Returns whether an instruction reads a register.
 fn reads_register(insn: Insn, register: u8) -> bool
     ensures { result ≡ reads_register insn register }
 {
@@ -81,14 +80,12 @@ fn is_register(register: u8, source: Source) -> bool
     }
 }
 
-/// Returns the helper function that a call invokes.
 pub(crate) fn helper_of(immediate: i32) -> Option<Helper>
     ensures { result ≡ helper_of immediate }
 {
     Helper::by_number(immediate.cast_unsigned())
 }
 
-/// Returns whether a call uses the argument in a register.
 fn uses_register(helper: Option<Helper>, register: u8) -> bool
     ensures { result ≡ uses_register helper register }
 {
@@ -110,7 +107,7 @@ fn is_used(argument: Argument) -> bool
     !matches!(argument, Argument::Unused)
 }
 
-/// Returns the bytes of the frame that an instruction may read, if it reads any.
+/// Returns the bytes of the frame that an instruction may read.
 pub(crate) fn read_bytes(known: &Known, insn: Insn) -> Option<Bytes>
     requires { IsProperKnown known.now }
     ensures { result ≡ read_bytes known.now insn }
@@ -162,7 +159,7 @@ pub(crate) fn lent_bytes(known: &Known) -> Option<Bytes>
     }
 }
 
-/// Returns the bytes from each of the offsets, plus another offset.
+/// Returns `count` bytes from each of the offsets, plus another offset.
 pub(crate) fn bytes_from(x: Offsets, offset: i16, count: u64) -> Bytes
     ensures { result ≡ bytes_from x offset count }
 {
@@ -172,14 +169,12 @@ pub(crate) fn bytes_from(x: Offsets, offset: i16, count: u64) -> Bytes
     }
 }
 
-/// Returns the byte that a pointer points to after another offset is added.
 fn byte_at(pointer: i16, offset: i16) -> i32
     ensures { result ≡ pointer +ℤ offset }
 {
     i32::from(pointer) + i32::from(offset)
 }
 
-/// Returns the last of `count` bytes.
 fn last_byte(first: i32, count: u64) -> i128
     ensures { result ≡ (first +ℤ pos count) -ℤ pos 1 }
 {
@@ -195,7 +190,7 @@ fn has_one_of(bytes: Bytes, slot: usize) -> bool
     bytes.first <= bytes.last && bytes.first <= start + 7 && start <= bytes.last
 }
 
-/// Returns the part at a place in their order.
+/// Parts are ordered: the registers, then the slots from the last of the frame to the first.
 pub(crate) fn part_at(place: usize) -> Part
     requires { place < PARTS }
     ensures value { result ≡ part_at place }
@@ -234,7 +229,7 @@ pub(crate) fn slots_read<A: Allocator>(
     parts_read(alloc, known, insn, REGISTERS, SLOTS)
 }
 
-/// Returns those of `count` parts, starting at a place, that an instruction reads.
+/// Returns the parts that an instruction reads, of `count` parts from the place `first` on.
 fn parts_read<A: Allocator>(
     alloc: A,
     known: &Known,
@@ -255,7 +250,6 @@ fn parts_read<A: Allocator>(
     Ok(parts)
 }
 
-/// Pushes a part if it's chosen.
 pub(crate) fn push_if<A: Allocator>(
     parts: &mut Vec<Part, A>,
     part: Part,

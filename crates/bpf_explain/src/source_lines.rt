@@ -1,10 +1,9 @@
 //! Lines of source code, each with the place in the program that it belongs to.
-ghost use Rattle.std.specs.Prelude.{◌≡◌, ◌<◌, ◌≤◌, ◌+◌, ◌==◌, ◌∷◌, ◌++◌, [], IfOk, IfSome, OnOk, MatchResult, Ok, Err, length, map, option_map};
-ghost use Rattle.std.specs.List.{position};
-ghost use Rattle.std.specs.Str.Lines.{lines, strip_carriage_return};
+ghost use Rattle.std.specs.Prelude.{◌≡◌, ◌≤◌, ◌+◌, ◌∷◌, ◌++◌, [], IfOk, IfSome, OnOk, MatchResult, Ok, Err, map, option_map};
 ghost use Rattle.bpf_explain.specs.LinesFault as line_fault;
-ghost use Rattle.bpf_explain.specs.SourceLines.{IsChecked, checked, is_digit, line_in, line_of, lines_in, next_place, parts_of, place_from, place_in};
+ghost use Rattle.bpf_explain.specs.SourceLines.{IsChecked, checked, line_in, line_of, lines_in, next_place, parts_of, place_from, place_in};
 
+use bpf_text::first_line;
 use refusals::{Fault, Refusal};
 use std::alloc::{AllocError, Allocator};
 use thiserror::Error;
@@ -15,15 +14,15 @@ pub const GREATEST_PLACE: usize = 65_535;
 /// The greatest number of decimal digits of a place.
 pub const PLACE_DIGITS: usize = 5;
 
-/// A line of source code.
+/// A line of source code, with its place.
 #[derive(Clone, Copy)]
-pub(crate) struct Line<'a> {
+pub(crate) struct PlacedLine<'a> {
     /// The place that the line belongs to, in words from 0.
     pub place: usize,
     pub text: &'a str,
 }
 
-/// The flaw of a line. The derived text is for people.
+/// The flaw of a line.
 #[derive(Clone, Copy, Debug, PartialEq, Eq, Error)]
 pub enum LineFlaw {
     #[error("the line isn't UTF-8")]
@@ -34,7 +33,7 @@ pub enum LineFlaw {
     OutOfOrder,
 }
 
-/// Why a file of source lines can't be used. The derived text is for people.
+/// Why a file of source lines can't be used.
 #[derive(Clone, Copy, Debug, PartialEq, Eq, Error)]
 #[error("line {line}: {flaw}")]
 pub struct LinesFault {
@@ -67,7 +66,7 @@ impl Fault for LinesFault {
 }
 
 /// The lines of a file without a fault. Each consists of a place of up to five decimal digits, a tab and a text; the places don't decrease. Lines
-/// end in LF or CR LF, which the last line may lack.
+/// end in LF or CR LF, which is optional after the last one.
 #[derive(Clone, Copy)]
 pub struct SourceLines<'a> {
     file: &'a [u8],
@@ -92,7 +91,10 @@ impl<'a> SourceLines<'a> {
     }
 
     /// Returns the lines, or none if the file has a fault.
-    pub(crate) fn read<A: Allocator + Copy>(self, alloc: A) -> Result<Vec<Line<'a>, A>, AllocError>
+    pub(crate) fn read<A: Allocator + Copy>(
+        self,
+        alloc: A,
+    ) -> Result<Vec<PlacedLine<'a>, A>, AllocError>
         ensures { IfOk result (λ lines. map line_of lines.items ≡ parts_of self.entry) }
     {
         let mut lines = Vec::new(alloc);
@@ -106,22 +108,25 @@ impl<'a> SourceLines<'a> {
             let Ok(read) = checked(number, last, line) else {
                 return Ok(Vec::new(alloc));
             };
-            keep(&mut lines, read)?;
+            push_line(&mut lines, read)?;
             last = read.place;
         }
         Ok(lines)
     }
 }
 
-fn keep<'a, A: Allocator>(lines: &mut Vec<Line<'a>, A>, line: Line<'a>) -> Result<(), AllocError>
+fn push_line<'a, A: Allocator>(
+    lines: &mut Vec<PlacedLine<'a>, A>,
+    line: PlacedLine<'a>,
+) -> Result<(), AllocError>
     ensures { OnOk result (lines.new.items ≡ lines.old.items ++ (line.entry ∷ [])) }
 {
     lines.push(line)?;
     Ok(())
 }
 
-/// Returns a line's place and text, given the place of the line above it.
-fn checked(number: usize, last: usize, line: &[u8]) -> Result<Line<'_>, LinesFault>
+/// Reads a line, given its number and the place of the line above it.
+fn checked(number: usize, last: usize, line: &[u8]) -> Result<PlacedLine<'_>, LinesFault>
     ensures { IsChecked number (checked last line.now) result }
 {
     match check(last, line) {
@@ -131,7 +136,7 @@ fn checked(number: usize, last: usize, line: &[u8]) -> Result<Line<'_>, LinesFau
 }
 
 #[tactic(auto, unfolding(crate::specs::SourceLines::checked))]
-fn check(last: usize, line: &[u8]) -> Result<Line<'_>, LineFlaw>
+fn check(last: usize, line: &[u8]) -> Result<PlacedLine<'_>, LineFlaw>
     ensures { MatchResult result (λ read. checked last line.now ≡ Ok (line_of read)) (λ flaw. checked last line.now ≡ Err flaw) }
 {
     let Ok(text) = str::from_utf8(line) else {
@@ -144,17 +149,17 @@ fn check(last: usize, line: &[u8]) -> Result<Line<'_>, LineFlaw>
     }
 }
 
-/// Returns the place and the text of a line.
+/// Splits a line at its first tab.
 #[tactic(auto, unfolding(crate::specs::SourceLines::line_in))]
-fn line_in(text: &str) -> Option<Line<'_>>
+fn line_in(text: &str) -> Option<PlacedLine<'_>>
     ensures { option_map line_of result ≡ line_in text.now }
 {
     let (digits, text) = text.split_once('\t')?;
     let place = place_in(digits.as_bytes())?;
-    Some(Line { place, text })
+    Some(PlacedLine { place, text })
 }
 
-/// Returns the place written in one to five decimal digits.
+/// Reads one to five decimal digits.
 #[tactic(auto, unfolding(crate::specs::SourceLines::place_in))]
 fn place_in(digits: &[u8]) -> Option<usize>
     ensures { result ≡ place_in digits.now }
@@ -175,51 +180,16 @@ fn place_from(digits: &[u8]) -> Option<usize>
     Some(place)
 }
 
-/// Returns a place with one more decimal digit.
+/// Appends a decimal digit to a place.
 #[tactic(auto, unfolding(crate::specs::SourceLines::next_place))]
 fn next_place(place: usize, digit: u8) -> Option<usize>
     requires { place ≤ GREATEST_PLACE }
     ensures value { result ≡ next_place place digit }
     ensures within { IfSome result (λ next. next ≤ GREATEST_PLACE) }
 {
-    if !is_digit(digit) {
+    if !digit.is_ascii_digit() {
         return None;
     }
     let next = 10 * place + usize::from(digit - b'0');
     (next <= GREATEST_PLACE).then_some(next)
-}
-
-fn is_digit(byte: u8) -> bool
-    ensures { result ≡ is_digit byte }
-{
-    b'0' <= byte && byte <= b'9'
-}
-
-/// Returns the first line of a text that isn't empty, without its line end, and the rest of the text.
-fn first_line(text: &[u8]) -> (&[u8], &[u8])
-    requires { 0 < length text.now }
-    ensures cut { lines text.now ≡ result.0.now ∷ lines result.1.now }
-    ensures shorter { length result.1.now < length text.now }
-{
-    match find_line_feed(text) {
-        Some(end) => (without_carriage_return(&text[..end]), &text[end + 1..]),
-        None => (text, &[]),
-    }
-}
-
-fn find_line_feed(text: &[u8]) -> Option<usize>
-    ensures value { result ≡ position (λ byte. byte == 10) text.now }
-    ensures within { IfSome result (λ index. index < length text.now) }
-{
-    text.iter().position(|byte| *byte == b'\n')
-}
-
-/// Returns a line without the carriage return of its line end.
-fn without_carriage_return(line: &[u8]) -> &[u8]
-    ensures { result.now ≡ strip_carriage_return line.now }
-{
-    match line {
-        [front @ .., b'\r'] => front,
-        _ => line,
-    }
 }

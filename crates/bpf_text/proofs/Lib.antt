@@ -1,5 +1,5 @@
 pub mod LineCutLemmas
-pub mod LineLemmas
+pub mod OperandPairLemmas
 pub mod NoteLemmas
 pub mod NumberLemmas
 pub mod OperandLemmas
@@ -10,7 +10,7 @@ pub mod ReadRowLemmas
 pub mod ReadValueLemmas
 pub mod ReadWideLemmas
 pub mod RoundTripLemmas
-pub mod SpelledLemmas
+pub mod HexadecimalLemmas
 pub mod StatementLemmas
 pub mod TableLemmas
 pub mod WordLemmas

@@ -20,7 +20,7 @@ use Rattle.bpf_insn.specs.declared.instruction.Insn.{Insn}
 use Rattle.bpf_text.specs.declared.assembler.Item.{Item}
 use Rattle.bpf_insn.specs.declared.code.TheConstants.{WORD_LIMIT}
 use Rattle.bpf_text.specs.declared.fault.TextFlaw.{TextFlaw}
-use Rattle.bpf_text.specs.Line.{Statement, Blank, Label, Instruction, statement_in}
+use Rattle.bpf_text.specs.Statement.{Statement, Blank, Label, Instruction, statement_in}
 use Rattle.bpf_text.specs.Text as text
 use Rattle.bpf_text.specs.Text.{words_of, label_place, items_from, item, fault_after, refusal_after, HasFirstFaultAt, onto_code, code_from}
 use Rattle.bpf_text.specs.Text.{resolve, resolve_at, jump_to, jump_by, at_distance}
@@ -201,15 +201,15 @@ items-at items i d inside =
     let cut : drop i items ≡ get_or items i d ∷ drop (i + 1) items = rw add-one (drop-cons items i d inside) in
     ap (map item_view) cut
 
-pub code-more : (statements : List Statement) (items : List Item) (i : ℕ) {it : Item} {new : List Insn} (old : List Insn) {insn : Insn}
-    → i < length items → it ≡ get_or items i it → resolve statements (item_view it) ≡ Ok insn → new ≡ old ++ insn ∷ []
-    → with_front new (code_from statements (map item_view (drop (i + 1) items)))
+pub code-more : (statements : List Statement) (items : List Item) (i : ℕ) {it : Item} (old : List Insn) {insn : Insn}
+    → i < length items → it ≡ get_or items i it → resolve statements (item_view it) ≡ Ok insn
+    → with_front (old ++ insn ∷ []) (code_from statements (map item_view (drop (i + 1) items)))
     ≡ with_front old (code_from statements (map item_view (drop i items)))
-code-more statements items i {it} old {insn} inside is means adds =
+code-more statements items i {it} old inside is means =
     let rest = code_from statements (map item_view (drop (i + 1) items)) in
     let at : map item_view (drop i items) ≡ item_view it ∷ map item_view (drop (i + 1) items) =
     items-at items i it inside ∙ ap (λ (x : Item). item_view x ∷ map item_view (drop (i + 1) items)) (sym is) in
-    ap (λ (xs : List Insn). with_front xs rest) adds ∙ with-front-more old it.line insn rest
+    with-front-more old it.line _ rest
     ∙ ap (λ (r : Result Insn TextFlaw). with_front old (onto_code it.line r rest)) (sym means)
     ∙ ap (λ (xs : List text.Item). with_front old (code_from statements xs)) (sym at)
 

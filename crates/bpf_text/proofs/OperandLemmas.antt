@@ -21,7 +21,3 @@ writable_if-same r false is = absurd (false≢true (sym is ∙ le-leb r.number 9
 
 pub writable_at-same : (r : WritableRegister) → writable_at r.number ≡ Some r
 writable_at-same r = writable_if-same r _ refl
-
-writable_if-none : (number : ℕ) (test : Bool) (is : nat_le number 9 ≡ test) → 10 ≤ number → writable_if number test is ≡ None
-writable_if-none number true is above = absurd (omega (arith, leb-true number 9 is))
-writable_if-none number false is above = refl

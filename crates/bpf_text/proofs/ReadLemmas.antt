@@ -61,18 +61,18 @@ pub record IsFramed (xs : List ℕ) : Type 0 where
   pub begins : starts xs ≡ true
   pub ends : starts (reverse xs) ≡ true
 
-kept-by : (byte : ℕ) (bytes : List ℕ) (test : Bool) → is_blank byte ≡ test → not test ≡ true → trim_start (byte ∷ bytes) ≡ byte ∷ bytes
-kept-by byte bytes true is kept = cc
-kept-by byte bytes false is kept = rw is refl
+trim_start-by : (byte : ℕ) (bytes : List ℕ) (test : Bool) → is_blank byte ≡ test → not test ≡ true → trim_start (byte ∷ bytes) ≡ byte ∷ bytes
+trim_start-by byte bytes true is begins = cc
+trim_start-by byte bytes false is begins = rw is refl
 
-starts-kept : (xs : List ℕ) → starts xs ≡ true → trim_start xs ≡ xs
-starts-kept [] begins = refl
-starts-kept (byte ∷ bytes) begins = kept-by byte bytes (is_blank byte) refl begins
+trim_start-same : (xs : List ℕ) → starts xs ≡ true → trim_start xs ≡ xs
+trim_start-same [] begins = refl
+trim_start-same (byte ∷ bytes) begins = trim_start-by byte bytes (is_blank byte) refl begins
 
 pub trim-framed : (xs : List ℕ) → IsFramed xs → trim xs ≡ xs
 trim-framed xs framed =
-    ap (λ (ys : List ℕ). reverse (trim_start (reverse ys))) (starts-kept xs framed.begins)
-    ∙ ap reverse (starts-kept (reverse xs) framed.ends) ∙ reverse-reverse xs
+    ap (λ (ys : List ℕ). reverse (trim_start (reverse ys))) (trim_start-same xs framed.begins)
+    ∙ ap reverse (trim_start-same (reverse xs) framed.ends) ∙ reverse-reverse xs
 
 starts-append : (xs ys : List ℕ) → 1 ≤ length xs → starts xs ≡ true → starts (xs ++ ys) ≡ true
 starts-append [] ys some begins = absurd (omega arith)

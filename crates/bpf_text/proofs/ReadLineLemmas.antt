@@ -12,9 +12,9 @@ use Rattle.bpf_text.specs.declared.fault.TextFlaw.TheVariants.{Syntax}
 use Rattle.bpf_text.specs.Words.{is_blank, is_comma, is_semicolon, trim, content_of, first_word, after_word, is_mnemonic_byte}
 use Rattle.bpf_text.specs.Words.{split_operand}
 use Rattle.bpf_text.specs.Operand.{both}
-use Rattle.bpf_text.specs.Line.{statement_in, statement_of, instruction_with, instruction_of, two, with_two}
+use Rattle.bpf_text.specs.Statement.{statement_in, statement_of, instruction_with, instruction_of, two, with_two}
 use Rattle.bpf_text.specs.Mnemonic.{form_named}
-use Rattle.bpf_text.proofs.LineLemmas.{statement-of-instruction}
+use Rattle.bpf_text.proofs.OperandPairLemmas.{statement-of-instruction}
 use Rattle.bpf_text.proofs.ReadLemmas.{all-by, all-append, place-at, before-at, after-at, before-none, IsFramed, trim-framed, framed-join}
 use Rattle.bpf_text.proofs.ReadLemmas.{framed-word}
 
@@ -89,8 +89,8 @@ cut-operands xs ys word others =
 
 pub two-operands : {A B : Type 0} (left : List ℕ → Result A TextFlaw) (right : List ℕ → Result B TextFlaw) {xs ys : List ℕ} {a : A} {b : B}
     → IsWord xs → AreOperands ys → left xs ≡ Ok a → right ys ≡ Ok b → two left right ((xs ++ codes ", ") ++ ys) ≡ Ok (a, b)
-two-operands left right {xs} {ys} {a} word others first second =
-    ap (with_two left right) (cut-operands xs ys word others) ∙ ap (λ (r : Result _ TextFlaw). both r (right ys)) first
+two-operands left right {ys} {a} word others first second =
+    ap (with_two left right) (cut-operands _ ys word others) ∙ ap (λ (r : Result _ TextFlaw). both r (right ys)) first
     ∙ ap (λ (r : Result _ TextFlaw). both (Ok a) r) second
 
 instruction-by : (content name ops : List ℕ) → first_word content ≡ name → after_word content ≡ ops → list_all is_mnemonic_byte name ≡ true

@@ -16,7 +16,7 @@ use Rattle.bpf_text.specs.declared.fault.TextFlaw.TheVariants.{Syntax}
 use Rattle.bpf_text.specs.Number.{and_then, is_digit, decimal_in, positive, negative, signed_in}
 use Rattle.bpf_text.specs.Operand.{register_name, register_number, register_named, register_at, register_in, option_and_then, or_fault}
 use Rattle.bpf_text.specs.Operand.{source_in, source_with}
-use Rattle.bpf_text.specs.Spelled.{signed_text}
+use Rattle.bpf_text.specs.CodeText.{signed_text}
 use Rattle.bpf_text.proofs.OperandLemmas.{register_at-same}
 use Rattle.bpf_text.proofs.ReadLemmas.{all-by}
 use Rattle.bpf_text.proofs.ReadLineLemmas.{IsWord, is_word_byte}

@@ -27,10 +27,10 @@ use Rattle.bpf_text.specs.Number.{and_then, immediate_in, wide_in, limit_of_16_b
 use Rattle.bpf_text.specs.Words.{is_mnemonic_byte}
 use Rattle.bpf_text.specs.Mnemonic.{name_of}
 use Rattle.bpf_text.specs.Operand.{register_name, register_in, source_in, memory_in, target_in, or_fault}
-use Rattle.bpf_text.specs.Line.{Statement, Instruction, statement_in, instruction_with, instruction_in, plain, writing, two, low_half}
-use Rattle.bpf_text.specs.Line.{high_half}
-use Rattle.bpf_text.specs.Spelled.{line_text, operands_text, form_of, source_text, signed_text, memory_text, wide_text, IsReadBack}
-use Rattle.bpf_text.specs.Spelled.{NumbersFit, SourceFits}
+use Rattle.bpf_text.specs.Statement.{Statement, Instruction, statement_in, instruction_with, instruction_in, plain, writing, two, low_half}
+use Rattle.bpf_text.specs.Statement.{high_half}
+use Rattle.bpf_text.specs.CodeText.{line_text, operands_text, form_of, source_text, signed_text, memory_text, wide_text, IsReadBack}
+use Rattle.bpf_text.specs.CodeText.{NumbersFit, SourceFits}
 use Rattle.bpf_text.proofs.OperandLemmas.{writable_at-same}
 use Rattle.bpf_text.proofs.TableLemmas.{named, mnemonic}
 use Rattle.bpf_text.proofs.ReadLemmas.{all-by, all-append}

@@ -16,7 +16,7 @@ use Rattle.bpf_text.specs.Words.{is_sign, is_label}
 use Rattle.bpf_text.specs.Number.{and_then, is_digit, negative, signed_in, immediate_in, is_hexadecimal, limit_of_16_bits, limit_of_32_bits}
 use Rattle.bpf_text.specs.Operand.{register_name, register_number, register_at, register_in, option_and_then, source_in, source_with}
 use Rattle.bpf_text.specs.Operand.{target_in, both, offset_in, address_in, memory_in}
-use Rattle.bpf_text.specs.Spelled.{signed_text, memory_text}
+use Rattle.bpf_text.specs.CodeText.{signed_text, memory_text}
 use Rattle.bpf_text.proofs.WordLemmas.{memory-bracketed}
 use Rattle.bpf_text.proofs.ReadLemmas.{all-append, place-at, before-at}
 use Rattle.bpf_text.proofs.ReadLineLemmas.{IsWord, is_word_byte}
@@ -68,16 +68,16 @@ immediate-back (negsuc n) low high =
     ap (λ (r : Result ℕ TextFlaw). and_then r (negative limit_of_32_bits)) (decimal-back (suc n) small)
     ∙ negative-back limit_of_32_bits n within
 
-word-behind : (byte n : ℕ) → is_word_byte byte ≡ true → n < 2 ^ 64 → IsWord (byte ∷ decimal n)
-word-behind byte n is small = record { some = omega arith; bytes = and_from _ _ is (word-of-decimal n small).bytes }
+word-of-prefixed : (byte n : ℕ) → is_word_byte byte ≡ true → n < 2 ^ 64 → IsWord (byte ∷ decimal n)
+word-of-prefixed byte n is small = record { some = omega arith; bytes = and_from _ _ is (word-of-decimal n small).bytes }
 
 pub word-of-immediate : (value : ℤ) → neg_ℤ (pos limit_of_32_bits) ≤ℤ value → value <ℤ pos limit_of_32_bits → IsWord (signed_decimal value)
 word-of-immediate (pos n) low high = word-of-decimal n (omega (arith, ints, high))
-word-of-immediate (negsuc n) low high = word-behind 45 (suc n) refl (omega (arith, ints, low))
+word-of-immediate (negsuc n) low high = word-of-prefixed 45 (suc n) refl (omega (arith, ints, low))
 
 pub word-of-signed : (value : ℤ) → neg_ℤ (pos limit_of_32_bits) ≤ℤ value → value <ℤ pos limit_of_32_bits → IsWord (signed_text value)
-word-of-signed (pos n) low high = word-behind 43 n refl (omega (arith, ints, high))
-word-of-signed (negsuc n) low high = word-behind 45 (suc n) refl (omega (arith, ints, low))
+word-of-signed (pos n) low high = word-of-prefixed 43 n refl (omega (arith, ints, high))
+word-of-signed (negsuc n) low high = word-of-prefixed 45 (suc n) refl (omega (arith, ints, low))
 
 no-register-immediate : (value : ℤ) → neg_ℤ (pos limit_of_32_bits) ≤ℤ value → value <ℤ pos limit_of_32_bits
     → register_number (signed_decimal value) ≡ None

@@ -11,7 +11,7 @@ use Rattle.std.proofs.Math.Pow.{pow-add, pow_pos}
 use Rattle.bpf_text.specs.declared.fault.TextFlaw.{TextFlaw}
 use Rattle.bpf_text.specs.declared.fault.TextFlaw.TheVariants.{Syntax}
 use Rattle.bpf_text.specs.Number.{is_digit, wide_in}
-use Rattle.bpf_text.specs.Spelled.{hexadecimal, wide_text}
+use Rattle.bpf_text.specs.CodeText.{hexadecimal, wide_text}
 use Rattle.bpf_text.proofs.ReadLemmas.{all-by}
 use Rattle.bpf_text.proofs.ReadLineLemmas.{IsWord, is_word_byte}
 
@@ -21,7 +21,7 @@ digit-back d small = grind (arith, nat_tests)
 hex-is-word : (byte : ℕ) → is_digit 16 byte ≡ true → is_word_byte byte ≡ true
 hex-is-word byte is = grind (arith, nat_tests)
 
-hexadecimal-length : (k n : ℕ) → length (hexadecimal k n) ≡ k
+pub hexadecimal-length : (k n : ℕ) → length (hexadecimal k n) ≡ k
 unfolding hexadecimal
 hexadecimal-length zero n = refl
 hexadecimal-length (suc k) n = ap suc (hexadecimal-length k n)

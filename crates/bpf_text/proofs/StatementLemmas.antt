@@ -12,7 +12,7 @@ use Rattle.bpf_insn.specs.declared.instruction.Insn.{Insn}
 use Rattle.bpf_text.specs.declared.fault.TextFlaw.{TextFlaw}
 use Rattle.bpf_text.specs.declared.fault.TextFault.{TextFault}
 use Rattle.bpf_text.specs.declared.fault.TextFault.TheVariants.{InLine, Memory}
-use Rattle.bpf_text.specs.Line.{Statement, Blank, Label, Instruction, statement_in}
+use Rattle.bpf_text.specs.Statement.{Statement, Blank, Label, Instruction, statement_in}
 use Rattle.bpf_text.specs.Text.{words_of, label_from, Item, item, items_from, fault_after, refusal_after, FaultlessAfter, code_of}
 use Rattle.bpf_text.specs.Text.{HasStatements, Means, HasFirstFaultAt, IsFirstFault}
 

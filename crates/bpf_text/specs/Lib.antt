@@ -2,11 +2,11 @@ pub mod Words
 pub mod Number
 pub mod Mnemonic
 pub mod Operand
-pub mod Line
+pub mod Statement
 pub mod View
 pub mod Text
 pub mod Notes
-pub mod Spelled
+pub mod CodeText
 pub mod TextFlaw
 pub mod TextFault
 pub mod SourceFault

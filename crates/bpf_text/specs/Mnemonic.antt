@@ -2,11 +2,13 @@
 use Rattle.std.specs.Prelude.{ℕ, List, [], ◌++◌, find, codes, Option}
 use Rattle.std.specs.Str.{bytes_eq}
 use Rattle.bpf_insn.specs.declared.instruction.Operation.{Operation}
-use Rattle.bpf_insn.specs.declared.instruction.Operation.TheVariants.{Add, Subtract, Multiply, Divide, SignedDivide, Or, And, ShiftLeft, ShiftRight, Modulo, SignedModulo, ExclusiveOr, Move, ArithmeticShiftRight}
+use Rattle.bpf_insn.specs.declared.instruction.Operation.TheVariants.{Add, Subtract, Multiply, Divide, SignedDivide, Or, And, ShiftLeft, ShiftRight, Modulo}
+use Rattle.bpf_insn.specs.declared.instruction.Operation.TheVariants.{SignedModulo, ExclusiveOr, Move, ArithmeticShiftRight}
 use Rattle.bpf_insn.specs.declared.instruction.Width.{Width}
 use Rattle.bpf_insn.specs.declared.instruction.Width.TheVariants.{Bits32, Bits64}
 use Rattle.bpf_insn.specs.declared.instruction.Condition.{Condition}
-use Rattle.bpf_insn.specs.declared.instruction.Condition.TheVariants.{Equal, Greater, GreaterOrEqual, SharesBit, NotEqual, SignedGreater, SignedGreaterOrEqual, Less, LessOrEqual, SignedLess, SignedLessOrEqual}
+use Rattle.bpf_insn.specs.declared.instruction.Condition.TheVariants.{Equal, Greater, GreaterOrEqual, SharesBit, NotEqual, SignedGreater, SignedGreaterOrEqual}
+use Rattle.bpf_insn.specs.declared.instruction.Condition.TheVariants.{Less, LessOrEqual, SignedLess, SignedLessOrEqual}
 use Rattle.bpf_insn.specs.declared.instruction.SignExtension.{SignExtension}
 use Rattle.bpf_insn.specs.declared.instruction.SignExtension.TheVariants.{Bits8To64, Bits16To64, Bits32To64, Bits8To32, Bits16To32}
 use Rattle.bpf_insn.specs.declared.instruction.ByteOrder.{ByteOrder}
@@ -18,7 +20,8 @@ use Rattle.bpf_insn.specs.declared.instruction.LoadFormat.TheVariants as load
 use Rattle.bpf_insn.specs.declared.instruction.StoreSize.{StoreSize}
 use Rattle.bpf_insn.specs.declared.instruction.StoreSize.TheVariants as store
 use Rattle.bpf_text.specs.declared.mnemonic_form.MnemonicForm.{MnemonicForm}
-use Rattle.bpf_text.specs.declared.mnemonic_form.MnemonicForm.TheVariants.{Alu, MoveSignExtended, Negate, ByteSwap, JumpIf, Jump, LongJump, Call, Exit, Load, StoreImmediate, Store, WideLoad}
+use Rattle.bpf_text.specs.declared.mnemonic_form.MnemonicForm.TheVariants.{Alu, MoveSignExtended, Negate, ByteSwap, JumpIf, Jump, LongJump, Call, Exit, Load}
+use Rattle.bpf_text.specs.declared.mnemonic_form.MnemonicForm.TheVariants.{StoreImmediate, Store, WideLoad}
 use Rattle.bpf_text.specs.declared.mnemonic_form.TheConstants.{FORMS}
 
 -- arithmetic (RFC 9669, section 4.1)
@@ -51,7 +54,7 @@ extension_name Bits32To64 = codes "movsx32"
 extension_name Bits8To32 = codes "movsx8_32"
 extension_name Bits16To32 = codes "movsx16_32"
 
--- byte swaps (section 4.2), and the number of bits that they keep
+-- byte swaps (section 4.2), and their numbers of bits
 abbrev pub order_name : ByteOrder → List ℕ
 order_name LittleEndian = codes "le"
 order_name BigEndian = codes "be"

@@ -10,7 +10,7 @@ use Rattle.bpf_text.specs.declared.assembler.Item.{Item}
 use Rattle.bpf_text.specs.declared.fault.TextFlaw.{TextFlaw}
 use Rattle.bpf_text.specs.declared.fault.TextFault.{TextFault}
 use Rattle.bpf_text.specs.declared.fault.TextFault.TheVariants.{InLine, Memory}
-use Rattle.bpf_text.specs.Line.{Statement, statement_in}
+use Rattle.bpf_text.specs.Statement.{Statement, statement_in}
 use Rattle.bpf_text.specs.View.{name_view}
 use Rattle.bpf_text.specs.Text as text
 use Rattle.bpf_text.specs.Text.{words_of, label_place, items_from, fault_after, refusal_after, FaultlessAfter, HasFirstFaultAt, HasStatements, resolve}
@@ -44,7 +44,7 @@ NotesLine before meaning line items labels words result = MatchResult result
     (λ _. (statement : Statement) × (meaning ≡ Ok statement) × (fault_after before statement ≡ None) × AreNotesOf items labels words (before ++ statement ∷ []))
     (λ fault. IsRefusal line (refusal_after before meaning) fault)
 
--- The notes after the first `lines_read` lines; `rest` is what is left of the text.
+-- The notes after the first `lines_read` lines; `rest` is the remaining text.
 pub record HasRead (text rest : List ℕ) (lines_read : ℕ) (items : List Item) (labels : List ℕ → Option ℕ) (words : ℕ) : Type 0 where
   pub statements : List Statement
   pub front : List (List ℕ)

@@ -1,5 +1,6 @@
 -- Numbers in program text.
-use Rattle.std.specs.Prelude.{ℕ, ℤ, pos, neg_ℤ, ◌≤ℤ◌, ◌<ℤ◌, Bool, ◌&&◌, ◌==◌, ◌^◌, nat_lt, nat_le, if◌then◌else◌, List, length, drop, slice_index, Result, Ok, Err}
+use Rattle.std.specs.Prelude.{ℕ, ℤ, pos, neg_ℤ, ◌≤ℤ◌, ◌<ℤ◌, Bool, ◌&&◌, ◌==◌, ◌^◌, nat_lt, nat_le, if◌then◌else◌, List, length, drop, slice_index, Result, Ok}
+use Rattle.std.specs.Prelude.{Err}
 use Rattle.std.specs.List.{list_all}
 use Rattle.std.specs.Char.{digit_value}
 use Rattle.std.specs.Int.{cast_signed, w32}

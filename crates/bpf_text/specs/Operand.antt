@@ -1,5 +1,6 @@
 -- The operands of an instruction in program text.
-use Rattle.std.specs.Prelude.{◌≡◌, ℕ, ℤ, pos, ◌-◌, Bool, true, false, ◌&&◌, ◌==◌, nat_le, if◌then◌else◌, List, [], length, drop, slice_index, slice_range, slice_index_or, map, Option, Some, None, Result, Ok, Err, refl}
+use Rattle.std.specs.Prelude.{◌≡◌, ℕ, ℤ, pos, ◌-◌, Bool, true, false, ◌&&◌, ◌==◌, nat_le, if◌then◌else◌, List, [], length, drop, slice_index, slice_range}
+use Rattle.std.specs.Prelude.{slice_index_or, map, Option, Some, None, Result, Ok, Err, refl}
 use Rattle.std.specs.List.{before_first, position, position_or_len}
 use Rattle.std.specs.Str.{bytes_eq}
 use Rattle.std.proofs.lemmas.Bool.{leb-true}

@@ -1,5 +1,6 @@
 -- The code that a program text means, and the first fault of a text that means none.
-use Rattle.std.specs.Prelude.{◌≡◌, ℕ, suc, ℤ, pos, negsuc, ◌-ℤ◌, ◌+◌, ◌≤◌, ◌⊎◌, ◌&&◌, Bool, nat_lt, int_lt, int_le, is_some, if◌then◌else◌, List, [], ◌∷◌, ◌++◌, length, map, Option, Some, None, Result, Ok, Err}
+use Rattle.std.specs.Prelude.{◌≡◌, ℕ, suc, ℤ, pos, negsuc, ◌-ℤ◌, ◌+◌, ◌≤◌, ◌⊎◌, ◌&&◌, Bool, nat_lt, int_lt, int_le, is_some, if◌then◌else◌, List, [], ◌∷◌, ◌++◌}
+use Rattle.std.specs.Prelude.{length, map, Option, Some, None, Result, Ok, Err}
 use Rattle.std.specs.Str.{bytes_eq}
 use Rattle.std.specs.Str.Lines.{lines}
 use Rattle.bpf_insn.specs.Form.{spelling}
@@ -11,9 +12,9 @@ use Rattle.bpf_text.specs.declared.fault.TextFlaw.{TextFlaw}
 use Rattle.bpf_text.specs.declared.fault.TextFlaw.TheVariants.{DoubleLabel, TooLong, NoInstruction, UnknownLabel, LabelTooFar}
 use Rattle.bpf_text.specs.declared.fault.TextFault.{TextFault}
 use Rattle.bpf_text.specs.declared.fault.TextFault.TheVariants.{InLine, Memory}
-use Rattle.bpf_text.specs.Line.{Statement, Blank, Label, Instruction, statement_in}
+use Rattle.bpf_text.specs.Statement.{Statement, Blank, Label, Instruction, statement_in}
 
--- the number of words that the instructions take: the place after them
+-- the number of words of the instructions: the place after them
 abbrev pub words_of : List Statement → ℕ
 words_of [] = 0
 words_of (Blank ∷ rest) = words_of rest
@@ -72,7 +73,7 @@ at_distance distance (Jump (Short offset)) = if fits_16_bits distance then Some 
 at_distance distance (Jump (Long offset)) = if fits_32_bits distance then Some (Jump (Long distance)) else None
 at_distance distance insn = Some insn
 
--- An instruction whose label is looked up among the statements. The distance counts from the word after the jump, which takes one word.
+-- An instruction whose label is looked up among the statements. The distance counts from the word after the jump, which is one word long.
 abbrev pub jump_by : Option Insn → Result Insn TextFlaw
 jump_by (Some insn) = Ok insn
 jump_by None = Err LabelTooFar

@@ -6,7 +6,8 @@ use Rattle.bpf_insn.specs.WordFault as word_fault
 use Rattle.bpf_insn.specs.declared.fault.CodeFault.TheVariants as code
 use Rattle.bpf_insn.specs.declared.fault.WordFault.TheVariants as word
 use Rattle.bpf_text.specs.declared.fault.TextFlaw.{TextFlaw}
-use Rattle.bpf_text.specs.declared.fault.TextFlaw.TheVariants.{Syntax, UnknownMnemonic, NumberRange, UnknownLabel, DoubleLabel, LabelTooFar, NoInstruction, TooLong, WritesFramePointer}
+use Rattle.bpf_text.specs.declared.fault.TextFlaw.TheVariants.{Syntax, UnknownMnemonic, NumberRange, UnknownLabel, DoubleLabel, LabelTooFar, NoInstruction}
+use Rattle.bpf_text.specs.declared.fault.TextFlaw.TheVariants.{TooLong, WritesFramePointer}
 
 -- a flaw in the code that the text means: its refusal's number is the detail
 abbrev pub of_code : RefusalParts → RefusalParts

@@ -1,11 +1,11 @@
--- The values that the assembler's values stand for: a borrowed name stands for its bytes.
+-- What the assembler's values mean: a borrowed name is its bytes.
 use Rattle.std.specs.Prelude.{ℕ, ℤ, List, option_map, Option, Result, Ok, Err}
 use denote.Ref.{Bor}
 use Rattle.bpf_insn.specs.declared.instruction.Source.{Source}
 use Rattle.bpf_text.specs.declared.fault.TextFlaw.{TextFlaw}
-use Rattle.bpf_text.specs.declared.line.Statement.{Statement}
-use Rattle.bpf_text.specs.declared.line.Statement.TheVariants.{Blank, Label, Instruction}
-use Rattle.bpf_text.specs.Line as line
+use Rattle.bpf_text.specs.declared.statement.Statement.{Statement}
+use Rattle.bpf_text.specs.declared.statement.Statement.TheVariants.{Blank, Label, Instruction}
+use Rattle.bpf_text.specs.Statement as line
 
 -- a borrowed name, if there is one
 abbrev pub name_view : Option (Bor (List ℕ)) → Option (List ℕ)

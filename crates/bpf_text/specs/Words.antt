@@ -52,4 +52,6 @@ is_label name =
 -- the operand before the first comma, and the text after the comma
 abbrev pub split_operand : List ℕ → Option (List ℕ × List ℕ)
 split_operand operands =
-    if nat_lt (position_or_len is_comma operands) (length operands) then Some (trim (before_first is_comma operands), trim (after_first is_comma operands)) else None
+    if nat_lt (position_or_len is_comma operands) (length operands)
+    then Some (trim (before_first is_comma operands), trim (after_first is_comma operands))
+    else None

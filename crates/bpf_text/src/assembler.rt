@@ -1,15 +1,14 @@
 //! The assembler: text to code in two passes, the first of which finds the places of labels.
-ghost use Rattle.std.specs.Prelude.{◌≡◌, ◌≢◌, IsErrAnd, ◌<◌, ◌≤◌, ◌+◌, ◌-ℤ◌, ◌⊎◌, ℕ, pos, suc, List, [], ◌∷◌, ◌==◌, length, Ok, Err, IfOk, IfErr, IfSome, MatchResult};
-ghost use Rattle.std.specs.List.{position};
-ghost use Rattle.std.specs.Str.Lines.{lines, strip_carriage_return};
+ghost use Rattle.std.specs.Prelude.{◌≡◌, ◌≢◌, IsErrAnd, ◌≤◌, ◌+◌, ◌-ℤ◌, ◌⊎◌, ℕ, pos, suc, List, length, Ok, IfOk, IfErr, MatchResult};
 ghost use Rattle.bpf_insn.specs.declared.instruction.Insn.{Insn};
-ghost use Rattle.bpf_text.specs.Line.{Statement as Meaning, Label, Instruction, statement_in};
+ghost use Rattle.bpf_text.specs.Statement.{Statement as Meaning, Label, Instruction, statement_in};
 ghost use Rattle.bpf_text.specs.View.{name_view};
 ghost use Rattle.bpf_text.specs.Text.{Means, IsFirstFault, at_distance, resolve, code_of, label_place};
 ghost use Rattle.bpf_text.specs.Notes.{item_view, AreNotesOf, places_in, NotesLine, HasNotes, ReadsNotes, PushesItem};
 
 use crate::fault::{TextFault, TextFlaw};
-use crate::line::Statement;
+use crate::statement::Statement;
+use crate::text_lines::first_line;
 use bpf_insn::{Code, CodeBuilder, Insn, JumpDistance, WORD_LIMIT};
 use std::alloc::Allocator;
 use std::collections::BTreeMap;
@@ -31,7 +30,7 @@ struct Notes<'a, A: Allocator> {
     items: Vec<Item<'a>, A>,
     /// The place of each label.
     labels: BTreeMap<&'a [u8], u32, A>,
-    /// The number of words that the instructions take.
+    /// The number of words of the instructions.
     words: usize,
 }
 
@@ -64,35 +63,6 @@ fn assemble_bytes<A: Allocator + Copy>(alloc: A, text: &[u8]) -> Result<Code<A>,
     }
 }
 
-/// Returns the first line of a text that isn't empty, without its line end, and the rest of the text.
-fn first_line(text: &[u8]) -> (&[u8], &[u8])
-    requires { 0 < length text.now }
-    ensures cut { lines text.now ≡ result.0.now ∷ lines result.1.now }
-    ensures shorter { length result.1.now < length text.now }
-{
-    match find_line_feed(text) {
-        Some(end) => (without_carriage_return(&text[..end]), &text[end + 1..]),
-        None => (text, &[]),
-    }
-}
-
-fn find_line_feed(text: &[u8]) -> Option<usize>
-    ensures value { result ≡ position (λ byte. byte == 10) text.now }
-    ensures within { IfSome result (λ index. index < length text.now) }
-{
-    text.iter().position(|byte| *byte == b'\n')
-}
-
-/// Returns a line without the carriage return of its line end.
-fn without_carriage_return(line: &[u8]) -> &[u8]
-    ensures { result.now ≡ strip_carriage_return line.now }
-{
-    match line {
-        [front @ .., b'\r'] => front,
-        _ => line,
-    }
-}
-
 impl<'a, A: Allocator + Copy> Notes<'a, A> {
     /// Runs the first pass.
     fn read(alloc: A, text: &'a [u8]) -> Result<Notes<'a, A>, TextFault>
@@ -119,7 +89,8 @@ impl<'a, A: Allocator + Copy> Notes<'a, A> {
     fn add(&mut self, number: usize, line: &'a [u8]) -> Result<(), TextFault>
         requires { self.old.words ≤ WORD_LIMIT }
         ensures within { self.new.words ≤ WORD_LIMIT }
-        ensures noted { (before : List Meaning) → AreNotesOf self.old.items.items (places_in self.old.labels) self.old.words before → number ≡ suc (length before)
+        ensures noted { (before : List Meaning) → AreNotesOf self.old.items.items (places_in self.old.labels) self.old.words before
+            → number ≡ suc (length before)
             → NotesLine before (statement_in line.now) number self.new.items.items (places_in self.new.labels) self.new.words result }
     {
         match Statement::read(line) {

@@ -7,7 +7,8 @@ ghost use Rattle.bpf_insn.specs.Arithmetic.{wide_number};
 ghost use Rattle.bpf_text.specs.Number.{IsWithin, limit_of_16_bits, limit_of_32_bits};
 ghost use Rattle.bpf_text.specs.Operand.{register_name};
 ghost use Rattle.bpf_text.specs.Text.{Means};
-ghost use Rattle.bpf_text.specs.Spelled.{text_of, line_text, operands_text, form_of, signed_text, source_text, memory_text, wide_text, hexadecimal, one, two, three, NumbersFit, SourceFits};
+ghost use Rattle.bpf_text.specs.CodeText.{text_of, line_text, operands_text, form_of, signed_text, source_text, memory_text, wide_text, hexadecimal, one, two};
+ghost use Rattle.bpf_text.specs.CodeText.{three, NumbersFit, SourceFits};
 
 use crate::mnemonic_form::MnemonicForm;
 use crate::operand::register_name;
@@ -23,7 +24,7 @@ pub fn disassemble<A: Allocator + Copy, B: Allocator>(
     ensures exact { IfOk result (λ text. string_bytes text ≡ text_of code.now) }
     ensures means { IfOk result (λ text. Means (string_bytes text) code.now) }
 {
-    // A line takes about twenty bytes.
+    // A line is about twenty bytes long.
     let mut text = String::with_capacity(alloc, code.words() * 20)?;
     let instructions = code.instructions();
     for insn in instructions {
@@ -49,7 +50,6 @@ pub fn push_instruction<A: Allocator>(text: &mut String<A>, insn: Insn) -> Resul
     push_operands(text, insn)
 }
 
-/// Returns the form of an instruction.
 fn form_of(insn: Insn) -> MnemonicForm
     ensures { result ≡ form_of insn }
 {
@@ -287,15 +287,14 @@ fn push_signed<A: Allocator>(text: &mut String<A>, number: i32) -> Result<(), Al
 fn push_hexadecimal<A: Allocator>(text: &mut String<A>, number: u64) -> Result<(), AllocError>
     ensures { OnOk result (string_bytes text.new ≡ string_bytes text.old ++ hexadecimal 16 number) }
 {
-    let mut left = 16u32;
-    while left > 0 {
-        left -= 1;
-        text.push_str(digit((number >> (4 * left)) % 16))?;
+    let mut remaining = 16u32;
+    while remaining > 0 {
+        remaining -= 1;
+        text.push_str(digit((number >> (4 * remaining)) % 16))?;
     }
     Ok(())
 }
 
-/// Returns a hexadecimal digit.
 fn digit(value: u64) -> &'static str
     requires { value < 16 }
     ensures { result.now ≡ digit_char value ∷ [] }

@@ -13,7 +13,7 @@ use refusals::{Fault, Refusal};
 use std::alloc::{AllocError, AllocFailed};
 use thiserror::Error;
 
-/// The flaw of a line of program text. The derived text is for people.
+/// The flaw of a line of program text.
 #[derive(Clone, Copy, Debug, PartialEq, Eq, Error)]
 pub enum TextFlaw {
     #[error("no label, and no mnemonic with its operands")]

@@ -164,7 +164,6 @@ impl MnemonicForm {
             .find(|form| form.name().as_bytes() == word)
     }
 
-    /// Returns the form's mnemonic.
     pub(crate) fn name(self) -> &'static str
         ensures { result.now ≡ name_of self }
     {

@@ -1,6 +1,7 @@
 //! Numbers in program text.
 ghost use Rattle.std.specs.Prelude.{◌≡◌, ◌≤◌, ◌<◌, ◌^◌, true, false, drop, IfOk, MatchOption};
-ghost use Rattle.bpf_text.specs.Number.{IsWithin, number_in, decimal_in, positive, negative, signed_in, is_hexadecimal, immediate_in, wide_in, limit_of_16_bits, limit_of_32_bits};
+ghost use Rattle.bpf_text.specs.Number.{IsWithin, number_in, decimal_in, positive, negative, signed_in, is_hexadecimal, immediate_in, wide_in};
+ghost use Rattle.bpf_text.specs.Number.{limit_of_16_bits, limit_of_32_bits};
 
 use crate::fault::TextFlaw;
 

@@ -2,7 +2,8 @@
 ghost use Rattle.std.specs.Prelude.{◌≡◌, ◌<◌, IfSome, length};
 ghost use Rattle.std.specs.List.{position};
 ghost use Rattle.std.specs.Str.{bytes_eq};
-ghost use Rattle.bpf_text.specs.Operand.{both, form_first, register_name, register_number, register_named, register_in, destination_of, source_in, offset_in, address_in, memory_in, target_in};
+ghost use Rattle.bpf_text.specs.Operand.{both, form_first, register_name, register_number, register_named, register_in, destination_of, source_in, offset_in};
+ghost use Rattle.bpf_text.specs.Operand.{address_in, memory_in, target_in};
 ghost use Rattle.bpf_text.specs.Number.{limit_of_16_bits, limit_of_32_bits};
 ghost use Rattle.bpf_text.specs.View.{target_view};
 
@@ -44,7 +45,6 @@ fn form_first(flaw: TextFlaw, other: TextFlaw) -> TextFlaw
     }
 }
 
-/// Returns the number of the register that a word names.
 fn register_number(word: &[u8]) -> Option<usize>
     ensures value { result ≡ register_number word.now }
     ensures within { IfSome result (λ number. number < 11) }
@@ -59,14 +59,12 @@ fn index_of(names: &[&str], word: &[u8]) -> Option<usize>
     names.iter().position(|name| name.as_bytes() == word)
 }
 
-/// Returns a register's name.
 pub(crate) fn register_name(register: Register) -> &'static str
     ensures { result.now ≡ register_name register.number }
 {
     REGISTER_NAMES[usize::from(register.number)]
 }
 
-/// Returns the register that a word names.
 fn register_named(word: &[u8]) -> Option<Register>
     ensures { result ≡ register_named word.now }
 {
@@ -74,7 +72,6 @@ fn register_named(word: &[u8]) -> Option<Register>
     Some(Register { number })
 }
 
-/// Reads a register.
 pub(crate) fn register_in(word: &[u8]) -> Result<Register, TextFlaw>
     ensures { result ≡ register_in word.now }
 {
@@ -84,7 +81,7 @@ pub(crate) fn register_in(word: &[u8]) -> Result<Register, TextFlaw>
     }
 }
 
-/// Returns the register as one that an instruction may write.
+/// Refuses register 10, which no instruction writes.
 pub(crate) fn destination_of(register: Register) -> Result<WritableRegister, TextFlaw>
     ensures { result ≡ destination_of register }
 {
@@ -105,7 +102,7 @@ pub(crate) fn source_in(word: &[u8]) -> Result<Source, TextFlaw>
     }
 }
 
-/// Reads an offset, which may be left out.
+/// Reads an offset; an empty text is the offset 0.
 fn offset_in(text: &[u8]) -> Result<i16, TextFlaw>
     ensures { result ≡ offset_in text.now }
 {

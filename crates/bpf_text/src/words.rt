@@ -1,7 +1,8 @@
 //! The words of a line of program text.
 ghost use Rattle.std.specs.Prelude.{◌≡◌, ◌<◌, length, reverse, option_map, IfSome};
 ghost use Rattle.std.specs.List.{list_all, position};
-ghost use Rattle.bpf_text.specs.Words.{is_blank, is_semicolon, is_comma, is_sign, trim_start, trim, content_of, first_word, after_word, is_mnemonic_byte, is_label_byte, is_label, split_operand};
+ghost use Rattle.bpf_text.specs.Words.{is_blank, is_semicolon, is_comma, is_sign, trim_start, trim, content_of, first_word, after_word, is_mnemonic_byte};
+ghost use Rattle.bpf_text.specs.Words.{is_label_byte, is_label, split_operand};
 
 const LABEL_LIMIT: usize = 32;
 
@@ -98,14 +99,14 @@ pub(crate) fn find_sign(text: &[u8]) -> Option<usize>
     text.iter().position(|byte| *byte == b'+' || *byte == b'-')
 }
 
-/// Returns whether a word consists of small letters, digits and underscores, as mnemonics do.
+/// A mnemonic consists of lowercase letters, digits and underscores.
 pub(crate) fn is_mnemonic(word: &[u8]) -> bool
     ensures { result ≡ list_all is_mnemonic_byte word.now }
 {
     word.iter().all(|byte| byte.is_ascii_lowercase() || byte.is_ascii_digit() || *byte == b'_')
 }
 
-/// Returns whether a name is valid for a label.
+/// A label has 1 to 32 letters, digits and underscores, and doesn't begin with a digit.
 pub(crate) fn is_label(name: &[u8]) -> bool
     ensures { result ≡ is_label name.now }
 {

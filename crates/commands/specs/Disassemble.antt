@@ -5,7 +5,7 @@ use Rattle.bpf_insn.specs.Code.{IsCodeOf, IsFirstFault}
 use Rattle.bpf_insn.specs.CodeFault as code_fault
 use Rattle.bpf_insn.specs.declared.fault.CodeFault.{CodeFault}
 use Rattle.bpf_insn.specs.declared.instruction.Insn.{Insn}
-use Rattle.bpf_text.specs.Spelled.{text_of}
+use Rattle.bpf_text.specs.CodeText.{text_of}
 use Rattle.refusals.specs.Refusal.{RefusalParts}
 use Rattle.counted_io.specs.Device.{Writer}
 use Rattle.counted_io.specs.Writing.{WritesText}

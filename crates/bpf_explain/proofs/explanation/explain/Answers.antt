@@ -1,15 +1,19 @@
-use Rattle.std.proofs.Common.{◌∙◌, ap, map, List}
-use Rattle.bpf_explain.specs.Listing.{first}
+use Rattle.std.proofs.Common.{◌≡◌, ◌∙◌, ap, map, subst, List}
+use Rattle.bpf_verify.specs.Visit.{IsShownUpTo}
+use Rattle.bpf_explain.specs.Listing.{ListingParts, empty, visited}
 use Rattle.bpf_explain.specs.SourceLines.{line_of, parts_of}
-use Rattle.bpf_explain.specs.declared.source_lines.Line.{Line}
+use Rattle.bpf_explain.specs.declared.source_lines.PlacedLine.{PlacedLine}
 use Rattle.bpf_explain.proofs.ListingLemmas.{refuses}
 use Rattle.bpf_explain.proofs.explanation.explain.Goals as goal
 
 pub returns-in-Err-Refused-clause-explained : goal.returns-in-Err-Refused-clause-explained
 returns-in-Err-Refused-clause-explained g c =
-    let refused = rw c.in-Err-Refused.field-0-is at c.in-Err-Refused.ensures.err in (
+    let refused = rw c.in-Err-Refused.field-0-is at c.in-Err-Refused.ensures.err in
+    let first_is : c.new-listing.result ≡ empty (parts_of c.args.lines) =
+    c.new-listing.ensures ∙ ap (λ (lines : List PlacedLine). empty (map line_of lines)) c.as_slice.ensures.value ∙ ap empty c.in_ok-lines.ensures in
+    let shown = subst (λ (old : ListingParts). IsShownUpTo visited c.args.flow.code c.in-Err-Refused.place old c.verify_with.new.visitor) first_is
+    (rw c.in-Err-Refused.field-0-is at c.in-Err-Refused.ensures.shown_refusal) in (
       refused,
-      refuses c.args.flow.code (parts_of c.args.lines) c.first-listing.result c.verify_with.new.visitor c.in-Err-Refused.place c.in-Err-Refused.cause
-          _ (c.first-listing.ensures ∙ ap (λ (lines : List Line). first (map line_of lines)) c.as_slice.ensures.value ∙ ap first c.in_ok-lines.ensures)
-          refused (rw c.in-Err-Refused.field-0-is at c.in-Err-Refused.ensures.shown_refusal) c.in_ok-text-in-Err-Refused.ensures,
+      rw c.in_ok-text-in-Err-Refused.ensures (refuses c.args.flow.code (parts_of c.args.lines) c.verify_with.new.visitor c.in-Err-Refused.place
+          c.in-Err-Refused.cause refused shown),
     )

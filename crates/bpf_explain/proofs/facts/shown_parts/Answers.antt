@@ -9,8 +9,8 @@ use Rattle.bpf_explain.proofs.facts.shown_parts.Goals as goal
 
 pub loop-place-preserved : goal.loop-place-preserved
 loop-place-preserved g c = record {
-  value = parts-next (is_shown c.args.last.now c.args.known.now c.args.insn) 0 c.loop-place.place c.loop-place.place c.part_at-part.result c.is_shown.result
-      c.loop-place.parts.items _ (omega arith) c.loop-place.invariant.value c.part_at-part.ensures.value c.is_shown.ensures c.in_ok-push_if.ensures;
+  value = rw (c.in_ok-push_if.ensures, c.is_shown.ensures, c.part_at-part.ensures.value, c.loop-place.invariant.value)
+      (sym (parts-next (is_shown c.args.last.now c.args.known.now c.args.insn) 0 c.loop-place.place c.loop-place.place (omega arith)));
   are = All-next IsPart c.loop-place.parts.items _ c.part_at-part.result _ c.loop-place.invariant.are c.part_at-part.ensures.is c.in_ok-push_if.ensures;
 }
 

@@ -6,8 +6,8 @@ use Rattle.bpf_explain.proofs.reads.parts_read.Goals as goal
 
 pub loop-index-preserved : goal.loop-index-preserved
 loop-index-preserved g c = record {
-  value = parts-next (reads c.args.known.now c.args.insn) c.args.first c.loop-index.index _ c.part_at-part.result c.reads.result
-      c.loop-index.parts.items _ refl c.loop-index.invariant.value c.part_at-part.ensures.value c.reads.ensures c.in_ok-push_if.ensures;
+  value = rw (c.in_ok-push_if.ensures, c.reads.ensures, c.part_at-part.ensures.value, c.loop-index.invariant.value)
+      (sym (parts-next (reads c.args.known.now c.args.insn) c.args.first c.loop-index.index _ refl));
   are = All-next IsPart c.loop-index.parts.items _ c.part_at-part.result _ c.loop-index.invariant.are c.part_at-part.ensures.is c.in_ok-push_if.ensures;
 }
 

@@ -1,6 +1,6 @@
 use Rattle.std.proofs.Common.{◌∙◌, ap}
 use Rattle.bpf_explain.specs.SourceLines.{line_in, line_of}
-use Rattle.bpf_explain.proofs.SourceLemmas.{checked-text, checked-not, order-fault, order-kept, order-missing}
+use Rattle.bpf_explain.proofs.SourceLemmas.{checked-text, checked-not, order-fault, order-ok, order-missing}
 use Rattle.bpf_explain.proofs.source_lines.check.Goals as goal
 
 pub returns-in_default : goal.returns-in_default
@@ -14,7 +14,7 @@ returns-in-Some c =
 pub returns-in-Some-2 : goal.returns-in-Some-2
 returns-in-Some-2 c =
     checked-text c.args.last c.args.line.now c.in-Ok.ensures.cases.1
-    ∙ order-kept c.args.last _ (line_of c.in-Some.read) (c.in-Some.ensures ∙ ap line_in c.in-Ok.ensures.cases.0) c.if-read-last.false
+    ∙ order-ok c.args.last _ (line_of c.in-Some.read) (c.in-Some.ensures ∙ ap line_in c.in-Ok.ensures.cases.0) c.if-read-last.false
 
 pub returns-in-None : goal.returns-in-None
 returns-in-None c =

@@ -3,9 +3,9 @@ use Rattle.bpf_explain.specs.SourceLines.{place_from}
 use Rattle.bpf_explain.specs.declared.source_lines.TheConstants.{GREATEST_PLACE}
 use Rattle.bpf_explain.proofs.source_lines.place_from.Given as goal
 
--- the place of the digits so far, before those that are left
+-- the place of the digits so far, then that of the remaining ones
 abbrev pub invariant-loop-digit : goal.invariant-loop-digit
 invariant-loop-digit l = record {
-  left : place_from l.place (drop l.digit-index l.digits) ≡ place_from 0 l.digits;
+  so_far : place_from l.place (drop l.digit-index l.digits) ≡ place_from 0 l.digits;
   within : l.place ≤ GREATEST_PLACE;
 }

@@ -1,6 +1,6 @@
 use Rattle.std.proofs.Common.{◌≡◌, take}
 use Rattle.std.specs.String.{string_bytes}
-use Rattle.bpf_text.specs.Spelled.{text_of}
+use Rattle.bpf_text.specs.CodeText.{text_of}
 use Rattle.bpf_text.proofs.RoundTripLemmas.{AreReadBack}
 use Rattle.bpf_text.proofs.disassembler.disassemble.Given as goal
 

@@ -1,17 +1,19 @@
-use Rattle.std.proofs.Common.{ap}
+use Rattle.std.proofs.Common.{◌++◌, ◌∙◌, ap, List, ℕ}
 use Rattle.std.specs.String.{string_bytes}
+use Rattle.std.specs.Prelude.{codes}
+use Rattle.bpf_explain.specs.Facts.{noted, prefix_text}
 use Rattle.bpf_explain.specs.Listing.{ListingParts}
-use Rattle.bpf_explain.proofs.ListingLemmas.{lines-left, same-parts, visit-written}
+use Rattle.bpf_explain.proofs.ListingLemmas.{after-dropped, pushed, same-parts, until-taken}
+use Rattle.bpf_explain.proofs.LoopLemmas.{appended-twice}
 use Rattle.bpf_explain.proofs.listing.Listing.push_visit.Goals as goal
 
 pub returns : goal.returns
 returns g c =
-    let view = c.self.view_is in
-    same-parts (string_bytes c.push_instruction_line.new.text) _ c.self.inside.known c.args.self.now.known _ _ _
-    (visit-written c.args.self.now.text (string_bytes c.self.inside.text) (string_bytes c.push_sources.new.text)
-    (string_bytes c.push_instruction_line.new.text) _ c.self.inside.left.now c.args.self.now.left c.count_until-count.result c.args.place
-    (ap (λ (listing : ListingParts). listing.text) view) (ap (λ (listing : ListingParts). listing.left) view)
-    c.count_until-count.ensures.value c.in_ok-push_sources.ensures c.in_ok-push_instruction_line.ensures)
-    (ap (λ (listing : ListingParts). listing.known) view)
-    (lines-left c.self.inside.left.now c.args.self.now.left c.count_until-count.result c.args.place
-    (ap (λ (listing : ListingParts). listing.left) view) c.count_until-count.ensures.value)
+    let counted = c.count_until-count.ensures.value in
+    let line : List ℕ = noted (prefix_text c.args.place c.args.insn) c.args.note.now ++ codes "\n" in
+    let until = until-taken c.self.inside.remaining.now c.count_until-count.result c.args.place counted in
+    same-parts
+    (appended-twice (string_bytes c.self.inside.text) _ _ c.in_ok-push_sources.ensures c.in_ok-push_instruction_line.ensures
+    ∙ ap (λ (text : List ℕ). string_bytes c.self.inside.text ++ (text ++ line)) until)
+    (after-dropped c.self.inside.remaining.now c.count_until-count.result c.args.place counted)
+    ∙ ap (λ (old : ListingParts). pushed old c.args.place c.args.insn c.args.note.now) c.self.view_is

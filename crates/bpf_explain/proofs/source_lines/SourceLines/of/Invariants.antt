@@ -3,7 +3,7 @@ use Rattle.std.specs.Str.Lines.{lines}
 use Rattle.bpf_explain.specs.SourceLines.{SourceLine, lines_from, lines_in, preceded}
 use Rattle.bpf_explain.proofs.source_lines.SourceLines.of.Given as goal
 
--- the lines so far, before those that are left
+-- the lines so far, then the remaining ones
 abbrev pub invariant-loop-rest : goal.invariant-loop-rest
 invariant-loop-rest l = record {
   before : List SourceLine;

@@ -1,22 +1,23 @@
 use Rattle.std.proofs.Common.{◌≡◌, ◌∙◌, ◌+◌, arith, length, sym, ap, map}
 use Rattle.std.proofs.lemmas.Bool.Decides.{nat_tests}
 use Rattle.bpf_explain.specs.SourceLines.{line_of, lines_or_none}
-use Rattle.bpf_explain.proofs.SourceLemmas.{lines-kept-all, lines-read, lines-refused}
+use Rattle.bpf_explain.proofs.SourceLemmas.{lines-more-all, lines-read, lines-refused, state}
 use Rattle.bpf_explain.proofs.source_lines.SourceLines.read.Goals as goal
 
 pub loop-rest-preserved : goal.loop-rest-preserved
 loop-rest-preserved g c = record {
-  read = lines-kept-all c.args.self.file.now c.loop-rest.rest.now c.first_line.result.0.now c.first_line.result.1.now c.loop-rest.lines.items _
-      (c.loop-rest.number + 1) c.loop-rest.last c.in-Ok.read c.loop-rest.invariant.read c.first_line.ensures.cut c.in-Ok.ensures c.in_ok-keep.ensures;
+  read = rw c.in_ok-push_line.ensures (lines-more-all c.args.self.file.now c.loop-rest.lines.items
+      (state c.loop-rest.rest.now (c.loop-rest.number + 1) c.loop-rest.last) c.first_line.result.1.now c.in-Ok.read c.loop-rest.invariant.read
+      (record { text = c.first_line.result.0.now; cut = c.first_line.ensures.cut; is = c.in-Ok.ensures }));
   few = omega (arith, c.loop-rest.invariant.few, c.first_line.ensures.shorter);
 }
 
 pub returns-in_default : goal.returns-in_default
 returns-in_default g c =
     ap (map line_of) c.new.ensures.items
-    ∙ sym (ap lines_or_none (lines-refused c.args.self.file.now c.loop-rest.rest.now c.first_line.result.0.now c.first_line.result.1.now
-    (map line_of c.loop-rest.lines.items) (c.loop-rest.number + 1) c.loop-rest.last c.in_default.field-0 c.loop-rest.invariant.read
-    c.first_line.ensures.cut c.in_default.ensures))
+    ∙ sym (ap lines_or_none (lines-refused c.args.self.file.now (map line_of c.loop-rest.lines.items)
+    (state c.loop-rest.rest.now (c.loop-rest.number + 1) c.loop-rest.last) c.first_line.result.1.now c.in_default.field-0 c.loop-rest.invariant.read
+    (record { text = c.first_line.result.0.now; cut = c.first_line.ensures.cut; is = c.in_default.ensures })))
 
 pub returns : goal.returns
 returns g c =

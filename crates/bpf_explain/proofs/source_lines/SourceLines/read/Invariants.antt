@@ -3,7 +3,7 @@ use Rattle.std.specs.Str.Lines.{lines}
 use Rattle.bpf_explain.specs.SourceLines.{line_of, lines_from, lines_in, preceded}
 use Rattle.bpf_explain.proofs.source_lines.SourceLines.read.Given as goal
 
--- the lines so far, before those that are left
+-- the lines so far, then the remaining ones
 abbrev pub invariant-loop-rest : goal.invariant-loop-rest
 invariant-loop-rest g l = record {
   read : lines_in l.fn.self.file.now ≡ preceded (map line_of l.lines.items) (lines_from (l.number + 1) l.last (lines l.rest));

@@ -1,7 +1,7 @@
 use Rattle.std.proofs.Common.{Result, Ok, refl, sym, ap, ◌∙◌}
-use Rattle.bpf_text.specs.declared.line.Statement.{Statement}
+use Rattle.bpf_text.specs.declared.statement.Statement.{Statement}
 use Rattle.bpf_text.specs.declared.fault.TextFlaw.{TextFlaw}
-use Rattle.bpf_text.specs.Line as line
+use Rattle.bpf_text.specs.Statement as line
 use Rattle.bpf_text.specs.View.{meaning_of}
 use Rattle.bpf_text.specs.Notes.{places_in}
 use Rattle.bpf_text.proofs.NoteLemmas.{noted-blank}

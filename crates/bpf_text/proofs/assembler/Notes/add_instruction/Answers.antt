@@ -1,5 +1,5 @@
 use Rattle.std.proofs.Common.{ℕ, refl, ap, arith}
-use Rattle.bpf_text.specs.Line.{Instruction}
+use Rattle.bpf_text.specs.Statement.{Instruction}
 use Rattle.bpf_text.specs.View.{name_view}
 use Rattle.bpf_text.specs.Text.{item}
 use Rattle.bpf_text.proofs.NoteLemmas.{noted-instruction, faultless-instruction}

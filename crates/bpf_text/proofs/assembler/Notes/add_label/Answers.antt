@@ -1,6 +1,6 @@
 use Rattle.std.proofs.Common.{Some, refl}
 use Rattle.std.proofs.lemmas.Map.Text.{btree_map_updates_str}
-use Rattle.bpf_text.specs.Line.{Label}
+use Rattle.bpf_text.specs.Statement.{Label}
 use Rattle.bpf_text.specs.Notes.{places_in}
 use Rattle.bpf_text.proofs.NoteLemmas.{noted-label, absent-label, faultless-label}
 use Rattle.bpf_text.proofs.assembler.Notes.add_label.Goals as goal

@@ -13,7 +13,7 @@ loop-item-preserved g c = λ statements notes.
     let is : c.item-item.result ≡ get_or items i c.item-item.result =
     subst (λ (xs : List Item). c.item-item.result ≡ get_or xs i c.item-item.result) c.deref-item-items.ensures.value c.item-item.is in
     let step = c.in_ok-push.ensures statements notes.labels_are in
-    code-more statements items i c.loop-item.builder inside is step.1 step.2 ∙ c.loop-item.invariant statements notes
+    rw step.2 (code-more statements items i c.loop-item.builder inside is step.1) ∙ c.loop-item.invariant statements notes
 
 pub returns-in_err-push : goal.returns-in_err-push
 returns-in_err-push g c = λ statements notes.

@@ -1,5 +1,5 @@
 use Rattle.std.proofs.Common.{◌≡◌, List, map, drop}
-use Rattle.bpf_text.specs.Line.{Statement}
+use Rattle.bpf_text.specs.Statement.{Statement}
 use Rattle.bpf_text.specs.Text.{code_of, code_from}
 use Rattle.bpf_text.specs.Notes.{item_view, AreNotesOf, places_in}
 use Rattle.bpf_text.proofs.NoteLemmas.{with_front}
