@@ -13,7 +13,7 @@ use Rattle.bpf_insn.proofs.PlaceLemmas.{instruction_at-middle, instruction_withi
 use Rattle.bpf_insn.specs.Code.{instruction_at, spelling, word_count}
 use Rattle.bpf_insn.specs.declared.instruction.Insn.{Insn}
 use Rattle.bpf_meaning.specs.declared.cause.Cause.{Cause}
-use Rattle.bpf_text.proofs.WordLemmas.{position-missing}
+use Rattle.bpf_assembler.proofs.WordLemmas.{position-missing}
 use Rattle.bpf_verify.proofs.StateLaws as laws
 use Rattle.bpf_verify.specs.AbstractState.{AbstractState, Unreached, Reached}
 use Rattle.bpf_verify.specs.Annotation.{Annotation, IsLeastUpTo, IsRefusedAt}

@@ -33,9 +33,9 @@ use Rattle.bpf_insn.specs.declared.instruction.Width.{Width}
 use Rattle.bpf_insn.specs.declared.instruction.Width.TheVariants.{Bits32, Bits64}
 use Rattle.bpf_insn.specs.declared.register.Register.{Register}
 use Rattle.bpf_text.proofs.ReadWideLemmas.{hexadecimal-length}
-use Rattle.bpf_text.specs.Mnemonic.{condition_name, extension_name, load_name, name_of, operation_name, order_name, size_name, swap_name, width_name}
-use Rattle.bpf_text.specs.Number.{IsWithin, limit_of_16_bits, limit_of_32_bits}
-use Rattle.bpf_text.specs.Operand.{register_name, register_names}
+use Rattle.bpf_assembler.specs.Mnemonic.{condition_name, extension_name, load_name, name_of, operation_name, order_name, size_name, swap_name, width_name}
+use Rattle.bpf_assembler.specs.Number.{IsWithin, limit_of_16_bits, limit_of_32_bits}
+use Rattle.bpf_assembler.specs.Operand.{register_name, register_names}
 use Rattle.bpf_text.specs.CodeText.{NumbersFit, SourceFits, form_of, line_text, memory_text, operands_text, signed_text, source_text, three, two, wide_text}
 use Rattle.bpf_explain.specs.Facts.{prefix_text}
 use Rattle.bpf_explain.specs.declared.source_lines.TheConstants.{GREATEST_PLACE}

@@ -3,7 +3,7 @@ ghost use Rattle.std.specs.Prelude.{◌≡◌, ◌≤◌, ◌+◌, ◌∷◌, �
 ghost use Rattle.bpf_explain.specs.LinesFault as line_fault;
 ghost use Rattle.bpf_explain.specs.SourceLines.{IsChecked, checked, line_in, line_of, lines_in, next_place, parts_of, place_from, place_in};
 
-use bpf_text::first_line;
+use bpf_assembler::first_line;
 use refusals::{Fault, Refusal};
 use std::alloc::{AllocError, Allocator};
 use thiserror::Error;

@@ -1,8 +1,3 @@
-pub mod LineCutLemmas
-pub mod OperandPairLemmas
-pub mod NoteLemmas
-pub mod NumberLemmas
-pub mod OperandLemmas
 pub mod ReadLemmas
 pub mod ReadLineLemmas
 pub mod ReadRegisterLemmas
@@ -11,7 +6,4 @@ pub mod ReadValueLemmas
 pub mod ReadWideLemmas
 pub mod RoundTripLemmas
 pub mod HexadecimalLemmas
-pub mod StatementLemmas
-pub mod TableLemmas
-pub mod WordLemmas
 mod SourceLemmas

@@ -7,14 +7,14 @@ use Rattle.std.proofs.lemmas.Bool.{lt-ltb}
 use Rattle.std.proofs.lemmas.Bool.Decides.{nat_tests}
 use Rattle.std.proofs.lemmas.List.{append_assoc, length-append}
 use Rattle.std.proofs.lemmas.List.Sums.{AllPass-from_list_all}
-use Rattle.bpf_text.specs.declared.fault.TextFlaw.{TextFlaw}
-use Rattle.bpf_text.specs.declared.fault.TextFlaw.TheVariants.{Syntax}
-use Rattle.bpf_text.specs.Words.{is_blank, is_comma, is_semicolon, trim, content_of, first_word, after_word, is_mnemonic_byte}
-use Rattle.bpf_text.specs.Words.{split_operand}
-use Rattle.bpf_text.specs.Operand.{both}
-use Rattle.bpf_text.specs.Statement.{statement_in, statement_of, instruction_with, instruction_of, two, with_two}
-use Rattle.bpf_text.specs.Mnemonic.{form_named}
-use Rattle.bpf_text.proofs.OperandPairLemmas.{statement-of-instruction}
+use Rattle.bpf_assembler.specs.declared.fault.TextFlaw.{TextFlaw}
+use Rattle.bpf_assembler.specs.declared.fault.TextFlaw.TheVariants.{Syntax}
+use Rattle.bpf_assembler.specs.Words.{is_blank, is_comma, is_semicolon, trim, content_of, first_word, after_word, is_mnemonic_byte}
+use Rattle.bpf_assembler.specs.Words.{split_operand}
+use Rattle.bpf_assembler.specs.Operand.{both}
+use Rattle.bpf_assembler.specs.Statement.{statement_in, statement_of, instruction_with, instruction_of, two, with_two}
+use Rattle.bpf_assembler.specs.Mnemonic.{form_named}
+use Rattle.bpf_assembler.proofs.OperandPairLemmas.{statement-of-instruction}
 use Rattle.bpf_text.proofs.ReadLemmas.{all-by, all-append, place-at, before-at, after-at, before-none, IsFramed, trim-framed, framed-join}
 use Rattle.bpf_text.proofs.ReadLemmas.{framed-word}
 

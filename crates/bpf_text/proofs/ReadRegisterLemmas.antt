@@ -1,8 +1,6 @@
 -- Registers and numbers are read as they were written.
 use Rattle.std.proofs.Common.{◌≡◌, ℕ, suc, zero, ℤ, pos, negsuc, neg_ℤ, ◌≤ℤ◌, ◌<ℤ◌, ◌^◌, ◌<◌, ◌≤◌, ◌++◌, Bool, true, ◌&&◌, cond, nat_le}
 use Rattle.std.proofs.Common.{List, [], ◌∷◌, length, Option, Some, Result, Ok, Err, decimal, refl, ap, ◌∙◌, arith}
-use Rattle.std.specs.Prelude.{codes}
-use Rattle.std.specs.Fmt.{digits}
 use Rattle.std.specs.List.{list_all}
 use Rattle.std.specs.Str.Parse.{digits_value, AllDigits}
 use Rattle.std.proofs.lemmas.Bool.{and_from, lt-ltb, le-leb, leb-true}
@@ -11,49 +9,47 @@ use Rattle.std.proofs.lemmas.Int.{ints}
 use Rattle.std.proofs.lemmas.Fmt.{decimal_is_IsNumeral, length-decimal-le, decimal_nonempty}
 use Rattle.bpf_insn.specs.declared.register.Register.{Register}
 use Rattle.bpf_insn.specs.declared.instruction.Source.TheVariants as source
-use Rattle.bpf_text.specs.declared.fault.TextFlaw.{TextFlaw}
-use Rattle.bpf_text.specs.declared.fault.TextFlaw.TheVariants.{Syntax}
-use Rattle.bpf_text.specs.Number.{and_then, is_digit, decimal_in, positive, negative, signed_in}
-use Rattle.bpf_text.specs.Operand.{register_name, register_number, register_named, register_at, register_in, option_and_then, or_fault}
-use Rattle.bpf_text.specs.Operand.{source_in, source_with}
+use Rattle.bpf_assembler.specs.declared.fault.TextFlaw.{TextFlaw}
+use Rattle.bpf_assembler.specs.declared.fault.TextFlaw.TheVariants.{Syntax}
+use Rattle.bpf_assembler.specs.Number.{and_then, is_digit, decimal_in, positive, negative, signed_in}
+use Rattle.bpf_assembler.specs.Operand.{register_name, register_number, register_named, register_at, register_in, option_and_then, or_fault}
+use Rattle.bpf_assembler.specs.Operand.{source_in, source_with}
 use Rattle.bpf_text.specs.CodeText.{signed_text}
-use Rattle.bpf_text.proofs.OperandLemmas.{register_at-same}
+use Rattle.bpf_assembler.proofs.OperandLemmas.{register_at-same}
 use Rattle.bpf_text.proofs.ReadLemmas.{all-by}
 use Rattle.bpf_text.proofs.ReadLineLemmas.{IsWord, is_word_byte}
 
--- a register's name
+-- a register's name is a word, by which the register is found
 pub record IsNamed (number : ℕ) : Type 0 where
-  pub named : register_name number ≡ codes "r" ++ decimal number
   pub word : list_all is_word_byte (register_name number) ≡ true
   pub some : nat_le 1 (length (register_name number)) ≡ true
   pub found : register_number (register_name number) ≡ Some number
 
-named_register : (number : ℕ) → register_name number ≡ codes "r" ++ decimal number → list_all is_word_byte (register_name number) ≡ true
-    → nat_le 1 (length (register_name number)) ≡ true → register_number (register_name number) ≡ Some number → IsNamed number
-named_register number named word some found = record { named = named; word = word; some = some; found = found }
+named_register : (number : ℕ) → list_all is_word_byte (register_name number) ≡ true → nat_le 1 (length (register_name number)) ≡ true
+    → register_number (register_name number) ≡ Some number → IsNamed number
+named_register number word some found = record { word = word; some = some; found = found }
 
-pub register-name : (number : ℕ) → number ≤ 10 → IsNamed number
-unfolding digits
-register-name zero within = named_register 0 refl refl refl refl
-register-name (suc zero) within = named_register 1 refl refl refl refl
-register-name (suc (suc zero)) within = named_register 2 refl refl refl refl
-register-name (suc (suc (suc zero))) within = named_register 3 refl refl refl refl
-register-name (suc (suc (suc (suc zero)))) within = named_register 4 refl refl refl refl
-register-name (suc (suc (suc (suc (suc zero))))) within = named_register 5 refl refl refl refl
-register-name (suc (suc (suc (suc (suc (suc zero)))))) within = named_register 6 refl refl refl refl
-register-name (suc (suc (suc (suc (suc (suc (suc zero))))))) within = named_register 7 refl refl refl refl
-register-name (suc (suc (suc (suc (suc (suc (suc (suc zero)))))))) within = named_register 8 refl refl refl refl
-register-name (suc (suc (suc (suc (suc (suc (suc (suc (suc zero))))))))) within = named_register 9 refl refl refl refl
-register-name (suc (suc (suc (suc (suc (suc (suc (suc (suc (suc zero)))))))))) within = named_register 10 refl refl refl refl
-register-name (suc (suc (suc (suc (suc (suc (suc (suc (suc (suc (suc n))))))))))) within = absurd (omega arith)
+pub register-found : (number : ℕ) → number ≤ 10 → IsNamed number
+register-found zero within = named_register 0 refl refl refl
+register-found (suc zero) within = named_register 1 refl refl refl
+register-found (suc (suc zero)) within = named_register 2 refl refl refl
+register-found (suc (suc (suc zero))) within = named_register 3 refl refl refl
+register-found (suc (suc (suc (suc zero)))) within = named_register 4 refl refl refl
+register-found (suc (suc (suc (suc (suc zero))))) within = named_register 5 refl refl refl
+register-found (suc (suc (suc (suc (suc (suc zero)))))) within = named_register 6 refl refl refl
+register-found (suc (suc (suc (suc (suc (suc (suc zero))))))) within = named_register 7 refl refl refl
+register-found (suc (suc (suc (suc (suc (suc (suc (suc zero)))))))) within = named_register 8 refl refl refl
+register-found (suc (suc (suc (suc (suc (suc (suc (suc (suc zero))))))))) within = named_register 9 refl refl refl
+register-found (suc (suc (suc (suc (suc (suc (suc (suc (suc (suc zero)))))))))) within = named_register 10 refl refl refl
+register-found (suc (suc (suc (suc (suc (suc (suc (suc (suc (suc (suc n))))))))))) within = absurd (omega arith)
 
 -- a register
 pub word-of-register : (r : Register) → IsWord (register_name r.number)
-word-of-register r = let name = register-name r.number r.in_range in
+word-of-register r = let name = register-found r.number r.in_range in
     record { some = leb-true 1 (length (register_name r.number)) name.some; bytes = name.word }
 
 named-back : (r : Register) → register_named (register_name r.number) ≡ Some r
-named-back r = ap (option_and_then register_at) (register-name r.number r.in_range).found ∙ register_at-same r
+named-back r = ap (option_and_then register_at) (register-found r.number r.in_range).found ∙ register_at-same r
 
 pub register-back : (r : Register) → register_in (register_name r.number) ≡ Ok r
 register-back r = ap (or_fault Syntax) (named-back r)

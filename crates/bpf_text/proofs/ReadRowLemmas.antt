@@ -20,19 +20,19 @@ use Rattle.bpf_insn.specs.declared.instruction.Source.TheVariants as source
 use Rattle.bpf_insn.specs.declared.instruction.Insn.{Insn}
 use Rattle.bpf_insn.specs.declared.instruction.Insn.TheVariants as insn
 use Rattle.bpf_insn.specs.declared.instruction.JumpDistance.TheVariants as distance
-use Rattle.bpf_text.specs.declared.mnemonic_form.MnemonicForm.{MnemonicForm}
-use Rattle.bpf_text.specs.declared.fault.TextFlaw.{TextFlaw}
-use Rattle.bpf_text.specs.declared.fault.TextFlaw.TheVariants.{WritesFramePointer}
-use Rattle.bpf_text.specs.Number.{and_then, immediate_in, wide_in, limit_of_16_bits, limit_of_32_bits, IsWithin}
-use Rattle.bpf_text.specs.Words.{is_mnemonic_byte}
-use Rattle.bpf_text.specs.Mnemonic.{name_of}
-use Rattle.bpf_text.specs.Operand.{register_name, register_in, source_in, memory_in, target_in, or_fault}
-use Rattle.bpf_text.specs.Statement.{Statement, Instruction, statement_in, instruction_with, instruction_in, plain, writing, two, low_half}
-use Rattle.bpf_text.specs.Statement.{high_half}
+use Rattle.bpf_assembler.specs.declared.mnemonic_form.MnemonicForm.{MnemonicForm}
+use Rattle.bpf_assembler.specs.declared.fault.TextFlaw.{TextFlaw}
+use Rattle.bpf_assembler.specs.declared.fault.TextFlaw.TheVariants.{WritesFramePointer}
+use Rattle.bpf_assembler.specs.Number.{and_then, immediate_in, wide_in, limit_of_16_bits, limit_of_32_bits, IsWithin}
+use Rattle.bpf_assembler.specs.Words.{is_mnemonic_byte}
+use Rattle.bpf_assembler.specs.Mnemonic.{name_of}
+use Rattle.bpf_assembler.specs.Operand.{register_name, register_in, source_in, memory_in, target_in, or_fault}
+use Rattle.bpf_assembler.specs.Statement.{Statement, Instruction, statement_in, instruction_with, instruction_in, plain, writing, two, low_half}
+use Rattle.bpf_assembler.specs.Statement.{high_half}
 use Rattle.bpf_text.specs.CodeText.{line_text, operands_text, form_of, source_text, signed_text, memory_text, wide_text, IsReadBack}
 use Rattle.bpf_text.specs.CodeText.{NumbersFit, SourceFits}
-use Rattle.bpf_text.proofs.OperandLemmas.{writable_at-same}
-use Rattle.bpf_text.proofs.TableLemmas.{named, mnemonic}
+use Rattle.bpf_assembler.proofs.OperandLemmas.{writable_at-same}
+use Rattle.bpf_assembler.proofs.TableLemmas.{named, mnemonic}
 use Rattle.bpf_text.proofs.ReadLemmas.{all-by, all-append}
 use Rattle.bpf_text.proofs.ReadLineLemmas.{IsWord, AreOperands, one-operand, more-operands, two-operands, read-line, is_line_byte}
 use Rattle.bpf_text.proofs.ReadLineLemmas.{mnemonic-is-line}

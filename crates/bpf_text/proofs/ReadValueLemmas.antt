@@ -11,13 +11,13 @@ use Rattle.std.proofs.lemmas.List.{length-append, get_or_push}
 use Rattle.std.proofs.Math.Seq.{take-append_seam, drop-append_seam}
 use Rattle.bpf_insn.specs.declared.register.Register.{Register}
 use Rattle.bpf_insn.specs.declared.instruction.Source.TheVariants as source
-use Rattle.bpf_text.specs.declared.fault.TextFlaw.{TextFlaw}
-use Rattle.bpf_text.specs.Words.{is_sign, is_label}
-use Rattle.bpf_text.specs.Number.{and_then, is_digit, negative, signed_in, immediate_in, is_hexadecimal, limit_of_16_bits, limit_of_32_bits}
-use Rattle.bpf_text.specs.Operand.{register_name, register_number, register_at, register_in, option_and_then, source_in, source_with}
-use Rattle.bpf_text.specs.Operand.{target_in, both, offset_in, address_in, memory_in}
+use Rattle.bpf_assembler.specs.declared.fault.TextFlaw.{TextFlaw}
+use Rattle.bpf_assembler.specs.Words.{is_sign, is_label}
+use Rattle.bpf_assembler.specs.Number.{and_then, is_digit, negative, signed_in, immediate_in, is_hexadecimal, limit_of_16_bits, limit_of_32_bits}
+use Rattle.bpf_assembler.specs.Operand.{register_name, register_number, register_at, register_in, option_and_then, source_in, source_with}
+use Rattle.bpf_assembler.specs.Operand.{target_in, both, offset_in, address_in, memory_in}
 use Rattle.bpf_text.specs.CodeText.{signed_text, memory_text}
-use Rattle.bpf_text.proofs.WordLemmas.{memory-bracketed}
+use Rattle.bpf_assembler.proofs.WordLemmas.{memory-bracketed}
 use Rattle.bpf_text.proofs.ReadLemmas.{all-append, place-at, before-at}
 use Rattle.bpf_text.proofs.ReadLineLemmas.{IsWord, is_word_byte}
 use Rattle.bpf_text.proofs.ReadRegisterLemmas.{decimal-digits, digit-range, word-of-decimal, decimal-back, positive-back, negative-back}

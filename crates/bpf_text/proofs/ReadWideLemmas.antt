@@ -8,9 +8,9 @@ use Rattle.std.proofs.lemmas.Bool.{and_from, lt-ltb, le-leb}
 use Rattle.std.proofs.lemmas.Bool.Decides.{nat_tests}
 use Rattle.std.proofs.Math.Arith.{mod-mul}
 use Rattle.std.proofs.Math.Pow.{pow-add, pow_pos}
-use Rattle.bpf_text.specs.declared.fault.TextFlaw.{TextFlaw}
-use Rattle.bpf_text.specs.declared.fault.TextFlaw.TheVariants.{Syntax}
-use Rattle.bpf_text.specs.Number.{is_digit, wide_in}
+use Rattle.bpf_assembler.specs.declared.fault.TextFlaw.{TextFlaw}
+use Rattle.bpf_assembler.specs.declared.fault.TextFlaw.TheVariants.{Syntax}
+use Rattle.bpf_assembler.specs.Number.{is_digit, wide_in}
 use Rattle.bpf_text.specs.CodeText.{hexadecimal, wide_text}
 use Rattle.bpf_text.proofs.ReadLemmas.{all-by}
 use Rattle.bpf_text.proofs.ReadLineLemmas.{IsWord, is_word_byte}

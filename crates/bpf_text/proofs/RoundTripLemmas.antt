@@ -14,13 +14,13 @@ use Rattle.bpf_insn.specs.Form.{spelling}
 use Rattle.bpf_insn.specs.Code.{word_count, code_words, HasProgramSize}
 use Rattle.bpf_insn.specs.declared.code.TheConstants.{WORD_LIMIT}
 use Rattle.bpf_insn.specs.declared.instruction.Insn.{Insn}
-use Rattle.bpf_text.specs.declared.fault.TextFlaw.{TextFlaw}
-use Rattle.bpf_text.specs.Statement.{Statement, Instruction, statement_in}
-use Rattle.bpf_text.specs.Text.{words_of, FaultlessAfter, items_from, code_from, onto_code, Means}
+use Rattle.bpf_assembler.specs.declared.fault.TextFlaw.{TextFlaw}
+use Rattle.bpf_assembler.specs.Statement.{Statement, Instruction, statement_in}
+use Rattle.bpf_assembler.specs.Text.{words_of, FaultlessAfter, items_from, code_from, onto_code, Means}
 use Rattle.bpf_text.specs.CodeText.{line_text, text_of, IsReadBack}
-use Rattle.bpf_text.proofs.LineCutLemmas.{lines-more}
-use Rattle.bpf_text.proofs.StatementLemmas.{words-snoc}
-use Rattle.bpf_text.proofs.NoteLemmas.{faultless-instruction}
+use Rattle.bpf_assembler.proofs.LineCutLemmas.{lines-more}
+use Rattle.bpf_assembler.proofs.StatementLemmas.{words-snoc}
+use Rattle.bpf_assembler.proofs.NoteLemmas.{faultless-instruction}
 
 -- a byte that doesn't begin a line end
 abbrev pub is_printed : ℕ → Bool

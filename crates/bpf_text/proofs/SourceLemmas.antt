@@ -2,11 +2,11 @@
 use Rattle.std.proofs.Common.{◌≢◌, ℕ, List, refl}
 use Rattle.std.specs.Prelude.{IsUtf8}
 use Rattle.bpf_text.specs.SourceFault.{IsSourceFault}
-use Rattle.bpf_text.specs.Text.{IsFirstFault}
+use Rattle.bpf_assembler.specs.Text.{IsFirstFault}
 use Rattle.bpf_text.specs.declared.fault.SourceFault.{SourceFault}
 use Rattle.bpf_text.specs.declared.fault.SourceFault.TheVariants.{NotUtf8, Text}
-use Rattle.bpf_text.specs.declared.fault.TextFault.{TextFault}
-use Rattle.bpf_text.specs.declared.fault.TextFault.TheVariants.{InLine, Memory}
+use Rattle.bpf_assembler.specs.declared.fault.TextFault.{TextFault}
+use Rattle.bpf_assembler.specs.declared.fault.TextFault.TheVariants.{InLine, Memory}
 
 -- unless an allocation fails, such a source is refused for the first fault of its text
 pub of_its_text : (P : SourceFault → Type 0) (source : List ℕ) (fault : SourceFault) → IsUtf8 source → IsSourceFault source fault

@@ -10,13 +10,13 @@ use Rattle.bpf_insn.specs.declared.instruction.Source.TheVariants as source
 use Rattle.bpf_insn.specs.declared.instruction.Insn.{Insn}
 use Rattle.bpf_insn.specs.declared.instruction.Insn.TheVariants as insn
 use Rattle.bpf_insn.specs.declared.instruction.JumpDistance.TheVariants as distance
-use Rattle.bpf_text.specs.declared.mnemonic_form.MnemonicForm.{MnemonicForm}
-use Rattle.bpf_text.specs.declared.mnemonic_form.MnemonicForm.TheVariants.{Alu, MoveSignExtended, Negate, ByteSwap, JumpIf, Jump, LongJump, Call, Exit, Load}
-use Rattle.bpf_text.specs.declared.mnemonic_form.MnemonicForm.TheVariants.{StoreImmediate, Store, WideLoad}
-use Rattle.bpf_text.specs.Statement.{Instruction, statement_in}
-use Rattle.bpf_text.specs.Mnemonic.{name_of}
-use Rattle.bpf_text.specs.Number.{IsWithin, limit_of_16_bits, limit_of_32_bits}
-use Rattle.bpf_text.specs.Operand.{register_name}
+use Rattle.bpf_assembler.specs.declared.mnemonic_form.MnemonicForm.{MnemonicForm}
+use Rattle.bpf_assembler.specs.declared.mnemonic_form.MnemonicForm.TheVariants.{Alu, MoveSignExtended, Negate, ByteSwap, JumpIf, Jump, LongJump, Call, Exit, Load}
+use Rattle.bpf_assembler.specs.declared.mnemonic_form.MnemonicForm.TheVariants.{StoreImmediate, Store, WideLoad}
+use Rattle.bpf_assembler.specs.Statement.{Instruction, statement_in}
+use Rattle.bpf_assembler.specs.Mnemonic.{name_of}
+use Rattle.bpf_assembler.specs.Number.{IsWithin, limit_of_16_bits, limit_of_32_bits}
+use Rattle.bpf_assembler.specs.Operand.{register_name}
 
 -- a number with its sign
 abbrev pub signed_text : ℤ → List ℕ

@@ -3,7 +3,7 @@ use Rattle.std.specs.Prelude.{◌≡◌, ℕ, List, IsUtf8}
 use Rattle.bpf_insn.specs.Code.{IsCodeOf}
 use Rattle.bpf_insn.specs.declared.instruction.Insn.{Insn}
 use Rattle.bpf_text.specs.CodeText.{text_of}
-use Rattle.bpf_text.specs.Text.{Means}
+use Rattle.bpf_assembler.specs.Text.{Means}
 
 -- The source is UTF-8 and means a code, whose instruction words are `words`.
 pub record IsAssembled (source words : List ℕ) : Type 0 where

@@ -1,13 +1,3 @@
-pub mod Words
-pub mod Number
-pub mod Mnemonic
-pub mod Operand
-pub mod Statement
-pub mod View
-pub mod Text
-pub mod Notes
 pub mod CodeText
-pub mod TextFlaw
-pub mod TextFault
 pub mod SourceFault
 pub mod Conversion

@@ -1,7 +1,7 @@
 -- Why a source has no words.
 use Rattle.std.specs.Prelude.{ℕ, List, IsUtf8}
-use Rattle.bpf_text.specs.Text.{IsFirstFault}
-use Rattle.bpf_text.specs.declared.fault.TextFault.TheVariants.{Memory}
+use Rattle.bpf_assembler.specs.Text.{IsFirstFault}
+use Rattle.bpf_assembler.specs.declared.fault.TextFault.TheVariants.{Memory}
 use Rattle.bpf_text.specs.declared.fault.SourceFault.{SourceFault}
 use Rattle.bpf_text.specs.declared.fault.SourceFault.TheVariants.{NotUtf8, Text}
 

@@ -6,11 +6,11 @@ ghost use Rattle.bpf_text.specs.Conversion.{IsAssembled, IsDisassembled};
 ghost use Rattle.bpf_text.specs.SourceFault.{IsSourceFault};
 ghost use Rattle.bpf_text.specs.declared.fault.SourceFault.{SourceFault};
 ghost use Rattle.bpf_text.specs.declared.fault.SourceFault.TheVariants.{Text};
-ghost use Rattle.bpf_text.specs.declared.fault.TextFault.TheVariants.{Memory};
+ghost use Rattle.bpf_assembler.specs.declared.fault.TextFault.TheVariants.{Memory};
 
-use crate::assembler::assemble;
 use crate::disassembler::disassemble;
 use crate::fault::SourceFault;
+use bpf_assembler::assemble;
 use bpf_insn::{CodeFault, decode, encode};
 use std::alloc::Allocator;
 

@@ -4,14 +4,13 @@ ghost use Rattle.std.specs.Char.{digit_char};
 ghost use Rattle.std.specs.Fmt.{signed_decimal};
 ghost use Rattle.std.specs.String.{string_bytes};
 ghost use Rattle.bpf_insn.specs.Arithmetic.{wide_number};
-ghost use Rattle.bpf_text.specs.Number.{IsWithin, limit_of_16_bits, limit_of_32_bits};
-ghost use Rattle.bpf_text.specs.Operand.{register_name};
-ghost use Rattle.bpf_text.specs.Text.{Means};
+ghost use Rattle.bpf_assembler.specs.Number.{IsWithin, limit_of_16_bits, limit_of_32_bits};
+ghost use Rattle.bpf_assembler.specs.Operand.{register_name};
+ghost use Rattle.bpf_assembler.specs.Text.{Means};
 ghost use Rattle.bpf_text.specs.CodeText.{text_of, line_text, operands_text, form_of, signed_text, source_text, memory_text, wide_text, hexadecimal, one, two};
 ghost use Rattle.bpf_text.specs.CodeText.{three, NumbersFit, SourceFits};
 
-use crate::mnemonic_form::MnemonicForm;
-use crate::operand::register_name;
+use bpf_assembler::{MnemonicForm, register_name};
 use bpf_insn::{Code, Insn, JumpDistance, Register, Source, WritableRegister, wide_number};
 use itoa::Buffer;
 use std::alloc::{AllocError, Allocator};

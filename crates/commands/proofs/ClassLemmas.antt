@@ -5,8 +5,8 @@ use Rattle.addresses.specs.AddressFault as address_fault
 use Rattle.addresses.specs.declared.fault.AddressFault.{AddressFault}
 use Rattle.bpf_insn.specs.CodeFault as code_fault
 use Rattle.bpf_insn.specs.declared.fault.CodeFault.{CodeFault}
-use Rattle.bpf_text.specs.TextFault as text_fault
-use Rattle.bpf_text.specs.declared.fault.TextFault.{TextFault}
+use Rattle.bpf_assembler.specs.TextFault as text_fault
+use Rattle.bpf_assembler.specs.declared.fault.TextFault.{TextFault}
 use Rattle.cql2_code.specs.CompileFault as compile_fault
 use Rattle.cql2.specs.declared.column.NumericColumn.{NumericColumn}
 use Rattle.cql2.specs.declared.filter.Filter.{Filter as AFilter}

@@ -3,9 +3,9 @@ use Rattle.std.specs.Prelude.{◌≡◌, ℕ, List, Option, Some, IsUtf8, Result
 use Rattle.std.specs.Io.KnownBytes.{Keeps}
 use Rattle.bpf_insn.specs.Code.{IsCodeOf}
 use Rattle.bpf_insn.specs.declared.instruction.Insn.{Insn}
-use Rattle.bpf_text.specs.Text.{IsFirstFault, Means}
-use Rattle.bpf_text.specs.TextFault as text_fault
-use Rattle.bpf_text.specs.declared.fault.TextFault.{TextFault}
+use Rattle.bpf_assembler.specs.Text.{IsFirstFault, Means}
+use Rattle.bpf_assembler.specs.TextFault as text_fault
+use Rattle.bpf_assembler.specs.declared.fault.TextFault.{TextFault}
 use Rattle.refusals.specs.Refusal.{RefusalParts}
 use Rattle.counted_io.specs.Device.{Writer}
 use Rattle.counted_io.specs.Writing.{WritesText}

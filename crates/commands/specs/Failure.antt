@@ -12,10 +12,10 @@ use Rattle.cql2_text.specs.FilterFault as filter_fault
 use Rattle.cql2_text.specs.declared.fault.FilterFault.{FilterFault}
 use Rattle.cql2_text.specs.declared.fault.FilterFault.TheVariants as filter
 use Rattle.extract.specs.ExtractFault as extract_fault
-use Rattle.bpf_text.specs.TextFault as text_fault
+use Rattle.bpf_assembler.specs.TextFault as text_fault
 use Rattle.bpf_text.specs.declared.fault.SourceFault.{SourceFault}
 use Rattle.bpf_text.specs.declared.fault.SourceFault.TheVariants as source
-use Rattle.bpf_text.specs.declared.fault.TextFault.TheVariants as text
+use Rattle.bpf_assembler.specs.declared.fault.TextFault.TheVariants as text
 use Rattle.extract.specs.declared.fault.ExtractFault.{ExtractFault}
 use Rattle.extract.specs.declared.fault.ExtractFault.TheVariants as extract
 use Rattle.refusals.specs.Refusal.{RefusalParts, line, memory}

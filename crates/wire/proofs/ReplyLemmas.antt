@@ -8,11 +8,11 @@ use Rattle.bpf_insn.specs.CodeFault as code_fault
 use Rattle.bpf_insn.specs.declared.fault.CodeFault.{CodeFault}
 use Rattle.bpf_insn.specs.declared.fault.CodeFault.TheVariants as code_variant
 use Rattle.bpf_insn.specs.declared.instruction.Insn.{Insn}
-use Rattle.bpf_text.proofs.StatementLemmas as text_of
+use Rattle.bpf_assembler.proofs.StatementLemmas as text_of
 use Rattle.bpf_text.specs.CodeText as spelled
 use Rattle.bpf_text.specs.declared.fault.SourceFault.TheVariants.{NotUtf8, Text}
-use Rattle.bpf_text.specs.declared.fault.TextFault.TheVariants as text_fault
-use Rattle.bpf_text.specs.declared.fault.TextFault.TheVariants.{InLine}
+use Rattle.bpf_assembler.specs.declared.fault.TextFault.TheVariants as text_fault
+use Rattle.bpf_assembler.specs.declared.fault.TextFault.TheVariants.{InLine}
 use Rattle.bpf_program.proofs.VerdictLemmas as verdict
 use Rattle.http_reply.specs.Reply.{ReplyParts}
 use Rattle.http_reply.specs.declared.status.Status.TheVariants as status

@@ -7,7 +7,7 @@ use Rattle.bpf_insn.specs.declared.instruction.Insn.{Insn}
 use Rattle.bpf_meaning.specs.Extract.{IsExtract}
 use Rattle.bpf_text.specs.Conversion.{IsAssembled, IsDisassembled}
 use Rattle.bpf_text.specs.SourceFault.{IsSourceFault}
-use Rattle.bpf_text.specs.TextFault as text_fault
+use Rattle.bpf_assembler.specs.TextFault as text_fault
 use Rattle.bpf_text.specs.declared.fault.SourceFault.{SourceFault}
 use Rattle.bpf_text.specs.declared.fault.SourceFault.TheVariants.{NotUtf8, Text}
 use Rattle.bpf_program.specs.Program.{IsProgramFault, IsSafeProgram}

@@ -1,6 +1,6 @@
 use Rattle.std.proofs.Common.{◌∙◌, sym}
 use Rattle.std.specs.Prelude.{nat_lt}
-use Rattle.bpf_text.proofs.WordLemmas.{position-found}
+use Rattle.bpf_assembler.proofs.WordLemmas.{position-found}
 use Rattle.bpf_explain.proofs.ListingLemmas.{count-missing, position-map}
 use Rattle.bpf_explain.proofs.listing.count_until.Goals as goal
 

@@ -2,9 +2,9 @@ use Rattle.std.proofs.Common.{◌≡◌, ◌⊎◌, List, ℕ, sym, subst, rules
 use Rattle.std.specs.Result.{IsErrAnd}
 use Rattle.bpf_insn.specs.Code.{IsCodeOf}
 use Rattle.bpf_text.proofs.SourceLemmas.{of_its_text}
-use Rattle.bpf_text.specs.Text.{IsFirstFault, Means}
+use Rattle.bpf_assembler.specs.Text.{IsFirstFault, Means}
 use Rattle.bpf_text.specs.declared.fault.SourceFault.TheVariants.{Text}
-use Rattle.bpf_text.specs.declared.fault.TextFault.TheVariants.{Memory}
+use Rattle.bpf_assembler.specs.declared.fault.TextFault.TheVariants.{Memory}
 use Rattle.bpf_text.proofs.conversion.assemble_source.Goals as goal
 
 pub returns-in_err-code-clause-only : goal.returns-in_err-code-clause-only

@@ -1,5 +1,5 @@
 use Rattle.std.proofs.Common.{◌+◌, ap, drop, refl, arith, length, length-drop}
-use Rattle.bpf_text.proofs.WordLemmas.{rest-from}
+use Rattle.bpf_assembler.proofs.WordLemmas.{rest-from}
 use Rattle.commands.proofs.EscapeLemmas.{control_at, escape_stopped, front_last, front_more, front_none, plain_stopped}
 use Rattle.commands.proofs.escape.write_escaped.Goals as goal
 

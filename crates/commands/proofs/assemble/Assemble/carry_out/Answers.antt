@@ -1,10 +1,10 @@
 use Rattle.std.proofs.Common.{ℕ, List, Some, Err, refl, subst}
 use Rattle.std.specs.Io.KnownBytes.{Keeps}
 use Rattle.bpf_text.specs.SourceFault.{IsSourceFault}
-use Rattle.bpf_text.specs.TextFault as text_fault
+use Rattle.bpf_assembler.specs.TextFault as text_fault
 use Rattle.bpf_text.specs.declared.fault.SourceFault.{SourceFault}
 use Rattle.bpf_text.specs.declared.fault.SourceFault.TheVariants as source
-use Rattle.bpf_text.specs.declared.fault.TextFault.TheVariants as text
+use Rattle.bpf_assembler.specs.declared.fault.TextFault.TheVariants as text
 use Rattle.counted_io.specs.Device.{Writer}
 use Rattle.commands.specs.Command.{CarriesOut}
 use Rattle.commands.specs.Failure.{of_source}

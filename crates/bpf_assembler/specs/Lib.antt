@@ -1,0 +1,10 @@
+pub mod Words
+pub mod Number
+pub mod Mnemonic
+pub mod Operand
+pub mod Statement
+pub mod View
+pub mod Text
+pub mod Notes
+pub mod TextFlaw
+pub mod TextFault

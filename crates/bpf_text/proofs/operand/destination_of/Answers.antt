@@ -1,8 +1,0 @@
-use Rattle.std.proofs.Common.{ap, sym}
-use Rattle.bpf_text.specs.Operand.{or_fault}
-use Rattle.bpf_text.specs.declared.fault.TextFlaw.TheVariants.{WritesFramePointer}
-use Rattle.bpf_text.proofs.OperandLemmas.{writable_at-same}
-use Rattle.bpf_text.proofs.operand.destination_of.Goals as goal
-
-pub returns : goal.returns
-returns c = sym (ap (or_fault WritesFramePointer) (writable_at-same _))

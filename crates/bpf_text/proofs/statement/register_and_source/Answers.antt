@@ -1,9 +1,0 @@
-use Rattle.std.proofs.Common.{sym}
-use Rattle.bpf_text.specs.Operand.{register_in, source_in}
-use Rattle.bpf_text.proofs.OperandPairLemmas.{two-split}
-use Rattle.bpf_text.proofs.statement.register_and_source.Goals as goal
-
-pub returns : goal.returns
-returns c =
-    let split = two-split register_in source_in c.args.operands.now c.in_ok-left.left.now c.in_ok-left.right.now c.in_ok-left.ensures in
-    rw (c.both.ensures, c.register_in.ensures, c.source_in.ensures) (sym split)

@@ -1,9 +1,0 @@
--- The refusal for a fault in a text.
-use Rattle.refusals.specs.Refusal.{RefusalParts, at_line, memory}
-use Rattle.bpf_text.specs.TextFlaw as text_flaw
-use Rattle.bpf_text.specs.declared.fault.TextFault.{TextFault}
-use Rattle.bpf_text.specs.declared.fault.TextFault.TheVariants.{InLine, Memory}
-
-abbrev pub refusal : TextFault → RefusalParts
-refusal (InLine line flaw) = at_line line (text_flaw.refusal flaw)
-refusal Memory = memory
