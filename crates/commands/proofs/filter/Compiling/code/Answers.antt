@@ -1,11 +1,11 @@
 use Rattle.commands.proofs.ClassLemmas.{of_compile_failure, of_filter_failure}
-use Rattle.commands.proofs.filter.Compiling.program.Goals as goal
+use Rattle.commands.proofs.filter.Compiling.code.Goals as goal
 
 pub returns-in-Err-clause-err : goal.returns-in-Err-clause-err
-returns-in-Err-clause-err g c =
+returns-in-Err-clause-err c =
     of_filter_failure c.args.text.now c.args.self.score c.in-Err.fault c.of_filter.result c.in-Err.ensures.reads c.of_filter.ensures
 
-pub returns-in-Err-compile-clause-err : goal.returns-in-Err-compile-clause-err
-returns-in-Err-compile-clause-err g c =
+pub returns-clause-err : goal.returns-clause-err
+returns-clause-err c =
     of_compile_failure c.args.text.now c.args.self.score c.in-Ok.filter c.in-Err-compile.fault c.of_compile.result c.in-Ok.ensures.ok
     c.in-Err-compile.ensures.err c.of_compile.ensures
