@@ -127,7 +127,6 @@ def extract(
     data: PathLike,
     counties: str | Iterable[str] | None,
     shapes: bool,
-    all_rows: bool,
     progress: bool,
 ) -> Iterator[CountyRows]:
     """Yields the rows of each county in order. The workers of a client select them."""
@@ -136,7 +135,7 @@ def extract(
     if not isinstance(client, Client) or client.asynchronous:
         raise ValueError("client= is a dask.distributed.Client that isn't asynchronous")
     with Interrupts() as interrupts:
-        tasks = county_tasks(request, data, counties, shapes, all_rows, interrupts)
+        tasks = county_tasks(request, data, counties, shapes, False, interrupts)
     early: dict[str, CountyRows] = {}
     with closing(completed(client, run_county, tasks, lambda: None)) as done:
         for task in counted(tasks, progress):

@@ -5,7 +5,6 @@ from collections.abc import Iterable, Iterator
 from contextlib import AbstractContextManager, nullcontext
 from dataclasses import dataclass, field, replace
 from pathlib import Path
-from typing import Any
 
 from . import _program
 from ._interrupts import Interrupts
@@ -63,18 +62,11 @@ def extract(
     all_rows: bool = False,
     progress: bool = False,
     interrupts: Interrupts | None = None,
-    client: Any = None,
 ) -> Iterator[CountyRows]:
     """Yields the rows of each county after `extractd` has ended for it with status 0.
 
-    At each yield, the county's temporary files and processes are gone. With a client of dask.distributed, its workers
-    run the counties.
+    At each yield, the county's temporary files and processes are gone.
     """
-    if client is not None:
-        from . import _cluster
-
-        yield from _cluster.extract(client, request, data, counties, shapes, all_rows, progress)
-        return
     folder = Path(data)
     with active_interrupts(interrupts) as active:
         program = _program.find_program(request.extractd, active)

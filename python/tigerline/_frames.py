@@ -6,7 +6,7 @@ from typing import TYPE_CHECKING, Any, Literal, overload
 import numpy as np
 import pandas as pd
 
-from . import _columns
+from . import _cluster, _columns
 from ._extract import CountyRows, Request, extract
 from ._layout import chosen_names
 from ._program import PathLike
@@ -143,7 +143,10 @@ def _select(
     if geometry not in ("line", "shape", False):
         raise ValueError(f'geometry is "line", "shape" or False, and {geometry!r} isn\'t')
     names = chosen_names(None if columns is None else list(columns))
-    found = extract(request, data, counties, shapes=geometry == "shape", progress=progress, client=client)
+    if client is None:
+        found = extract(request, data, counties, shapes=geometry == "shape", progress=progress)
+    else:
+        found = _cluster.extract(client, request, data, counties, geometry == "shape", progress)
     return _joined([_frame(county, names, geometry, signed) for county in found])
 
 
