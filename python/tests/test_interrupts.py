@@ -96,11 +96,26 @@ def test_command_at_any_moment(scratch: Path, tmp_path: Path, large: Path) -> No
         check_output(out)
 
 
+# Imports the script, and prints before it imports the command: whether Ctrl-C ends it, and the large modules it has.
+WATCHED = """
+import signal, sys
+
+class Watcher:
+    def find_spec(self, name, *_):
+        if name == "tigerline.__main__":
+            is_ready = signal.getsignal(signal.SIGINT) is signal.SIG_DFL
+            print(is_ready, {"typing", "subprocess", "zipfile"} & set(sys.modules))
+
+signal.signal(signal.SIGINT, signal.default_int_handler)
+sys.meta_path.insert(0, Watcher())
+import tigerline._script
+"""
+
+
 def test_command_is_ready_for_signals_soon() -> None:
     """Ctrl-C during imports would show a traceback, so only small modules are imported before it ends the process."""
-    code = "import tigerline._start, sys; print({'typing', 'subprocess', 'zipfile'} & set(sys.modules))"
-    done = subprocess.run([sys.executable, "-S", "-c", code], env=environment(), stdout=subprocess.PIPE, text=True)
-    assert done.stdout == "set()\n"
+    done = subprocess.run([sys.executable, "-S", "-c", WATCHED], env=environment(), stdout=subprocess.PIPE, text=True)
+    assert done.stdout == "True set()\n"
 
 
 @pytest.mark.usefixtures("extractd", "gdal")

@@ -9,6 +9,8 @@ tuples, and needs the standard library alone.
 
 from importlib import import_module
 
+from ._version import __version__ as __version__
+
 TYPE_CHECKING = False  # True for type checkers. Importing the module typing takes long.
 if TYPE_CHECKING:
     from ._frames import read_county, select
@@ -21,7 +23,6 @@ __all__ = [
     "Address", "Candidate", "Match", "Nearest", "Reason", "Refused", "Row", "Status", "geocode", "read_county",
     "reverse", "rows", "select",
 ]  # fmt: skip
-__version__ = "1.0.0"
 
 # Each name is imported on its first use, so that `rows` works without pandas and commands start quickly.
 _MODULES = {

@@ -15,7 +15,7 @@ from dataclasses import replace
 from functools import partial
 from pathlib import Path
 
-from . import __version__, geocoding, reversing
+from . import _batch, _cluster, _workers, geocoding, maps, reversing
 from ._commands import exit_status
 from ._extract import Request, extract
 from ._interrupts import Interrupts
@@ -24,6 +24,7 @@ from ._map_rows import MapContent, box_around
 from ._output import PendingFile, pending_file
 from ._scratch import naming
 from ._tables import SUFFIXES, Selection, write_by_gdal, write_csv
+from ._version import __version__
 
 MAP_SUFFIXES = (".svg", ".html")
 
@@ -154,8 +155,6 @@ def _write_in_parts(
     files: ExitStack,
 ) -> int:
     """Has worker processes or a scheduler select the counties. Keeps the parts until all files are published."""
-    from . import _batch, _cluster, _workers
-
     engine: _batch.Engine = partial(_workers.run_here, options.workers or 1)
     if options.scheduler is not None:
         engine = partial(_cluster.run_there, options.scheduler)
@@ -172,8 +171,6 @@ def _write_in_parts(
 
 def draw(file: PendingFile, content: MapContent, options: argparse.Namespace, interrupts: Interrupts) -> None:
     """Draws the map."""
-    from . import maps
-
     selected_by = os.path.basename(options.program) if options.where is None else options.where
     box = box_around(content.selected)
     drawn = maps.draw_svg if file.path.suffix == ".svg" else maps.draw_html

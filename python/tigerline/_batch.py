@@ -22,7 +22,6 @@ from functools import cache, partial
 from pathlib import Path
 from typing import BinaryIO
 
-from . import __version__
 from ._extract import CountyRows, Request, county_rows
 from ._interrupts import Interrupts
 from ._map_rows import MapContent
@@ -33,6 +32,7 @@ from ._progress import counted
 from ._scratch import naming, scratch_folder
 from ._sources import County, choose_counties, find_counties
 from ._tables import Selection, write_by_gdal, write_csv, write_source
+from ._version import __version__
 
 CHUNK = 1 << 20
 LONGEST_END = 1 << 16

@@ -7,6 +7,8 @@ from collections.abc import Callable
 from contextlib import suppress
 from typing import TextIO
 
+from ._program import Refused
+
 REFUSED, USAGE, FILES, MEMORY = 1, 2, 3, 4
 
 
@@ -15,8 +17,6 @@ def exit_status(work: Callable[[], bytes]) -> int:
 
     Errors and warnings go to standard error.
     """
-    from ._program import Refused
-
     try:
         with warnings.catch_warnings():
             warnings.simplefilter("always", UserWarning)

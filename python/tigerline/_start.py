@@ -1,4 +1,4 @@
-"""The start of the command. This module imports as little as possible, since Ctrl-C may arrive meanwhile."""
+"""The start of a command. This module imports as little as possible, since Ctrl-C may arrive meanwhile."""
 
 import signal
 
@@ -7,11 +7,3 @@ def end_at_interrupt() -> None:
     """Makes Ctrl-C end the process at once and without a traceback. If it is ignored, it stays ignored."""
     if signal.getsignal(signal.SIGINT) is signal.default_int_handler:
         signal.signal(signal.SIGINT, signal.SIG_DFL)
-
-
-def main() -> int:
-    """Runs the command `tigerline`, and returns its exit status."""
-    end_at_interrupt()
-    from .__main__ import main  # These imports take some time.
-
-    return main()

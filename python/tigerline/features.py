@@ -19,7 +19,6 @@ from pathlib import Path
 from typing import TYPE_CHECKING, Any
 from urllib.parse import urlencode, urlsplit
 
-from . import __version__
 from . import _features_documents as documents
 from . import _features_geojson as geojson
 from ._features_documents import GEOJSON, JSON, OPENAPI, PROBLEM, SCHEMA, link
@@ -30,6 +29,7 @@ from ._features_server import CLIENT_IS_THERE, serve
 from ._interrupts import Interrupts
 from ._program import PathLike, find_program
 from ._sources import County, choose_counties, find_counties
+from ._version import __version__
 
 if TYPE_CHECKING:
     from wsgiref.types import StartResponse, WSGIEnvironment
