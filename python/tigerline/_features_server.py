@@ -8,18 +8,18 @@ import asyncio
 import io
 import signal
 import sys
-from collections.abc import Callable
+from collections.abc import Callable, Iterable
 from concurrent.futures import ThreadPoolExecutor
 from contextlib import suppress
 from dataclasses import dataclass, field
 from http import HTTPStatus
-from typing import TYPE_CHECKING, Any
+from typing import TYPE_CHECKING, Any, Protocol
 from urllib.parse import unquote_to_bytes
 
-if TYPE_CHECKING:
-    from .features import Service
-
 from ._features_rows import Limits
+
+if TYPE_CHECKING:
+    from wsgiref.types import StartResponse, WSGIEnvironment
 
 CLIENT_IS_THERE = "tigerline.client_is_there"
 LONGEST_HEAD = 65_536
@@ -37,6 +37,16 @@ class BadRequest(Exception):
     def __init__(self, status: HTTPStatus) -> None:
         super().__init__(status)
         self.status = status
+
+
+class Application(Protocol):
+    """A WSGI application, and what ends its processes."""
+
+    def __call__(self, environ: "WSGIEnvironment", start_response: "StartResponse") -> Iterable[bytes]:
+        ...
+
+    def close(self) -> None:
+        ...
 
 
 @dataclass(frozen=True)
@@ -94,7 +104,7 @@ class Connection:
 class Server:
     """The connections of a service. Everything except the application runs in one thread."""
 
-    service: "Service"
+    application: Application
     limits: Limits
     threads: ThreadPoolExecutor
     connections: dict[Connection, "asyncio.Task[None] | None"] = field(default_factory=dict)
@@ -143,7 +153,7 @@ class Server:
             return False
         environ = environ_of(request, connection)
         reply = await asyncio.get_running_loop().run_in_executor(
-            self.threads, call, self.service, environ, request.keeps_alive
+            self.threads, call, self.application, environ, request.keeps_alive
         )
         await self._send(connection, reply)
         return request.keeps_alive
@@ -216,7 +226,7 @@ def environ_of(request: Request, connection: Connection) -> dict[str, Any]:
     }
 
 
-def call(service: "Service", environ: dict[str, Any], keeps_alive: bool) -> bytes:
+def call(application: Application, environ: dict[str, Any], keeps_alive: bool) -> bytes:
     """Returns the complete reply of the application."""
     head: list[str] = []
 
@@ -225,7 +235,7 @@ def call(service: "Service", environ: dict[str, Any], keeps_alive: bool) -> byte
         return lambda data: None
 
     try:
-        body = b"".join(service(environ, start_response))
+        body = b"".join(application(environ, start_response))
     except Exception as error:
         print(f"error: {type(error).__name__}: {error}", file=sys.stderr, flush=True)
         return bare_reply(HTTPStatus.INTERNAL_SERVER_ERROR)
@@ -233,14 +243,14 @@ def call(service: "Service", environ: dict[str, Any], keeps_alive: bool) -> byte
     return f"{head[0]}{last}\r\n".encode("latin-1") + body
 
 
-async def serve(service: "Service", host: str, port: int, limits: Limits, say: Callable[[str], object]) -> None:
+async def serve(application: Application, host: str, port: int, limits: Limits, say: Callable[[str], object]) -> None:
     """Serves until SIGINT, SIGTERM or SIGHUP, and then ends all connections and processes."""
     stopped = asyncio.Event()
     for number in (signal.SIGINT, signal.SIGTERM, signal.SIGHUP):
         if signal.getsignal(number) is not signal.SIG_IGN:  # nohup ignores SIGHUP.
             asyncio.get_running_loop().add_signal_handler(number, stopped.set)
     with ThreadPoolExecutor(limits.processes + limits.waiting + SPARE_THREADS, "request") as threads:
-        server = Server(service, limits, threads)
+        server = Server(application, limits, threads)
         listening = await asyncio.start_server(
             server.handle, host, port, limit=LONGEST_HEAD, backlog=BACKLOG, reuse_address=True
         )
@@ -251,7 +261,7 @@ async def serve(service: "Service", host: str, port: int, limits: Limits, say: C
             await stopped.wait()
         finally:
             listening.close()
-            service.close()
+            application.close()
             for connection, task in list(server.connections.items()):
                 connection.abort()
                 if task is not None:

@@ -4,9 +4,10 @@ import textwrap
 import warnings
 from collections.abc import Callable, Iterable, Iterator, Sequence
 from dataclasses import replace
-from typing import TYPE_CHECKING, NamedTuple
+from typing import NamedTuple
 
 from ._extract import ALL_SEGMENTS, extract
+from ._geocode_match import Match
 from ._interrupts import Interrupts
 from ._lines import line_of
 from ._map_layers import INK, PALE, groups_of
@@ -19,9 +20,6 @@ from ._map_view import MARGIN, Box, MapSegment, View, extent_of, view_of
 from ._program import PathLike
 from ._rows import read_rows
 from .maps import FONT, Sheet, page_of, page_rows
-
-if TYPE_CHECKING:
-    from .geocoding import Match
 
 RADIUS = 3.5  # pixels
 Drawer = Callable[[View, Sequence[MapSegment]], Iterator[str]]
@@ -51,7 +49,7 @@ class Dots:
         self.counties: dict[str, None] = {}
         self._has_candidates = has_candidates
 
-    def watched(self, matches: Iterable["Match"]) -> Iterator["Match"]:
+    def watched(self, matches: Iterable[Match]) -> Iterator[Match]:
         """Yields the matches, and adds the place of each."""
         for match in matches:
             if match.longitude is not None and match.latitude is not None:

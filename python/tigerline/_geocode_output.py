@@ -4,15 +4,13 @@ import csv
 from collections import Counter
 from collections.abc import Iterable, Iterator
 from pathlib import Path
-from typing import TYPE_CHECKING, NamedTuple
+from typing import NamedTuple
 
+from ._geocode_match import Candidate, Match
 from ._interrupts import Interrupts
 from ._output import PendingFile
 from ._point_output import Column, Point, write_points
 from ._tables import DRIVERS
-
-if TYPE_CHECKING:
-    from .geocoding import Candidate, Match
 
 CANDIDATE = "Candidate"
 # The columns of the Census Bureau's batch geocoder.
@@ -51,7 +49,7 @@ class Line(NamedTuple):
     hint: str = ""
 
 
-def write_matches(file: PendingFile, matches: Iterable["Match"], form: Form, interrupts: Interrupts) -> str:
+def write_matches(file: PendingFile, matches: Iterable[Match], form: Form, interrupts: Interrupts) -> str:
     """Writes the matches in the format of the file's suffix, and returns a summary."""
     counts: Counter[str] = Counter()
     lines = (line for match in _counted(matches, counts) for line in lines_of(match, form.has_candidates))
@@ -64,7 +62,7 @@ def write_matches(file: PendingFile, matches: Iterable["Match"], form: Form, int
     )
 
 
-def lines_of(match: "Match", has_candidates: bool) -> Iterator[Line]:
+def lines_of(match: Match, has_candidates: bool) -> Iterator[Line]:
     """Yields the line of a match, and those of its candidates."""
     address = ", ".join(cell.strip() for cell in match.address[1:])
     line = Line(match.address.id, address, match.status.value, " ".join(match.reasons))
@@ -75,7 +73,7 @@ def lines_of(match: "Match", has_candidates: bool) -> Iterator[Line]:
             yield _with_place(line._replace(match=CANDIDATE, reason=reason), candidate, not candidate.reasons)
 
 
-def _with_place(line: Line, found: "Match | Candidate", is_exact: bool) -> Line:
+def _with_place(line: Line, found: Match | Candidate, is_exact: bool) -> Line:
     if found.longitude is None or found.latitude is None:
         return line
     return line._replace(
@@ -123,7 +121,7 @@ def _point(line: Line) -> Point:
     return Point((*row, *further), place)
 
 
-def _counted(matches: Iterable["Match"], counts: Counter[str]) -> Iterator["Match"]:
+def _counted(matches: Iterable[Match], counts: Counter[str]) -> Iterator[Match]:
     """Yields the matches, and counts each kind."""
     for match in matches:
         counts["exact" if match.is_exact else match.status.value] += 1

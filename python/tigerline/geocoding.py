@@ -10,12 +10,9 @@ import re
 import signal
 from collections.abc import Iterable, Iterator, Mapping, Sequence
 from contextlib import ExitStack, contextmanager
-from dataclasses import dataclass
-from enum import StrEnum
 from functools import partial
 from itertools import islice
 from pathlib import Path
-from typing import NamedTuple
 
 from . import _program
 from ._addresses import Crossing, Reason, Street, take_apart
@@ -24,6 +21,8 @@ from ._extract import active_interrupts
 from ._geocode import Lookup
 from ._geocode_choice import Answer, Found
 from ._geocode_input import COLUMNS, USUAL_NAMES, USUAL_ONE_LINE_NAMES, Address, AddressFile
+from ._geocode_map import Dots
+from ._geocode_match import Candidate, Match, Status
 from ._geocode_output import Form, write_matches
 from ._geocode_towns import Wanted, city_key, state_of, state_of_county
 from ._interrupts import Interrupts
@@ -41,56 +40,6 @@ COMMAND = "geocode"
 # The number of addresses whose readings and hits are in memory. The counties are loaded again for each such part.
 ADDRESSES_AT_ONCE = 20_000
 _ZIP = re.compile(r"([0-9]{3,5})(?:[- ]?[0-9]{4})?(?:\.0*)?")
-
-
-class Status(StrEnum):
-    """The result for an address, in the words of the Census Bureau's batch geocoder."""
-
-    MATCH = "Match"
-    TIE = "Tie"
-    NO_MATCH = "No_Match"
-
-
-class Candidate(NamedTuple):
-    """A place that an address may mean: one of several, or one in a town that doesn't agree with the address.
-
-    `reasons` says what the address lacks for an exact match there. The rest is as in a match.
-    """
-
-    reasons: tuple[Reason, ...]
-    matched: str
-    longitude: float
-    latitude: float
-    tlid: int
-    side: str
-    county: str
-
-
-@dataclass(frozen=True, slots=True)
-class Match:
-    """The result for an address.
-
-    For a match, `matched` is the address in the data's spelling, and the place is in degrees (NAD 83). `reasons` says
-    why there is no match, or what is missing for an exact one. `candidates` are the places of a tie, or those that were
-    found in another town. `hint` is the name in the town that is nearest to that of a street that isn't there.
-    """
-
-    address: Address
-    status: Status
-    reasons: tuple[Reason, ...] = ()
-    matched: str | None = None
-    longitude: float | None = None
-    latitude: float | None = None
-    tlid: int | None = None
-    side: str | None = None
-    county: str | None = None
-    candidates: tuple[Candidate, ...] = ()
-    hint: str | None = None
-
-    @property
-    def is_exact(self) -> bool:
-        """Returns whether the address has the same direction, name, type and ZIP Code as the data."""
-        return self.status is Status.MATCH and not self.reasons
 
 
 def geocode(
@@ -274,11 +223,7 @@ def _write(
 ) -> str:
     """Writes the matches to a file, and their map to another one, and returns a summary."""
     name = "standard input" if options.addresses == STANDARD_INPUT else options.addresses
-    dots = None
-    if picture:
-        from ._geocode_map import Dots
-
-        dots = Dots(options.candidates)
+    dots = Dots(options.candidates) if picture else None
     with opened_input(options.addresses, interrupts) as source:
         table = TableFile(source, name, options.encoding, options.delimiter)
         addresses = AddressFile(table, options.header, options.one_line, named)
