@@ -39,6 +39,7 @@ def run_there(
 def connected(address: str, check: Callable[[], None]) -> Iterator[Any]:
     """Connects to a scheduler. Raises OSError if none answers within some seconds, and warns if it has no worker."""
     try:
+        # An optional package: only a scheduler needs it.
         from distributed import Client
         from distributed.comm import get_address_host_port, normalize_address
     except ImportError:
@@ -105,6 +106,7 @@ def _next(done: "SimpleQueue[Any]", check: Callable[[], None]) -> Any:
 
 def _result(client: Any, future: Any, code: str) -> Any:
     """Returns the result of a finished task, or raises its exception, even if its worker or scheduler died."""
+    # An optional package, as above.
     from distributed import CancelledError, KilledWorker, TimeoutError
     from distributed.comm import CommClosedError
 
@@ -130,7 +132,7 @@ def extract(
     progress: bool,
 ) -> Iterator[CountyRows]:
     """Yields the rows of each county in order. The workers of a client select them."""
-    from distributed import Client
+    from distributed import Client  # An optional package, as above.
 
     if not isinstance(client, Client) or client.asynchronous:
         raise ValueError("client= is a dask.distributed.Client that isn't asynchronous")

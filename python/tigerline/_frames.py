@@ -161,7 +161,7 @@ def _frame(county: CountyRows, names: tuple[str, ...], geometry: Geometry, signe
     frame = pd.DataFrame(table)
     if not geometry:
         return frame
-    import geopandas
+    import geopandas  # An optional package: only geometry needs it.
 
     lines = np.empty(len(records), object)
     for index, line in enumerate(_lines(records, county.shapes)):
@@ -171,7 +171,7 @@ def _frame(county: CountyRows, names: tuple[str, ...], geometry: Geometry, signe
 
 def _lines(records: Any, shapes: Shapes) -> Iterator[Any]:
     """Yields the line of each record, or None if one of its ends has no coordinates."""
-    from shapely.geometry import LineString
+    from shapely.geometry import LineString  # An optional package, as above.
 
     ends = _columns.ends(records)
     segments = _columns.segments(records).tolist() if shapes else [None] * len(ends)

@@ -42,6 +42,7 @@ class StreetIndex:
     """The streets of a county by their places."""
 
     def __init__(self, streets: Sequence[Street]) -> None:
+        # An optional package: only `reverse` needs it.
         from shapely.geometry import LineString
         from shapely.strtree import STRtree
 

@@ -20,7 +20,7 @@ def counted_of(items: Iterable[Item], total: int, unit: str, progress: bool) -> 
     if not progress:
         return items
     try:
-        from tqdm import tqdm
+        from tqdm import tqdm  # An optional package.
     except ImportError:
         return _plain(items, total, PLURALS[unit])
     bar: Iterable[Item] = tqdm(items, total=total, unit=unit, file=sys.stderr)
