@@ -1,7 +1,7 @@
 """Parsing street strings: all readings of a string, the fullest first, or the reason for none."""
 
 import pytest
-from tigerline._addresses import LONGEST_NAME, Crossing, Reading, Reason, Street, take_apart
+from tigerline._addresses import LONGEST_NAME, Crossing, Reading, Reason, Street, parse_street
 from tigerline._geocode_words import _TYPES, DIRECTIONS, TYPES, same_type
 
 # A street string, and its readings in order: direction, name, type, direction.
@@ -173,7 +173,7 @@ def written(reading: Reading) -> str:
 @pytest.mark.parametrize("row", READINGS)
 def test_readings(row: str) -> None:
     text, expected = cells(row)
-    street = take_apart(text)
+    street = parse_street(text)
     assert isinstance(street, Street)
     assert "; ".join(map(written, street.readings)) == expected
     assert str(street.number) == text.split()[0].rstrip("B").lstrip("0")
@@ -182,7 +182,7 @@ def test_readings(row: str) -> None:
 @pytest.mark.parametrize("row", ROUTES)
 def test_routes(row: str) -> None:
     text, name, kind = cells(row)
-    street = take_apart(f"5 {text} N", "AL")
+    street = parse_street(f"5 {text} N", "AL")
     assert isinstance(street, Street)
     changes = (Reason.ROUTE,) if kind == "other" else ()
     assert Reading(name, sufdir="N", changes=changes) in street.readings
@@ -191,7 +191,7 @@ def test_routes(row: str) -> None:
 @pytest.mark.parametrize("row", NOISE)
 def test_noise(row: str) -> None:
     text, expected, reasons = cells(row)
-    street = take_apart(text, "AL", ("Milford", "AL", "35042"))
+    street = parse_street(text, "AL", ("Milford", "AL", "35042"))
     assert isinstance(street, Street) and street.forms[-1].number == 12
     found = [(written(reading), " ".join(reading.changes)) for reading in street.forms[-1].readings]
     assert (expected, reasons) in found
@@ -200,7 +200,7 @@ def test_noise(row: str) -> None:
 @pytest.mark.parametrize("row", REASONS)
 def test_reasons(row: str) -> None:
     text, reason = cells(row)
-    assert take_apart(text) is Reason(reason)
+    assert parse_street(text) is Reason(reason)
 
 
 def test_abbreviations() -> None:
@@ -213,11 +213,11 @@ def test_abbreviations() -> None:
 
 
 def test_long_names() -> None:
-    street = take_apart("5 " + "x" * LONGEST_NAME)
+    street = parse_street("5 " + "x" * LONGEST_NAME)
     assert isinstance(street, Street) and len(street.readings) == 1
-    assert take_apart("5 " + "x" * (LONGEST_NAME + 1)) == Street(5, ())
-    assert take_apart("5 " + "é" * (LONGEST_NAME + 1)) == Street(5, ())
-    assert take_apart("5 " + "N Main St " * 50_000) == Street(5, ())
+    assert parse_street("5 " + "x" * (LONGEST_NAME + 1)) == Street(5, ())
+    assert parse_street("5 " + "é" * (LONGEST_NAME + 1)) == Street(5, ())
+    assert parse_street("5 " + "N Main St " * 50_000) == Street(5, ())
 
 
 class TestAnything:
@@ -234,7 +234,7 @@ class TestAnything:
         @hypothesis.settings(max_examples=400)
         @hypothesis.given(strategies.one_of(strategies.text(), streets, streets.map(lambda street: f"7 {street}")))
         def check(text: str) -> None:
-            street = take_apart(text)
+            street = parse_street(text)
             assert isinstance(street, (Street, Crossing, Reason))
             if isinstance(street, Street):
                 assert len(set(street.readings)) == len(street.readings)
@@ -264,7 +264,7 @@ class TestAnything:
         )
         def check(number: int, predir: str, name: str, type_: str, sufdir: str) -> None:
             text = " ".join(part for part in (str(number), predir, name, type_, sufdir) if part)
-            street = take_apart(text)
+            street = parse_street(text)
             assert isinstance(street, Street) and street.number == number
             assert Reading(name, predir, type_, sufdir) in street.readings
 

@@ -125,7 +125,7 @@ _JOINED_UNIT = re.compile(rf"(?:{'|'.join(sorted(UNITS - {'FL', 'BOX'}))})#?[0-9
 _UNIT_VALUE = re.compile(r"#?[0-9A-Z]+(?:[-/][0-9A-Z]+)*")
 
 
-def take_apart(text: str, state: str = "", town: tuple[str, ...] = ()) -> Street | Crossing | Reason:
+def parse_street(text: str, state: str = "", town: tuple[str, ...] = ()) -> Street | Crossing | Reason:
     """Returns the house number and the readings of a street string, or a crossing, or the reason why it is neither.
 
     `state` is a postal abbreviation, for roads such as `AL 25`. `town` has the city, the state and the ZIP Code, which may be

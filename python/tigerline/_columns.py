@@ -86,7 +86,7 @@ def ends(records: Array) -> Array:
     return np.stack([_coordinate_column(records, field) for field in FIELDS if field.kind is Kind.COORDINATE], axis=1)
 
 
-def segments(records: Array) -> Array:
+def tlids(records: Array) -> Array:
     """Returns the TLID of each record."""
     return numbers(records[:, TLID.bytes])[0]
 

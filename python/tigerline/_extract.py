@@ -103,7 +103,7 @@ def county_rows(
         if not shapes:
             return found
         name = str(county.files.get("2") or county.archive)
-        return replace(found, shapes=shape_points(files["2"], set(segments(everything or rows)), name))
+        return replace(found, shapes=shape_points(files["2"], set(tlids(everything or rows)), name))
 
 
 def _command(
@@ -134,7 +134,7 @@ def with_own_paths(error: OSError, county: County, files: dict[str, Path]) -> OS
     return OSError(text)
 
 
-def segments(rows: bytes) -> Iterator[int]:
+def tlids(rows: bytes) -> Iterator[int]:
     """Yields the TLID of each row."""
     for row in rows.split(b"\n")[:-1]:
         record = row[-RECORD_LENGTH:]

@@ -174,9 +174,9 @@ def _lines(records: Any, shapes: Shapes) -> Iterator[Any]:
     from shapely.geometry import LineString  # An optional package, as above.
 
     ends = _columns.ends(records)
-    segments = _columns.segments(records).tolist() if shapes else [None] * len(ends)
+    tlids = _columns.tlids(records).tolist() if shapes else [None] * len(ends)
     missing = np.isnan(ends).any(axis=1).tolist()
-    for (from_x, from_y, to_x, to_y), tlid, is_missing in zip(ends.tolist(), segments, missing):
+    for (from_x, from_y, to_x, to_y), tlid, is_missing in zip(ends.tolist(), tlids, missing):
         yield None if is_missing else LineString([(from_x, from_y), *shapes.get(tlid, ()), (to_x, to_y)])
 
 

@@ -102,7 +102,7 @@ class Lookup:
         names = {reading.name.upper() for crossing, _ in crossings for street in crossing.streets for reading in street}
         for order, county in enumerate(self.counties if addresses or crossings else ()):
             with self._opened(county, order, interrupts) as opened:
-                self._ask(opened, asked, interrupts)
+                self._geocode_readings(opened, asked, interrupts)
                 if crossings:
                     add_crossings(crossings, read_ends(opened.files, opened.cities, names), county.code, order)
             interrupts.check()
@@ -110,7 +110,7 @@ class Lookup:
         remaining = [(street, answer) for street, answer in addresses if not answer.found]
         for order, county in enumerate(self.counties if remaining else ()):
             with self._opened(county, order, interrupts) as opened:
-                self._ask(opened, _by_form(_further(opened, remaining)), interrupts)
+                self._geocode_readings(opened, _by_form(_further(opened, remaining)), interrupts)
             interrupts.check()
         self._warn_of_cities(remaining)
 
@@ -137,8 +137,8 @@ class Lookup:
                     warnings.warn(f"TGR{found.hit.county}.RTC is missing: cities can't be compared", stacklevel=2)
                     return
 
-    def _ask(self, opened: OpenCounty, asked: tuple[Questions, Questions], interrupts: Interrupts) -> None:
-        """Asks for plain numbers in a county, and for hyphenated ones in its copy with plain numbers.
+    def _geocode_readings(self, opened: OpenCounty, asked: tuple[Questions, Questions], interrupts: Interrupts) -> None:
+        """Geocodes plain numbers in a county, and hyphenated ones in its copy with plain numbers.
 
         The program reads a county even if there is no question for it, and so refuses one that is faulty.
         """

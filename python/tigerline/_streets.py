@@ -9,7 +9,7 @@ from pathlib import Path
 from typing import NamedTuple
 
 from . import _program
-from ._extract import CountyRows, segments, with_own_paths
+from ._extract import CountyRows, tlids, with_own_paths
 from ._geocode_towns import Cities
 from ._interrupts import Interrupts
 from ._layout import number
@@ -60,7 +60,7 @@ def read_streets(program: str, county: County, interrupts: Interrupts) -> list[S
             rows = _program.run(command, interrupts, county=county.code)
         except OSError as error:
             raise with_own_paths(error, county, files) from None
-        chosen = set(segments(rows))
+        chosen = set(tlids(rows))
         shapes: Shapes = {}
         if "2" in files:
             shapes = shape_points(files["2"], chosen, str(county.files.get("2") or county.archive))

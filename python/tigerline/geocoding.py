@@ -15,7 +15,7 @@ from itertools import islice
 from pathlib import Path
 
 from . import _program
-from ._addresses import Crossing, Reason, Street, take_apart
+from ._addresses import Crossing, Reason, Street, parse_street
 from ._commands import exit_status
 from ._extract import active_interrupts
 from ._geocode import Lookup
@@ -92,7 +92,7 @@ def _geocode(
 def _street_of(address: Address, states: set[str]) -> Street | Crossing | Reason:
     """Returns the number and the readings of an address, or the reason for which it isn't looked up."""
     state = state_of(address.state)
-    street = take_apart(address.street, state, (address.city, address.state, address.zip))
+    street = parse_street(address.street, state, (address.city, address.state, address.zip))
     return Reason.OTHER_STATE if not isinstance(street, Reason) and state and state not in states else street
 
 

@@ -16,8 +16,7 @@ from pathlib import Path
 from typing import NamedTuple
 
 from ._commands import exit_status
-from ._extract import CountyRows
-from ._extract import segments as segments_of
+from ._extract import CountyRows, tlids
 from ._layout import RECORD_LENGTH
 from ._lines import line_of
 from ._map_labels import NAME_SIZE
@@ -180,7 +179,7 @@ def county_of(path: Path) -> CountyRows:
             raise OSError(f"{path}: line {number} isn't a record of type 1")
     rows = b"".join(b"0\t%b\n" % record for record in records)
     points = next((beside for beside in map(path.with_suffix, (".RT2", ".rt2")) if beside.exists()), None)
-    return CountyRows("", rows, shape_points(points, set(segments_of(rows)), str(points)) if points else {})
+    return CountyRows("", rows, shape_points(points, set(tlids(rows)), str(points)) if points else {})
 
 
 def drawing(options: argparse.Namespace) -> str:
