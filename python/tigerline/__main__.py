@@ -22,7 +22,7 @@ from ._interrupts import Interrupts
 from ._layout import chosen_names
 from ._map_rows import MapContent, box_around
 from ._output import PendingFile, pending_file
-from ._scratch import naming
+from ._scratch import rename_errors_to
 from ._tables import SUFFIXES, Selection, write_by_gdal, write_csv
 from ._version import __version__
 
@@ -164,7 +164,7 @@ def _write_in_parts(
     form = _batch.Form(selection.names, selection.has_lines, selection.signed, for_gdal, content is not None)
     store = files.enter_context(_batch.part_store(table.final, options.resume))
     tasks = [_batch.part_task(source, form, store) for source in sources]
-    with naming(table.final):
+    with rename_errors_to(table.final):
         parts = _batch.run_tasks(tasks, store, engine, options.progress, interrupts)
     return _batch.join_parts(table, parts, selection, content, interrupts)
 
@@ -176,16 +176,16 @@ def draw(file: PendingFile, content: MapContent, options: argparse.Namespace, in
     drawn = maps.draw_svg if file.path.suffix == ".svg" else maps.draw_html
     picture = drawn(
         content.selected,
-        caption=f"{selected_by}: {counted(len(content.selected))}",
+        caption=f"{selected_by}: {count_text(len(content.selected))}",
         by=options.map_by,
         background=content.background(box, interrupts),
         box=box,
     )
-    with naming(file.final):
+    with rename_errors_to(file.final):
         file.path.write_text(picture, encoding="utf-8")
 
 
-def counted(segments: int) -> str:
+def count_text(segments: int) -> str:
     """Returns the number with its noun, singular or plural."""
     return f"{segments} segment{'' if segments == 1 else 's'}"
 
@@ -198,7 +198,7 @@ def main(arguments: Sequence[str] | None = None) -> int:
     if words[:1] == [reversing.COMMAND]:
         return reversing.main(words[1:])
     options = parser().parse_args(words)
-    return exit_status(lambda: os.fsencode(f"{options.out}: {counted(write(options))}\n"))
+    return exit_status(lambda: os.fsencode(f"{options.out}: {count_text(write(options))}\n"))
 
 
 if __name__ == "__main__":

@@ -28,8 +28,8 @@ from ._map_rows import MapContent
 from ._map_view import MapSegment
 from ._output import PendingFile
 from ._program import VERSION, PathLike, find_program
-from ._progress import counted
-from ._scratch import naming, scratch_folder
+from ._progress import with_progress
+from ._scratch import rename_errors_to, scratch_folder
 from ._sources import County, choose_counties, find_counties
 from ._tables import Selection, write_by_gdal, write_csv, write_source
 from ._version import __version__
@@ -159,7 +159,7 @@ class PartTask:
         os.close(number)
         try:
             _write_part(Path(name), found, self.form, interrupts)
-            with naming(self.path):
+            with rename_errors_to(self.path):
                 os.replace(name, self.path)
         finally:
             with suppress(FileNotFoundError):
@@ -184,11 +184,11 @@ def _write_part(path: Path, found: CountyRows, form: Form, interrupts: Interrupt
     watcher = content.add_selected if form.has_map else None
     selection = Selection(content.of([found]), form.names, form.has_lines, form.signed, watcher)
     if form.for_gdal:
-        with naming(path):
+        with rename_errors_to(path):
             segments, without_line = write_source(path, selection, interrupts)
     else:
         segments, without_line = write_csv(PendingFile(path, path, True), selection, interrupts), 0
-    with naming(path), open(path, "ab") as file:
+    with rename_errors_to(path), open(path, "ab") as file:
         table = file.tell()
         selected = _write_map(file, content.selected)
         others = _write_map(file, content.others(interrupts))
@@ -297,12 +297,12 @@ def part_store(final: Path, resume: bool) -> Iterator[Path]:
     with ExitStack() as cleanup:
         if resume:
             store = final.with_name(final.name + ".parts")
-            with naming(store):
+            with rename_errors_to(store):
                 store.mkdir(exist_ok=True)
             cleanup.enter_context(_locked(store))
             cleanup.push(partial(_leave, store))
         else:
-            with naming(final):
+            with rename_errors_to(final):
                 folder = cleanup.enter_context(scratch_folder(final.parent))
             store = folder / "parts"
             store.mkdir()
@@ -346,7 +346,7 @@ def run_tasks(tasks: Sequence[PartTask], store: Path, engine: Engine, progress: 
     """Has an engine run the tasks whose parts aren't in the store yet. Returns all parts in order."""
     waiting = _unfinished(tasks, store, interrupts)
     with closing(engine(waiting, interrupts)) as ran:
-        for _ in counted(waiting, progress):
+        for _ in with_progress(waiting, len(waiting), "county", progress):
             _require_visible(*next(ran), interrupts)
     parts = [(task.path, summary_of(task.path)) for task in tasks]
     for _, summary in parts:
@@ -365,7 +365,7 @@ def join_parts(
     if content is not None:
         _collect(parts, content, interrupts)
     if file.path.suffix == ".csv":
-        with naming(file.final):
+        with rename_errors_to(file.final):
             return _join(file.path, parts, interrupts)[0]
     return write_by_gdal(file, selection, interrupts, lambda path, *_: _join(path, parts, interrupts))
 

@@ -15,7 +15,7 @@ from ._batch import CountyTask, PartTask, county_tasks, run_county, run_part
 from ._extract import CountyRows, Request
 from ._interrupts import Interrupts
 from ._program import PathLike
-from ._progress import counted
+from ._progress import with_progress
 
 CONNECT_SECONDS = 3
 WORKER_SECONDS = 3
@@ -140,7 +140,7 @@ def extract(
         tasks = county_tasks(request, data, counties, shapes, False, interrupts)
     early: dict[str, CountyRows] = {}
     with closing(completed(client, run_county, tasks, lambda: None)) as done:
-        for task in counted(tasks, progress):
+        for task in with_progress(tasks, len(tasks), "county", progress):
             while task.county.code not in early:
                 other, rows = next(done)
                 early[other.county.code] = rows

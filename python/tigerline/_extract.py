@@ -10,7 +10,7 @@ from . import _program
 from ._interrupts import Interrupts
 from ._layout import RECORD_LENGTH, TLID, number
 from ._program import PathLike
-from ._progress import counted
+from ._progress import with_progress
 from ._scratch import scratch_folder
 from ._shapes import Shapes, shape_points
 from ._sources import County, choose_counties, find_counties, missing_names, opened_county
@@ -71,7 +71,7 @@ def extract(
     with active_interrupts(interrupts) as active:
         program = _program.find_program(request.extractd, active)
         chosen = choose_counties(find_counties(folder), counties, folder)
-    for county in counted(chosen, progress):
+    for county in with_progress(chosen, len(chosen), "county", progress):
         with active_interrupts(interrupts) as active:
             rows = county_rows(program, request, county, shapes, all_rows, active)
         yield rows

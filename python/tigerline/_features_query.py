@@ -33,7 +33,7 @@ _TIME = re.compile(rf"{_DAY}|({_DAY}|(\.\.)?)/({_DAY}|(\.\.)?)")
 
 
 @dataclass(frozen=True)
-class Box:
+class BBox:
     """A box of longitudes and latitudes as literals of a filter. It crosses the 180th meridian if `west` > `east`."""
 
     west: Decimal
@@ -56,7 +56,7 @@ def _either(axis: str, operator: str, value: Decimal) -> str:
 
 
 @dataclass(frozen=True)
-class Selection:
+class FeatureSelection:
     """The segments of a county that a request is about: those for which the filter and all conditions are true."""
 
     filter: str | None = None
@@ -78,7 +78,7 @@ class Selection:
 class ItemsQuery:
     """A request for a page of features."""
 
-    selection: Selection
+    selection: FeatureSelection
     limit: int
     offset: int
     crs: str
@@ -122,7 +122,7 @@ def items_query(given: dict[str, str], filter_length: int, largest_page: int) ->
     if "bbox" in given:
         conditions.append(box(given["bbox"]).filter())
     return ItemsQuery(
-        Selection(text, tuple(conditions)),
+        FeatureSelection(text, tuple(conditions)),
         min(limit, largest_page),
         whole_number(given, "offset", 0),
         system(given, "crs"),
@@ -163,7 +163,7 @@ def quoted(text: str) -> str:
     return "'" + text.replace("'", "''") + "'"
 
 
-def box(text: str) -> Box:
+def box(text: str) -> BBox:
     """Returns the box of the parameter bbox. Ignores the heights in a box of six numbers: segments have none."""
     parts = [part.strip(" ") for part in text.split(",")]
     if len(parts) not in (4, 6) or not all(_NUMBER.fullmatch(part) for part in parts):
@@ -178,7 +178,7 @@ def box(text: str) -> Box:
     west, south, east, north = numbers
     if south > north:
         raise bad_parameter("bbox", "its south is north of its north")
-    return Box(
+    return BBox(
         _literal(west, ROUND_CEILING),
         _literal(south, ROUND_CEILING),
         _literal(east, ROUND_FLOOR),

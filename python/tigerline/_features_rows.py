@@ -16,7 +16,7 @@ from typing import IO
 
 
 from ._features_problems import ClientLeft, Problem, busy, late, refused_county, refused_filter
-from ._features_query import Selection
+from ._features_query import FeatureSelection
 from ._interrupts import Interrupts, kill_group
 from ._layout import FIELDS, RECORD_LENGTH, TLID, Field, Kind, coordinate, number
 from ._program import Refused, failure
@@ -118,7 +118,7 @@ class Processes:
                 if process.returncode is None:
                     kill_group(process)
 
-    def select(self, county: County, selection: Selection, client_is_there: ClientIsThere) -> Rows:
+    def select(self, county: County, selection: FeatureSelection, client_is_there: ClientIsThere) -> Rows:
         """Returns the rows of a selection. Raises Problem if it has none to return."""
         with self._slot(client_is_there), tempfile.TemporaryFile() as output:
             watch = Watch(self._limits.seconds, lambda: client_is_there() and not self._closed)
@@ -200,13 +200,13 @@ def _wait(process: subprocess.Popen[bytes], watch: Watch) -> int:
         watch.check()
 
 
-def _problem(refused: Refused, county: str, selection: Selection) -> Problem:
+def _problem(refused: Refused, county: str, selection: FeatureSelection) -> Problem:
     """Returns the problem of a refusal, with a place in the filter as the client sent it."""
     if refused.county is not None:
         return refused_county(refused, county)
     problem = refused_filter(refused)
     if selection.conditions and problem.members.get("line") == 1:
-        problem.members["column"] = max(1, problem.members["column"] - len(Selection.PREFIX))
+        problem.members["column"] = max(1, problem.members["column"] - len(FeatureSelection.PREFIX))
     return problem
 
 
@@ -216,14 +216,16 @@ class Store:
 
     processes: Processes
     limits: Limits
-    _buffers: OrderedDict[tuple[str, Selection], Rows] = field(default_factory=OrderedDict)
-    _pending: dict[tuple[str, Selection], "Future[Rows]"] = field(default_factory=dict)
+    _buffers: OrderedDict[tuple[str, FeatureSelection], Rows] = field(default_factory=OrderedDict)
+    _pending: dict[tuple[str, FeatureSelection], "Future[Rows]"] = field(default_factory=dict)
     _summaries: dict[str, Summary] = field(default_factory=dict)
     _lock: threading.Lock = field(default_factory=threading.Lock)
     _size: int = 0
     _waiting: int = 0
 
-    def rows(self, county: County, selection: Selection, client_is_there: ClientIsThere, *, keep: bool = True) -> Rows:
+    def rows(
+        self, county: County, selection: FeatureSelection, client_is_there: ClientIsThere, *, keep: bool = True
+    ) -> Rows:
         """Returns the rows of a selection. `extractd` runs only if they aren't cached."""
         key = (county.code, selection)
         while True:
@@ -250,7 +252,12 @@ class Store:
                     self._waiting -= 1
 
     def _fill(
-        self, pending: "Future[Rows]", county: County, selection: Selection, client_is_there: ClientIsThere, keep: bool
+        self,
+        pending: "Future[Rows]",
+        county: County,
+        selection: FeatureSelection,
+        client_is_there: ClientIsThere,
+        keep: bool,
     ) -> Rows:
         key = (county.code, selection)
         try:
@@ -267,7 +274,7 @@ class Store:
         pending.set_result(rows)
         return rows
 
-    def _keep(self, key: tuple[str, Selection], rows: Rows) -> None:
+    def _keep(self, key: tuple[str, FeatureSelection], rows: Rows) -> None:
         """Caches rows and drops those that were requested longest ago. The latest are always cached."""
         self._buffers[key] = rows
         self._size += _size(key, rows)
@@ -277,12 +284,12 @@ class Store:
     def summary(self, county: County, client_is_there: ClientIsThere) -> Summary:
         """Returns the summary of a county."""
         if county.code not in self._summaries:
-            rows = self.rows(county, Selection(), client_is_there)
+            rows = self.rows(county, FeatureSelection(), client_is_there)
             self._summaries[county.code] = Summary(_extent(rows), _repeated(rows))
         return self._summaries[county.code]
 
 
-def _size(key: tuple[str, Selection], rows: Rows) -> int:
+def _size(key: tuple[str, FeatureSelection], rows: Rows) -> int:
     return max(rows.size, SMALLEST_BUFFER) + len(key[1].text)
 
 

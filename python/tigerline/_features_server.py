@@ -50,7 +50,7 @@ class Application(Protocol):
 
 
 @dataclass(frozen=True)
-class Request:
+class HttpRequest:
     """The head of a request."""
 
     method: str
@@ -65,7 +65,7 @@ class Request:
         return self.version == "HTTP/1.1" and not has_body and self.headers.get("connection", "").lower() != "close"
 
 
-def read_request(head: bytes) -> Request:
+def read_request(head: bytes) -> HttpRequest:
     """Returns the request of a head. Raises BadRequest if it isn't one."""
     first, *lines = head.decode("latin-1").removesuffix("\r\n\r\n").split("\r\n")
     parts = first.split(" ")
@@ -80,7 +80,7 @@ def read_request(head: bytes) -> Request:
             headers[name.lower()] += f", {value.strip()}"
     if parts[2] == "HTTP/1.1" and "host" not in headers:
         raise BadRequest(HTTPStatus.BAD_REQUEST)
-    return Request(parts[0], parts[1], parts[2], headers)
+    return HttpRequest(parts[0], parts[1], parts[2], headers)
 
 
 @dataclass(eq=False)
@@ -199,7 +199,7 @@ def bare_reply(status: HTTPStatus) -> bytes:
     return f"{head}Content-Length: {len(body)}\r\nConnection: close\r\n\r\n{body}".encode()
 
 
-def environ_of(request: Request, connection: Connection) -> dict[str, Any]:
+def environ_of(request: HttpRequest, connection: Connection) -> dict[str, Any]:
     """Returns the WSGI environment of a request (PEP 3333)."""
     target = request.target
     if "://" in target.partition("?")[0]:

@@ -13,7 +13,7 @@ from ._lines import line_of
 from ._map_layers import INK, PALE, groups_of
 
 from ._map_parts import (
-    FRAME, LEGEND_WIDTH, LINE_HEIGHT, PAPER, background_parts, legend_text, scale_parts, stroke, text_of,
+    FRAME, LEGEND_WIDTH, LINE_HEIGHT, PAPER, background_parts, escape, legend_text, scale_parts, stroke,
 )  # fmt: skip
 from ._map_rows import MOST_SEGMENTS, box_around, map_segment
 from ._map_view import MARGIN, Box, MapSegment, View, extent_of, view_of
@@ -129,10 +129,10 @@ def _parts(
         f'<svg xmlns="http://www.w3.org/2000/svg" {size} viewBox="0 0 {width} {height}" role="img" '
         f'font-family="{FONT}" font-size="12.5" fill="{INK}">'
     )
-    yield f'<title>{text_of(caption)}</title><rect {size} fill="#ffffff"/>'
+    yield f'<title>{escape(caption)}</title><rect {size} fill="#ffffff"/>'
     for at, line in enumerate(lines):
         y = MARGIN + 13 + LINE_HEIGHT * at
-        yield f'<text x="{MARGIN}" y="{y}" font-size="15" font-weight="bold">{text_of(line)}</text>'
+        yield f'<text x="{MARGIN}" y="{y}" font-size="15" font-weight="bold">{escape(line)}</text>'
     yield from _map_parts(view, background, top, dots(view, places))
     legend_x = MARGIN + view.width + 18
     yield from _legend_parts(places, len(background), legend_x, top + 14)
@@ -158,7 +158,7 @@ def _circles(view: View, places: Sequence[MapSegment]) -> Iterator[str]:
         for place in places:
             if place.cfcc == kind.name:
                 x, y = view.place(place.points[0])
-                title = f"<title>{text_of(place.name)}</title>"
+                title = f"<title>{escape(place.name)}</title>"
                 yield f'<circle cx="{x:.1f}" cy="{y:.1f}" r="{RADIUS}">{title}</circle>'
         yield "</g>"
 

@@ -1,9 +1,9 @@
 """The parts of a map as SVG: areas, lines, names, the legend, and bars of scale."""
 
+import html
 import math
 import re
 from collections.abc import Iterable, Iterator, Sequence
-from html import escape
 
 from ._map_labels import NAME_SIZE, Label, labels_of
 from ._map_layers import AREA_CLASSES, HALO, INK, PALE, Group
@@ -17,9 +17,9 @@ PAPER, FRAME = "#f8f5ee", "#55524b"
 NOT_XML = re.compile("[^\t\n\r\x20-\ud7ff\ue000-\ufffd\U00010000-\U0010ffff]")
 
 
-def text_of(text: str) -> str:
+def escape(text: str) -> str:
     """Escapes a text, and removes the characters that XML doesn't allow."""
-    return escape(printable(text))
+    return html.escape(printable(text))
 
 
 def printable(text: str) -> str:
@@ -70,7 +70,7 @@ def name_parts(labels: Sequence[Label]) -> Iterator[str]:
     yield f'<g id="names" font-size="{NAME_SIZE}" text-anchor="middle" {around}>'
     for text, (x, y), angle, color in labels:
         at = f"translate({x:.1f} {y:.1f})" + (f" rotate({angle:.1f})" if angle else "")
-        yield f'<text transform="{at}" dy=".34em" fill="{color}">{text_of(text)}</text>'
+        yield f'<text transform="{at}" dy=".34em" fill="{color}">{escape(text)}</text>'
     yield "</g>"
 
 

@@ -7,7 +7,7 @@ from contextlib import ExitStack, contextmanager
 from dataclasses import dataclass
 from pathlib import Path
 
-from ._scratch import naming, scratch_folder
+from ._scratch import rename_errors_to, scratch_folder
 
 
 @dataclass(frozen=True)
@@ -20,7 +20,7 @@ class PendingFile:
 
     def publish(self) -> None:
         """Moves the file to its final place. Without `overwrite`, keeps a file that has appeared there meanwhile."""
-        with naming(self.final):
+        with rename_errors_to(self.final):
             _store(self.path)
             if self.overwrite:
                 os.replace(self.path, self.final)
@@ -37,7 +37,7 @@ def pending_file(final: Path, overwrite: bool) -> Iterator[PendingFile]:
     if not overwrite:
         _refuse_existing(final)
     with ExitStack() as cleanup:
-        with naming(final):
+        with rename_errors_to(final):
             folder = cleanup.enter_context(scratch_folder(final.parent))
         yield PendingFile(folder / f"file{final.suffix.lower()}", final, overwrite)
 

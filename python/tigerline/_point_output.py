@@ -12,7 +12,7 @@ from typing import NamedTuple
 
 from ._interrupts import Interrupts
 from ._output import PendingFile, pending_file
-from ._scratch import naming, scratch_folder
+from ._scratch import rename_errors_to, scratch_folder
 from ._tables import CRS, DRIVERS, convert, count_features, gdal_tool
 
 POLL = 0.1  # seconds
@@ -65,14 +65,14 @@ def write_output(
     """
     if out is not None:
         with pending_file(out, overwrite) as file:
-            with naming(file.final):
+            with rename_errors_to(file.final):
                 summary = write(file)
             interrupts.check()
             file.publish()
         return os.fsencode(f"{out}: {summary}\n")
     with scratch_folder() as folder:
         path = folder / "table.csv"
-        with naming(path):
+        with rename_errors_to(path):
             write(PendingFile(path, path, overwrite=False))
         interrupts.check()
         _copy_to_output(path, interrupts)
@@ -94,7 +94,7 @@ def write_points(
     counts: Counter[str] = Counter()
     with scratch_folder() as scratch:
         source = scratch / f"{LAYER}.csv"
-        with naming(source):
+        with rename_errors_to(source):
             rows = _rows_for_gdal(points, suffix != ".fgb", counts)
             _write_csv(source, [*columns, Column("geom")], rows, interrupts)
             types = ",".join(column.type for column in columns)

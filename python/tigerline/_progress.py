@@ -1,7 +1,7 @@
 """Shows the progress of a long selection on standard error."""
 
 import sys
-from collections.abc import Iterable, Sequence
+from collections.abc import Iterable
 from typing import TypeVar
 
 Item = TypeVar("Item")
@@ -10,13 +10,8 @@ PLURALS = {"county": "counties", "address": "addresses"}
 STEPS = 100  # as often a count is shown without tqdm
 
 
-def counted(counties: Sequence[Item], progress: bool) -> Iterable[Item]:
-    """Returns the counties, and shows progress as they are consumed: a bar of tqdm, or a count without tqdm."""
-    return counted_of(counties, len(counties), "county", progress)
-
-
-def counted_of(items: Iterable[Item], total: int, unit: str, progress: bool) -> Iterable[Item]:
-    """Returns so many items, and shows progress as they are consumed."""
+def with_progress(items: Iterable[Item], total: int, unit: str, progress: bool) -> Iterable[Item]:
+    """Returns so many items, and shows progress as they are consumed: a bar of tqdm, or a count without tqdm."""
     if not progress:
         return items
     try:

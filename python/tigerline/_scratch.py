@@ -20,7 +20,7 @@ def scratch_folder(beside: Path | None = None) -> Iterator[Path]:
 
 
 @contextmanager
-def naming(path: Path) -> Iterator[None]:
+def rename_errors_to(path: Path) -> Iterator[None]:
     """Makes system errors name this file if they name none, as for writes, or one in a folder next to it."""
     try:
         yield

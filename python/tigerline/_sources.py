@@ -14,7 +14,7 @@ from pathlib import Path, PurePosixPath
 from typing import BinaryIO
 
 from ._interrupts import Interrupts
-from ._scratch import naming, scratch_folder
+from ._scratch import rename_errors_to, scratch_folder
 
 # The FIPS codes of the states, the District of Columbia, and the territories in TIGER/Line.
 STATES = {
@@ -229,7 +229,7 @@ def _unpack(path: Path, code: str, types: str, folder: Path, interrupts: Interru
             if member.compress_type not in (zipfile.ZIP_STORED, zipfile.ZIP_DEFLATED):
                 raise OSError(f"{path} can't be unpacked: {member.filename!r} isn't compressed by deflate")
             unpacked = folder / f"TGR{code}.RT{record_type}"
-            with naming(unpacked), open(unpacked, "wb") as file:
+            with rename_errors_to(unpacked), open(unpacked, "wb") as file:
                 _unpack_member(archive, member, path, file, interrupts)
 
 

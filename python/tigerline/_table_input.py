@@ -14,7 +14,7 @@ from pathlib import Path
 from typing import TextIO
 
 from ._interrupts import Interrupts
-from ._scratch import naming, scratch_folder
+from ._scratch import rename_errors_to, scratch_folder
 
 STANDARD_INPUT = "-"
 CHUNK = 1 << 20
@@ -46,7 +46,7 @@ class TableFile:
         """
         codec = self._codec()
         try:
-            with naming(Path(self.name)), open(self.path, encoding=codec, newline="") as file:
+            with rename_errors_to(Path(self.name)), open(self.path, encoding=codec, newline="") as file:
                 for line, row in self._rows(file, self.delimiter or self._found_delimiter(codec)):
                     interrupts.check()
                     yield line, row
@@ -59,7 +59,7 @@ class TableFile:
     def _codec(self) -> str:
         """Returns the name of the codec. Excel writes a byte order mark before UTF-8 and UTF-16."""
         if self.encoding is None:
-            with naming(Path(self.name)), open(self.path, "rb") as file:
+            with rename_errors_to(Path(self.name)), open(self.path, "rb") as file:
                 is_utf_16 = file.read(2) in (codecs.BOM_UTF16_LE, codecs.BOM_UTF16_BE)
             return "utf-16" if is_utf_16 else "utf-8-sig"
         try:
@@ -181,7 +181,7 @@ def opened_input(name: str, interrupts: Interrupts) -> Iterator[Path]:
 
 def _copy(descriptor: int, copy: Path, name: str, interrupts: Interrupts) -> None:
     """Copies all input to a file. Waits only for short times, so that Ctrl-C is noticed."""
-    with naming(copy), open(copy, "wb") as file:
+    with rename_errors_to(copy), open(copy, "wb") as file:
         while True:
             interrupts.check()
             if not select.select([descriptor], [], [], POLL)[0]:

@@ -16,7 +16,7 @@ from ._lines import Line, line_of, well_known_binary, well_known_text
 from ._output import PendingFile
 from ._program import run_process
 from ._rows import Row, read_rows
-from ._scratch import naming, scratch_folder
+from ._scratch import rename_errors_to, scratch_folder
 
 DRIVERS = {".gpkg": "GPKG", ".geojson": "GeoJSON", ".fgb": "FlatGeobuf"}
 SUFFIXES = (*DRIVERS, ".csv")
@@ -67,7 +67,7 @@ def write_csv(file: PendingFile, selection: Selection, interrupts: Interrupts) -
     """Writes a CSV file in UTF-8, with lines as WKT in the last column. Returns the number of segments."""
     values_of = selection.values_of()
     count = 0
-    with naming(file.final), open(file.path, "w", encoding="utf-8", newline="") as output:
+    with rename_errors_to(file.final), open(file.path, "w", encoding="utf-8", newline="") as output:
         writer = csv.writer(output, lineterminator="\n")
         writer.writerow([*selection.columns, "WKT"] if selection.has_lines else selection.columns)
         for row, line in selection.rows(interrupts):
@@ -109,7 +109,7 @@ def write_by_gdal(
     ogr2ogr, ogrinfo = gdal_tool("ogr2ogr"), gdal_tool("ogrinfo")
     with scratch_folder() as scratch:
         source = scratch / "segments.csv"
-        with naming(source):
+        with rename_errors_to(source):
             count, without_line = write_source(source, selection, interrupts)
             source.with_suffix(".csvt").write_text(",".join(_types(selection)) + "\n")
         if suffix == ".fgb" and without_line:

@@ -23,7 +23,7 @@ from . import _features_documents as documents
 from . import _features_geojson as geojson
 from ._features_documents import GEOJSON, JSON, OPENAPI, PROBLEM, SCHEMA, link
 from ._features_problems import RETRY_SECONDS, ClientLeft, Problem, not_found
-from ._features_query import ItemsQuery, Selection, items_query, parameters, system
+from ._features_query import FeatureSelection, ItemsQuery, items_query, parameters, system
 from ._features_rows import ClientIsThere, Limits, Processes, Rows, Store, tlid_of
 from ._features_server import CLIENT_IS_THERE, serve
 from ._interrupts import Interrupts
@@ -188,7 +188,7 @@ class Service:
         if not _FEATURE_ID.fullmatch(text):
             raise not_found(f"feature {text[:60]!r}")
         earlier, tlid = divmod(int(text), REPEATED)
-        rows = self._store.rows(county, Selection(f"TLID = {tlid}"), client_is_there, keep=False)
+        rows = self._store.rows(county, FeatureSelection(f"TLID = {tlid}"), client_is_there, keep=False)
         records = rows.records(earlier, 1)
         if not records:
             raise not_found(f"feature {text}")

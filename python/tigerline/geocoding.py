@@ -29,8 +29,8 @@ from ._interrupts import Interrupts
 from ._output import PendingFile, pending_file
 from ._point_output import output_path, picture_path, write_output
 from ._program import PathLike
-from ._progress import counted_of
-from ._scratch import naming
+from ._progress import with_progress
+from ._scratch import rename_errors_to
 from ._sources import choose_counties, find_counties
 from ._table_input import STANDARD_INPUT, TableFile, add_input_options, named_columns, opened_input
 
@@ -231,11 +231,11 @@ def _write(
         matches = _geocode(
             addresses.addresses(interrupts), options.data, options.counties, options.extractd, interrupts
         )
-        shown: Iterable[Match] = counted_of(matches, count, "address", options.progress)
+        shown: Iterable[Match] = with_progress(matches, count, "address", options.progress)
         form = Form(options.header, options.reasons, options.candidates)
         summary = write_matches(file, dots.watched(shown) if dots else shown, form, interrupts)
     if picture and dots:
-        with naming(picture.final):
+        with rename_errors_to(picture.final):
             is_page = picture.path.suffix.lower() != ".svg"
             drawn = dots.draw(options.data, options.extractd, f"{Path(name).name}: {summary}", is_page, interrupts)
             picture.path.write_text(drawn, encoding="utf-8")

@@ -22,7 +22,7 @@ from ._lines import line_of
 from ._map_labels import NAME_SIZE
 from ._map_layers import INK, By, groups_of
 from ._map_page import PAGE, SCRIPT, STYLE
-from ._map_parts import LEGEND_WIDTH, LINE_HEIGHT, legend_parts, map_parts, printable, scale_parts, text_of
+from ._map_parts import LEGEND_WIDTH, LINE_HEIGHT, escape, legend_parts, map_parts, printable, scale_parts
 from ._map_rows import map_segment
 from ._map_view import MARGIN, Box, MapSegment, View, view_of
 from ._rows import read_rows, without
@@ -58,12 +58,12 @@ def sheet_of(
     parts = [
         f'<svg xmlns="http://www.w3.org/2000/svg" {size} viewBox="0 0 {width} {height}" role="img" '
         f'font-family="{FONT}" font-size="12.5" fill="{INK}">',
-        f"<title>{text_of(caption)}</title><desc>{count}</desc>",
+        f"<title>{escape(caption)}</title><desc>{count}</desc>",
         f'<rect {size} fill="#ffffff"/>',
     ]
     for place, line in enumerate(lines):
         y = MARGIN + 13 + LINE_HEIGHT * place
-        parts.append(f'<text x="{MARGIN}" y="{y}" font-size="15" font-weight="bold">{text_of(line)}</text>')
+        parts.append(f'<text x="{MARGIN}" y="{y}" font-size="15" font-weight="bold">{escape(line)}</text>')
     parts += map_parts(view, groups, pale, top)
     map_end = parts.index("</svg>")
     parts.append(f'<text x="{legend_x}" y="{top + 14}" font-weight="bold">{count}</text>')
@@ -148,7 +148,7 @@ def page_of(
     text = json.dumps(data, separators=(",", ":")).replace("<", "\\u003c")
     found = '<path id="found" fill="none" stroke="#d6006c" stroke-width="4" stroke-linecap="round" d=""/>'
     picture = "\n".join([*sheet.parts[: sheet.map_end], found, *sheet.parts[sheet.map_end :]])
-    return PAGE.format(title=text_of(caption), style=STYLE, picture=picture, data=text, script=SCRIPT, hint=hint)
+    return PAGE.format(title=escape(caption), style=STYLE, picture=picture, data=text, script=SCRIPT, hint=hint)
 
 
 def parsed_arguments(arguments: Sequence[str] | None) -> argparse.Namespace:

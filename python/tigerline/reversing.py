@@ -23,7 +23,7 @@ from ._output import PendingFile
 from ._point_input import POINT_COLUMNS, GivenPoint, Place, PointFile, checked
 from ._point_output import Column, Point, output_path, write_output, write_points
 from ._program import PathLike
-from ._progress import counted
+from ._progress import with_progress
 from ._sources import County, choose_counties, find_counties
 from ._streets import Street, read_streets
 from ._table_input import STANDARD_INPUT, TableFile, add_input_options, named_columns, opened_input
@@ -105,7 +105,7 @@ def _reverse(
     remaining = iter(points)
     while part := list(islice(remaining, POINTS_AT_ONCE)):
         best: list[Beside | None] = [None] * len(part)
-        for county in counted(chosen, progress):
+        for county in with_progress(chosen, len(chosen), "county", progress):
             with active_interrupts(interrupts) as held:
                 _find(part, best, program, county, distance, held)
         yield from map(_nearest, best)
