@@ -14,7 +14,7 @@ LINE_HEIGHT = 19
 KILOMETERS_PER_MILE = 1.609344
 LONGEST_BAR = 130
 PAPER, FRAME = "#f8f5ee", "#55524b"
-NOT_XML = re.compile("[^\t\n\r\x20-\ud7ff\ue000-\ufffd\U00010000-\U0010ffff]")
+NOT_XML = re.compile("[\0-\x08\x0b\x0c\x0e-\x1f\ud800-\udfff\ufffe\uffff]")
 
 
 def escape(text: str) -> str:
