@@ -35,45 +35,6 @@ list_any-next p xs n x is fails so_far =
     let at_n : p (get_or xs n x) ≡ false = ap p (get_or_from_slice_get xs n x x (sym is)) ∙ sym fails in
     list_any_more p xs n x (slice_get_within xs n x (sym is)) ∙ rw (so_far, at_n) refl
 
--- the elements that pass the test, after one more that passes or fails
-filter-next : {X : Type 0} (test : X → Bool) (xs : List X) (i : ℕ) (x : X) → i < length xs → x ≡ get_or xs i x
-    → filter test (take (i + 1) xs) ≡ filter test (take i xs) ++ cond (test x) (x ∷ []) []
-filter-next test xs i x inside is =
-    ap (filter test) (take_at_read xs i x inside).1
-    ∙ filter-append test (take i xs) (get_or xs i x ∷ [])
-    ∙ ap (λ x. filter test (take i xs) ++ cond (test x) (x ∷ []) []) (sym is)
-
--- one more element, after the results for the previous elements that pass the test
-module _ {X Y : Type 0} (test : X → Bool) (f : X → List Y) (start : List Y) (xs : List X) (i : ℕ) where
-  -- the element passes
-  pub flat_map-passes : {now : List Y} {x : X} → (i < length xs) × (x ≡ get_or xs i x) → test x ≡ true
-      → now ≡ start ++ flat_map f (filter test (take i xs)) → now ++ f x ≡ start ++ flat_map f (filter test (take (i + 1) xs))
-  flat_map-passes {x} is passes so_far =
-      ap (λ now. now ++ f x) so_far
-      ∙ flat_map_more f start (filter test (take i xs)) x
-      ∙ ap (λ b. start ++ flat_map f (filter test (take i xs) ++ cond b (x ∷ []) [])) (sym passes)
-      ∙ ap (λ xs. start ++ flat_map f xs) (sym (filter-next test xs i x is.0 is.1))
-
-  -- the element fails
-  pub flat_map-fails : {now : List Y} {x : X} → (i < length xs) × (x ≡ get_or xs i x) → test x ≡ false
-      → now ≡ start ++ flat_map f (filter test (take i xs)) → now ≡ start ++ flat_map f (filter test (take (i + 1) xs))
-  flat_map-fails {x} is fails so_far =
-      so_far
-      ∙ ap (λ xs. start ++ flat_map f xs) (sym (append-nil (filter test (take i xs))))
-      ∙ ap (λ b. start ++ flat_map f (filter test (take i xs) ++ cond b (x ∷ []) [])) (sym fails)
-      ∙ ap (λ xs. start ++ flat_map f xs) (sym (filter-next test xs i x is.0 is.1))
-
--- the number of the TLID at an index
-pub tlid_at : (tlids : List ℕ) (segments : List Contents) {tlid : ℕ} (i : ℕ) {segment : Contents} → AreTlids tlids segments
-    → i < length segments → i < length tlids → segment ≡ get_or segments i segment → tlid ≡ get_or tlids i tlid
-    → tlid_of segment ≡ Some tlid
-tlid_at tlids segments {tlid} i {segment} same inside within is numbered =
-    ap tlid_of is
-    ∙ sym (get_or-map tlid_of segments i segment None inside)
-    ∙ ap (λ found. get_or found i None) (sym same)
-    ∙ get_or-map Some tlids i tlid None within
-    ∙ ap (λ (tlid : ℕ). Some tlid) (sym numbered)
-
 -- there are as many TLIDs as segments
 pub tlids-long : (tlids : List ℕ) (segments : List Contents) → AreTlids tlids segments → length tlids ≡ length segments
 tlids-long tlids segments same = sym (length-map tlids Some) ∙ ap length same ∙ length-map segments tlid_of

@@ -1,5 +1,7 @@
 -- Encoding a text in Latin-1, character by character.
-use Rattle.std.proofs.Common.{◌≡◌, ◌≢◌, ◌⊎◌, ◌&&◌, ◌∙◌, ◌≤◌, ◌<◌, ◌+◌, ℕ, true, false, Bool, List, [], ◌∷◌, ◌++◌, Option, Some, None, length, length-append, refl, sym, ap, subst, append_assoc, append-nil, arith, add-one, take, get_or, inl, inr, chars, IsUtf8}
+use Rattle.std.proofs.Common.{◌≡◌, ◌≢◌, ◌⊎◌, ◌&&◌, ◌∙◌, ◌≤◌, ◌<◌, ◌+◌, ℕ, true, false, Bool, List, [], ◌∷◌, ◌++◌, Option, Some}
+use Rattle.std.proofs.Common.{None, length, length-append, refl, sym, ap, subst, append_assoc, append-nil, arith, add-one, take}
+use Rattle.std.proofs.Common.{get_or, inl, inr, chars, IsUtf8}
 use Rattle.std.specs.List.{list_all}
 use Rattle.std.specs.Prelude.{IfSome, nat_le, option_map}
 use Rattle.std.proofs.Math.Seq.{take-suc}
@@ -26,9 +28,9 @@ split-next : (text bytes left rest : List ℕ) (character : ℕ) → IsEncoded t
 split-next text bytes left rest character before next =
     before.split ∙ ap (λ more. bytes ++ more) (chars_past_char left rest character before.utf8 next)
 
-pub room : (text bytes left rest : List ℕ) (character limit : ℕ) → IsEncoded text bytes left → left ≡ encode character ++ rest
-    → length (chars text) ≤ limit → length bytes < limit
-room text bytes left rest character limit before next few =
+pub room : (text bytes left rest : List ℕ) (character : ℕ) → IsEncoded text bytes left → left ≡ encode character ++ rest
+    → length (chars text) ≤ NAME_LENGTH → length bytes < NAME_LENGTH
+room text bytes left rest character before next few =
     let split = ap length (split-next text bytes left rest character before next) ∙ length-append bytes (character ∷ chars rest) in
     omega (arith, split, few)
 

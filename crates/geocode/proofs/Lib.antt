@@ -1,11 +1,13 @@
+mod CandidateLemmas
 mod GazetteerLemmas
 mod HitLemmas
-mod IndexedLemmas
 mod MatchHitLemmas
 mod MatchLemmas
 mod NameHashLemmas
 mod NameIndexLemmas
 mod PositionLemmas
 mod QueryLemmas
+mod SearchLemmas
 mod SpanLemmas
+mod StreetLemmas
 pub mod Latin1Lemmas

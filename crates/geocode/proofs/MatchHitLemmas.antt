@@ -14,17 +14,25 @@ use Rattle.tl_segments.specs.declared.full_name.FullNameFields.{FullNameFields}
 use Rattle.tl_segments.specs.declared.range.RangeFields.{RangeFields}
 use Rattle.tl_segments.proofs.FullNameLemmas.{names_of_full_names}
 use Rattle.geocode.specs.Hits.{find as find_hits, has_name, hit_on, hits_in_county, hits_on_range, hits_on_segment}
-use Rattle.geocode.specs.Matches.{MatchParts, NamedSegment, hits_on_street, matches, matches_from, matches_in_county}
+use Rattle.geocode.specs.Matches.{MatchParts, MatchingParts, hits_on_street, matches, matches_from, matches_in_county}
 use Rattle.geocode.specs.Matches.{matches_on_range, matches_on_segment, matches_under}
 use Rattle.geocode.specs.Sides.{side_of}
-use Rattle.geocode.specs.Span.{IncludesHits, covers}
 use Rattle.geocode.specs.Street.{StreetParts, WantsNameAlone, agrees, fits, is_on_street, name_on}
 use Rattle.geocode.specs.declared.hit.Hit.{Hit}
 use Rattle.geocode.specs.declared.hit.Side.{Side}
 use Rattle.geocode.specs.declared.hit.Side.TheVariants.{Left, Right}
 use Rattle.geocode.specs.declared.hits.House.{House}
-use Rattle.geocode.specs.declared.span.Span.{Span}
-use Rattle.geocode.proofs.GazetteerLemmas.{flat_map-filter}
+
+-- the results for the elements that pass a test
+pub flat_map-filter : {X Y : Type 0} (test : X → Bool) (f : X → List Y) (xs : List X)
+    → flat_map f (filter test xs) ≡ flat_map (λ x. if test x then f x else []) xs
+flat_map-filter test f [] = refl
+flat_map-filter {X} {Y} test f (x ∷ xs) = pick (test x) (flat_map-filter test f xs) where
+  pick : (passes : Bool) → flat_map f (filter test xs) ≡ flat_map (λ x. if test x then f x else []) xs
+      → flat_map f (if passes then x ∷ filter test xs else filter test xs)
+      ≡ (if passes then f x else []) ++ flat_map (λ x. if test x then f x else []) xs
+  pick true after = ap (λ ys. f x ++ ys) after
+  pick false after = after
 
 -- mapping over the results for a list
 map-flat_map : {X Y Z : Type 0} (part : Y → Z) (f : X → List Y) (g : X → List Z) (xs : List X) → ((x : X) → map part (f x) ≡ g x)
@@ -48,17 +56,17 @@ map-filter_map {X} {Y} {Z} part f make (x ∷ xs) same = by (f x) (map-filter_ma
         ap (λ first. first ∷ map part (filter_map (λ x. option_map (make x) (f x)) xs)) (same x y) ∙ ap (λ others. y ∷ others) later
 
 -- the hits of the matches under a name
-hits-under : (house : House) (named : NamedSegment)
-    → map (λ (found : MatchParts). found.hit) (matches_under house named) ≡ hits_on_segment house named.segment
-hits-under house named =
-    map-flat_map (λ (found : MatchParts). found.hit) (matches_on_range house named) (hits_on_range house named.segment.bytes)
-    (ranges_of named.segment) (λ (range : RangeFields).
-    map-filter_map (λ (found : MatchParts). found.hit) (hit_on house named.segment.bytes range)
-    (λ (side : Side) (hit : Hit). record { hit = hit; county = named.county; name = named.name; side = side_of range side })
+hits-under : (house : House) (matching : MatchingParts)
+    → map (λ (found : MatchParts). found.hit) (matches_under house matching) ≡ hits_on_segment house matching.segment
+hits-under house matching =
+    map-flat_map (λ (found : MatchParts). found.hit) (matches_on_range house matching) (hits_on_range house matching.segment.bytes)
+    (ranges_of matching.segment) (λ (range : RangeFields).
+    map-filter_map (λ (found : MatchParts). found.hit) (hit_on house matching.segment.bytes range)
+    (λ (side : Side) (hit : Hit). record { hit = hit; county = matching.county; name = matching.name; side = side_of range side })
     (Left ∷ Right ∷ []) (λ side hit. refl))
 
 -- the hits of a segment's matches
-hits-segment : (street : StreetParts) (house : House) (place : ℕ) (segment : Contents)
+pub hits-segment : (street : StreetParts) (house : House) (place : ℕ) (segment : Contents)
     → map (λ (found : MatchParts). found.hit) (matches_on_segment street house place segment)
     ≡ (if is_on_street street segment then hits_on_segment house segment else [])
 hits-segment street house place segment = by (name_on street segment)
@@ -70,20 +78,9 @@ hits-segment street house place segment = by (name_on street segment)
     by None = refl
     by (Some name) = hits-under house (record { county = place; segment = segment; name = name })
 
-none-of-map : {X Y : Type 0} (f : X → Y) (xs : List X) → map f xs ≡ [] → xs ≡ []
+pub none-of-map : {X Y : Type 0} (f : X → Y) (xs : List X) → map f xs ≡ [] → xs ≡ []
 none-of-map f [] none = refl
 none-of-map f (x ∷ xs) none = absurd (cc)
-
--- a segment whose span doesn't cover the house number has no matches
-pub matches-uncovered : (street : StreetParts) (house : House) (place : ℕ) (span : Span) (segment : Contents) → IncludesHits span segment
-    → covers span house.number ≡ false → matches_on_segment street house place segment ≡ []
-matches-uncovered street house place span segment includes none =
-    none-of-map (λ (found : MatchParts). found.hit) (matches_on_segment street house place segment)
-    (hits-segment street house place segment ∙ by (is_on_street street segment) (includes house none))
-  where
-    by : (on : Bool) → hits_on_segment house segment ≡ [] → (if on then hits_on_segment house segment else []) ≡ []
-    by true nothing = nothing
-    by false nothing = refl
 
 -- the hits of a county's matches
 hits-county : (street : StreetParts) (house : House) (place : ℕ) (county : CountyParts)
@@ -119,7 +116,7 @@ and-trues true b c d is is' is'' = rw (is, is', is'') refl
 and-trues false b c d is is' is'' = refl
 
 -- with the name alone wanted, a full name fits if and only if its FENAME does
-fits-name : (street : StreetParts) (name : FullNameFields) → WantsNameAlone street
+pub fits-name : (street : StreetParts) (name : FullNameFields) → WantsNameAlone street
     → fits street name ≡ name_equals name.fename street.name
 fits-name street name alone =
     and-trues (name_equals name.fename street.name) (agrees street.predir name.fedirp) (agrees street.kind name.fetype)

@@ -13,7 +13,8 @@ use Rattle.std.proofs.lemmas.Grind.{common_steps}
 use Rattle.std.proofs.lemmas.Option.{gets}
 use Rattle.geocode.specs.NameHash.{hash_of, key_of}
 use Rattle.geocode.specs.NameIndex.{AddsNames, AddsSpans, AddsTo, HasSpans, IsChain, first_of, IsIndexFrom, has_key, is_link_of, link_at}
-use Rattle.geocode.specs.NameIndex.{numbers_with, segment_at, with_first}
+use Rattle.geocode.specs.NameIndex.{with_first}
+use Rattle.geocode.specs.Candidates.{IsNext, numbers_with, segment_at}
 use Rattle.geocode.specs.Span.{IncludesHits}
 use Rattle.geocode.specs.declared.name_index.NameIndex.{NameIndex}
 use Rattle.geocode.specs.declared.name_index.Link.{Link}
@@ -88,39 +89,39 @@ IsChain-cases true links number some other is_some is_other = is_some refl
 IsChain-cases false links number some other is_some is_other = is_other refl
 
 -- a segment in front of a chain that it isn't in yet, for one more name
-chain-next : (segment : ℕ) (chain : List ℕ) (before now : Bool) → with_first segment chain ≡ segment ∷ chain
+chain-one_name : (segment : ℕ) (chain : List ℕ) (before now : Bool) → with_first segment chain ≡ segment ∷ chain
     → (if now then with_first segment (if before then segment ∷ chain else chain) else (if before then segment ∷ chain else chain))
     ≡ (if before || now then segment ∷ chain else chain)
-chain-next segment chain true true new =
+chain-one_name segment chain true true new =
     let same : nat_eq segment segment ≡ true = grind (arith, nat_tests) in rw same refl
-chain-next segment chain true false new = refl
-chain-next segment chain false true new = new
-chain-next segment chain false false new = refl
+chain-one_name segment chain true false new = refl
+chain-one_name segment chain false true new = new
+chain-one_name segment chain false false new = refl
 
--- a segment is put in front of the chains for one more of its names
-pub AddsNames-next : {A : Type 0} (old now new : NameIndex A) (segment : ℕ) (span : Span) (names : List (List ℕ)) (n : ℕ) {name : List ℕ}
-    → Some name ≡ slice_get names n
-    → AddsNames old now segment span (take n names) × AddsTo now new (key_of now.keys (hash_of name)) segment span
-    → AddsNames old new segment span (take (n + 1) names)
-AddsNames-next old now new segment span names n {name} is (so_far, more) = record {
-  keys = more.keys ∙ so_far.keys;
-  chains = λ chains chained fresh q.
-      let test : List ℕ → Bool = λ name. nat_eq (key_of old.keys (hash_of name)) q in
-      let before = list_any test (take n names) in
-      let key : key_of now.keys (hash_of name) ≡ key_of old.keys (hash_of name) = ap (λ keys. key_of keys (hash_of name)) so_far.keys in
-      let read : list_any test (take (n + 1) names) ≡ (before || test name) =
-      list_any_more test names n name (slice_get_within names n name (sym is))
-      ∙ ap (λ name. before || test name) (get_or_from_slice_get names n name name (sym is)) in
-      let prior = if before then segment ∷ chains q else chains q in
-      let chain = subst
-      (λ (key : ℕ). IsChain new.links.items (first_of new q) (if nat_eq key q then with_first segment prior else prior)) key
-      (more.chains
-      (λ q. if list_any (λ name. nat_eq (key_of old.keys (hash_of name)) q) (take n names) then segment ∷ chains q else chains q)
-      (so_far.chains chains chained fresh) q) in
-      subst (λ (test : Bool). IsChain new.links.items (first_of new q) (if test then segment ∷ chains q else chains q)) (sym read)
-      (subst (IsChain new.links.items (first_of new q)) (chain-next segment (chains q) before (test name) (fresh q)) chain);
-  spans = λ segments includes spanned. more.spans segments includes (so_far.spans segments includes spanned);
-}
+module _ {A : Type 0} (old now new : NameIndex A) (segment : ℕ) (span : Span) where
+  -- a segment is put in front of the chains for one more of its names
+  pub AddsNames-next : (names : List (List ℕ)) (n : ℕ) {name : List ℕ} → Some name ≡ slice_get names n
+      → AddsNames old now segment span (take n names) × AddsTo now new (key_of now.keys (hash_of name)) segment span
+      → AddsNames old new segment span (take (n + 1) names)
+  AddsNames-next names n {name} is (so_far, more) = record {
+    keys = more.keys ∙ so_far.keys;
+    chains = λ chains chained fresh q.
+        let test : List ℕ → Bool = λ name. nat_eq (key_of old.keys (hash_of name)) q in
+        let before = list_any test (take n names) in
+        let key : key_of now.keys (hash_of name) ≡ key_of old.keys (hash_of name) = ap (λ keys. key_of keys (hash_of name)) so_far.keys in
+        let read : list_any test (take (n + 1) names) ≡ (before || test name) =
+        list_any_more test names n name (slice_get_within names n name (sym is))
+        ∙ ap (λ name. before || test name) (get_or_from_slice_get names n name name (sym is)) in
+        let prior = if before then segment ∷ chains q else chains q in
+        let chain = subst
+        (λ (key : ℕ). IsChain new.links.items (first_of new q) (if nat_eq key q then with_first segment prior else prior)) key
+        (more.chains
+        (λ q. if list_any (λ name. nat_eq (key_of old.keys (hash_of name)) q) (take n names) then segment ∷ chains q else chains q)
+        (so_far.chains chains chained fresh) q) in
+        subst (λ (test : Bool). IsChain new.links.items (first_of new q) (if test then segment ∷ chains q else chains q)) (sym read)
+        (subst (IsChain new.links.items (first_of new q)) (chain-one_name segment (chains q) before (test name) (fresh q)) chain);
+    spans = λ segments includes spanned. more.spans segments includes (so_far.spans segments includes spanned);
+  }
 
 -- a number stays new to a list when a greater number is put in front of it or not
 pick-new : (test : Bool) (n m : ℕ) (numbers : List ℕ) → n < m → with_first n numbers ≡ n ∷ numbers
@@ -135,20 +136,20 @@ numbers-new test n m [] below = refl
 numbers-new test n m (segment ∷ segments) below =
     pick-new (test segment) n m (numbers_with test (m + 1) segments) below (numbers-new test n (m + 1) segments (omega arith))
 
--- one more segment
-pub IsIndexFrom-next : {A : Type 0} (old new : NameIndex A) (n : ℕ) (span : Span) (segments : List Contents) {segment : Contents}
-    → (n < length segments) × (segment ≡ get_or segments n segment) → IsIndexFrom old (n + 1) (drop (n + 1) segments)
-    → AddsNames old new n span (names_of segment) → IsIndexFrom new n (drop n segments)
-IsIndexFrom-next old new n span segments {segment} at so_far more key =
-    let after = drop (n + 1) segments in
-    let chains : ℕ → List ℕ = λ q. numbers_with (has_key old.keys q) (n + 1) after in
-    let chain : IsChain new.links.items (first_of new key) (numbers_with (has_key old.keys key) n (segment ∷ after)) =
-    more.chains chains so_far (λ q. numbers-new (has_key old.keys q) n (n + 1) after (omega arith)) key in
-    let inside = at.0 in
-    let split : segment ∷ after ≡ drop n segments =
-    ap (λ (segment : Contents). segment ∷ after) at.1 ∙ sym (rw add-one (drop-cons segments n segment inside)) in
-    subst (λ (keys : ℕ). IsChain new.links.items (first_of new key) (numbers_with (has_key keys key) n (drop n segments))) (sym more.keys)
-    (subst (λ segments. IsChain new.links.items (first_of new key) (numbers_with (has_key old.keys key) n segments)) split chain)
+module _ {A : Type 0} (old new : NameIndex A) (n : ℕ) (span : Span) where
+  -- one more segment
+  pub IsIndexFrom-next : (segments : List Contents) {segment : Contents} → (n < length segments) × (segment ≡ get_or segments n segment) → IsIndexFrom old (n + 1) (drop (n + 1) segments)
+      → AddsNames old new n span (names_of segment) → IsIndexFrom new n (drop n segments)
+  IsIndexFrom-next segments {segment} at so_far more key =
+      let after = drop (n + 1) segments in
+      let chains : ℕ → List ℕ = λ q. numbers_with (has_key old.keys q) (n + 1) after in
+      let chain : IsChain new.links.items (first_of new key) (numbers_with (has_key old.keys key) n (segment ∷ after)) =
+      more.chains chains so_far (λ q. numbers-new (has_key old.keys q) n (n + 1) after (omega arith)) key in
+      let inside = at.0 in
+      let split : segment ∷ after ≡ drop n segments =
+      ap (λ (segment : Contents). segment ∷ after) at.1 ∙ sym (rw add-one (drop-cons segments n segment inside)) in
+      subst (λ (keys : ℕ). IsChain new.links.items (first_of new key) (numbers_with (has_key keys key) n (drop n segments))) (sym more.keys)
+      (subst (λ segments. IsChain new.links.items (first_of new key) (numbers_with (has_key old.keys key) n segments)) split chain)
 
 -- one more link, with the span of its segment
 pub AddsSpans-push : (links : List Link) (more : Link) → AddsSpans links (links ++ more ∷ []) more.segment more.span
@@ -168,3 +169,42 @@ HasSpans-at links segments number {link} spanned is = by (nat_le 1 number) is
         (get_or_from_slice_get links (number - 1) link link (sym at))
         (All-get_or (λ (link : Link). IncludesHits link.span (segment_at segments link.segment)) links (number - 1) link
         (slice_get_within links (number - 1) link (sym at)) spanned)
+
+-- the first link of a chain, by its number
+chain-link : (links : List Link) (number : ℕ) (numbers : List ℕ) {link : Link} → IsChain links number numbers
+    → Some link ≡ link_at links number
+    → (rest : List ℕ) × (numbers ≡ link.segment ∷ rest) × (link.next < number) × IsChain links link.next rest
+chain-link links number [] {link} chain is = absurd (grind (arith, nat_tests, common_steps, gets))
+chain-link links number (n ∷ numbers) {link} (next, at, rest) is =
+    let same : ◌≡◌ {A = Link} (record { segment = n; span = at.span; next = next }) link =
+    let both = sym at.link ∙ sym is in cc in (
+      numbers,
+      ap (λ (link : Link). link.segment ∷ numbers) same,
+      subst (λ (link : Link). link.next < number) same at.before,
+      subst (λ (link : Link). IsChain links link.next numbers) same rest,
+    )
+
+module _ (links : List Link) (number : ℕ) (numbers : List ℕ) (chain : IsChain links number numbers) where
+  -- the links after the first one are fewer
+  pub chain-fewer : {link : Link} → Some link ≡ link_at links number → link.next < number
+  chain-fewer is = (chain-link links number numbers chain is).2
+
+  module _ (segments : List Contents) where
+    -- the first link's segment is the next candidate
+    pub chain-next : {link : Link} {left : List ℕ → Type 0} → HasSpans links segments → Some link ≡ link_at links number
+        → ((rest : List ℕ) → IsChain links link.next rest → left rest)
+        → IsNext segments left numbers (Some (record { segment = link.segment; span = link.span }))
+    chain-next {link} {left} spans is after =
+        let first = chain-link links number numbers chain is in
+        subst (λ numbers. IsNext segments left numbers (Some (record { segment = link.segment; span = link.span }))) (sym first.1) (
+          record { span = link.span; candidate = refl; includes = HasSpans-at links segments number spans is },
+          after first.0 first.3,
+        )
+
+    -- after the last link there is none
+    pub chain-end : (left : List ℕ → Type 0) → None ≡ link_at links number → IsNext segments left numbers None
+    chain-end left none = by numbers chain
+      where
+        by : (numbers : List ℕ) → IsChain links number numbers → IsNext segments left numbers None
+        by [] chain = refl
+        by (n ∷ numbers) (next, at, rest) = let clash = none ∙ at.link in absurd (cc)

@@ -22,35 +22,35 @@ product-le : (m k n : ℕ) → k ≤ n → m * k ≤ n * m
 product-le m k n le = rw (mul_comm m k) (mul-le-mul_right m le)
 
 -- a share of a distance is no longer than the distance
-pub abs-share : (way gone whole : ℤ) → nat_abs gone ≤ nat_abs whole → nat_abs (int_div (way *ℤ gone) whole) ≤ nat_abs way
-abs-share way gone whole part =
-    rw (abs-div (way *ℤ gone) whole, unsigned_abs-mul way gone)
-    (div-le_of_le-mul (nat_abs whole) (product-le (nat_abs way) (nat_abs gone) (nat_abs whole) part))
+pub abs-share : (length offset total : ℤ) → nat_abs offset ≤ nat_abs total → nat_abs (int_div (length *ℤ offset) total) ≤ nat_abs length
+abs-share length offset total part =
+    rw (abs-div (length *ℤ offset) total, unsigned_abs-mul length offset)
+    (div-le_of_le-mul (nat_abs total) (product-le (nat_abs length) (nat_abs offset) (nat_abs total) part))
 
 -- the product fits in 128 bits
-pub product-fits : (way gone whole : ℤ) → nat_abs way < 2 * 10 ^ 9 → nat_abs gone ≤ nat_abs whole → nat_abs whole < 10 ^ 11
-    → FitsSigned w128 (way *ℤ gone)
-product-fits way gone whole short part small = fits_signed_mul w128 way gone (2 * 10 ^ 9) (10 ^ 11) (omega arith) (omega arith)
+pub product-fits : (length offset total : ℤ) → nat_abs length < 2 * 10 ^ 9 → nat_abs offset ≤ nat_abs total → nat_abs total < 10 ^ 11
+    → FitsSigned w128 (length *ℤ offset)
+product-fits length offset total short part small = fits_signed_mul w128 length offset (2 * 10 ^ 9) (10 ^ 11) (omega arith) (omega arith)
     (omega arith)
 
 -- so does the quotient
-pub share-fits : (way gone whole : ℤ) → nat_abs way < 2 * 10 ^ 9 → nat_abs gone ≤ nat_abs whole
-    → FitsSigned w128 (int_div (way *ℤ gone) whole)
-share-fits way gone whole short part = fits_signed_from_abs w128 (int_div (way *ℤ gone) whole)
-    (omega (arith, abs-share way gone whole part))
+pub share-fits : (length offset total : ℤ) → nat_abs length < 2 * 10 ^ 9 → nat_abs offset ≤ nat_abs total
+    → FitsSigned w128 (int_div (length *ℤ offset) total)
+share-fits length offset total short part = fits_signed_from_abs w128 (int_div (length *ℤ offset) total)
+    (omega (arith, abs-share length offset total part))
 
 -- the quotient as the code computes it
-pub share_is : (way gone whole : ℤ) → nat_abs way < 2 * 10 ^ 9 → nat_abs gone ≤ nat_abs whole → nat_abs whole < 10 ^ 11
+pub share_is : (length offset total : ℤ) → nat_abs length < 2 * 10 ^ 9 → nat_abs offset ≤ nat_abs total → nat_abs total < 10 ^ 11
     → to_z w128 (of_z w128
-    (int_div (to_z w128 (of_z w128 (to_z w128 (of_z w128 way) *ℤ to_z w128 (of_z w128 gone)))) (to_z w128 (of_z w128 whole))))
-    ≡ int_div (way *ℤ gone) whole
-share_is way gone whole short part small =
-    let fits : FitsSigned w128 way = fits_signed_from_abs w128 way (omega arith) in
-    let fits' : FitsSigned w128 gone = fits_signed_from_abs w128 gone (omega arith) in
-    let fits'' : FitsSigned w128 whole = fits_signed_from_abs w128 whole (omega arith) in
-    let product = to_z-of_z w128 (way *ℤ gone) (product-fits way gone whole short part small) in
-    let share = to_z-of_z w128 (int_div (way *ℤ gone) whole) (share-fits way gone whole short part) in
-    rw (to_z-of_z w128 way fits, to_z-of_z w128 gone fits', to_z-of_z w128 whole fits'', product, share) refl
+    (int_div (to_z w128 (of_z w128 (to_z w128 (of_z w128 length) *ℤ to_z w128 (of_z w128 offset)))) (to_z w128 (of_z w128 total))))
+    ≡ int_div (length *ℤ offset) total
+share_is length offset total short part small =
+    let fits : FitsSigned w128 length = fits_signed_from_abs w128 length (omega arith) in
+    let fits' : FitsSigned w128 offset = fits_signed_from_abs w128 offset (omega arith) in
+    let fits'' : FitsSigned w128 total = fits_signed_from_abs w128 total (omega arith) in
+    let product = to_z-of_z w128 (length *ℤ offset) (product-fits length offset total short part small) in
+    let share = to_z-of_z w128 (int_div (length *ℤ offset) total) (share-fits length offset total short part) in
+    rw (to_z-of_z w128 length fits, to_z-of_z w128 offset fits', to_z-of_z w128 total fits'', product, share) refl
 
 -- the difference as the code computes it
 pub difference_is : (a b x y : ℤ) → x ≡ a → y ≡ b → nat_abs a < 10 ^ 11 → nat_abs b < 10 ^ 11

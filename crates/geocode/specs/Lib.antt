@@ -1,3 +1,4 @@
+pub mod Candidates
 pub mod Gazetteer
 pub mod HitLine
 pub mod Hits

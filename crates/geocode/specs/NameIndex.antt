@@ -4,9 +4,11 @@ use Rattle.std.specs.Prelude.{All, slice_get, unwrap_or}
 use Rattle.std.specs.HashMap.{get}
 use Rattle.std.specs.List.{list_any}
 use Rattle.std.specs.Option.{option_map_or}
-use Rattle.tl_segments.specs.Segment.{Contents, blank_segment, names_of}
+use Rattle.tl_segments.specs.Segment.{Contents, names_of}
+use Rattle.geocode.specs.Candidates.{numbers_with, segment_at}
 use Rattle.geocode.specs.NameHash.{hash_of, key_of}
 use Rattle.geocode.specs.Span.{IncludesHits}
+use Rattle.geocode.specs.declared.name_index.Chain.{Chain}
 use Rattle.geocode.specs.declared.name_index.Link.{Link}
 use Rattle.geocode.specs.declared.name_index.NameIndex.{NameIndex}
 use Rattle.geocode.specs.declared.span.Span.{Span}
@@ -14,12 +16,6 @@ use Rattle.geocode.specs.declared.span.Span.{Span}
 -- the segment has a name with this key: the name's hash, reduced to `keys` keys
 abbrev pub has_key : ℕ → ℕ → Contents → Bool
 has_key keys key segment = list_any (λ name. nat_eq (key_of keys (hash_of name)) key) (names_of segment)
-
--- the numbers of the segments that pass a test, if the first segment has this number
-abbrev pub numbers_with : (Contents → Bool) → ℕ → List Contents → List ℕ
-numbers_with test n [] = []
-numbers_with test n (segment ∷ segments) =
-    if test segment then n ∷ numbers_with test (n + 1) segments else numbers_with test (n + 1) segments
 
 -- the link with a number, counted from 1
 abbrev pub link_at : List Link → ℕ → Option Link
@@ -52,10 +48,6 @@ HasChains index chains = (key : ℕ) → IsChain index.links.items (first_of ind
 abbrev pub IsIndexFrom : {A : Type 0} → NameIndex A → ℕ → List Contents → Type 0
 IsIndexFrom index n segments = HasChains index (λ key. numbers_with (has_key index.keys key) n segments)
 
--- the segment with a number, counted from 0
-abbrev pub segment_at : List Contents → ℕ → Contents
-segment_at segments n = unwrap_or (slice_get segments n) blank_segment
-
 -- each link has a span of its segment's house numbers
 abbrev pub HasSpans : List Link → List Contents → Type 0
 HasSpans links segments = All (λ (link : Link). IncludesHits link.span (segment_at segments link.segment)) links
@@ -64,6 +56,11 @@ HasSpans links segments = All (λ (link : Link). IncludesHits link.span (segment
 pub record IsIndexOf {A : Type 0} (index : NameIndex A) (segments : List Contents) : Type 0 where
   pub chains : IsIndexFrom index 0 segments
   pub spans : HasSpans index.links.items segments
+
+-- the rest of a chain has the segments with these numbers, in order, and each link has a span of its segment's house numbers
+pub record AreInChain {A : Type 0} (chain : Chain A) (segments : List Contents) (numbers : List ℕ) : Type 0 where
+  pub links : IsChain chain.index.now.links.items chain.number numbers
+  pub spans : HasSpans chain.index.now.links.items segments
 
 -- a segment in front of others, unless it is already the first
 abbrev pub with_first : ℕ → List ℕ → List ℕ

@@ -1,4 +1,4 @@
--- Texts as names of streets to look for.
+-- Texts as the names of streets.
 use Rattle.std.specs.Prelude.{ℕ, ◌&&◌, if◌then◌else◌, nat_le, List, length, Option, Some, None, chars}
 use Rattle.tl_segments.specs.declared.name.TheConstants.{NAME_LENGTH}
 use Rattle.geocode.specs.Latin1.{latin_1}

@@ -10,16 +10,16 @@ use Rattle.geocode.specs.declared.hits.House.{House}
 use Rattle.geocode.specs.declared.span.Span.{Span}
 
 -- half a house number, at most the greatest 16-bit number
-abbrev pub coarse : ℕ → ℕ
-coarse number = min (number / 2) (2 ^ 16 - 1)
+abbrev pub bucket : ℕ → ℕ
+bucket number = min (number / 2) (2 ^ 16 - 1)
 
 -- a house with this number may be on the segment
 abbrev pub covers : Span → ℕ → Bool
-covers span number = nat_le span.low (coarse number) && nat_le (coarse number) span.high
+covers span number = nat_le span.low (bucket number) && nat_le (bucket number) span.high
 
 -- the span extended by this number
 abbrev pub widened : Span → ℕ → Span
-widened span number = record { low = min span.low (coarse number); high = max span.high (coarse number) }
+widened span number = record { low = min span.low (bucket number); high = max span.high (bucket number) }
 
 -- a house whose number isn't covered has no hit on the segment
 abbrev pub IncludesHits : Span → Contents → Type 0

@@ -1,4 +1,4 @@
--- Streets to look for (TIGER/Line 2006, FEDIRP, FENAME, FETYPE and FEDIRS of record types 1 and 5).
+-- Streets, as a search names them (TIGER/Line 2006, FEDIRP, FENAME, FETYPE and FEDIRS of record types 1 and 5).
 use Rattle.std.specs.Prelude.{◌≡◌, ℕ, Bool, true, ◌&&◌, ◌||◌, List, find, Option, is_some}
 use Rattle.tl_fields.specs.Number.{is_blank}
 use Rattle.tl_segments.specs.FullName.{full_names_of}

@@ -1,4 +1,4 @@
--- Names of streets to look for.
+-- Street names, as a search names them.
 use Rattle.std.specs.Prelude.{ℕ, ◌&&◌, if◌then◌else◌, nat_le, List, length, Option, Some, None}
 use Rattle.tl_segments.specs.declared.name.TheConstants.{NAME_LENGTH}
 

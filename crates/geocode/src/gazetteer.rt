@@ -1,20 +1,18 @@
 //! Indexes of the street names of counties.
-ghost use Rattle.std.specs.Prelude.{◌≡◌, ◌≤◌, ◌<◌, ◌++◌, length, map, IfOk, OnOk};
-ghost use Rattle.std.specs.List.{flat_map};
+ghost use Rattle.std.specs.Prelude.{◌≡◌, ◌≤◌, ◌++◌, List, length, map, IfOk, OnOk};
 ghost use Rattle.geocode.specs.Gazetteer.{IsGazetteerOf};
-ghost use Rattle.geocode.specs.Hits.{find, has_name, hits_in_county, hits_on_segment};
-ghost use Rattle.geocode.specs.Matches.{has_street, match_of, matches};
-ghost use Rattle.geocode.specs.NameHash.{hash_of};
-ghost use Rattle.geocode.specs.NameIndex.{IsIndexOf};
+ghost use Rattle.geocode.specs.Hits.{find};
+ghost use Rattle.geocode.specs.Matches.{HitsAgree, MatchParts, has_street, match_of, matches};
 ghost use Rattle.geocode.specs.Street as looked_for;
 ghost use Rattle.tl_segments.specs.declared.name.TheConstants.{NAME_LENGTH};
 
+use crate::findings::Findings;
 use crate::hit::Hit;
-use crate::hits::{House, push_if_named};
-use crate::indexed::{has_street, push_matches};
+use crate::hits::House;
 use crate::matching::Match;
 use crate::name_hash::hash_of;
 use crate::name_index::NameIndex;
+use crate::search::{Search, has_street};
 use crate::street::Street;
 use std::alloc::{AllocError, Allocator};
 use tl_segments::{County, NAME_LENGTH};
@@ -59,17 +57,14 @@ impl<A: Allocator + Copy> Gazetteer<A> {
         requires few { length name.now ≤ NAME_LENGTH }
         ensures { IfOk result (λ hits. hits.items ≡ find name.now (record { number = number; zip = zip }) counties.now) }
     {
-        let house = House { number, zip };
-        let hash = hash_of(name);
+        let search = Search::by_name(name, House { number, zip });
         let mut hits = Vec::new(alloc);
-        for (county, index) in counties.iter().zip(self.indexes.as_slice()) {
-            push_in_county(name, hash, house, county, index, &mut hits)?;
-        }
+        self.push_found(counties, search, &mut hits)?;
         Ok(hits)
     }
 
-    /// Returns the same matches as [`matches`](crate::matches) over the counties that the gazetteer was made from, without visiting all their
-    /// segments. Allocates only for matches.
+    /// Returns the hits of a house number on a street in the counties that the gazetteer was made from, each with the name that matched. They are in
+    /// the order of counties, segments and ranges, the left side before the right. Allocates only for matches.
     pub fn matches<'a>(
         &self,
         alloc: A,
@@ -83,19 +78,8 @@ impl<A: Allocator + Copy> Gazetteer<A> {
             ≡ matches (looked_for.parts_of street.entry) (record { number = number; zip = zip }) counties.now) }
     {
         let house = House { number, zip };
-        let hash = hash_of(street.name.text);
         let mut matches = Vec::new(alloc);
-        for (place, county) in counties.iter().enumerate() {
-            push_matches(
-                street,
-                hash,
-                house,
-                place,
-                county,
-                &self.indexes[place],
-                &mut matches,
-            )?;
-        }
+        self.push_found(counties, Search { street, house }, &mut matches)?;
         Ok(matches)
     }
 }
@@ -107,36 +91,30 @@ impl<A: Allocator> Gazetteer<A> {
         ensures { result ≡ has_street (looked_for.parts_of street.entry) counties.now }
     {
         let hash = hash_of(street.name.text);
-        for (place, county) in counties.iter().enumerate() {
-            if has_street(street, hash, county, &self.indexes[place]) {
+        for (n, county) in counties.iter().enumerate() {
+            if has_street(street, self.indexes[n].candidates(hash), county) {
                 return true;
             }
         }
         false
     }
-}
 
-/// Appends the hits in a county, using its index and the hash of the name.
-fn push_in_county<A: Allocator + Copy>(
-    name: &[u8],
-    hash: u64,
-    house: House,
-    county: &County<A>,
-    index: &NameIndex<A>,
-    hits: &mut Vec<Hit, A>,
-) -> Result<(), AllocError>
-    requires some { 1 ≤ length name.now }
-    requires few { length name.now ≤ NAME_LENGTH }
-    requires hash { hash ≡ hash_of name.now }
-    requires of { IsIndexOf index.now county.now.segments }
-    ensures { OnOk result (hits.new.items ≡ hits.old.items ++ hits_in_county name.now house county.now) }
-{
-    let mut number = index.first(hash);
-    while let Some(link) = index.link(number) {
-        if link.span.covers(house.number) {
-            push_if_named(name, house, county, link.segment as usize, hits)?;
+    /// Appends the matches in the counties that the gazetteer was made from.
+    fn push_found<'a, F: Findings<'a>>(
+        &self,
+        counties: &'a [County<A>],
+        search: Search<'_>,
+        found: &mut F,
+    ) -> Result<(), AllocError>
+        requires of { IsGazetteerOf self.now counties.now }
+        ensures matches { (so_far : List MatchParts) → F.has found.old so_far → OnOk result (F.has found.new
+            (so_far ++ matches (looked_for.parts_of search.entry.street) search.entry.house counties.now)) }
+        ensures hits { OnOk result (HitsAgree (looked_for.parts_of search.entry.street) search.entry.house counties.now) }
+    {
+        let hash = hash_of(search.street.name.text);
+        for (n, county) in counties.iter().enumerate() {
+            search.push_in_county(self.indexes[n].candidates(hash), n, county, found)?;
         }
-        number = link.next;
+        Ok(())
     }
-    Ok(())
 }

@@ -1,23 +1,23 @@
 //! Hits of a house number in counties.
-ghost use Rattle.std.specs.Prelude.{◌≡◌, ◌<◌, ◌≤◌, ◌++◌, length, Some, IfOk, OnOk};
-ghost use Rattle.geocode.specs.Gazetteer.{hits_if_named};
-ghost use Rattle.geocode.specs.Hits.{find, has_name, has_zip, hit_on, hits_in_county, hits_on_range, hits_on_segment, is_on};
-ghost use Rattle.geocode.specs.NameIndex.{segment_at};
+ghost use Rattle.std.specs.Prelude.{◌≡◌, ◌≤◌, length, Some, IfOk};
+ghost use Rattle.geocode.specs.Hits.{find, has_zip, hit_on};
 ghost use Rattle.geocode.specs.Sides.{parts_of};
 ghost use Rattle.tl_fields.specs.Number.{number_of};
 ghost use Rattle.tl_records.specs.Layout.{field_at};
 ghost use Rattle.tl_records.specs.declared.layout.TheConstants.Type1.{TLID};
-ghost use Rattle.tl_segments.specs.County.{tlid_of};
 ghost use Rattle.tl_segments.specs.Range.{fields_of};
+ghost use Rattle.tl_segments.specs.declared.name.TheConstants.{NAME_LENGTH};
 
+use crate::candidates::AllSegments;
 use crate::hit::{Hit, Side};
 use crate::position::place_on;
+use crate::search::Search;
 use crate::sides::SideFields;
 use std::alloc::{AllocError, Allocator};
 use tl_fields::number as number_of;
-use tl_segments::{County, NAME_LENGTH, RECORD_LENGTH, Range, Segment, lies_on, name_equals};
+use tl_segments::{County, NAME_LENGTH, RECORD_LENGTH, Range, lies_on};
 
-/// A house to look for: its number and, if it must be in a particular ZIP code, the number of that code.
+/// The house number searched for and, if the house must be in a particular ZIP code, the number of that code.
 #[derive(Clone, Copy)]
 pub(crate) struct House {
     pub number: u64,
@@ -40,103 +40,12 @@ pub fn find<A: Allocator + Copy>(
     requires few { length name.now ≤ NAME_LENGTH }
     ensures { IfOk result (λ hits. hits.items ≡ find name.now (record { number = number; zip = zip }) counties.now) }
 {
-    let house = House { number, zip };
+    let search = Search::by_name(name, House { number, zip });
     let mut hits = Vec::new(alloc);
-    for county in counties {
-        push_in_county(name, house, county, &mut hits)?;
+    for (index, county) in counties.iter().enumerate() {
+        search.push_in_county(AllSegments::of(county), index, county, &mut hits)?;
     }
     Ok(hits)
-}
-
-fn push_in_county<A: Allocator + Copy>(
-    name: &[u8],
-    house: House,
-    county: &County<A>,
-    hits: &mut Vec<Hit, A>,
-) -> Result<(), AllocError>
-    requires some { 1 ≤ length name.now }
-    requires few { length name.now ≤ NAME_LENGTH }
-    ensures { OnOk result (hits.new.items ≡ hits.old.items ++ hits_in_county name.now house county.now) }
-{
-    for (segment, tlid) in county.segments().iter().zip(county.tlids()) {
-        if has_name(name, segment) {
-            push_on_segment(house, *tlid, segment, hits)?;
-        }
-    }
-    Ok(())
-}
-
-/// Appends the hits on segment `n`, if it has the name.
-pub(crate) fn push_if_named<A: Allocator + Copy>(
-    name: &[u8],
-    house: House,
-    county: &County<A>,
-    n: usize,
-    hits: &mut Vec<Hit, A>,
-) -> Result<(), AllocError>
-    requires some { 1 ≤ length name.now }
-    requires few { length name.now ≤ NAME_LENGTH }
-    requires inside { n < length county.now.segments }
-    ensures { OnOk result (hits.new.items ≡ hits.old.items ++ hits_if_named name.now house (segment_at county.now.segments n)) }
-{
-    let segment = &county.segments()[n];
-    if has_name(name, segment) {
-        push_on_segment(house, county.tlids()[n], segment, hits)?;
-    }
-    Ok(())
-}
-
-/// Returns whether some name of the segment equals this one.
-fn has_name<A: Allocator>(name: &[u8], segment: &Segment<A>) -> bool
-    requires some { 1 ≤ length name.now }
-    requires few { length name.now ≤ NAME_LENGTH }
-    ensures { result ≡ has_name name.now segment.now }
-{
-    for n in 0..=segment.names() {
-        if let Some(named) = segment.name(n) {
-            if name_equals(named, name) {
-                return true;
-            }
-        }
-    }
-    false
-}
-
-fn push_on_segment<A: Allocator + Copy>(
-    house: House,
-    tlid: u64,
-    segment: &Segment<A>,
-    hits: &mut Vec<Hit, A>,
-) -> Result<(), AllocError>
-    requires { tlid_of segment.now ≡ Some tlid }
-    ensures { OnOk result (hits.new.items ≡ hits.old.items ++ hits_on_segment house segment.now) }
-{
-    for n in 0..segment.ranges() {
-        if let Some(range) = segment.range(n) {
-            push_on_range(house, tlid, segment.bytes(), range, hits)?;
-        }
-    }
-    Ok(())
-}
-
-fn push_on_range<A: Allocator + Copy>(
-    house: House,
-    tlid: u64,
-    bytes: &[u8],
-    range: Range<'_>,
-    hits: &mut Vec<Hit, A>,
-) -> Result<(), AllocError>
-    requires bytes { length bytes.now ≡ RECORD_LENGTH }
-    requires tlid { number_of (field_at TLID bytes.now) ≡ Some tlid }
-    ensures { OnOk result (hits.new.items ≡ hits.old.items ++ hits_on_range house bytes.now (fields_of range.entry)) }
-{
-    if let Some(hit) = hit_on(house, tlid, bytes, range, Side::Left) {
-        hits.push(hit)?;
-    }
-    if let Some(hit) = hit_on(house, tlid, bytes, range, Side::Right) {
-        hits.push(hit)?;
-    }
-    Ok(())
 }
 
 /// Returns the hit on a side of a range of a segment with this type 1 record and this TLID number, if the house is on it.

@@ -14,7 +14,7 @@ pub(crate) fn characters(text: &str) -> usize
     text.chars().count()
 }
 
-/// Encodes a text. Returns `None` if Latin-1 lacks one of its characters.
+/// Encodes a text. Returns `None` if one of its characters isn't in Latin-1.
 pub(crate) fn latin_1(text: &str) -> Option<ArrayVec<u8, NAME_LENGTH>>
     requires { length (chars text.now) ≤ NAME_LENGTH }
     ensures { option_map (λ bytes. bytes.items) result ≡ latin_1 text.now }

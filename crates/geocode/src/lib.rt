@@ -1,10 +1,11 @@
 //! Places of house numbers: which segments of a county have a street's name and a house number on one side, and where along them it lies.
 #![tactic(auto)]
 
+mod candidates;
+mod findings;
 mod gazetteer;
 mod hit;
 mod hits;
-mod indexed;
 mod latin_1;
 pub mod laws;
 mod matching;
@@ -13,6 +14,7 @@ mod name_index;
 mod name_text;
 mod position;
 mod query;
+mod search;
 mod sides;
 mod span;
 mod street;
@@ -22,7 +24,7 @@ pub use gazetteer::Gazetteer;
 pub use hit::{Hit, LINE_LENGTH, Place, Side, hit_lines};
 pub use hits::find;
 pub use latin_1::push_utf8;
-pub use matching::{Match, has_street, matches};
+pub use matching::Match;
 pub use name_text::NameText;
 pub use query::{MOST_DIGITS, Query, QueryFault};
 pub use street::Street;

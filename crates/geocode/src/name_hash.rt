@@ -8,7 +8,7 @@ pub(crate) const FNV_OFFSET: u64 = 0xcbf2_9ce4_8422_2325;
 const FNV_PRIME: u64 = 0x100_0000_01b3;
 
 /// Returns the FNV-1a hash of a name's nonblank bytes, with ASCII letters in lower case, so that names that are equal by `name_equals` have the same
-/// hash. Anyone who chooses the names can make them collide.
+/// hash. Not resistant to chosen names.
 #[tactic(auto, unfolding(crate::specs::NameHash::hash_of))]
 pub(crate) fn hash_of(name: &[u8]) -> u64
     ensures { result ≡ hash_of name.now }

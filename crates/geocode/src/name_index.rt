@@ -1,8 +1,9 @@
 //! An index of the names of a county's segments.
-ghost use Rattle.std.specs.Prelude.{◌≡◌, ◌≤◌, ◌<◌, ◌^◌, [], length, IfOk, OnOk};
-ghost use Rattle.tl_segments.specs.Segment.{names_of};
+ghost use Rattle.std.specs.Prelude.{◌≡◌, ◌≤◌, ◌<◌, ◌^◌, List, [], ℕ, length, IfOk, OnOk};
+ghost use Rattle.tl_segments.specs.Segment.{Contents, names_of};
 ghost use Rattle.geocode.specs.NameHash.{hash_of, key_of};
 
+use crate::candidates::{Candidate, Candidates};
 use crate::name_hash::{FNV_OFFSET, hash_of};
 use crate::span::Span;
 use std::alloc::{AllocError, Allocator};
@@ -97,17 +98,22 @@ impl<A: Allocator + Copy> NameIndex<A> {
 }
 
 impl<A: Allocator> NameIndex<A> {
-    ghost use Rattle.geocode.specs.NameIndex.{first_of, is_link_of, link_at};
+    ghost use Rattle.geocode.specs.Candidates.{IsComplete};
+    ghost use Rattle.geocode.specs.NameIndex.{AreInChain, IsIndexOf, first_of, is_link_of, link_at};
 
-    /// Returns the number of the first link of the key of a name with this hash, or 0 if there is none.
-    pub(crate) fn first(&self, hash: u64) -> usize
-        ensures { result ≡ first_of self.now (key_of self.now.keys hash) }
+    /// Returns the segments that may have a name with this hash.
+    pub(crate) fn candidates(&self, hash: u64) -> Chain<'_, A>
+        ensures { (segments : List Contents) (name : List ℕ) → IsIndexOf self.now segments → hash ≡ hash_of name
+            → IsComplete (AreInChain result segments) name segments }
     {
-        self.first_of_key(self.key(hash))
+        Chain {
+            index: self,
+            number: self.first_of_key(self.key(hash)),
+        }
     }
 
     /// Returns the link with a number, counted from 1.
-    pub(crate) fn link(&self, number: usize) -> Option<Link>
+    fn link(&self, number: usize) -> Option<Link>
         ensures { result ≡ link_at self.now.links.items number }
     {
         self.links.get(number.checked_sub(1)?).copied()
@@ -137,6 +143,36 @@ impl<A: Allocator> NameIndex<A> {
         ensures { result ≡ first_of self.now key }
     {
         self.firsts.get(&key).copied().unwrap_or(0)
+    }
+}
+
+/// The segments that have a name with a certain key.
+#[derive(Drop)]
+pub(crate) struct Chain<'i, A: Allocator> {
+    index: &'i NameIndex<A>,
+    /// The number of the next link.
+    number: usize,
+}
+
+impl<'i, A: Allocator> Candidates for Chain<'i, A> {
+    ghost use Rattle.std.specs.Prelude.{◌≡◌, ◌<◌, List, ℕ, IfSome};
+    ghost use Rattle.geocode.specs.Candidates.{IsNext};
+    ghost use Rattle.geocode.specs.NameIndex.{AreInChain};
+    ghost use Rattle.tl_segments.specs.Segment.{Contents};
+
+    ghost are_left = { AreInChain };
+
+    ghost steps = { λ chain. chain.number };
+
+    fn next(&mut self) -> Option<Candidate> {
+        let Some(link) = self.index.link(self.number) else {
+            return None;
+        };
+        self.number = link.next;
+        Some(Candidate {
+            segment: link.segment as usize,
+            span: link.span,
+        })
     }
 }
 

@@ -69,20 +69,20 @@ fn coordinate_along(from: i64, to: i64, position: Position) -> i64
     if position.from == position.to {
         return from;
     }
-    let way = i128::from(to) - i128::from(from);
-    let gone = i128::from(position.number) - i128::from(position.from);
-    let whole = i128::from(position.to) - i128::from(position.from);
-    from + share_of(way, gone, whole)
+    let length = i128::from(to) - i128::from(from);
+    let offset = i128::from(position.number) - i128::from(position.from);
+    let total = i128::from(position.to) - i128::from(position.from);
+    from + interpolate(length, offset, total)
 }
 
-/// Returns the share of `way` that `gone` is of `whole`.
-fn share_of(way: i128, gone: i128, whole: i128) -> i64
-    requires way { nat_abs way < 2 * 10 ^ 9 }
-    requires gone { nat_abs gone ≤ nat_abs whole }
-    requires some { 0 < nat_abs whole }
-    requires whole { nat_abs whole < 10 ^ 11 }
-    ensures value { result ≡ int_div (way *ℤ gone) whole }
+/// Returns `length * offset / total`, rounded toward zero.
+fn interpolate(length: i128, offset: i128, total: i128) -> i64
+    requires length { nat_abs length < 2 * 10 ^ 9 }
+    requires offset { nat_abs offset ≤ nat_abs total }
+    requires some { 0 < nat_abs total }
+    requires total { nat_abs total < 10 ^ 11 }
+    ensures value { result ≡ int_div (length *ℤ offset) total }
     ensures near { nat_abs result < 2 * 10 ^ 9 }
 {
-    (way * gone / whole) as i64
+    (length * offset / total) as i64
 }

@@ -1,7 +1,7 @@
 //! Spans of house numbers.
 ghost use Rattle.std.specs.Prelude.{◌≡◌};
 ghost use Rattle.geocode.specs.Sides.{parts_of};
-ghost use Rattle.geocode.specs.Span.{IncludesHits, IncludesRange, IncludesSide, coarse, covers, widened};
+ghost use Rattle.geocode.specs.Span.{IncludesHits, IncludesRange, IncludesSide, bucket, covers, widened};
 ghost use Rattle.tl_segments.specs.Range.{fields_of};
 
 use crate::hit::Side;
@@ -10,8 +10,8 @@ use std::alloc::Allocator;
 use tl_fields::number as number_of;
 use tl_segments::{Range, Segment};
 
-/// The least and the greatest house number of a segment, each halved and capped at 65,535. A walk over segments reads the span first, to skip
-/// segments.
+/// The least and the greatest house number of a segment, each halved and capped at 65,535. Lets a search skip segments
+/// without reading them.
 #[derive(Clone, Copy)]
 pub(crate) struct Span {
     low: u16,
@@ -19,6 +19,12 @@ pub(crate) struct Span {
 }
 
 impl Span {
+    /// The span of all house numbers.
+    pub(crate) const WHOLE: Span = Span {
+        low: 0,
+        high: u16::MAX,
+    };
+
     /// The span without any house number.
     const EMPTY: Span = Span {
         low: u16::MAX,
@@ -42,7 +48,7 @@ impl Span {
     pub(crate) fn covers(self, number: u64) -> bool
         ensures { result ≡ covers self number }
     {
-        let number = coarse(number);
+        let number = bucket(number);
         self.low <= number && number <= self.high
     }
 
@@ -65,7 +71,7 @@ impl Span {
     fn with(self, number: u64) -> Self
         ensures { result ≡ widened self number }
     {
-        let number = coarse(number);
+        let number = bucket(number);
         Span {
             low: self.low.min(number),
             high: self.high.max(number),
@@ -74,8 +80,8 @@ impl Span {
 }
 
 /// Returns half a house number, at most 65,535.
-fn coarse(number: u64) -> u16
-    ensures { result ≡ coarse number }
+fn bucket(number: u64) -> u16
+    ensures { result ≡ bucket number }
 {
     (number / 2).min(u64::from(u16::MAX)) as u16
 }

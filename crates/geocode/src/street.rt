@@ -1,5 +1,6 @@
-//! Streets to look for.
+//! Streets, as a search names them.
 ghost use Rattle.std.specs.Prelude.{◌≡◌, option_map};
+ghost use Rattle.geocode.specs.Matches.{IsOnByName};
 ghost use Rattle.geocode.specs.Street.{agrees, fits, name_on, parts_of};
 ghost use Rattle.tl_segments.specs.FullName.{HasNameLengths, full_name_of};
 ghost use Rattle.tl_segments.specs.Name.{name_equals};
@@ -9,7 +10,7 @@ use std::alloc::Allocator;
 use tl_fields::blank;
 use tl_segments::{FullName, Segment, name_equals};
 
-/// A street to look for: its name, and the directions and type that the matching name must have. An empty or blank direction or type matches any.
+/// The street searched for: its name, and the directions and type that the matching name must have. An empty or blank direction or type matches any.
 #[derive(Clone, Copy)]
 pub struct Street<'a> {
     pub name: StreetName<'a>,
@@ -24,7 +25,8 @@ pub struct Street<'a> {
 impl Street<'_> {
     /// Returns the first full name of the segment that is the street's.
     pub(crate) fn name_on<'s, A: Allocator>(self, segment: &'s Segment<A>) -> Option<FullName<'s>>
-        ensures { option_map full_name_of result ≡ name_on (parts_of self.entry) segment.now }
+        ensures value { option_map full_name_of result ≡ name_on (parts_of self.entry) segment.now }
+        ensures by_name { IsOnByName (parts_of self.entry) segment.now }
     {
         for n in 0..=segment.names() {
             if let Some(name) = segment.full_name(n) {

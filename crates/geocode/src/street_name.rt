@@ -1,11 +1,11 @@
-//! Names of streets to look for.
+//! Street names, as a search names them.
 ghost use Rattle.std.specs.Prelude.{◌≡◌, ◌≤◌, length, option_map};
 ghost use Rattle.tl_segments.specs.declared.name.TheConstants.{NAME_LENGTH};
 ghost use Rattle.geocode.specs.StreetName.{street_name};
 
 use tl_segments::NAME_LENGTH;
 
-/// The name of a street to look for, without its type and direction: 1 to 30 bytes.
+/// The name of the street searched for, without its type and direction: 1 to 30 bytes.
 #[derive(Clone, Copy)]
 pub struct StreetName<'a> {
     pub text: &'a [u8],

@@ -2,7 +2,7 @@
 use crate::hits::{TwoCounties, text};
 use crate::sweep::growths;
 use fixtures::{Table, TableFault, bytes, cells};
-use geocode::{Gazetteer, Match, Query, Street, StreetName, has_street, hit_lines, matches};
+use geocode::{Gazetteer, Match, Query, Street, StreetName, hit_lines};
 use std::alloc::{AllocError, Allocator, Global};
 use tl_segments::{County, LoadFault};
 
@@ -61,7 +61,7 @@ impl<'a> StreetSearch<'a> {
         })
     }
 
-    /// Returns whether the matches, found by a walk and through a gazetteer, are what the row says.
+    /// Returns whether the matches are what the row says.
     pub fn is_right<A: Allocator + Copy>(&self, heap: A) -> Result<bool, LoadFault> {
         let counties = self.counties.load(heap)?;
         let Ok(query) = Query::of(&self.number, &self.name, None) else {
@@ -117,14 +117,11 @@ fn has_matches<A: Allocator + Copy>(
     lines: &[u8],
 ) -> Result<bool, LoadFault> {
     let gazetteer = Gazetteer::of(heap, counties)?;
-    if has_street(counties, street) != is_there
-        || gazetteer.has_street(counties, street) != is_there
-    {
+    if gazetteer.has_street(counties, street) != is_there {
         return Ok(false);
     }
-    let walked = matches(heap, counties, number, street, None)?;
-    let looked_up = gazetteer.matches(heap, counties, number, street, None)?;
-    Ok(have_lines(heap, &walked, lines)? && have_lines(heap, &looked_up, lines)?)
+    let found = gazetteer.matches(heap, counties, number, street, None)?;
+    Ok(have_lines(heap, &found, lines)?)
 }
 
 fn have_lines<A: Allocator>(

@@ -1,7 +1,10 @@
-use Rattle.std.proofs.Common.{◌≡◌, take}
-use Rattle.std.specs.List.{flat_map}
-use Rattle.geocode.specs.Hits.{hits_in_county}
+use Rattle.std.proofs.Common.{◌≡◌, map, take}
+use Rattle.geocode.specs.Matches.{HitsAgree, MatchParts, matches}
+use Rattle.geocode.specs.Street.{parts_of}
 use Rattle.geocode.proofs.hits.find.Given as goal
 
-abbrev pub invariant-loop-county : goal.invariant-loop-county
-invariant-loop-county g l = l.hits.items ≡ flat_map (hits_in_county l.name l.house) (take l.county-index l.counties)
+-- the hits are those of the matches in the counties so far
+abbrev pub invariant-loop-index : goal.invariant-loop-index
+invariant-loop-index g l =
+    (l.hits.items ≡ map (λ (found : MatchParts). found.hit) (matches (parts_of l.search.street) l.search.house (take l.index l.counties)))
+    × HitsAgree (parts_of l.search.street) l.search.house (take l.index l.counties)

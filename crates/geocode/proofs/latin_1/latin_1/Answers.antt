@@ -1,7 +1,6 @@
 use Rattle.std.proofs.Common.{rules, ◌≡◌, [], arith}
 use Rattle.std.proofs.lemmas.List.{nil_from_length}
 use Rattle.std.specs.Str.Iter.{chars_rest}
-use Rattle.tl_segments.specs.declared.name.TheConstants.{NAME_LENGTH}
 use Rattle.geocode.proofs.Latin1Lemmas.{all-encoded, none-encoded, one-more, other-character, room}
 use Rattle.geocode.proofs.latin_1.latin_1.Goals as goal
 
@@ -14,7 +13,7 @@ pub push-requires : goal.push-requires
 push-requires c = (
   omega arith,
   room c.args.text.now c.loop-character.bytes.items (chars_rest c.loop-character.character-iterator) (chars_rest c.next.new.self)
-      c.in-Some.character NAME_LENGTH c.loop-character.invariant c.in-Some.ensures.steps.0 c.requires,
+      c.in-Some.character c.loop-character.invariant c.in-Some.ensures.steps.0 c.requires,
 )
 
 pub loop-character-preserved : goal.loop-character-preserved

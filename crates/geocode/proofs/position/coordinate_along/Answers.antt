@@ -6,9 +6,9 @@ use Rattle.geocode.proofs.position.coordinate_along.Goals as goal
 
 pub overflow_add-result : goal.overflow_add-result
 overflow_add-result c =
-    let share : FitsSigned w64 c.share_of.result = fits_signed_from_abs w64 c.share_of.result (omega (arith, c.share_of.ensures.near)) in
-    rw (to_z-of_z w64 c.args.from c.ranges.from, to_z-of_z w64 c.share_of.result share)
-    (grind (arith, ints, c.requires.from, c.share_of.ensures.near))
+    let share : FitsSigned w64 c.interpolate.result = fits_signed_from_abs w64 c.interpolate.result (omega (arith, c.interpolate.ensures.near)) in
+    rw (to_z-of_z w64 c.args.from c.ranges.from, to_z-of_z w64 c.interpolate.result share)
+    (grind (arith, ints, c.requires.from, c.interpolate.ensures.near))
 
 pub returns : goal.returns
 returns c =
@@ -23,15 +23,15 @@ returns c =
       c.requires.position.from,
       c.requires.position.to,
     ) in
-    let way = difference_is to from c.from.result c.from-2.result (c.from.ensures ∙ to_z-of_z w64 to c.ranges.to)
+    let length = difference_is to from c.from.result c.from-2.result (c.from.ensures ∙ to_z-of_z w64 to c.ranges.to)
     (c.from-2.ensures ∙ to_z-of_z w64 from c.ranges.from) (omega (arith, c.requires.to)) (omega (arith, c.requires.from)) in
-    let gone = difference_is (pos position.number) (pos position.from) c.from-3.result c.from-4.result c.from-3.ensures c.from-4.ensures
+    let offset = difference_is (pos position.number) (pos position.from) c.from-3.result c.from-4.result c.from-3.ensures c.from-4.ensures
     number c.requires.position.from in
-    let whole = difference_is (pos position.to) (pos position.from) c.from-5.result c.from-6.result c.from-5.ensures c.from-6.ensures
+    let total = difference_is (pos position.to) (pos position.from) c.from-5.result c.from-6.result c.from-5.ensures c.from-6.ensures
     c.requires.position.to c.requires.position.from in
-    let share : c.share_of.result ≡ int_div ((to -ℤ from) *ℤ (pos position.number -ℤ pos position.from))
-    (pos position.to -ℤ pos position.from) = c.share_of.ensures.value ∙ rw (way, gone, whole) refl in
-    let fits : FitsSigned w64 c.share_of.result = fits_signed_from_abs w64 c.share_of.result (omega (arith, c.share_of.ensures.near)) in
-    let sum : FitsSigned w64 (from +ℤ c.share_of.result) = grind (arith, ints, c.requires.from, c.share_of.ensures.near) in
-    rw (to_z-of_z w64 from c.ranges.from, to_z-of_z w64 c.share_of.result fits, to_z-of_z w64 (from +ℤ c.share_of.result) sum)
+    let share : c.interpolate.result ≡ int_div ((to -ℤ from) *ℤ (pos position.number -ℤ pos position.from))
+    (pos position.to -ℤ pos position.from) = c.interpolate.ensures.value ∙ rw (length, offset, total) refl in
+    let fits : FitsSigned w64 c.interpolate.result = fits_signed_from_abs w64 c.interpolate.result (omega (arith, c.interpolate.ensures.near)) in
+    let sum : FitsSigned w64 (from +ℤ c.interpolate.result) = grind (arith, ints, c.requires.from, c.interpolate.ensures.near) in
+    rw (to_z-of_z w64 from c.ranges.from, to_z-of_z w64 c.interpolate.result fits, to_z-of_z w64 (from +ℤ c.interpolate.result) sum)
     (ap (λ share. from +ℤ share) share ∙ sym (coordinate_along-apart from to position apart))

@@ -9,30 +9,31 @@ use Rattle.geocode.proofs.gazetteer.Gazetteer.has_street.Goals as goal
 
 pub index-requires : goal.index-requires
 index-requires g c =
-    omega (arith, c.loop-place-test.true, AreIndexesOf-long c.args.self.now.indexes.items c.args.counties.now c.requires.of)
+    omega (arith, c.loop-n-test.true, AreIndexesOf-long c.args.self.now.indexes.items c.args.counties.now c.requires.of)
 
-pub has_street-requires-clause-of : goal.has_street-requires-clause-of
-has_street-requires-clause-of g c =
-    let inside : c.loop-place.place < length c.args.counties.now = omega (arith, c.loop-place-test.true) in
-    IsIndexOf-at c.args.self.now.indexes.items c.args.counties.now c.loop-place.place c.index.result.now c.index-counties-place.result
-    c.requires.of (inside, c.index-counties-place.is) c.index.ensures
+pub has_street-requires : goal.has_street-requires
+has_street-requires g c =
+    let inside : c.loop-n.n < length c.args.counties.now = omega (arith, c.loop-n-test.true) in
+    c.candidates.ensures c.index-counties-n.result.segments c.args.street.name.text.now
+    (IsIndexOf-at c.args.self.now.indexes.items c.args.counties.now c.loop-n.n c.index.result.now c.index-counties-n.result
+    c.requires.of (inside, c.index-counties-n.is) c.index.ensures) c.hash_of-hash.ensures
 
 pub returns-then-has_street : goal.returns-then-has_street
 returns-then-has_street g c =
     let counties = c.args.counties.now in
-    let n = c.loop-place.place in
-    let county = c.index-counties-place.result in
-    let inside : n < length counties = omega (arith, c.loop-place-test.true) in
+    let n = c.loop-n.n in
+    let county = c.index-counties-n.result in
+    let inside : n < length counties = omega (arith, c.loop-n-test.true) in
     sym (list_any-at (λ (county : CountyParts). list_any (is_on_street (parts_of c.args.street)) county.segments) counties n county
-    (ap (λ (county : CountyParts). Some county) c.index-counties-place.is ∙ sym (slice_get-get_or counties n county inside))
+    (ap (λ (county : CountyParts). Some county) c.index-counties-n.is ∙ sym (slice_get-get_or counties n county inside))
     (sym c.if-has_street.true ∙ c.has_street.ensures))
 
-pub loop-place-preserved : goal.loop-place-preserved
-loop-place-preserved g c =
+pub loop-n-preserved : goal.loop-n-preserved
+loop-n-preserved g c =
     let counties = c.args.counties.now in
-    let n = c.loop-place.place in
-    let county = c.index-counties-place.result in
-    let inside : n < length counties = omega (arith, c.loop-place-test.true) in
+    let n = c.loop-n.n in
+    let county = c.index-counties-n.result in
+    let inside : n < length counties = omega (arith, c.loop-n-test.true) in
     list_any-next (λ (county : CountyParts). list_any (is_on_street (parts_of c.args.street)) county.segments) counties n county
-    (ap (λ (county : CountyParts). Some county) c.index-counties-place.is ∙ sym (slice_get-get_or counties n county inside))
-    (sym c.if-has_street.false ∙ c.has_street.ensures) c.loop-place.invariant
+    (ap (λ (county : CountyParts). Some county) c.index-counties-n.is ∙ sym (slice_get-get_or counties n county inside))
+    (sym c.if-has_street.false ∙ c.has_street.ensures) c.loop-n.invariant

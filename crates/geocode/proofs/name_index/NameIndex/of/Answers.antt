@@ -1,9 +1,10 @@
 use Rattle.std.proofs.Common.{◌≡◌, ℕ, ◌+◌, ◌-◌, ◌<◌, drop, length, sym, subst, arith}
 use Rattle.std.proofs.Math.Seq.{drop-length}
 use Rattle.std.proofs.lemmas.List.Elements.{All-nil}
-use Rattle.geocode.specs.NameIndex.{HasSpans, IsIndexFrom, segment_at}
+use Rattle.geocode.specs.NameIndex.{HasSpans, IsIndexFrom}
+use Rattle.geocode.specs.Candidates.{segment_at}
 use Rattle.geocode.specs.Span.{IncludesHits}
-use Rattle.geocode.proofs.GazetteerLemmas.{segment_at-read}
+use Rattle.geocode.proofs.CandidateLemmas.{segment_at-read}
 use Rattle.geocode.proofs.NameIndexLemmas.{IsIndexFrom-next}
 use Rattle.geocode.proofs.name_index.NameIndex.of.Goals as goal
 
