@@ -15,9 +15,9 @@ use Rattle.cql2.specs.declared.pattern.Pattern.{Pattern}
 use Rattle.cql2.specs.declared.text.Text.{Text as AText}
 use Rattle.cql2_text.specs.Alike.{AreLike, IsLike, next, none, numbers, same, texts}
 use Rattle.cql2_text.specs.Character.{IsComparedText}
-use Rattle.cql2_text.specs.Number.{count_of, number_of, up_to_5000}
+use Rattle.cql2_text.specs.Number.{count_of, number_of, up_to_name_limit}
 use Rattle.cql2_text.specs.Pattern.{IsLikePattern}
-use Rattle.cql2_text.specs.Predicate.{IsCaseiText, IsLikeColumn, IsNumber, IsSubject, IsText, SpellsBetween, SpellsComparison}
+use Rattle.cql2_text.specs.Predicate.{IsCaseiText, IsLikeColumn, IsNumber, IsPoint, IsSubject, IsText, SpellsBetween, SpellsComparison}
 use Rattle.cql2_text.specs.Predicate.{SpellsHasName, SpellsHasNumber, SpellsLike, SpellsLimit, SpellsList, SpellsNegatable, SpellsOf}
 use Rattle.cql2_text.specs.Predicate.{SpellsPredicate, SpellsStartsIn, latitude, longitude, width_of}
 use Rattle.cql2_text.specs.Predicate.{one, more, is_like, is_between, is_in_list, binary_comparison}
@@ -145,6 +145,16 @@ moved-at : (Spelled : List Token → List Token → Type 0) (others known rest :
     → Moved Spelled others rest
 moved-at Spelled others known rest is moved = rw is moved
 
+-- a token that holds no bytes, followed by tokens that are moved
+moved-after : {P Q : List Token → List Token → Type 0} (token : Token) (words others rest : List Token) → is_plain token ≡ true
+    → AreLike (token ∷ words) others → ((later : List Token) → AreLike words later → Moved P later rest)
+    → ((w r : List Token) → P w r → Q (token ∷ w) r) → Moved Q others rest
+moved-after {Q = Q} token words others rest plain alike inner whole =
+    let first = same-first token words others plain alike in
+    let moved = inner first.later first.alike in
+    moved-at Q others _ rest first.is
+    (record { after = moved.after; alike = moved.alike; is = whole first.later moved.after moved.is })
+
 number_of-like : (c : NumericColumn) (numeral another : Numeral) → numeral.is_negative ≡ another.is_negative
     → numeral.whole.now ≡ another.whole.now → numeral.decimals.now ≡ another.decimals.now → number_of c numeral ≡ number_of c another
 number_of-like (numeric.Number column) numeral another sign whole decimals = rw (sign, whole, decimals) refl
@@ -163,6 +173,18 @@ moved-number c words others rest literal alike is =
         spelled = like.is;
         value = sym (number_of-like c is.numeral like.another like.sign like.whole like.decimals) ∙ is.value;
       };
+    }
+
+moved-point : (words others rest : List Token) (x y : Literal) → AreLike words others → IsPoint words rest x y
+    → Moved (λ w r. IsPoint w r x y) others rest
+moved-point words others rest x y alike is =
+    let first = moved-number longitude words others (Comma ∷ is.middle) x alike is.first in
+    let between = same-first Comma is.middle first.after refl first.alike in
+    let second = moved-number latitude is.middle between.later rest y between.alike is.second in
+    record {
+      after = second.after;
+      alike = second.alike;
+      is = record { middle = between.later; first = rw between.is at first.is; second = second.is };
     }
 
 -- CASEI and an opening parenthesis
@@ -303,15 +325,11 @@ module _ {A : Type 0} where
   moved-negatable : (s : Subject) (words others rest : List Token) (made : Filter A) → AreLike words others
       → SpellsNegatable s words rest made → Moved (λ w r. SpellsNegatable s w r made) others rest
   moved-negatable s _ others rest made alike (is_like {words = words} is) =
-      let first = same-first (Keyword word.Like) words others refl alike in
-      let inner = moved-like s words first.later rest made first.alike is in
-      moved-at _ others _ rest first.is
-      (record { after = inner.after; alike = inner.alike; is = is_like inner.is })
+      moved-after (Keyword word.Like) words others rest refl alike (λ later also. moved-like s words later rest made also is)
+      (λ w r it. is_like it)
   moved-negatable _ _ others rest made alike (is_between {c = c} {words = words} is) =
-      let first = same-first (Keyword word.Between) words others refl alike in
-      let inner = moved-between c words first.later rest made first.alike is in
-      moved-at _ others _ rest first.is
-      (record { after = inner.after; alike = inner.alike; is = is_between inner.is })
+      moved-after (Keyword word.Between) words others rest refl alike (λ later also. moved-between c words later rest made also is)
+      (λ w r it. is_between it)
   moved-negatable s _ others rest made alike (is_in_list {words = words} is) =
       let first = same-first (Keyword word.In) (Open ∷ words) others refl alike in
       let second = same-first Open words first.later refl first.alike in
@@ -323,18 +341,14 @@ module _ {A : Type 0} where
   moved-of : (s : Subject) (words others rest : List Token) (made : Filter A) → AreLike words others → SpellsOf s words rest made
       → Moved (λ w r. SpellsOf s w r made) others rest
   moved-of s _ others rest made alike (binary_comparison {comparison = k} {words = words} is) =
-      let first = same-first (Compared k) words others refl alike in
-      let inner = moved-comparison s k words first.later rest made first.alike is in
-      moved-at _ others _ rest first.is
-      (record { after = inner.after; alike = inner.alike; is = binary_comparison inner.is })
+      moved-after (Compared k) words others rest refl alike (λ later also. moved-comparison s k words later rest made also is)
+      (λ w r it. binary_comparison it)
   moved-of s words others rest made alike (negatable is) =
       let inner = moved-negatable s words others rest made alike is in
       record { after = inner.after; alike = inner.alike; is = negatable inner.is }
   moved-of s _ others rest made alike (negated {words = words} {inner = opposite} is inverted) =
-      let first = same-first (Keyword word.Not) words others refl alike in
-      let inner = moved-negatable s words first.later rest opposite first.alike is in
-      moved-at _ others _ rest first.is
-      (record { after = inner.after; alike = inner.alike; is = negated inner.is inverted })
+      moved-after (Keyword word.Not) words others rest refl alike (λ later also. moved-negatable s words later rest opposite also is)
+      (λ w r it. negated it inverted)
   moved-of s _ others rest _ alike (is_null known) =
       let first = same-first (Keyword word.Is) (Keyword word.Null ∷ rest) others refl alike in
       let second = same-first (Keyword word.Null) rest first.later refl first.alike in
@@ -362,7 +376,7 @@ moved-limit _ others rest limit alike (given numeral value) =
     let like = like-number-by (Number numeral ∷ rest) first.later numeral rest first.alike refl in
     let counts = count_of-like 18 numeral like.another like.sign like.whole like.decimals in
     moved-at _ others _ rest (first.is ∙ ap (λ (l : List Token). Comma ∷ l) like.is)
-    (record { after = like.later; alike = like.alike; is = given like.another (ap up_to_5000 (sym counts) ∙ value) })
+    (record { after = like.later; alike = like.alike; is = given like.another (ap up_to_name_limit (sym counts) ∙ value) })
 moved-limit words others _ limit alike (usual value) = record { after = others; alike = alike; is = usual value }
 
 moved-has_number : (words others rest : List Token) (house : HouseNumber) → AreLike words others → SpellsHasNumber words rest house
@@ -408,14 +422,10 @@ module _ {A : Type 0} where
       let opened = first-by words others Open (Keyword word.Bbox ∷ Open ∷ is.from_w) alike is.opened refl in
       let bbox = same-first (Keyword word.Bbox) (Open ∷ is.from_w) opened.later refl opened.alike in
       let inner = same-first Open is.from_w bbox.later refl bbox.alike in
-      let west = moved-number longitude is.from_w inner.later (Comma ∷ is.from_s) is.w inner.alike is.west in
-      let from_s = same-first Comma is.from_s west.after refl west.alike in
-      let south = moved-number latitude is.from_s from_s.later (Comma ∷ is.from_e) is.s from_s.alike is.south in
-      let from_e = same-first Comma is.from_e south.after refl south.alike in
-      let east = moved-number longitude is.from_e from_e.later (Comma ∷ is.from_n) is.e from_e.alike is.east in
-      let from_n = same-first Comma is.from_n east.after refl east.alike in
-      let north = moved-number latitude is.from_n from_n.later (Close ∷ Close ∷ rest) is.n from_n.alike is.north in
-      let closed = same-first Close (Close ∷ rest) north.after refl north.alike in
+      let southwest = moved-point is.from_w inner.later (Comma ∷ is.from_e) is.w is.s inner.alike is.southwest in
+      let from_e = same-first Comma is.from_e southwest.after refl southwest.alike in
+      let northeast = moved-point is.from_e from_e.later (Close ∷ Close ∷ rest) is.e is.n from_e.alike is.northeast in
+      let closed = same-first Close (Close ∷ rest) northeast.after refl northeast.alike in
       let last = same-first Close rest closed.later refl closed.alike in
       let begins = ap (λ (l : List Token). Keyword word.Bbox ∷ l) inner.is in
       record {
@@ -427,14 +437,10 @@ module _ {A : Type 0} where
           e = is.e;
           n = is.n;
           from_w = inner.later;
-          from_s = from_s.later;
           from_e = from_e.later;
-          from_n = from_n.later;
           opened = opened.is ∙ ap (λ (l : List Token). Open ∷ l) (bbox.is ∙ begins);
-          west = rw from_s.is at west.is;
-          south = rw from_e.is at south.is;
-          east = rw from_n.is at east.is;
-          north = rw (closed.is, last.is) at north.is;
+          southwest = rw from_e.is at southwest.is;
+          northeast = rw (closed.is, last.is) at northeast.is;
           across = is.across;
           along = is.along;
           is_across = is.is_across;
@@ -454,20 +460,14 @@ module _ {A : Type 0} where
       moved-at _ others _ rest first.is
       (record { after = first.later; alike = first.alike; is = false_literal })
   moved-predicate _ others rest _ alike (has_number {words = words} {house = house} is) =
-      let first = same-first (Keyword word.HasNumber) words others refl alike in
-      let inner = moved-has_number words first.later rest house first.alike is in
-      moved-at _ others _ rest first.is
-      (record { after = inner.after; alike = inner.alike; is = has_number inner.is })
+      moved-after (Keyword word.HasNumber) words others rest refl alike (λ later also. moved-has_number words later rest house also is)
+      (λ w r it. has_number it)
   moved-predicate _ others rest _ alike (has_name {words = words} {text = text} {limit = limit} is) =
-      let first = same-first (Keyword word.HasName) words others refl alike in
-      let inner = moved-has_name words first.later rest text limit first.alike is in
-      moved-at _ others _ rest first.is
-      (record { after = inner.after; alike = inner.alike; is = has_name inner.is })
+      moved-after (Keyword word.HasName) words others rest refl alike (λ later also. moved-has_name words later rest text limit also is)
+      (λ w r it. has_name it)
   moved-predicate _ others rest made alike (starts_in {words = words} is) =
-      let first = same-first (Keyword word.StartsIn) words others refl alike in
-      let inner = moved-starts_in words first.later rest made first.alike is in
-      moved-at _ others _ rest first.is
-      (record { after = inner.after; alike = inner.alike; is = starts_in inner.is })
+      moved-after (Keyword word.StartsIn) words others rest refl alike (λ later also. moved-starts_in words later rest made also is)
+      (λ w r it. starts_in it)
   moved-predicate words others rest made alike (of_subject {s = s} {middle = middle} known is) =
       let first = moved-subject s words others middle alike known in
       let inner = moved-of s middle first.after rest made first.alike is in
@@ -495,10 +495,8 @@ module _ {A : Type 0} where
       let inner = moved-spells depth _ words others rest made alike is in
       record { after = inner.after; alike = inner.alike; is = one_primary inner.is }
   moved-spells depth _ _ others rest made alike (not_primary {words = words} {inner = opposite} is inverted) =
-      let first = same-first (Keyword word.Not) words others refl alike in
-      let inner = moved-spells depth _ words first.later rest opposite first.alike is in
-      moved-at _ others _ rest first.is
-      (record { after = inner.after; alike = inner.alike; is = not_primary inner.is inverted })
+      moved-after (Keyword word.Not) words others rest refl alike (λ later also. moved-spells depth _ words later rest opposite also is)
+      (λ w r it. not_primary it inverted)
   moved-spells _ _ _ others rest made alike (grouped {depth = depth} {words = words} is) =
       let first = same-first Open words others refl alike in
       let inner = moved-spells depth _ words first.later (Close ∷ rest) made first.alike is in

@@ -4,7 +4,7 @@ use Rattle.cql2.specs.declared.filter.Comparison.TheVariants.{Equal}
 use Rattle.cql2.specs.declared.filter.Filter.{Filter}
 use Rattle.cql2_text.specs.Content.{content}
 use Rattle.cql2_text.specs.Predicate.{IsBoth, IsEither, SpellsComparison, SpellsList, one, more}
-use Rattle.cql2_text.specs.Read.{Lacks}
+use Rattle.cql2_text.specs.Read.{IsNotNext}
 use Rattle.cql2_text.specs.Spelled.{Expression, Factor, Spells, Term, both, either, one_factor, one_term}
 use Rattle.cql2_text.specs.declared.predicate.Subject.{Subject}
 use Rattle.cql2_text.specs.declared.token.Keyword.TheVariants as word
@@ -15,7 +15,7 @@ use Rattle.cql2_text.specs.declared.token.Token.TheVariants.{Comma, Keyword}
 pub data Chain {A : Type 0} (between : Token) (Part : List Token → List Token → Filter A → Type 0)
     (Joins : Filter A → Filter A → Filter A → Type 0) : List Token → Filter A → List Token → Filter A → Type 0 where
   ends : {words : List Token} {made : Filter A} → Chain between Part Joins words made words made
-  goes_on : {middle after rest : List Token} {first second joined made : Filter A} → Part middle after second → Joins first second joined
+  continues : {middle after rest : List Token} {first second joined made : Filter A} → Part middle after second → Joins first second joined
       → Chain between Part Joins after joined rest made → Chain between Part Joins (between ∷ middle) first rest made
 
 -- the same, from a filter with the same content as the first one
@@ -50,8 +50,8 @@ module _ {A : Type 0} {between : Token} {Part : List Token → List Token → Fi
   extended : {words middle rest : List Token} {first before second made : Filter A}
       → Chain between Part Joins words first (between ∷ middle) before → Part middle rest second → Joins before second made
       → Chain between Part Joins words first rest made
-  extended ends is joins = goes_on is joins ends
-  extended (goes_on part joined chain) is joins = goes_on part joined (extended chain is joins)
+  extended ends is joins = continues is joins ends
+  extended (continues part joined chain) is joins = continues part joined (extended chain is joins)
 
   pub later-part : {words middle rest : List Token} {before second made : Filter A}
       → FirstPart between Part Joins words (between ∷ middle) before → Part middle rest second → Joins before second made
@@ -62,14 +62,14 @@ module _ {A : Type 0} {between : Token} {Part : List Token → List Token → Fi
   pub next-part : {words after rest : List Token} {first made : Filter A} → Chain between Part Joins words first rest made
       → words ≡ between ∷ after → ((w : List Token) → rest ≢ between ∷ w) → NextPart between Part Joins after first rest made
   next-part ends is stops = absurd (stops _ is)
-  next-part {after = after} (goes_on {middle = middle} {after = later} {second = second} {joined = joined} part joins chain) is stops =
+  next-part {after = after} (continues {middle = middle} {after = later} {second = second} {joined = joined} part joins chain) is stops =
       let e : middle ≡ after = cc in
       record { second = second; joined = joined; after = later; part = rw e at part; joins = joins; chain = chain }
 
   pub no-part : {words rest : List Token} {first made : Filter A} → Chain between Part Joins words first rest made
       → ((w : List Token) → words ≢ between ∷ w) → (words ≡ rest) × (first ≡ made)
   no-part ends stops = (refl, refl)
-  no-part (goes_on part joins chain) stops = absurd (stops _ refl)
+  no-part (continues part joins chain) stops = absurd (stops _ refl)
 
 module _ {A : Type 0} {between : Token} {Part : List Token → List Token → Filter A → Type 0} {Joins : Filter A → Filter A → Filter A
     → Type 0} where
@@ -102,9 +102,9 @@ module _ {A : Type 0} where
   expression-parts {rest = rest} (one_term {made = made} is) = record { first = made; after = rest; part = is; chain = ends }
   expression-parts (either before is joins) = later-part (expression-parts before) is joins
 
--- the tokens after a term don't begin with AND
+-- AND is not next after a term
 module _ {A : Type 0} {Part : List Token → List Token → Filter A → Type 0} {Joins : Filter A → Filter A → Filter A → Type 0} where
-  pub lacks-and : {words rest : List Token} {first made : Filter A} → Chain (Keyword word.Or) Part Joins words first rest made
-      → Lacks word.And rest → Lacks word.And words
-  lacks-and ends lacks = lacks
-  lacks-and (goes_on part joins chain) lacks = λ w e. cc
+  pub and-not-next : {words rest : List Token} {first made : Filter A} → Chain (Keyword word.Or) Part Joins words first rest made
+      → IsNotNext word.And rest → IsNotNext word.And words
+  and-not-next ends not_next = not_next
+  and-not-next (continues part joins chain) not_next = λ w e. cc

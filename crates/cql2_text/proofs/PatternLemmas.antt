@@ -5,12 +5,12 @@ use Rattle.std.proofs.lemmas.List.Folds.{list_all-append}
 use Rattle.cql2.specs.Pattern.{are_bytes, is_byte}
 use Rattle.cql2.specs.declared.pattern.Pattern.{Pattern}
 use Rattle.cql2.specs.declared.pattern.PatternByte.{PatternByte}
-use Rattle.cql2_text.specs.declared.syntax_fault.TextFlaw.{TextFlaw}
-use Rattle.cql2_text.specs.declared.syntax_fault.TextFlaw.TheVariants as text_flaw
+use Rattle.cql2_text.specs.declared.syntax_fault.TextFault.{TextFault}
+use Rattle.cql2_text.specs.declared.syntax_fault.TextFault.TheVariants as text_fault
 use Rattle.cql2.specs.declared.pattern.PatternByte.TheVariants.{Any}
 use Rattle.cql2_text.specs.Character.{IsCharacter, character_text}
 use Rattle.cql2_text.proofs.CharacterLemmas.{some-text}
-use Rattle.cql2_text.specs.Pattern.{IsPattern, IsPatternByte, IsSamePattern, ReadsPattern, any, escaped, is_special, next, ordinary, start, wanted_by}
+use Rattle.cql2_text.specs.Pattern.{IsPattern, IsPatternByte, IsSamePattern, ReadsPattern, any, escaped, is_special, next, ordinary, start, character_pattern}
 
 -- a text that begins with an ASCII byte
 starts-with : (text rest : List ℕ) (byte known : ℕ) → IsCharacter text byte rest → byte ≡ known → text ≡ character_text known ++ rest
@@ -22,7 +22,7 @@ byte-any ignores_case text rest byte is same =
     subst (λ (t : List ℕ). IsPatternByte ignores_case t Any rest) (sym (starts-with text rest byte 95 is same)) (any rest)
 
 module _ {ignores_case : Bool} {text middle rest : List ℕ} {byte next : ℕ} {wanted : PatternByte} where
-  pub byte-escaped : IsCharacter text byte middle → byte ≡ 92 → IsCharacter middle next rest → wanted ≡ wanted_by ignores_case next
+  pub byte-escaped : IsCharacter text byte middle → byte ≡ 92 → IsCharacter middle next rest → wanted ≡ character_pattern ignores_case next
       → IsPatternByte ignores_case text wanted rest
   byte-escaped is same then made =
       let first = starts-with text middle byte 92 is same in
@@ -30,7 +30,7 @@ module _ {ignores_case : Bool} {text middle rest : List ℕ} {byte next : ℕ} {
       rw (e, made) (escaped next rest then.is_one)
 
 pub byte-ordinary : (ignores_case : Bool) (text rest : List ℕ) (byte : ℕ) (wanted : PatternByte) → IsCharacter text byte rest
-    → is_special byte ≡ false → wanted ≡ wanted_by ignores_case byte → IsPatternByte ignores_case text wanted rest
+    → is_special byte ≡ false → wanted ≡ character_pattern ignores_case byte → IsPatternByte ignores_case text wanted rest
 byte-ordinary ignores_case text rest byte wanted is plain made = rw (is.spelled, made) (ordinary byte rest is.is_one plain)
 
 pub bytes-more : (pattern : List PatternByte) (byte : PatternByte) → are_bytes pattern ≡ true → is_byte byte ≡ true
@@ -41,8 +41,8 @@ bytes-more pattern byte all one = rw (list_all-append is_byte pattern (byte ∷ 
 abbrev HasMeaning : Bool → ℕ → List ℕ → PatternByte → List ℕ → Type 0
 HasMeaning ignores_case byte after wanted rest =
     ((byte ≡ 95) × (wanted ≡ Any) × (after ≡ rest))
-    ⊎ (((byte ≡ 92) × ((following : ℕ) × IsCharacter after following rest × (wanted ≡ wanted_by ignores_case following)))
-    ⊎ ((is_special byte ≡ false) × (wanted ≡ wanted_by ignores_case byte) × (after ≡ rest)))
+    ⊎ (((byte ≡ 92) × ((following : ℕ) × IsCharacter after following rest × (wanted ≡ character_pattern ignores_case following)))
+    ⊎ ((is_special byte ≡ false) × (wanted ≡ character_pattern ignores_case byte) × (after ≡ rest)))
 
 pub record ByteView (ignores_case : Bool) (text : List ℕ) (wanted : PatternByte) (rest : List ℕ) : Type 0 where
   pub byte : ℕ
@@ -66,13 +66,13 @@ view ignores_case _ _ _ (ordinary byte rest is plain) =
 
 module _ (ignores_case : Bool) (byte : ℕ) (after rest : List ℕ) (wanted : PatternByte) where
   means-escaped : HasMeaning ignores_case byte after wanted rest → byte ≡ 92
-      → (following : ℕ) × IsCharacter after following rest × (wanted ≡ wanted_by ignores_case following)
+      → (following : ℕ) × IsCharacter after following rest × (wanted ≡ character_pattern ignores_case following)
   means-escaped (inl means) is = absurd (omega (arith, means.0))
   means-escaped (inr (inl means)) is = means.1
   means-escaped (inr (inr means)) is = absurd (grind (arith, nat_tests))
 
   means-ordinary : HasMeaning ignores_case byte after wanted rest → is_special byte ≡ false
-      → (wanted ≡ wanted_by ignores_case byte) × (after ≡ rest)
+      → (wanted ≡ character_pattern ignores_case byte) × (after ≡ rest)
   means-ordinary (inl means) plain = absurd (grind (arith, nat_tests))
   means-ordinary (inr (inl means)) plain = let e : byte ≡ 92 = means.0 in absurd (grind (arith, nat_tests))
   means-ordinary (inr (inr means)) plain = (means.1, means.2)
@@ -83,10 +83,10 @@ module _ (ignores_case : Bool) (byte : ℕ) (after rest : List ℕ) (wanted : Pa
   means-other (inr (inr means)) special any_byte escape = let plain : is_special byte ≡ false = means.0 in cc
 
 module _ {ignores_case : Bool} {text rest : List ℕ} {wanted : PatternByte} (v : ByteView ignores_case text wanted rest) where
-  pub is-escaped : v.byte ≡ 92 → (following : ℕ) × IsCharacter v.after following rest × (wanted ≡ wanted_by ignores_case following)
+  pub is-escaped : v.byte ≡ 92 → (following : ℕ) × IsCharacter v.after following rest × (wanted ≡ character_pattern ignores_case following)
   is-escaped is = means-escaped ignores_case v.byte v.after rest wanted v.means is
 
-  pub is-ordinary : is_special v.byte ≡ false → (wanted ≡ wanted_by ignores_case v.byte) × (v.after ≡ rest)
+  pub is-ordinary : is_special v.byte ≡ false → (wanted ≡ character_pattern ignores_case v.byte) × (v.after ≡ rest)
   is-ordinary plain = means-ordinary ignores_case v.byte v.after rest wanted v.means plain
 
   pub is-other : is_special v.byte ≡ true → v.byte ≢ 95 → v.byte ≢ 92 → ⊥
@@ -193,17 +193,17 @@ module _ {ignores_case : Bool} {so_far : List PatternByte} {text : List ℕ} {wa
   pushed-byte following same rest pushed = rw (pushed, same, rest) following.more_bytes
 
 -- the result of `short` for a literal whose pattern has these bytes
-module _ {A : Type 0} (result : Result (Pattern A) TextFlaw) (items : List PatternByte) (is_open : Bool) (width : ℕ)
+module _ {A : Type 0} (result : Result (Pattern A) TextFault) (items : List PatternByte) (is_open : Bool) (width : ℕ)
     (pattern : Pattern A) where
-  short-by : (r : Result (Pattern A) TextFlaw) → IfOk r (λ read. read.wanted.items ≡ items) → IfOk r (λ read. read.is_open ≡ is_open)
+  short-by : (r : Result (Pattern A) TextFault) → IfOk r (λ read. read.wanted.items ≡ items) → IfOk r (λ read. read.is_open ≡ is_open)
       → IfErr r (λ flaw. width < length items) → items ≡ pattern.wanted.items → is_open ≡ pattern.is_open
       → length pattern.wanted.items ≤ width
-      → MatchResult r (λ read. IsSamePattern read pattern) (λ flaw. flaw ≡ text_flaw.Memory)
+      → MatchResult r (λ read. IsSamePattern read pattern) (λ fault. fault ≡ text_fault.Memory)
   short-by (Ok read) wanted open_as long same alike few = record { wanted = wanted ∙ same; open_alike = open_as ∙ alike }
   short-by (Err flaw) wanted open_as long same alike few = absurd (omega (arith, ap length same))
 
   pub short-read : IfOk result (λ read. read.wanted.items ≡ items) → IfOk result (λ read. read.is_open ≡ is_open)
       → IfErr result (λ flaw. width < length items) → items ≡ pattern.wanted.items → is_open ≡ pattern.is_open
       → length pattern.wanted.items ≤ width
-      → MatchResult result (λ read. IsSamePattern read pattern) (λ flaw. flaw ≡ text_flaw.Memory)
+      → MatchResult result (λ read. IsSamePattern read pattern) (λ fault. fault ≡ text_fault.Memory)
   short-read wanted open_as long same alike few = short-by result wanted open_as long same alike few

@@ -11,7 +11,7 @@ use Rattle.cql2.specs.declared.pattern.Pattern.{Pattern}
 use Rattle.cql2.specs.declared.text.Text.{Text as AText}
 use Rattle.cql2_text.specs.Predicate.{IsCaseiText, IsLikeColumn, IsNumber, IsSubject, IsText, SpellsBetween, SpellsComparison}
 use Rattle.cql2_text.specs.Predicate.{SpellsLike, SpellsLimit, SpellsList, SpellsNegatable, SpellsOf, SpellsPredicate}
-use Rattle.cql2_text.specs.Predicate.{SpellsStartsIn}
+use Rattle.cql2_text.specs.Predicate.{IsPoint, SpellsStartsIn}
 use Rattle.cql2_text.specs.Predicate.{one, more, is_like, is_between, is_in_list, binary_comparison}
 use Rattle.cql2_text.specs.Predicate.{negatable, negated, is_null, is_not_null}
 use Rattle.cql2_text.specs.Predicate.{given, usual, true_literal, false_literal, has_number, has_name, starts_in, of_subject}
@@ -89,16 +89,12 @@ limit-shorter : (words rest : List Token) (limit : NameLimit) → SpellsLimit wo
 limit-shorter _ _ _ (given numeral value) = omega arith
 limit-shorter _ _ _ (usual value) = omega arith
 
+point-shorter : (words rest : List Token) (x y : Literal) → IsPoint words rest x y → length rest < length words
+point-shorter words rest x y is = omega (arith, number-shorter _ _ _ _ is.first, number-shorter _ _ _ _ is.second)
+
 starts-shorter : {A : Type 0} (words rest : List Token) (made : Filter A) → SpellsStartsIn words rest made → length rest < length words
 starts-shorter words rest made is =
-    omega (
-      arith,
-      ap length is.opened,
-      number-shorter _ _ _ _ is.west,
-      number-shorter _ _ _ _ is.south,
-      number-shorter _ _ _ _ is.east,
-      number-shorter _ _ _ _ is.north,
-    )
+    omega (arith, ap length is.opened, point-shorter _ _ _ _ is.southwest, point-shorter _ _ _ _ is.northeast)
 
 subject-shorter : (s : Subject) (words rest : List Token) → IsSubject s words rest → length rest < length words
 subject-shorter (subject.Numeric c) words rest is = omega (arith, ap length is)

@@ -1,5 +1,5 @@
 -- What is spelled if the first tokens are known.
-use Rattle.std.proofs.Common.{◌≡◌, ◌≢◌, ℕ, suc, List, ◌∷◌, Some, refl, ap, ◌∙◌}
+use Rattle.std.proofs.Common.{◌≡◌, ◌≢◌, ◌≤◌, ◌-◌, ℕ, suc, List, ◌∷◌, Some, refl, ap, ◌∙◌, subst, arith}
 use Rattle.cql2.specs.declared.column.Column.{Column as AColumn}
 use Rattle.cql2.specs.declared.column.NumericColumn.{NumericColumn}
 use Rattle.cql2.specs.declared.filter.Comparison.{Comparison}
@@ -16,6 +16,7 @@ use Rattle.cql2_text.specs.Predicate.{binary_comparison, is_between, is_in_list,
 use Rattle.cql2_text.specs.Predicate.{true_literal, false_literal, has_number, has_name, starts_in, of_subject}
 use Rattle.cql2.specs.declared.number.NameLimit.{NameLimit}
 use Rattle.cql2.specs.declared.text.Text.{Text as AText}
+use Rattle.cql2_text.specs.Read.{IsNotNext}
 use Rattle.cql2_text.specs.Spelled.{Expression, Factor, Primary, Spells, grouped, not_primary, one_primary, predicate}
 use Rattle.cql2_text.specs.declared.predicate.Subject.{Subject}
 use Rattle.cql2_text.specs.declared.predicate.Subject.TheVariants as subject
@@ -112,6 +113,13 @@ pub record IsOfSubject {A : Type 0} (words rest : List Token) (made : Filter A) 
   pub is_subject : IsSubject s words middle
   pub is_of : SpellsOf s middle rest made
 
+-- an expression in parentheses, after the first of them
+pub record IsGroup {A : Type 0} (depth : ℕ) (words rest : List Token) (made : Filter A) : Type 0 where
+  pub some : 1 ≤ depth
+  pub spelled : Spells (depth - 1) Expression words (Close ∷ rest) made
+  pub no_and : IsNotNext word.And (Close ∷ rest)
+  pub no_or : IsNotNext word.Or (Close ∷ rest)
+
 pub record BeginsNoFunction (words : List Token) : Type 0 where
   pub no_true : (w : List Token) → words ≢ Keyword word.True ∷ w
   pub no_false : (w : List Token) → words ≢ Keyword word.False ∷ w
@@ -146,9 +154,9 @@ module _ {A : Type 0} where
   same-like c read pattern made same is =
       rw is (ap (λ w. Like c w read.is_open) same.wanted ∙ ap (λ o. Like c pattern.wanted.items o) same.open_alike)
 
-  pub text-at : (width : ℕ) (words rest : List Token) (text : AText A) (given : ℕ) (inner : List Token) → given ≡ width → inner ≡ words
+  pub text-at : {width : ℕ} (words rest : List Token) (text : AText A) (given : ℕ) (inner : List Token) → given ≡ width → inner ≡ words
       → IsText width inner rest text → IsText given words rest text
-  text-at width words rest text given inner same starts is = rw same (rw starts at is)
+  text-at words rest text given inner same starts is = rw same (rw starts at is)
 
   pub casei-of : (c : TextColumn) (k : Comparison) (words rest : List Token) (made : Filter A)
       → SpellsComparison (subject.Casei c) k words rest made
@@ -172,8 +180,15 @@ module _ {A : Type 0} where
   no-group {words = words} (of_subject {s = s} {middle = middle} known is) = no-open s words middle known
 
   pub group-of : {depth : ℕ} {words rest : List Token} {made : Filter A} → Spells depth Primary (Open ∷ words) rest made
-      → (inner : ℕ) × (depth ≡ suc inner) × Spells inner Expression words (Close ∷ rest) made
-  group-of (grouped {depth = inner} is) = (inner, refl, is)
+      → IsGroup depth words rest made
+  group-of {words = words} {rest = rest} {made = made} (grouped {depth = inner} is) =
+      let depth : inner ≡ suc inner - 1 = omega arith in
+      record {
+        some = omega arith;
+        spelled = subst (λ (n : ℕ). Spells n Expression words (Close ∷ rest) made) depth is;
+        no_and = λ w f. cc;
+        no_or = λ w f. cc;
+      }
   group-of (predicate is) = absurd (no-group is)
 
   pub predicate-of : {depth : ℕ} {words rest : List Token} {made : Filter A} → ((w : List Token) → words ≢ Open ∷ w)

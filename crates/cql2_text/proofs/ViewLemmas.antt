@@ -10,7 +10,7 @@ use Rattle.cql2.specs.declared.column.Column.{Column as AColumn}
 use Rattle.cql2.specs.declared.filter.Comparison.{Comparison}
 use Rattle.cql2.specs.declared.filter.Comparison.TheVariants.{Equal, NotEqual, Less, LessOrEqual, Greater, GreaterOrEqual}
 use Rattle.cql2_text.specs.Alike.{IsLike, numbers, same, texts}
-use Rattle.cql2_text.specs.Lexed.{AreDigits, ArePaired, none, other, pair, HasDecimals, IsLongest, IsSign, IsToken, IsWord, begins, goes_on, sign_of}
+use Rattle.cql2_text.specs.Lexed.{AreDigits, ArePaired, none, other, pair, HasDecimals, IsLongest, IsSign, IsToken, IsWord, begins, continues, sign_of}
 use Rattle.cql2_text.specs.Lexed.{is_name_byte, is_name_start, is_quote, is_white_space}
 use Rattle.cql2_text.specs.Lexed.{no_point, no_decimals, decimals, left_paren, right_paren, comma}
 use Rattle.cql2_text.specs.Lexed.{comparison_operator, keyword, property_name, unknown_name}
@@ -27,12 +27,12 @@ pub longest-one : (p : ℕ → Bool) (front rest another after : List ℕ) → I
 longest-one p [] rest [] after is also same_text = (refl, same_text)
 longest-one p [] rest (byte ∷ another) after is also same_text =
     let stops : begins p (byte ∷ (another ++ after)) ≡ false = rw same_text at is.longest in
-    let goes : p byte ≡ true = (and_parts (p byte) _ also.such).0 in
-    absurd (cc (stops, goes))
+    let holds : p byte ≡ true = (and_parts (p byte) _ also.such).0 in
+    absurd (cc (stops, holds))
 longest-one p (byte ∷ front) rest [] after is also same_text =
     let stops : begins p (byte ∷ (front ++ rest)) ≡ false = rw (← same_text) at also.longest in
-    let goes : p byte ≡ true = (and_parts (p byte) _ is.such).0 in
-    absurd (cc (stops, goes))
+    let holds : p byte ≡ true = (and_parts (p byte) _ is.such).0 in
+    absurd (cc (stops, holds))
 longest-one p (byte ∷ front) rest (first ∷ another) after is also same_text =
     let bytes : byte ≡ first = cc in
     let texts : front ++ rest ≡ another ++ after = cc in
@@ -77,10 +77,10 @@ pub data View : Kind → ℕ → List ℕ → List ℕ → Token → Type 0 wher
   closing : (byte : ℕ) (rest : List ℕ) → View CloseKind byte rest rest Close
   commas : (byte : ℕ) (rest : List ℕ) → View CommaKind byte rest rest Comma
   equal : (byte : ℕ) (rest : List ℕ) → View EqualKind byte rest rest (Compared Equal)
-  less : (byte : ℕ) (rest : List ℕ) → goes_on Less rest ≡ false → View LessKind byte rest rest (Compared Less)
+  less : (byte : ℕ) (rest : List ℕ) → continues Less rest ≡ false → View LessKind byte rest rest (Compared Less)
   less_or_equal : (byte : ℕ) (text rest : List ℕ) → text ≡ 61 ∷ rest → View LessKind byte text rest (Compared LessOrEqual)
   not_equal : (byte : ℕ) (text rest : List ℕ) → text ≡ 62 ∷ rest → View LessKind byte text rest (Compared NotEqual)
-  greater : (byte : ℕ) (rest : List ℕ) → goes_on Greater rest ≡ false → View GreaterKind byte rest rest (Compared Greater)
+  greater : (byte : ℕ) (rest : List ℕ) → continues Greater rest ≡ false → View GreaterKind byte rest rest (Compared Greater)
   greater_or_equal : (byte : ℕ) (text rest : List ℕ) → text ≡ 61 ∷ rest → View GreaterKind byte text rest (Compared GreaterOrEqual)
   literal : (byte : ℕ) (spelling : Bor (List ℕ)) (text rest : List ℕ) → text ≡ spelling.now ++ 39 ∷ rest → ArePaired spelling.now
       → begins is_quote rest ≡ false → View TextKind byte text rest (Text spelling)
@@ -131,20 +131,20 @@ digits-view numeral (byte ∷ whole) after rest is plus_sign are fraction =
           (record { after = after; is = ap (λ (w : List ℕ). w ++ after) (sym is); digits = are; fraction = fraction }));
     }
 
-number-view : (numeral : Numeral) (is_negative : Bool) (sign after rest : List ℕ) → numeral.is_negative ≡ is_negative
+number-view : {after rest : List ℕ} (numeral : Numeral) (is_negative : Bool) (sign : List ℕ) → numeral.is_negative ≡ is_negative
     → IsSign is_negative sign
     → AreDigits numeral.whole.now after → HasDecimals after rest numeral.decimals.now
     → FirstByte (sign ++ (numeral.whole.now ++ after)) rest (Number numeral)
-number-view numeral true sign after rest negative is are fraction =
+number-view {after = after} {rest = rest} numeral true sign negative is are fraction =
     rw is (record {
       byte = 45;
       after = numeral.whole.now ++ after;
       is = refl;
       view = minus 45 numeral _ rest negative (record { after = after; is = refl; digits = are; fraction = fraction });
     })
-number-view numeral false sign after rest negative (inl is) are fraction =
+number-view {after = after} {rest = rest} numeral false sign negative (inl is) are fraction =
     rw is (digits-view numeral numeral.whole.now after rest refl negative are fraction)
-number-view numeral false sign after rest negative (inr is) are fraction =
+number-view {after = after} {rest = rest} numeral false sign negative (inr is) are fraction =
     rw is (record {
       byte = 43;
       after = numeral.whole.now ++ after;
@@ -152,7 +152,7 @@ number-view numeral false sign after rest negative (inr is) are fraction =
       view = plus 43 numeral _ rest negative (record { after = after; is = refl; digits = are; fraction = fraction });
     })
 
-compared-view : (comparison : Comparison) (rest : List ℕ) → goes_on comparison rest ≡ false
+compared-view : (comparison : Comparison) (rest : List ℕ) → continues comparison rest ≡ false
     → FirstByte (sign_of comparison ++ rest) rest (Compared comparison)
 compared-view Equal rest ends = record { byte = 61; after = rest; is = refl; view = equal 61 rest }
 compared-view NotEqual rest ends = record { byte = 60; after = 62 ∷ rest; is = refl; view = not_equal 60 (62 ∷ rest) rest refl }
@@ -186,13 +186,13 @@ first-byte _ _ _ (quoted_unknown_name word rest names missing) =
       view = quoted 34 word _ rest UnknownColumn refl names (rw missing refl);
     }
 first-byte _ _ _ (numeric_literal numeral sign after rest signs are fraction) =
-    number-view numeral numeral.is_negative sign after rest refl signs are fraction
+    number-view numeral numeral.is_negative sign refl signs are fraction
 first-byte _ _ _ (character_literal spelling rest paired single) =
     record { byte = 39; after = spelling.now ++ 39 ∷ rest; is = refl; view = literal 39 spelling _ rest refl paired single }
 
-view-by : (first byte : ℕ) (later after rest : List ℕ) (token : Token) (kind : Kind) → View (kind_of first) first later rest token
+view-by : {later after rest : List ℕ} {token : Token} (first byte : ℕ) (kind : Kind) → View (kind_of first) first later rest token
     → first ∷ later ≡ byte ∷ after → kind_of byte ≡ kind → View kind byte after rest token
-view-by first byte later after rest token kind is same_text same_kind =
+view-by {later = later} {after = after} {rest = rest} {token = token} first byte kind is same_text same_kind =
     let bytes : first ≡ byte = cc in
     let texts : later ≡ after = cc in
     let moved = subst (λ (b : ℕ). View (kind_of b) b later rest token) bytes is in
@@ -200,12 +200,12 @@ view-by first byte later after rest token kind is same_text same_kind =
     subst (λ (t : List ℕ). View kind byte t rest token) texts kinds
 
 -- the bytes after the first one, as a token of that byte's kind
-pub view-at : (text rest : List ℕ) (token : Token) (byte : ℕ) (after : List ℕ) (kind : Kind) → IsToken text rest token → text ≡ byte ∷ after
+pub view-at : {text rest : List ℕ} {token : Token} (byte : ℕ) (after : List ℕ) (kind : Kind) → IsToken text rest token → text ≡ byte ∷ after
     → kind_of byte ≡ kind → View kind byte after rest token
-view-at text rest token byte after kind is begun same_kind =
+view-at {text = text} {rest = rest} {token = token} byte after kind is begun same_kind =
     let first = first-byte text rest token is in
     let e : first.byte ∷ first.after ≡ byte ∷ after = sym first.is ∙ begun in
-    view-by first.byte byte first.after after rest token kind first.view e same_kind
+    view-by first.byte byte kind first.view e same_kind
 
 quote-stops : (rest later : List ℕ) → rest ≡ 39 ∷ later → begins is_quote rest ≡ false → ⊥
 quote-stops rest later is single = let e : begins is_quote (39 ∷ later) ≡ false = rw is at single in cc
@@ -214,27 +214,27 @@ no-quote : (byte : ℕ) → byte ≡ 39 → is_quote byte ≡ false → ⊥
 no-quote byte is plain = let e : is_quote 39 ≡ false = rw is at plain in cc
 
 one-literal : (spelling rest other_spelling after : List ℕ) → ArePaired spelling → ArePaired other_spelling
-    → spelling ++ 39 ∷ rest ≡ other_spelling ++ 39 ∷ after → begins is_quote rest ≡ false → begins is_quote after ≡ false
+    → spelling ++ 39 ∷ rest ≡ other_spelling ++ 39 ∷ after → (begins is_quote rest ≡ false) × (begins is_quote after ≡ false)
     → (spelling ≡ other_spelling) × (rest ≡ after)
-one-literal _ rest _ after none none same_text single alone = (refl, cc)
-one-literal _ rest _ after none (pair text are) same_text single alone =
-    let e : rest ≡ 39 ∷ (text ++ 39 ∷ after) = cc in absurd (quote-stops rest (text ++ 39 ∷ after) e single)
-one-literal _ rest _ after none (other byte text plain are) same_text single alone =
+one-literal _ rest _ after none none same_text ends = (refl, cc)
+one-literal _ rest _ after none (pair text are) same_text ends =
+    let e : rest ≡ 39 ∷ (text ++ 39 ∷ after) = cc in absurd (quote-stops rest (text ++ 39 ∷ after) e ends.0)
+one-literal _ rest _ after none (other byte text plain are) same_text ends =
     let e : byte ≡ 39 = cc in absurd (no-quote byte e plain)
-one-literal _ rest _ after (pair text are) none same_text single alone =
-    let e : after ≡ 39 ∷ (text ++ 39 ∷ rest) = cc in absurd (quote-stops after (text ++ 39 ∷ rest) e alone)
-one-literal _ rest _ after (pair text are) (pair more also) same_text single alone =
-    let tails = one-literal text rest more after are also (cc) single alone in (ap (λ (t : List ℕ). 39 ∷ 39 ∷ t) tails.0, tails.1)
-one-literal _ rest _ after (pair text are) (other byte more plain also) same_text single alone =
+one-literal _ rest _ after (pair text are) none same_text ends =
+    let e : after ≡ 39 ∷ (text ++ 39 ∷ rest) = cc in absurd (quote-stops after (text ++ 39 ∷ rest) e ends.1)
+one-literal _ rest _ after (pair text are) (pair more also) same_text ends =
+    let tails = one-literal text rest more after are also (cc) ends in (ap (λ (t : List ℕ). 39 ∷ 39 ∷ t) tails.0, tails.1)
+one-literal _ rest _ after (pair text are) (other byte more plain also) same_text ends =
     let e : byte ≡ 39 = cc in absurd (no-quote byte e plain)
-one-literal _ rest _ after (other byte text plain are) none same_text single alone =
+one-literal _ rest _ after (other byte text plain are) none same_text ends =
     let e : byte ≡ 39 = cc in absurd (no-quote byte e plain)
-one-literal _ rest _ after (other byte text plain are) (pair more also) same_text single alone =
+one-literal _ rest _ after (other byte text plain are) (pair more also) same_text ends =
     let e : byte ≡ 39 = cc in absurd (no-quote byte e plain)
-one-literal _ rest _ after (other byte text plain are) (other first more plain_too also) same_text single alone =
+one-literal _ rest _ after (other byte text plain are) (other first more plain_too also) same_text ends =
     let bytes : byte ≡ first = cc in
     let texts : text ++ 39 ∷ rest ≡ more ++ 39 ∷ after = cc in
-    let tails = one-literal text rest more after are also texts single alone in
+    let tails = one-literal text rest more after are also texts ends in
     (cc (bytes, tails.0), tails.1)
 
 -- decimals in terms of equations
@@ -295,47 +295,47 @@ one-name word rest another after is also same_text = longest-one is_name_byte wo
 like-by : (token another : Token) → token ≡ another → IsLike token another
 like-by token another is = subst (λ (t : Token). IsLike token t) is (same token)
 
-sign-ends : (text rest : List ℕ) (byte : ℕ) (k : Comparison) → goes_on k text ≡ false → text ≡ byte ∷ rest
-    → goes_on k (byte ∷ rest) ≡ true → ⊥
-sign-ends text rest byte k ends is goes = let e : goes_on k (byte ∷ rest) ≡ false = rw is at ends in cc (e, goes)
+sign-ends : (text rest : List ℕ) (byte : ℕ) (k : Comparison) → continues k text ≡ false → text ≡ byte ∷ rest
+    → continues k (byte ∷ rest) ≡ true → ⊥
+sign-ends text rest byte k ends is longer = let e : continues k (byte ∷ rest) ≡ false = rw is at ends in cc (e, longer)
 
-one-view : (kind : Kind) (byte : ℕ) (text rest after : List ℕ) (token another : Token) → View kind byte text rest token
+one-view : {kind : Kind} {byte : ℕ} (text rest after : List ℕ) (token another : Token) → View kind byte text rest token
     → View kind byte text after another → (rest ≡ after) × IsLike token another
-one-view _ _ _ _ _ _ _ (opening byte rest) (opening _ _) = (refl, same Open)
-one-view _ _ _ _ _ _ _ (closing byte rest) (closing _ _) = (refl, same Close)
-one-view _ _ _ _ _ _ _ (commas byte rest) (commas _ _) = (refl, same Comma)
-one-view _ _ _ _ _ _ _ (equal byte rest) (equal _ _) = (refl, same (Compared Equal))
-one-view _ _ _ _ _ _ _ (less byte rest ends) (less _ _ _) = (refl, same (Compared Less))
-one-view _ _ _ _ _ _ _ (less byte text ends) (less_or_equal _ _ rest is) = absurd (sign-ends text rest 61 Less ends is refl)
-one-view _ _ _ _ _ _ _ (less byte text ends) (not_equal _ _ rest is) = absurd (sign-ends text rest 62 Less ends is refl)
-one-view _ _ _ _ _ _ _ (less_or_equal byte text rest is) (less _ _ ends) = absurd (sign-ends text rest 61 Less ends is refl)
-one-view _ _ _ _ _ _ _ (less_or_equal byte text rest is) (less_or_equal _ _ after also) = (cc, same (Compared LessOrEqual))
-one-view _ _ _ _ _ _ _ (less_or_equal byte text rest is) (not_equal _ _ after also) =
+one-view _ _ _ _ _ (opening byte rest) (opening _ _) = (refl, same Open)
+one-view _ _ _ _ _ (closing byte rest) (closing _ _) = (refl, same Close)
+one-view _ _ _ _ _ (commas byte rest) (commas _ _) = (refl, same Comma)
+one-view _ _ _ _ _ (equal byte rest) (equal _ _) = (refl, same (Compared Equal))
+one-view _ _ _ _ _ (less byte rest ends) (less _ _ _) = (refl, same (Compared Less))
+one-view _ _ _ _ _ (less byte text ends) (less_or_equal _ _ rest is) = absurd (sign-ends text rest 61 Less ends is refl)
+one-view _ _ _ _ _ (less byte text ends) (not_equal _ _ rest is) = absurd (sign-ends text rest 62 Less ends is refl)
+one-view _ _ _ _ _ (less_or_equal byte text rest is) (less _ _ ends) = absurd (sign-ends text rest 61 Less ends is refl)
+one-view _ _ _ _ _ (less_or_equal byte text rest is) (less_or_equal _ _ after also) = (cc, same (Compared LessOrEqual))
+one-view _ _ _ _ _ (less_or_equal byte text rest is) (not_equal _ _ after also) =
     let e : true ≡ false = ap (begins (λ byte. byte == 61)) (sym is ∙ also) in absurd (cc e)
-one-view _ _ _ _ _ _ _ (not_equal byte text rest is) (less _ _ ends) = absurd (sign-ends text rest 62 Less ends is refl)
-one-view _ _ _ _ _ _ _ (not_equal byte text rest is) (less_or_equal _ _ after also) =
+one-view _ _ _ _ _ (not_equal byte text rest is) (less _ _ ends) = absurd (sign-ends text rest 62 Less ends is refl)
+one-view _ _ _ _ _ (not_equal byte text rest is) (less_or_equal _ _ after also) =
     let e : true ≡ false = ap (begins (λ byte. byte == 61)) (sym also ∙ is) in absurd (cc e)
-one-view _ _ _ _ _ _ _ (not_equal byte text rest is) (not_equal _ _ after also) = (cc, same (Compared NotEqual))
-one-view _ _ _ _ _ _ _ (greater byte rest ends) (greater _ _ _) = (refl, same (Compared Greater))
-one-view _ _ _ _ _ _ _ (greater byte text ends) (greater_or_equal _ _ rest is) = absurd (sign-ends text rest 61 Greater ends is refl)
-one-view _ _ _ _ _ _ _ (greater_or_equal byte text rest is) (greater _ _ ends) = absurd (sign-ends text rest 61 Greater ends is refl)
-one-view _ _ _ _ _ _ _ (greater_or_equal byte text rest is) (greater_or_equal _ _ after also) = (cc, same (Compared GreaterOrEqual))
-one-view _ _ _ _ _ _ _ (literal byte spelling text rest is paired single) (literal _ another _ after also paired_too alone) =
-    let one = one-literal spelling.now rest another.now after paired paired_too (sym is ∙ also) single alone in
+one-view _ _ _ _ _ (not_equal byte text rest is) (not_equal _ _ after also) = (cc, same (Compared NotEqual))
+one-view _ _ _ _ _ (greater byte rest ends) (greater _ _ _) = (refl, same (Compared Greater))
+one-view _ _ _ _ _ (greater byte text ends) (greater_or_equal _ _ rest is) = absurd (sign-ends text rest 61 Greater ends is refl)
+one-view _ _ _ _ _ (greater_or_equal byte text rest is) (greater _ _ ends) = absurd (sign-ends text rest 61 Greater ends is refl)
+one-view _ _ _ _ _ (greater_or_equal byte text rest is) (greater_or_equal _ _ after also) = (cc, same (Compared GreaterOrEqual))
+one-view _ _ _ _ _ (literal byte spelling text rest is paired single) (literal _ another _ after also paired_too alone) =
+    let one = one-literal spelling.now rest another.now after paired paired_too (sym is ∙ also) (single, alone) in
     (one.1, texts spelling another one.0)
-one-view _ _ _ _ _ _ _ (quoted byte word text rest token is names found) (quoted _ other_word _ after another also names_too found_too) =
+one-view _ _ _ _ _ (quoted byte word text rest token is names found) (quoted _ other_word _ after another also names_too found_too) =
     let quotes : IsLongest is_name_byte word (34 ∷ rest) = record { such = names; longest = refl } in
     let quotes_too : IsLongest is_name_byte other_word (34 ∷ after) = record { such = names_too; longest = refl } in
     let one = one-name word (34 ∷ rest) other_word (34 ∷ after) quotes quotes_too (sym is ∙ also) in
     let rests : rest ≡ after = cc (one.1) in
     (rests, like-by token another (found ∙ ap (λ (w : List ℕ). quoted_token (column_named w)) one.0 ∙ sym found_too))
-one-view _ _ _ _ _ _ _ (plus byte numeral text rest sign are) (plus _ another _ after sign_too also) =
+one-view _ _ _ _ _ (plus byte numeral text rest sign are) (plus _ another _ after sign_too also) =
     one-number numeral another text rest after (sign ∙ sym sign_too) are also
-one-view _ _ _ _ _ _ _ (minus byte numeral text rest sign are) (minus _ another _ after sign_too also) =
+one-view _ _ _ _ _ (minus byte numeral text rest sign are) (minus _ another _ after sign_too also) =
     one-number numeral another text rest after (sign ∙ sym sign_too) are also
-one-view _ _ _ _ _ _ _ (number byte numeral text rest sign are) (number _ another _ after sign_too also) =
+one-view _ _ _ _ _ (number byte numeral text rest sign are) (number _ another _ after sign_too also) =
     one-number numeral another (byte ∷ text) rest after (sign ∙ sym sign_too) are also
-one-view _ _ _ _ _ _ _ (named byte word text rest token is longest found) (named _ other_word _ after another also longest_too found_too) =
+one-view _ _ _ _ _ (named byte word text rest token is longest found) (named _ other_word _ after another also longest_too found_too) =
     let one = one-name word rest other_word after longest longest_too (sym is ∙ also) in
     let tokens = ap (λ (w : List ℕ). word_token (keyword_named w) (column_named w)) one.0 in
     (one.1, like-by token another (found ∙ tokens ∙ sym found_too))
@@ -344,8 +344,8 @@ pub one-token : (text rest after : List ℕ) (token another : Token) → IsToken
     → (rest ≡ after) × IsLike token another
 one-token text rest after token another is also =
     let first = first-byte text rest token is in
-    let second = view-at text after another first.byte first.after (kind_of first.byte) also first.is refl in
-    one-view (kind_of first.byte) first.byte first.after rest after token another first.view second
+    let second = view-at first.byte first.after (kind_of first.byte) also first.is refl in
+    one-view first.after rest after token another first.view second
 
 -- a text that begins with a quote has a closing quote
 literal-by : (byte : ℕ) (text rest : List ℕ) (token : Token) → View TextKind byte text rest token
@@ -354,20 +354,20 @@ literal-by _ _ _ _ (literal byte spelling text rest is paired single) missing = 
 
 pub literal-at : (text rest : List ℕ) (token : Token) → IsToken (39 ∷ text) rest token
     → ((spelling after : List ℕ) → text ≡ spelling ++ 39 ∷ after → ArePaired spelling → begins is_quote after ≡ false → ⊥) → ⊥
-literal-at text rest token is missing = literal-by 39 text rest token (view-at (39 ∷ text) rest token 39 text TextKind is refl refl) missing
+literal-at text rest token is missing = literal-by 39 text rest token (view-at 39 text TextKind is refl refl) missing
 
 -- a name that begins with a double quote ends with one
-quoted-by : (byte : ℕ) (text rest : List ℕ) (token : Token) (name after : List ℕ) → View QuotedKind byte text rest token
+quoted-by : {byte : ℕ} {rest : List ℕ} {token : Token} (text name after : List ℕ) → View QuotedKind byte text rest token
     → text ≡ name ++ after → IsLongest is_name_byte name after → begins (λ first. first == 34) after ≡ false → ⊥
-quoted-by _ _ _ _ name after (quoted byte word text rest token is names found) same_text longest missing =
+quoted-by _ name after (quoted byte word text rest token is names found) same_text longest missing =
     let quotes : IsLongest is_name_byte word (34 ∷ rest) = record { such = names; longest = refl } in
     let one = one-name word (34 ∷ rest) name after quotes longest (sym is ∙ same_text) in
     let e : begins (λ first. first == 34) (34 ∷ rest) ≡ false = rw (← one.1) at missing in cc
 
-pub quoted-at : (text rest : List ℕ) (token : Token) (name after : List ℕ) → IsToken (34 ∷ text) rest token → text ≡ name ++ after
+pub quoted-at : {rest : List ℕ} {token : Token} (text name after : List ℕ) → IsToken (34 ∷ text) rest token → text ≡ name ++ after
     → IsLongest is_name_byte name after → begins (λ first. first == 34) after ≡ false → ⊥
-quoted-at text rest token name after is same_text longest missing =
-    quoted-by 34 text rest token name after (view-at (34 ∷ text) rest token 34 text QuotedKind is refl refl) same_text longest missing
+quoted-at text name after is same_text longest missing =
+    quoted-by text name after (view-at 34 text QuotedKind is refl refl) same_text longest missing
 
 -- a number has a digit after its sign
 number-begins : (numeral : Numeral) (text rest : List ℕ) → AreNumber numeral text rest → begins is_ascii_digit text ≡ false → ⊥
@@ -379,15 +379,15 @@ plus-by _ _ _ _ (plus byte numeral text rest sign are) missing = number-begins n
 minus-by : (byte : ℕ) (text rest : List ℕ) (token : Token) → View MinusKind byte text rest token → begins is_ascii_digit text ≡ false → ⊥
 minus-by _ _ _ _ (minus byte numeral text rest sign are) missing = number-begins numeral text rest are missing
 
-pub plus-at : (text rest after : List ℕ) (token : Token) (byte : ℕ) → IsToken text rest token → text ≡ byte ∷ after → byte ≡ 43
+pub plus-at : {text rest : List ℕ} {token : Token} (after : List ℕ) (byte : ℕ) → IsToken text rest token → text ≡ byte ∷ after → byte ≡ 43
     → begins is_ascii_digit after ≡ false → ⊥
-plus-at text rest after token byte is begun known missing =
-    plus-by byte after rest token (view-at text rest token byte after PlusKind is begun (rw known refl)) missing
+plus-at {rest = rest} {token = token} after byte is begun known missing =
+    plus-by byte after rest token (view-at byte after PlusKind is begun (rw known refl)) missing
 
-pub minus-at : (text rest after : List ℕ) (token : Token) (byte : ℕ) → IsToken text rest token → text ≡ byte ∷ after → byte ≡ 45
+pub minus-at : {text rest : List ℕ} {token : Token} (after : List ℕ) (byte : ℕ) → IsToken text rest token → text ≡ byte ∷ after → byte ≡ 45
     → begins is_ascii_digit after ≡ false → ⊥
-minus-at text rest after token byte is begun known missing =
-    minus-by byte after rest token (view-at text rest token byte after MinusKind is begun (rw known refl)) missing
+minus-at {rest = rest} {token = token} after byte is begun known missing =
+    minus-by byte after rest token (view-at byte after MinusKind is begun (rw known refl)) missing
 
 no-view : (byte : ℕ) (text rest : List ℕ) (token : Token) → View NoKind byte text rest token → ⊥
 no-view byte text rest token is = elim is [ ]
@@ -399,7 +399,7 @@ blank-kind byte blank = grind (arith, nat_tests)
 pub nothing-at : (text rest after : List ℕ) (token : Token) (byte : ℕ) → IsToken text rest token → text ≡ byte ∷ after
     → kind_of byte ≡ NoKind → ⊥
 nothing-at text rest after token byte is begun none_of =
-    no-view byte after rest token (view-at text rest token byte after NoKind is begun none_of)
+    no-view byte after rest token (view-at byte after NoKind is begun none_of)
 
 pub blank-at : (text rest after : List ℕ) (token : Token) (byte : ℕ) → IsToken text rest token → text ≡ byte ∷ after
     → is_white_space byte ≡ true → ⊥
@@ -426,8 +426,8 @@ pub record IsNoSign (byte : ℕ) : Type 0 where
 other-kind : (byte : ℕ) → IsNoSign byte → is_ascii_digit byte ≡ false → is_name_start byte ≡ false → kind_of byte ≡ NoKind
 other-kind byte none_of no_digit no_name = rw (no_name, no_digit) (grind (arith, nat_tests))
 
-pub other-at : (text rest after : List ℕ) (token : Token) (byte : ℕ) → IsToken text rest token → text ≡ byte ∷ after
+pub other-at : {text rest : List ℕ} {token : Token} (after : List ℕ) (byte : ℕ) → IsToken text rest token → text ≡ byte ∷ after
     → IsNoSign byte → is_ascii_digit byte ≡ false → begins is_name_start text ≡ false → ⊥
-other-at text rest after token byte is begun none_of no_digit no_name =
+other-at {text = text} {rest = rest} {token = token} after byte is begun none_of no_digit no_name =
     let name : is_name_start byte ≡ false = rw begun at no_name in
     nothing-at text rest after token byte is begun (other-kind byte none_of no_digit name)

@@ -42,11 +42,11 @@ sign_of LessOrEqual = 60 ∷ 61 ∷ []
 sign_of Greater = 62 ∷ []
 sign_of GreaterOrEqual = 62 ∷ 61 ∷ []
 
--- a comparison operator is as long as possible
-abbrev pub goes_on : Comparison → List ℕ → Bool
-goes_on Less rest = begins (λ byte. byte == 61 || byte == 62) rest
-goes_on Greater rest = begins (λ byte. byte == 61) rest
-goes_on comparison rest = false
+-- a comparison operator is as long as possible: this one would be longer
+abbrev pub continues : Comparison → List ℕ → Bool
+continues Less rest = begins (λ byte. byte == 61 || byte == 62) rest
+continues Greater rest = begins (λ byte. byte == 61) rest
+continues comparison rest = false
 
 -- the longest prefix of bytes that satisfy the predicate
 pub record IsLongest (is_such : ℕ → Bool) (bytes rest : List ℕ) : Type 0 where
@@ -92,7 +92,7 @@ pub data IsToken : List ℕ → List ℕ → Token → Type 0 where
   left_paren : (rest : List ℕ) → IsToken (40 ∷ rest) rest Open
   right_paren : (rest : List ℕ) → IsToken (41 ∷ rest) rest Close
   comma : (rest : List ℕ) → IsToken (44 ∷ rest) rest Comma
-  comparison_operator : (comparison : Comparison) (rest : List ℕ) → goes_on comparison rest ≡ false
+  comparison_operator : (comparison : Comparison) (rest : List ℕ) → continues comparison rest ≡ false
       → IsToken (sign_of comparison ++ rest) rest (Compared comparison)
   keyword : (word rest : List ℕ) (named : AKeyword) → IsWord word rest → keyword_named word ≡ Some named
       → IsToken (word ++ rest) rest (Keyword named)

@@ -11,3 +11,4 @@ pub mod Position
 pub mod Predicate
 pub mod Read
 pub mod Spelled
+pub mod Terminal

@@ -1,6 +1,7 @@
 -- The values of numericLiterals.
 use Rattle.std.specs.Prelude.{ℕ, ℤ, pos, neg_ℤ, ◌+◌, ◌-◌, ◌*◌, ◌^◌, Bool, nat_le, nat_lt, if◌then◌else◌, List, [], ◌∷◌, length, Option, Some, None, Result, Ok, Err}
 use Rattle.tl_fields.specs.Number.{decimal_in}
+use Rattle.tl_segments.specs.declared.segment.TheConstants.{NAME_LIMIT}
 use Rattle.cql2.specs.declared.column.NumericColumn.{NumericColumn}
 use Rattle.cql2.specs.declared.column.NumericColumn.TheVariants.{Number, Coordinate}
 use Rattle.cql2_text.specs.declared.fault.FilterFlaw.{FilterFlaw}
@@ -55,10 +56,10 @@ count_of most numeral =
 abbrev pub house_number_of : Numeral → Result ℕ FilterFlaw
 house_number_of numeral = count_of 11 numeral
 
--- at most 5000 alternate names can be checked
-abbrev pub up_to_5000 : Result ℕ FilterFlaw → Result ℕ FilterFlaw
-up_to_5000 (Ok amount) = if nat_le amount 5000 then Ok amount else Err NumberRange
-up_to_5000 (Err flaw) = Err flaw
+-- as many alternate names can be checked as a segment can have
+abbrev pub up_to_name_limit : Result ℕ FilterFlaw → Result ℕ FilterFlaw
+up_to_name_limit (Ok amount) = if nat_le amount NAME_LIMIT then Ok amount else Err NumberRange
+up_to_name_limit (Err flaw) = Err flaw
 
 abbrev pub name_limit_of : Numeral → Result ℕ FilterFlaw
-name_limit_of numeral = up_to_5000 (count_of 18 numeral)
+name_limit_of numeral = up_to_name_limit (count_of 18 numeral)

@@ -7,8 +7,8 @@ use Rattle.cql2.specs.declared.pattern.PatternByte.TheVariants.{Exactly, EitherC
 use Rattle.cql2_text.specs.Character.{character_text, is_character}
 
 -- the pattern byte of a character: itself, or a letter in either case if case is ignored
-abbrev pub wanted_by : Bool → ℕ → PatternByte
-wanted_by ignores_case byte =
+abbrev pub character_pattern : Bool → ℕ → PatternByte
+character_pattern ignores_case byte =
     if ignores_case && is_ascii_alphabetic byte then EitherCase (to_ascii_lowercase byte) else Exactly byte
 
 -- `%`, `_` and `\`
@@ -19,9 +19,9 @@ is_special byte = byte == 37 || byte == 95 || byte == 92
 pub data IsPatternByte (ignores_case : Bool) : List ℕ → PatternByte → List ℕ → Type 0 where
   any : (rest : List ℕ) → IsPatternByte ignores_case (95 ∷ rest) Any rest
   escaped : (byte : ℕ) (rest : List ℕ) → is_character byte ≡ true
-      → IsPatternByte ignores_case (92 ∷ (character_text byte ++ rest)) (wanted_by ignores_case byte) rest
+      → IsPatternByte ignores_case (92 ∷ (character_text byte ++ rest)) (character_pattern ignores_case byte) rest
   ordinary : (byte : ℕ) (rest : List ℕ) → is_character byte ≡ true → is_special byte ≡ false
-      → IsPatternByte ignores_case (character_text byte ++ rest) (wanted_by ignores_case byte) rest
+      → IsPatternByte ignores_case (character_text byte ++ rest) (character_pattern ignores_case byte) rest
 
 -- a literal, up to the rest of it, read as a pattern
 pub data ReadsPattern (ignores_case : Bool) (spelling : List ℕ) : List ℕ → List PatternByte → Type 0 where

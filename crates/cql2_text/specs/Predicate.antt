@@ -21,7 +21,7 @@ use Rattle.cql2.specs.declared.pattern.Pattern.{Pattern}
 use Rattle.cql2.specs.declared.text.Text.{Text as AText}
 use Rattle.cql2_text.specs.Character.{IsComparedText}
 use Rattle.cql2_text.specs.Number.{house_number_of, name_limit_of, number_of}
-use Rattle.cql2_text.specs.Pattern.{IsLikePattern, wanted_by}
+use Rattle.cql2_text.specs.Pattern.{IsLikePattern, character_pattern}
 use Rattle.cql2_text.specs.declared.predicate.Subject.{Subject}
 use Rattle.cql2_text.specs.declared.predicate.Subject.TheVariants as subject
 use Rattle.cql2_text.specs.declared.token.Keyword.TheVariants as word
@@ -67,7 +67,7 @@ pub record IsCaseiText {A : Type 0} (column : TextColumn) (words rest : List Tok
   pub text : AText A
   pub spelled : words ≡ Keyword word.Casei ∷ Open ∷ inner
   pub compared : IsText (width_of column) inner (Close ∷ rest) text
-  pub letters : pattern.wanted.items ≡ map (wanted_by true) text.bytes.items
+  pub letters : pattern.wanted.items ≡ map (character_pattern true) text.bytes.items
   pub closed : pattern.is_open ≡ false
 
 -- characterLiteral, as a pattern for LIKE
@@ -176,21 +176,23 @@ longitude = Coordinate Frlong
 abbrev pub latitude : NumericColumn
 latitude = Coordinate Frlat
 
--- STARTS_IN, after the word: west, south, east and north
+-- a longitude and a latitude with a comma between them
+pub record IsPoint (words rest : List Token) (x y : Literal) : Type 0 where
+  pub middle : List Token
+  pub first : IsNumber longitude words (Comma ∷ middle) x
+  pub second : IsNumber latitude middle rest y
+
+-- STARTS_IN, after the word: a box, by its southwest and northeast corners
 pub record SpellsStartsIn {A : Type 0} (words rest : List Token) (made : Filter A) : Type 0 where
   pub w : Literal
   pub s : Literal
   pub e : Literal
   pub n : Literal
   pub from_w : List Token
-  pub from_s : List Token
   pub from_e : List Token
-  pub from_n : List Token
   pub opened : words ≡ Open ∷ Keyword word.Bbox ∷ Open ∷ from_w
-  pub west : IsNumber longitude from_w (Comma ∷ from_s) w
-  pub south : IsNumber latitude from_s (Comma ∷ from_e) s
-  pub east : IsNumber longitude from_e (Comma ∷ from_n) e
-  pub north : IsNumber latitude from_n (Close ∷ Close ∷ rest) n
+  pub southwest : IsPoint from_w (Comma ∷ from_e) w s
+  pub northeast : IsPoint from_e (Close ∷ Close ∷ rest) e n
   pub across : Filter A
   pub along : Filter A
   pub is_across : IsWithin longitude w e across

@@ -13,6 +13,6 @@ abbrev pub IsRead : {A : Type 0} → Result (Filter A × Bor (List Token)) Synta
 IsRead {A = A} result rest made =
     MatchResult result (λ read. (read.1.now ≡ rest) × (content read.0 ≡ content made)) (λ fault. fault ≡ Memory)
 
--- the tokens don't begin with this keyword
-abbrev pub Lacks : AKeyword → List Token → Type 0
-Lacks word words = (rest : List Token) → words ≢ Keyword word ∷ rest
+-- the keyword is not the first of the tokens
+abbrev pub IsNotNext : AKeyword → List Token → Type 0
+IsNotNext word words = (rest : List Token) → words ≢ Keyword word ∷ rest

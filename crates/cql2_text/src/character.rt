@@ -1,12 +1,12 @@
-//! Characters of a characterLiteral: those of Latin-1, each stored as one byte as in the Bureau's files.
+//! Characters of a string literal: those of Latin-1, each stored as one byte as in the Bureau's files.
 ghost use Rattle.std.specs.Prelude.{◌≡◌, ◌∷◌, ◌≤◌, ◌<◌, ℕ, List, length, IfOk, IfSome, MatchOption, MatchResult};
 ghost use Rattle.tl_segments.specs.declared.name.TheConstants.{NAME_LENGTH};
 ghost use Rattle.cql2.specs.Column.{trim_end};
 ghost use Rattle.cql2_text.specs.Character.{HasCharacters, IsCharacter, IsComparedText};
-ghost use Rattle.cql2_text.specs.declared.syntax_fault.TextFlaw.TheVariants as text_flaw;
+ghost use Rattle.cql2_text.specs.declared.syntax_fault.TextFault.TheVariants as text_fault;
 
 use crate::fault::Expected;
-use crate::syntax_fault::TextFlaw;
+use crate::syntax_fault::TextFault;
 use cql2::Text;
 use std::alloc::Allocator;
 
@@ -76,16 +76,16 @@ fn high(second: u8, rest: &[u8]) -> Option<(u8, &[u8])>
 }
 
 /// Returns the characters inside a literal, one byte each.
-fn bytes_of<A: Allocator + Copy>(alloc: A, spelling: &[u8]) -> Result<Vec<u8, A>, TextFlaw>
+fn bytes_of<A: Allocator + Copy>(alloc: A, spelling: &[u8]) -> Result<Vec<u8, A>, TextFault>
     ensures ok { IfOk result (λ bytes. HasCharacters spelling.now bytes.items) }
     ensures reads { (bytes : List ℕ) → HasCharacters spelling.now bytes
-        → MatchResult result (λ read. read.items ≡ bytes) (λ flaw. flaw ≡ text_flaw.Memory) }
+        → MatchResult result (λ read. read.items ≡ bytes) (λ fault. fault ≡ text_fault.Memory) }
 {
     let mut bytes = Vec::new(alloc);
     let mut rest = spelling;
     while !rest.is_empty() {
         let Some((byte, after)) = character(rest) else {
-            return Err(TextFlaw::expected(spelling, rest, Expected::Character));
+            return Err(TextFault::expected(spelling, rest, Expected::Character));
         };
         bytes.push(byte)?;
         rest = after;
@@ -108,16 +108,16 @@ pub(crate) fn compared_text<A: Allocator + Copy>(
     alloc: A,
     spelling: &[u8],
     width: usize,
-) -> Result<Text<A>, TextFlaw>
+) -> Result<Text<A>, TextFault>
     requires { width ≤ NAME_LENGTH }
     ensures ok { IfOk result (λ text. IsComparedText width spelling.now text.bytes.items) }
     ensures reads { (text : List ℕ) → IsComparedText width spelling.now text
-        → MatchResult result (λ read. read.bytes.items ≡ text) (λ flaw. flaw ≡ text_flaw.Memory) }
+        → MatchResult result (λ read. read.bytes.items ≡ text) (λ fault. fault ≡ text_fault.Memory) }
 {
     let bytes = bytes_of(alloc, spelling)?;
     let trimmed = without_trailing_blanks(&bytes);
     if trimmed.is_empty() || trimmed.len() > width {
-        return Err(TextFlaw::Long);
+        return Err(TextFault::Long);
     }
     let bytes = Vec::from_slice(alloc, trimmed)?;
     Ok(Text { bytes })

@@ -1,40 +1,31 @@
 //! Functions.
-ghost use Rattle.std.specs.Prelude.{◌≡◌, ◌≢◌, ◌∷◌, List, IfOk, MatchResult};
+ghost use Rattle.std.specs.Prelude.{◌≡◌, ◌∷◌, List, IfOk, MatchResult};
 ghost use Rattle.cql2.specs.declared.filter.Filter.{Filter};
+ghost use Rattle.cql2.specs.declared.number.Literal.{Literal as ALiteral};
 ghost use Rattle.cql2.specs.declared.number.NameLimit.{NameLimit as ALimit};
-ghost use Rattle.cql2_text.specs.Predicate.{SpellsLimit, SpellsPredicate};
+ghost use Rattle.cql2_text.specs.Predicate.{IsPoint, SpellsLimit, SpellsPredicate};
 ghost use Rattle.cql2_text.specs.Read.{IsRead};
 ghost use Rattle.cql2_text.specs.declared.token.Keyword.TheVariants as word;
-ghost use Rattle.cql2_text.specs.declared.token.Numeral.{Numeral};
 ghost use Rattle.cql2_text.specs.declared.token.Token.{Token};
 ghost use Rattle.cql2_text.specs.declared.token.Token.TheVariants as token;
 
-use crate::fault::{Expected, FilterFlaw};
+use crate::connective::{both, within};
 use crate::literal::{house_number, name_limit};
-use crate::parser::{both, closing, comma, next, opening};
-use crate::predicate::{number, text, within};
+use crate::operand::{number, numeral, text};
 use crate::syntax_fault::SyntaxFault;
-use crate::token::{Keyword, Numeral, Token};
-use cql2::{CoordinateColumn, Filter, NameLimit, NumericColumn};
+use crate::terminal::{Terminal, expect, next};
+use crate::token::Token;
+use cql2::{CoordinateColumn, Filter, Literal, NameLimit, NumericColumn};
 use std::alloc::Allocator;
 use tl_segments::NAME_LENGTH;
 
 /// The default number of alternate names to check.
 const NAMES: u16 = 63;
 
-/// Reads a numericLiteral and returns it with the tokens after it.
-fn numeral<'a>(words: &'a [Token<'a>]) -> Result<(Numeral<'a>, &'a [Token<'a>]), SyntaxFault>
-    ensures { MatchResult result (λ read. words.now ≡ token.Number read.0 ∷ read.1.now)
-        (λ fault. (numeral : Numeral) (rest : List Token) → words.now ≢ token.Number numeral ∷ rest) }
-{
-    match next(words) {
-        Some((Token::Number(numeral), rest)) => Ok((numeral, rest)),
-        Some((Token::Text(_spelling), _rest)) => {
-            Err(SyntaxFault::at(words, FilterFlaw::WrongType))
-        }
-        _ => Err(SyntaxFault::unexpected(words, Expected::Number)),
-    }
-}
+/// The columns of a segment's start.
+const LONGITUDE: NumericColumn = NumericColumn::Coordinate(CoordinateColumn::Frlong);
+
+const LATITUDE: NumericColumn = NumericColumn::Coordinate(CoordinateColumn::Frlat);
 
 /// Reads a house number in parentheses, after HAS_NUMBER.
 pub(crate) fn has_number<'a, A: Allocator + Copy>(
@@ -44,9 +35,9 @@ pub(crate) fn has_number<'a, A: Allocator + Copy>(
     ensures reads { (rest : List Token) (made : Filter A) → SpellsPredicate (token.Keyword word.HasNumber ∷ words.now) rest made
         → IsRead result rest made }
 {
-    let words = opening(words)?;
+    let words = expect(words, Terminal::Opening)?;
     let (numeral, rest) = numeral(words)?;
-    let rest = closing(rest)?;
+    let rest = expect(rest, Terminal::Closing)?;
     match house_number(numeral) {
         Ok(number) => Ok((Filter::HasNumber(number), rest)),
         Err(flaw) => Err(SyntaxFault::at(words, flaw)),
@@ -62,10 +53,10 @@ pub(crate) fn has_name<'a, A: Allocator + Copy>(
     ensures reads { (rest : List Token) (made : Filter A) → SpellsPredicate (token.Keyword word.HasName ∷ words.now) rest made
         → IsRead result rest made }
 {
-    let words = opening(words)?;
+    let words = expect(words, Terminal::Opening)?;
     let (name, rest) = text(alloc, NAME_LENGTH, words)?;
     let (limit, rest) = names(rest)?;
-    let rest = closing(rest)?;
+    let rest = expect(rest, Terminal::Closing)?;
     Ok((Filter::HasName(name, limit), rest))
 }
 
@@ -87,7 +78,7 @@ fn names<'a>(words: &'a [Token<'a>]) -> Result<(NameLimit, &'a [Token<'a>]), Syn
     }
 }
 
-/// Reads a box in parentheses, after STARTS_IN.
+/// Reads a box in parentheses, by its southwest and northeast corners, after STARTS_IN.
 pub(crate) fn starts_in<'a, A: Allocator + Copy>(
     alloc: A,
     words: &'a [Token<'a>],
@@ -96,33 +87,28 @@ pub(crate) fn starts_in<'a, A: Allocator + Copy>(
     ensures reads { (rest : List Token) (made : Filter A) → SpellsPredicate (token.Keyword word.StartsIn ∷ words.now) rest made
         → IsRead result rest made }
 {
-    let longitude = NumericColumn::Coordinate(CoordinateColumn::Frlong);
-    let latitude = NumericColumn::Coordinate(CoordinateColumn::Frlat);
-    let rest = opening(words)?;
-    let rest = bbox_word(rest)?;
-    let rest = opening(rest)?;
-    let (west, rest) = number(longitude, rest)?;
-    let rest = comma(rest)?;
-    let (south, rest) = number(latitude, rest)?;
-    let rest = comma(rest)?;
-    let (east, rest) = number(longitude, rest)?;
-    let rest = comma(rest)?;
-    let (north, rest) = number(latitude, rest)?;
-    let rest = closing(rest)?;
-    let rest = closing(rest)?;
-    let first = within(alloc, longitude, west, east)?;
-    let second = within(alloc, latitude, south, north)?;
-    let filter = both(alloc, first, second)?;
+    let rest = expect(words, Terminal::Opening)?;
+    let rest = expect(rest, Terminal::Bbox)?;
+    let rest = expect(rest, Terminal::Opening)?;
+    let (west, south, rest) = point(rest)?;
+    let rest = expect(rest, Terminal::Comma)?;
+    let (east, north, rest) = point(rest)?;
+    let rest = expect(rest, Terminal::Closing)?;
+    let rest = expect(rest, Terminal::Closing)?;
+    let across = within(alloc, LONGITUDE, west, east)?;
+    let along = within(alloc, LATITUDE, south, north)?;
+    let filter = both(alloc, across, along)?;
     Ok((filter, rest))
 }
 
-/// Takes BBOX and returns the tokens after it.
-fn bbox_word<'a>(words: &'a [Token<'a>]) -> Result<&'a [Token<'a>], SyntaxFault>
-    ensures { MatchResult result (λ rest. words.now ≡ token.Keyword word.Bbox ∷ rest.now)
-        (λ fault. (rest : List Token) → words.now ≢ token.Keyword word.Bbox ∷ rest) }
+/// Reads a longitude and a latitude with a comma between them.
+fn point<'a>(words: &'a [Token<'a>]) -> Result<(Literal, Literal, &'a [Token<'a>]), SyntaxFault>
+    ensures ok { IfOk result (λ read. IsPoint words.now read.2.now read.0 read.1) }
+    ensures reads { (rest : List Token) (x y : ALiteral) → IsPoint words.now rest x y
+        → MatchResult result (λ read. (read.2.now ≡ rest) × (read.0.number ≡ x.number) × (read.1.number ≡ y.number)) (λ fault. ⊥) }
 {
-    match next(words) {
-        Some((Token::Keyword(Keyword::Bbox), rest)) => Ok(rest),
-        _ => Err(SyntaxFault::unexpected(words, Expected::Bbox)),
-    }
+    let (x, rest) = number(LONGITUDE, words)?;
+    let rest = expect(rest, Terminal::Comma)?;
+    let (y, rest) = number(LATITUDE, rest)?;
+    Ok((x, y, rest))
 }

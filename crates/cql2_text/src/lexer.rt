@@ -4,7 +4,7 @@ ghost use Rattle.std.specs.Char.{is_ascii_digit};
 ghost use Rattle.std.specs.List.{position};
 ghost use Rattle.cql2_text.specs.declared.token.Token.{Token as AToken};
 ghost use Rattle.cql2_text.specs.Alike.{AreLike};
-ghost use Rattle.cql2_text.specs.Lexed.{ArePaired, is_white_space, is_name_start, is_name_byte, begins, is_quote, IsClosingQuote, IsSign, IsLongest, IsToken, Lexes, HasDecimals, AreDigits};
+ghost use Rattle.cql2_text.specs.Lexed.{ArePaired, is_white_space, is_name_start, is_name_byte, begins, is_quote, IsClosingQuote, IsSign, IsLongest, IsToken, Lexes, HasDecimals};
 
 use crate::name::{column_named, keyword_named};
 use crate::token::{Numeral, Token};
@@ -131,7 +131,7 @@ fn greater<'a>(text: &'a [u8]) -> (Token<'a>, &'a [u8])
     }
 }
 
-/// Reads a characterLiteral after its opening quote.
+/// Reads a string literal after its opening quote.
 fn text_token<'a>(text: &'a [u8]) -> Option<(Token<'a>, &'a [u8])>
     ensures is { IfSome result (λ read. IsToken (39 ∷ text.now) read.1.now read.0) }
     ensures none { IfNone result ((rest : List ℕ) (token : AToken) → IsToken (39 ∷ text.now) rest token → ⊥) }
@@ -247,7 +247,7 @@ fn digits_end(text: &[u8]) -> Option<usize>
     text.iter().position(|byte| !byte.is_ascii_digit())
 }
 
-/// Reads a numericLiteral after its sign.
+/// Reads a number after its sign.
 fn number<'a>(is_negative: bool, text: &'a [u8]) -> Option<(Token<'a>, &'a [u8])>
     ensures is { IfSome result (λ read. (sign : List ℕ) → IsSign is_negative sign → IsToken (sign ++ text.now) read.1.now read.0) }
     ensures none { IfNone result (begins is_ascii_digit text.now ≡ false) }

@@ -2,6 +2,7 @@
 #![tactic(auto)]
 
 mod character;
+mod connective;
 mod fault;
 mod function;
 pub mod laws;
@@ -9,11 +10,13 @@ mod lexer;
 mod literal;
 mod name;
 mod nearest;
+mod operand;
 mod parser;
 mod pattern;
 mod predicate;
 mod reader;
 mod syntax_fault;
+mod terminal;
 mod token;
 
 pub use fault::{Expected, FilterFault, FilterFlaw};

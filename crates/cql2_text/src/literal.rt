@@ -9,6 +9,7 @@ ghost use Rattle.cql2_text.specs.Number.{number_of, house_number_of, name_limit_
 use crate::fault::FilterFlaw;
 use crate::token::Numeral;
 use cql2::{HouseNumber, Literal, NameLimit, NumericColumn};
+use tl_segments::NAME_LIMIT;
 
 /// The maximum number of digits in a column's number.
 const MOST_DIGITS: usize = 18;
@@ -18,8 +19,6 @@ const MOST_HOUSE_DIGITS: usize = 11;
 const MOST_DECIMALS: usize = 6;
 /// The bound that a coordinate's degrees are below.
 const DEGREES: u64 = 1000;
-/// The maximum number of alternate names that a segment has.
-const MOST_NAMES: u64 = 5000;
 
 /// Returns a numeral's value in the unit of the column's fields.
 pub(crate) fn literal_of(column: NumericColumn, numeral: Numeral) -> Result<Literal, FilterFlaw>
@@ -139,7 +138,7 @@ fn decimal_value(digits: &[u8]) -> Option<u64>
     Some(value)
 }
 
-/// Returns a house number.
+/// Returns a numeral as a house number.
 pub(crate) fn house_number(numeral: Numeral) -> Result<HouseNumber, FilterFlaw>
     ensures { MatchResult result (λ house. house_number_of numeral.entry ≡ Ok house.number)
         (λ flaw. house_number_of numeral.entry ≡ Err flaw) }
@@ -156,7 +155,7 @@ pub(crate) fn name_limit(numeral: Numeral) -> Result<NameLimit, FilterFlaw>
 {
     match count(numeral, MOST_DIGITS) {
         Ok(number) => {
-            if number > MOST_NAMES {
+            if number > NAME_LIMIT as u64 {
                 return Err(FilterFlaw::NumberRange);
             }
             Ok(NameLimit {

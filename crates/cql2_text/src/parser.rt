@@ -1,18 +1,19 @@
 //! Parsing tokens into a filter.
-ghost use Rattle.std.specs.Prelude.{◌≡◌, ◌<◌, ◌∷◌, [], List, length, ◌≢◌, IfOk, Err, MatchOption, MatchResult};
+ghost use Rattle.std.specs.Prelude.{◌≡◌, ◌<◌, ◌∷◌, [], List, length, IfOk, Err, MatchResult};
 ghost use Rattle.cql2.specs.declared.filter.Filter.{Filter};
 ghost use Rattle.cql2_text.specs.Content.{content};
-ghost use Rattle.cql2_text.specs.Predicate.{IsBoth, IsEither, IsNot};
-ghost use Rattle.cql2_text.specs.Read.{IsRead, Lacks};
+ghost use Rattle.cql2_text.specs.Read.{IsRead, IsNotNext};
 ghost use Rattle.cql2_text.specs.declared.token.Keyword.TheVariants as word;
 ghost use Rattle.cql2_text.specs.Spelled.{Expression, Term, Factor, Primary, Spells};
 ghost use Rattle.cql2_text.specs.declared.syntax_fault.SyntaxFault.TheVariants as syntax_fault;
 ghost use Rattle.cql2_text.specs.declared.token.Token.{Token};
 ghost use Rattle.cql2_text.specs.declared.token.Token.TheVariants as token;
 
+use crate::connective::{both, either, negated};
 use crate::fault::{Expected, FilterFlaw};
 use crate::predicate::predicate;
 use crate::syntax_fault::SyntaxFault;
+use crate::terminal::{Terminal, expect, next};
 use crate::token::{Keyword, Token};
 use cql2::Filter;
 use std::alloc::Allocator;
@@ -45,7 +46,7 @@ fn expression<'a, A: Allocator + Copy>(
 ) -> Result<(Filter<A>, &'a [Token<'a>]), SyntaxFault>
     requires { depth < 1000 }
     ensures ok { IfOk result (λ read. Spells depth Expression words.now read.1.now read.0) }
-    ensures reads { (rest : List Token) (made : Filter A) → Lacks word.And rest → Lacks word.Or rest
+    ensures reads { (rest : List Token) (made : Filter A) → IsNotNext word.And rest → IsNotNext word.Or rest
         → Spells depth Expression words.now rest made → IsRead result rest made }
 {
     let (mut filter, mut rest) = term(alloc, words, depth)?;
@@ -66,7 +67,7 @@ fn term<'a, A: Allocator + Copy>(
 ) -> Result<(Filter<A>, &'a [Token<'a>]), SyntaxFault>
     requires { depth < 1000 }
     ensures ok { IfOk result (λ read. Spells depth Term words.now read.1.now read.0) }
-    ensures reads { (rest : List Token) (made : Filter A) → Lacks word.And rest → Spells depth Term words.now rest made
+    ensures reads { (rest : List Token) (made : Filter A) → IsNotNext word.And rest → Spells depth Term words.now rest made
         → IsRead result rest made }
 {
     let (mut filter, mut rest) = factor(alloc, words, depth)?;
@@ -123,99 +124,12 @@ fn primary<'a, A: Allocator + Copy>(
                 return Err(SyntaxFault::at(words, FilterFlaw::TooDeep));
             }
             let (filter, rest) = expression(alloc, after, depth - 1)?;
-            let rest = closing(rest)?;
+            let rest = expect(rest, Terminal::Closing)?;
             Ok((filter, rest))
         }
         _ => {
             let (filter, rest) = predicate(alloc, words)?;
             Ok((filter, rest))
         }
-    }
-}
-
-/// Returns the first token and those after it.
-pub(crate) fn next<'a>(words: &'a [Token<'a>]) -> Option<(Token<'a>, &'a [Token<'a>])>
-    ensures { MatchOption result (words.now ≡ []) (λ read. words.now ≡ read.0 ∷ read.1.now) }
-{
-    let (first, rest) = words.split_first()?;
-    Some((*first, rest))
-}
-
-/// Takes an opening parenthesis and returns the tokens after it.
-pub(crate) fn opening<'a>(words: &'a [Token<'a>]) -> Result<&'a [Token<'a>], SyntaxFault>
-    ensures { MatchResult result (λ rest. words.now ≡ token.Open ∷ rest.now)
-        (λ fault. (rest : List Token) → words.now ≢ token.Open ∷ rest) }
-{
-    match next(words) {
-        Some((Token::Open, rest)) => Ok(rest),
-        _ => Err(SyntaxFault::unexpected(words, Expected::Opening)),
-    }
-}
-
-/// Takes a closing parenthesis and returns the tokens after it.
-pub(crate) fn closing<'a>(words: &'a [Token<'a>]) -> Result<&'a [Token<'a>], SyntaxFault>
-    ensures { MatchResult result (λ rest. words.now ≡ token.Close ∷ rest.now)
-        (λ fault. (rest : List Token) → words.now ≢ token.Close ∷ rest) }
-{
-    match next(words) {
-        Some((Token::Close, rest)) => Ok(rest),
-        _ => Err(SyntaxFault::unexpected(words, Expected::Closing)),
-    }
-}
-
-/// Takes a comma and returns the tokens after it.
-pub(crate) fn comma<'a>(words: &'a [Token<'a>]) -> Result<&'a [Token<'a>], SyntaxFault>
-    ensures { MatchResult result (λ rest. words.now ≡ token.Comma ∷ rest.now)
-        (λ fault. (rest : List Token) → words.now ≢ token.Comma ∷ rest) }
-{
-    match next(words) {
-        Some((Token::Comma, rest)) => Ok(rest),
-        _ => Err(SyntaxFault::unexpected(words, Expected::Comma)),
-    }
-}
-
-/// Returns the conjunction of two filters.
-pub(crate) fn both<A: Allocator + Copy>(
-    alloc: A,
-    first: Filter<A>,
-    second: Filter<A>,
-) -> Result<Filter<A>, SyntaxFault>
-    ensures { MatchResult result (IsBoth first second) (λ fault. fault ≡ syntax_fault.Memory) }
-{
-    let first = boxed(alloc, first)?;
-    let second = boxed(alloc, second)?;
-    Ok(Filter::And(first, second))
-}
-
-/// Returns the disjunction of two filters.
-pub(crate) fn either<A: Allocator + Copy>(
-    alloc: A,
-    first: Filter<A>,
-    second: Filter<A>,
-) -> Result<Filter<A>, SyntaxFault>
-    ensures { MatchResult result (IsEither first second) (λ fault. fault ≡ syntax_fault.Memory) }
-{
-    let first = boxed(alloc, first)?;
-    let second = boxed(alloc, second)?;
-    Ok(Filter::Or(first, second))
-}
-
-/// Returns the negation of a filter.
-pub(crate) fn negated<A: Allocator + Copy>(
-    alloc: A,
-    inner: Filter<A>,
-) -> Result<Filter<A>, SyntaxFault>
-    ensures { MatchResult result (IsNot inner) (λ fault. fault ≡ syntax_fault.Memory) }
-{
-    let inner = boxed(alloc, inner)?;
-    Ok(Filter::Not(inner))
-}
-
-fn boxed<A: Allocator + Copy>(alloc: A, filter: Filter<A>) -> Result<Box<Filter<A>, A>, SyntaxFault>
-    ensures { MatchResult result (λ made. made.value ≡ filter) (λ fault. fault ≡ syntax_fault.Memory) }
-{
-    match Box::new(alloc, filter) {
-        Ok(made) => Ok(made),
-        Err(_) => Err(SyntaxFault::Memory),
     }
 }

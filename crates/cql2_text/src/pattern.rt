@@ -3,18 +3,18 @@ ghost use Rattle.std.specs.Prelude.{◌≡◌, ◌<◌, ◌≤◌, ◌∷◌, []
 ghost use Rattle.cql2.specs.Pattern.{are_bytes, is_byte};
 ghost use Rattle.cql2.specs.declared.pattern.Pattern.{Pattern as APattern};
 ghost use Rattle.cql2.specs.declared.pattern.PatternByte.{PatternByte as APatternByte};
-ghost use Rattle.cql2_text.specs.declared.syntax_fault.TextFlaw.TheVariants as text_flaw;
-ghost use Rattle.cql2_text.specs.Pattern.{IsLikePattern, IsSamePattern, IsPatternByte, is_special, wanted_by};
+ghost use Rattle.cql2_text.specs.declared.syntax_fault.TextFault.TheVariants as text_fault;
+ghost use Rattle.cql2_text.specs.Pattern.{IsLikePattern, IsSamePattern, IsPatternByte, is_special, character_pattern};
 
 use crate::character::character;
 use crate::fault::Expected;
-use crate::syntax_fault::TextFlaw;
+use crate::syntax_fault::TextFault;
 use cql2::{Pattern, PatternByte};
 use std::alloc::Allocator;
 
-/// Returns the pattern byte of a character, which matches either case if case is ignored.
-fn literal(byte: u8, ignores_case: bool) -> PatternByte
-    ensures wanted { result ≡ wanted_by ignores_case byte }
+/// Returns the pattern byte of a character, a letter in either case if case is ignored.
+fn character_pattern(byte: u8, ignores_case: bool) -> PatternByte
+    ensures wanted { result ≡ character_pattern ignores_case byte }
     ensures is_byte { is_byte result ≡ true }
 {
     if ignores_case && byte.is_ascii_alphabetic() {
@@ -30,26 +30,26 @@ fn pattern_byte<'a>(
     spelling: &[u8],
     text: &'a [u8],
     ignores_case: bool,
-) -> Result<(PatternByte, &'a [u8]), TextFlaw>
+) -> Result<(PatternByte, &'a [u8]), TextFault>
     ensures byte { IfOk result (λ read. IsPatternByte ignores_case text.now read.0 read.1.now) }
     ensures is_byte { IfOk result (λ read. is_byte read.0 ≡ true) }
     ensures shorter { IfOk result (λ read. length read.1.now < length text.now) }
     ensures only { (wanted : APatternByte) (rest : List ℕ) → IsPatternByte ignores_case text.now wanted rest
-        → MatchResult result (λ read. (read.0 ≡ wanted) × (read.1.now ≡ rest)) (λ flaw. ⊥) }
+        → MatchResult result (λ read. (read.0 ≡ wanted) × (read.1.now ≡ rest)) (λ fault. ⊥) }
 {
     let Some((byte, rest)) = character(text) else {
-        return Err(TextFlaw::expected(spelling, text, Expected::Character));
+        return Err(TextFault::expected(spelling, text, Expected::Character));
     };
     if !is_special(byte) {
-        return Ok((literal(byte, ignores_case), rest));
+        return Ok((character_pattern(byte, ignores_case), rest));
     }
     match byte {
         b'_' => Ok((PatternByte::Any, rest)),
         b'\\' => match character(rest) {
-            Some((next, rest)) => Ok((literal(next, ignores_case), rest)),
-            None => Err(TextFlaw::expected(spelling, rest, Expected::Escaped)),
+            Some((next, rest)) => Ok((character_pattern(next, ignores_case), rest)),
+            None => Err(TextFault::expected(spelling, rest, Expected::Escaped)),
         },
-        _ => Err(TextFlaw::expected(spelling, text, Expected::PatternEnd)),
+        _ => Err(TextFault::expected(spelling, text, Expected::PatternEnd)),
     }
 }
 
@@ -75,15 +75,15 @@ fn short<A: Allocator>(
     wanted: Vec<PatternByte, A>,
     is_open: bool,
     width: usize,
-) -> Result<Pattern<A>, TextFlaw>
+) -> Result<Pattern<A>, TextFault>
     requires { are_bytes wanted.items ≡ true }
     ensures wanted { IfOk result (λ pattern. pattern.wanted.items ≡ wanted.items) }
     ensures open { IfOk result (λ pattern. pattern.is_open ≡ is_open) }
     ensures few { IfOk result (λ pattern. length pattern.wanted.items ≤ width) }
-    ensures long { IfErr result (λ flaw. width < length wanted.items) }
+    ensures long { IfErr result (λ fault. width < length wanted.items) }
 {
     if wanted.len() > width {
-        return Err(TextFlaw::Long);
+        return Err(TextFault::Long);
     }
     Ok(Pattern { wanted, is_open })
 }
@@ -94,10 +94,10 @@ pub(crate) fn pattern<A: Allocator + Copy>(
     spelling: &[u8],
     ignores_case: bool,
     width: usize,
-) -> Result<Pattern<A>, TextFlaw>
+) -> Result<Pattern<A>, TextFault>
     ensures ok { IfOk result (λ pattern. IsLikePattern width ignores_case spelling.now pattern) }
     ensures reads { (pattern : APattern A) → IsLikePattern width ignores_case spelling.now pattern
-        → MatchResult result (λ read. IsSamePattern read pattern) (λ flaw. flaw ≡ text_flaw.Memory) }
+        → MatchResult result (λ read. IsSamePattern read pattern) (λ fault. fault ≡ text_fault.Memory) }
 {
     let mut wanted = Vec::new(alloc);
     let mut rest = spelling;
@@ -116,14 +116,14 @@ pub(crate) fn pattern<A: Allocator + Copy>(
 pub(crate) fn same_but_for_case<A: Allocator + Copy>(
     alloc: A,
     bytes: &[u8],
-) -> Result<Pattern<A>, TextFlaw>
-    ensures letters { IfOk result (λ pattern. pattern.wanted.items ≡ map (wanted_by true) bytes.now) }
+) -> Result<Pattern<A>, TextFault>
+    ensures letters { IfOk result (λ pattern. pattern.wanted.items ≡ map (character_pattern true) bytes.now) }
     ensures closed { IfOk result (λ pattern. pattern.is_open ≡ false) }
-    ensures memory { IfErr result (λ flaw. flaw ≡ text_flaw.Memory) }
+    ensures memory { IfErr result (λ fault. fault ≡ text_fault.Memory) }
 {
     let mut wanted = Vec::new(alloc);
     for byte in bytes {
-        wanted.push(literal(*byte, true))?;
+        wanted.push(character_pattern(*byte, true))?;
     }
     Ok(Pattern {
         wanted,

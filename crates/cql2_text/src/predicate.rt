@@ -1,36 +1,31 @@
 //! Predicates.
-ghost use Rattle.std.specs.Prelude.{◌≡◌, ◌≢◌, ◌∷◌, ◌≤◌, ℕ, List, length, IfOk, Err, MatchResult};
+ghost use Rattle.std.specs.Prelude.{◌≡◌, ◌≢◌, ◌∷◌, ◌≤◌, List, IfOk, Err, MatchResult};
 ghost use Rattle.tl_segments.specs.declared.name.TheConstants.{NAME_LENGTH};
 ghost use Rattle.cql2.specs.declared.column.Column.TheVariants as column;
 ghost use Rattle.cql2.specs.declared.column.TextColumn.{TextColumn};
-ghost use denote.Ref.{Bor};
 ghost use Rattle.cql2.specs.declared.filter.Comparison.TheVariants.{Equal};
 ghost use Rattle.cql2.specs.declared.filter.Filter.{Filter};
 ghost use Rattle.cql2.specs.declared.filter.Filter.TheVariants as filter;
-ghost use Rattle.cql2.specs.declared.number.Literal.{Literal as ALiteral};
 ghost use Rattle.cql2.specs.declared.pattern.Pattern.{Pattern as APattern};
-ghost use Rattle.cql2.specs.declared.text.Text.{Text as AText};
 ghost use Rattle.cql2_text.specs.declared.predicate.Subject.{Subject};
 ghost use Rattle.cql2_text.specs.Read.{IsRead};
 ghost use Rattle.cql2_text.specs.Pattern.{IsSamePattern};
-ghost use Rattle.cql2_text.specs.Predicate.{IsSubject, IsNumber, IsText, IsCaseiText, IsLikeColumn, IsWithin, is_compared, SpellsBetween, SpellsComparison, SpellsList, SpellsLike, SpellsNegatable, SpellsOf, SpellsPredicate, column_of, width_of};
-ghost use Rattle.cql2_text.specs.Number.{number_of};
+ghost use Rattle.cql2_text.specs.Predicate.{IsSubject, IsLikeColumn, is_compared, SpellsBetween, SpellsComparison, SpellsList, SpellsLike, SpellsNegatable, SpellsOf, SpellsPredicate, column_of, width_of};
 ghost use Rattle.cql2_text.specs.declared.syntax_fault.SyntaxFault.TheVariants as syntax_fault;
 ghost use Rattle.cql2_text.specs.declared.token.Keyword.TheVariants as word;
-ghost use Rattle.cql2_text.specs.declared.token.Numeral.{Numeral};
 ghost use Rattle.cql2_text.specs.declared.token.Token.{Token};
 ghost use Rattle.cql2_text.specs.declared.token.Token.TheVariants as token;
 ghost use Rattle.cql2_text.specs.declared.predicate.Subject.TheVariants as subject;
 
-use crate::character::compared_text;
+use crate::connective::{either, negated, within};
 use crate::fault::{Expected, FilterFlaw};
 use crate::function::{has_name, has_number, starts_in};
-use crate::literal::literal_of;
-use crate::parser::{both, closing, either, negated, next, opening};
+use crate::operand::{number, spelling, text};
 use crate::pattern::{pattern, same_but_for_case};
 use crate::syntax_fault::SyntaxFault;
+use crate::terminal::{Terminal, expect, next};
 use crate::token::{Keyword, Token};
-use cql2::{Column, Comparison, Filter, Literal, NumericColumn, Pattern, Text, TextColumn};
+use cql2::{Column, Comparison, Filter, NumericColumn, Pattern, TextColumn};
 use std::alloc::Allocator;
 
 /// The subject of a predicate.
@@ -100,10 +95,10 @@ fn casei_column<'a>(words: &'a [Token<'a>]) -> Result<(TextColumn, &'a [Token<'a
     ensures { MatchResult result (λ read. words.now ≡ token.Open ∷ token.Column (column.Text read.0) ∷ token.Close ∷ read.1.now)
         (λ fault. (c : TextColumn) (rest : List Token) → words.now ≢ token.Open ∷ token.Column (column.Text c) ∷ token.Close ∷ rest) }
 {
-    let words = opening(words)?;
+    let words = expect(words, Terminal::Opening)?;
     match next(words) {
         Some((Token::Column(Column::Text(column)), rest)) => {
-            let rest = closing(rest)?;
+            let rest = expect(rest, Terminal::Closing)?;
             Ok((column, rest))
         }
         Some((Token::Column(_column), _rest)) => {
@@ -177,7 +172,7 @@ fn null<'a, A: Allocator + Copy>(
     match next(words) {
         Some((Token::Keyword(Keyword::Null), rest)) => Ok((Filter::IsNull(column), rest)),
         Some((Token::Keyword(Keyword::Not), after)) => {
-            let rest = null_word(after)?;
+            let rest = expect(after, Terminal::Null)?;
             let filter = negated(alloc, Filter::IsNull(column))?;
             Ok((filter, rest))
         }
@@ -193,17 +188,6 @@ fn column_of(subject: Subject) -> Option<Column>
         Subject::Numeric(column) => Some(Column::Numeric(column)),
         Subject::Text(column) => Some(Column::Text(column)),
         Subject::Casei(_column) => None,
-    }
-}
-
-/// Takes NULL and returns the tokens after it.
-fn null_word<'a>(words: &'a [Token<'a>]) -> Result<&'a [Token<'a>], SyntaxFault>
-    ensures { MatchResult result (λ rest. words.now ≡ token.Keyword word.Null ∷ rest.now)
-        (λ fault. (rest : List Token) → words.now ≢ token.Keyword word.Null ∷ rest) }
-{
-    match next(words) {
-        Some((Token::Keyword(Keyword::Null), rest)) => Ok(rest),
-        _ => Err(SyntaxFault::unexpected(words, Expected::Null)),
     }
 }
 
@@ -287,77 +271,13 @@ fn width(column: TextColumn) -> usize
     places.1 + 1 - places.0
 }
 
-/// Reads a number that a column is compared with.
-pub(crate) fn number<'a>(
-    column: NumericColumn,
-    words: &'a [Token<'a>],
-) -> Result<(Literal, &'a [Token<'a>]), SyntaxFault>
-    ensures ok { IfOk result (λ read. IsNumber column words.now read.1.now read.0) }
-
-    // A number that the column can't hold is refused for its flaw.
-    ensures refused { (numeral : Numeral) (rest : List Token) (flaw : FilterFlaw) → words.now ≡ token.Number numeral ∷ rest
-        → number_of column numeral ≡ Err flaw → result ≡ Err (syntax_fault.At (length words.now) 0 flaw) }
-    ensures reads { (rest : List Token) (literal : ALiteral) → IsNumber column words.now rest literal
-        → MatchResult result (λ read. (read.1.now ≡ rest) × (read.0.number ≡ literal.number)) (λ fault. ⊥) }
-{
-    match next(words) {
-        Some((Token::Number(numeral), rest)) => match literal_of(column, numeral) {
-            Ok(literal) => Ok((literal, rest)),
-            Err(flaw) => Err(SyntaxFault::at(words, flaw)),
-        },
-        Some((Token::Text(_spelling), _rest)) => {
-            Err(SyntaxFault::at(words, FilterFlaw::WrongType))
-        }
-        Some((Token::Keyword(Keyword::Casei), _rest)) => {
-            Err(SyntaxFault::at(words, FilterFlaw::WrongType))
-        }
-        _ => Err(SyntaxFault::unexpected(words, Expected::Number)),
-    }
-}
-
-/// Returns the inside of a characterLiteral.
-fn spelling<'a>(words: &'a [Token<'a>]) -> Result<(&'a [u8], &'a [Token<'a>]), SyntaxFault>
-    ensures { MatchResult result (λ read. words.now ≡ token.Text read.0 ∷ read.1.now)
-        (λ fault. (spelling : Bor (List ℕ)) (rest : List Token) → words.now ≢ token.Text spelling ∷ rest) }
-{
-    match next(words) {
-        Some((Token::Text(spelling), rest)) => Ok((spelling, rest)),
-        Some((Token::Number(_numeral), _rest)) => {
-            Err(SyntaxFault::at(words, FilterFlaw::WrongType))
-        }
-        Some((Token::Keyword(Keyword::Casei), _rest)) => {
-            Err(SyntaxFault::at(words, FilterFlaw::WrongType))
-        }
-        _ => Err(SyntaxFault::unexpected(words, Expected::Text)),
-    }
-}
-
-/// Reads a text that is compared with a column of this width.
-pub(crate) fn text<'a, A: Allocator + Copy>(
-    alloc: A,
-    width: usize,
-    words: &'a [Token<'a>],
-) -> Result<(Text<A>, &'a [Token<'a>]), SyntaxFault>
-    requires { width ≤ NAME_LENGTH }
-    ensures ok { IfOk result (λ read. IsText width words.now read.1.now read.0) }
-    ensures reads { (rest : List Token) (text : AText A) → IsText width words.now rest text
-        → MatchResult result (λ read. (read.1.now ≡ rest) × (read.0.bytes.items ≡ text.bytes.items))
-        (λ fault. fault ≡ syntax_fault.Memory) }
-{
-    let (spelling, rest) = spelling(words)?;
-    match compared_text(alloc, spelling, width) {
-        Ok(text) => Ok((text, rest)),
-        Err(flaw) => Err(SyntaxFault::in_text(words, flaw)),
-    }
-}
-
 /// Takes CASEI and an opening parenthesis and returns the tokens after them.
 fn casei<'a>(words: &'a [Token<'a>]) -> Result<&'a [Token<'a>], SyntaxFault>
     ensures { MatchResult result (λ rest. words.now ≡ token.Keyword word.Casei ∷ token.Open ∷ rest.now)
         (λ fault. (rest : List Token) → words.now ≢ token.Keyword word.Casei ∷ token.Open ∷ rest) }
 {
     match next(words) {
-        Some((Token::Keyword(Keyword::Casei), rest)) => opening(rest),
+        Some((Token::Keyword(Keyword::Casei), rest)) => expect(rest, Terminal::Opening),
         Some((Token::Text(_spelling), _rest)) => {
             Err(SyntaxFault::at(words, FilterFlaw::WrongType))
         }
@@ -380,7 +300,7 @@ fn casei_same<'a, A: Allocator + Copy>(
 {
     let words = casei(words)?;
     let (text, rest) = text(alloc, width(column), words)?;
-    let rest = closing(rest)?;
+    let rest = expect(rest, Terminal::Closing)?;
     match same_but_for_case(alloc, &text.bytes) {
         Ok(pattern) => Ok((Filter::Like(column, pattern), rest)),
         Err(flaw) => Err(SyntaxFault::in_text(words, flaw)),
@@ -430,7 +350,7 @@ fn casei_like<'a, A: Allocator + Copy>(
 {
     let words = casei(words)?;
     let (pattern, rest) = column_pattern(alloc, column, true, words)?;
-    let rest = closing(rest)?;
+    let rest = expect(rest, Terminal::Closing)?;
     Ok((Filter::Like(column, pattern), rest))
 }
 
@@ -444,35 +364,10 @@ fn between<'a, A: Allocator + Copy>(
     ensures reads { (rest : List Token) (made : Filter A) → SpellsBetween column words.now rest made → IsRead result rest made }
 {
     let (low, rest) = number(column, words)?;
-    let rest = and_word(rest)?;
+    let rest = expect(rest, Terminal::And)?;
     let (high, rest) = number(column, rest)?;
     let filter = within(alloc, column, low, high)?;
     Ok((filter, rest))
-}
-
-/// Takes AND and returns the tokens after it.
-fn and_word<'a>(words: &'a [Token<'a>]) -> Result<&'a [Token<'a>], SyntaxFault>
-    ensures { MatchResult result (λ rest. words.now ≡ token.Keyword word.And ∷ rest.now)
-        (λ fault. (rest : List Token) → words.now ≢ token.Keyword word.And ∷ rest) }
-{
-    match next(words) {
-        Some((Token::Keyword(Keyword::And), rest)) => Ok(rest),
-        _ => Err(SyntaxFault::unexpected(words, Expected::And)),
-    }
-}
-
-/// Returns the filter for a column that is at least one number and at most another.
-pub(crate) fn within<A: Allocator + Copy>(
-    alloc: A,
-    column: NumericColumn,
-    low: Literal,
-    high: Literal,
-) -> Result<Filter<A>, SyntaxFault>
-    ensures { MatchResult result (IsWithin column low high) (λ fault. fault ≡ syntax_fault.Memory) }
-{
-    let first = Filter::CompareNumber(column, Comparison::GreaterOrEqual, low);
-    let second = Filter::CompareNumber(column, Comparison::LessOrEqual, high);
-    both(alloc, first, second)
 }
 
 /// Reads the literals in parentheses, one of which the subject equals.
@@ -485,9 +380,9 @@ fn among<'a, A: Allocator + Copy>(
     ensures reads { (rest : List Token) (made : Filter A) → SpellsNegatable subject (token.Keyword word.In ∷ words.now) rest made
         → IsRead result rest made }
 {
-    let inner = opening(words)?;
+    let inner = expect(words, Terminal::Opening)?;
     let (filter, rest) = list(alloc, subject, inner)?;
-    let rest = closing(rest)?;
+    let rest = expect(rest, Terminal::Closing)?;
     Ok((filter, rest))
 }
 

@@ -1,46 +1,46 @@
 //! Faults in tokens, before their lines and columns are known.
 ghost use Rattle.std.specs.Prelude.{◌≡◌, ◌-◌, length};
 ghost use Rattle.cql2_text.specs.declared.syntax_fault.SyntaxFault.TheVariants as syntax_fault;
-ghost use Rattle.cql2_text.specs.declared.syntax_fault.TextFlaw.TheVariants as text_flaw;
+ghost use Rattle.cql2_text.specs.declared.syntax_fault.TextFault.TheVariants as text_fault;
 
 use crate::fault::{Expected, FilterFlaw};
 use crate::token::Token;
 use std::alloc::{AllocError, AllocFailed};
 
-/// A flaw inside a characterLiteral.
+/// Why the inside of a string literal is not read.
 #[derive(Clone, Copy, Drop)]
-pub(crate) enum TextFlaw {
+pub(crate) enum TextFault {
     /// Something else is expected at this offset after the opening quote, in bytes.
     At { offset: usize, expected: Expected },
     Long,
     Memory,
 }
 
-impl TextFlaw {
-    /// Returns the flaw for a construct that is expected where `rest` of a literal's inside begins.
-    pub fn expected(spelling: &[u8], rest: &[u8], expected: Expected) -> TextFlaw
-        ensures { result ≡ text_flaw.At (length spelling.now - length rest.now) expected }
+impl TextFault {
+    /// Returns the fault for a construct that is expected where `rest` of a literal's inside begins.
+    pub fn expected(spelling: &[u8], rest: &[u8], expected: Expected) -> TextFault
+        ensures { result ≡ text_fault.At (length spelling.now - length rest.now) expected }
     {
-        TextFlaw::At {
+        TextFault::At {
             offset: spelling.len().saturating_sub(rest.len()),
             expected,
         }
     }
 }
 
-impl From<AllocError> for TextFlaw {
-    ghost from_gives = { λ _ flaw. flaw ≡ text_flaw.Memory };
+impl From<AllocError> for TextFault {
+    ghost from_gives = { λ _ fault. fault ≡ text_fault.Memory };
 
-    fn from(_error: AllocError) -> TextFlaw {
-        TextFlaw::Memory
+    fn from(_error: AllocError) -> TextFault {
+        TextFault::Memory
     }
 }
 
-impl<T: Drop> From<AllocFailed<T>> for TextFlaw {
-    ghost from_gives = { λ _ flaw. flaw ≡ text_flaw.Memory };
+impl<T: Drop> From<AllocFailed<T>> for TextFault {
+    ghost from_gives = { λ _ fault. fault ≡ text_fault.Memory };
 
-    fn from(_error: AllocFailed<T>) -> TextFlaw {
-        TextFlaw::Memory
+    fn from(_error: AllocFailed<T>) -> TextFault {
+        TextFault::Memory
     }
 }
 
@@ -84,19 +84,19 @@ impl SyntaxFault {
         SyntaxFault::at(words, FilterFlaw::Syntax(expected))
     }
 
-    /// Returns the fault for a flaw in the characterLiteral that is the first token.
-    pub fn in_text(words: &[Token], flaw: TextFlaw) -> SyntaxFault
-        ensures long { flaw ≡ TextFlaw.Long → result ≡ syntax_fault.At (length words.now) 0 FilterFlaw.LongText }
-        ensures memory { flaw ≡ TextFlaw.Memory → result ≡ syntax_fault.Memory }
+    /// Returns the fault for one in the string literal that is the first token.
+    pub fn in_text(words: &[Token], fault: TextFault) -> SyntaxFault
+        ensures long { fault ≡ TextFault.Long → result ≡ syntax_fault.At (length words.now) 0 FilterFlaw.LongText }
+        ensures memory { fault ≡ TextFault.Memory → result ≡ syntax_fault.Memory }
     {
-        match flaw {
-            TextFlaw::At { offset, expected } => SyntaxFault::At {
+        match fault {
+            TextFault::At { offset, expected } => SyntaxFault::At {
                 left: words.len(),
                 offset: offset.saturating_add(1),
                 flaw: FilterFlaw::Syntax(expected),
             },
-            TextFlaw::Long => SyntaxFault::at(words, FilterFlaw::LongText),
-            TextFlaw::Memory => SyntaxFault::Memory,
+            TextFault::Long => SyntaxFault::at(words, FilterFlaw::LongText),
+            TextFault::Memory => SyntaxFault::Memory,
         }
     }
 }

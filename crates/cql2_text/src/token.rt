@@ -21,7 +21,7 @@ pub(crate) enum Keyword {
     Bbox,
 }
 
-/// A numericLiteral, split into its parts.
+/// A number, split into its parts.
 #[derive(Clone, Copy)]
 pub(crate) struct Numeral<'a> {
     pub is_negative: bool,
@@ -43,6 +43,6 @@ pub(crate) enum Token<'a> {
     Close,
     Comma,
     Number(Numeral<'a>),
-    /// A characterLiteral, without its quotes.
+    /// A string literal, without its quotes.
     Text(&'a [u8]),
 }

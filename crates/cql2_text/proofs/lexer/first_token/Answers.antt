@@ -45,12 +45,12 @@ returns-in_err-first-clause-none c =
 pub returns-in-43-clause-none : goal.returns-in-43-clause-none
 returns-in-43-clause-none c =
     none-then c.number.result c.number.ensures.none
-    (λ missing rest token is. plus-at _ rest _ token _ is c.in_ok-first.ensures.cases.0 c.in-43.is missing)
+    (λ missing rest token is. plus-at _ _ is c.in_ok-first.ensures.cases.0 c.in-43.is missing)
 
 pub returns-in-45-clause-none : goal.returns-in-45-clause-none
 returns-in-45-clause-none c =
     none-then c.number-in-45.result c.number-in-45.ensures.none
-    (λ missing rest token is. minus-at _ rest _ token _ is c.in_ok-first.ensures.cases.0 c.in-45.is missing)
+    (λ missing rest token is. minus-at _ _ is c.in_ok-first.ensures.cases.0 c.in-45.is missing)
 
 pub returns-in_default-clause-none : goal.returns-in_default-clause-none
 returns-in_default-clause-none c =
@@ -69,4 +69,4 @@ returns-in_default-clause-none c =
     } in
     let no_digit : is_ascii_digit first ≡ false = grind (arith, nat_tests) in
     none-then c.word.result c.word.ensures.none
-    (λ missing rest token is. other-at _ rest _ token first is c.in_ok-first.ensures.cases.0 no_sign no_digit missing)
+    (λ missing rest token is. other-at _ first is c.in_ok-first.ensures.cases.0 no_sign no_digit missing)

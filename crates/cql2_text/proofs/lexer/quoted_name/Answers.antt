@@ -20,5 +20,5 @@ returns-in_err-rest-clause-none c =
     let text = c.args.text.now in
     let split = c.split_name.ensures in
     let none : (rest : List ℕ) (token : Token) → IsToken (34 ∷ text) rest token → ⊥ =
-    λ rest token is. quoted-at text rest token _ _ is split.all split.longest c.in_err-rest.ensures in
+    λ rest token is. quoted-at text _ _ is split.all split.longest c.in_err-rest.ensures in
     search rules

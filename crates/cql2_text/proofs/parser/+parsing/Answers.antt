@@ -1,11 +1,11 @@
 use Rattle.std.proofs.Common.{◌≡◌, ◌≢◌, ◌-◌, suc, List, ◌∷◌, ap, length, arith, rules}
-use Rattle.cql2_text.specs.Read.{Lacks}
+use Rattle.cql2_text.specs.Read.{IsNotNext}
 use Rattle.cql2_text.specs.Spelled.{both, either, grouped, not_primary, one_factor, one_primary, one_term, predicate}
 use Rattle.cql2_text.specs.declared.syntax_fault.SyntaxFault.TheVariants.{Memory}
 use Rattle.cql2_text.specs.declared.token.Keyword.TheVariants as word
 use Rattle.cql2_text.specs.declared.token.Token.{Token}
 use Rattle.cql2_text.specs.declared.token.Token.TheVariants.{Close, Keyword, Open}
-use Rattle.cql2_text.proofs.ChainLemmas.{chain-first, chain-last, chain-next, expression-parts, lacks-and, term-parts}
+use Rattle.cql2_text.proofs.ChainLemmas.{chain-first, chain-last, chain-next, expression-parts, and-not-next, term-parts}
 use Rattle.cql2_text.proofs.ShorterLemmas.{spells-shorter}
 use Rattle.cql2_text.proofs.SpelledLemmas.{group-of, negation-of, predicate-of, primary-of, same-both, same-either, same-not}
 use Rattle.cql2_text.proofs.TokenLemmas.{first-is, word-is}
@@ -16,7 +16,7 @@ expression-returns-in_err-filter-clause-reads g t c =
     λ rest made no_and no_or is.
     let first = expression-parts is in
     let memory : c.in_err-filter.field-0.0 ≡ Memory =
-    c.in_err-filter.ensures.reads first.after first.first (lacks-and first.chain no_and) first.part in
+    c.in_err-filter.ensures.reads first.after first.first (and-not-next first.chain no_and) first.part in
     search rules
 
 pub expression-loop-after-init : goal.expression-loop-after-init
@@ -25,7 +25,7 @@ expression-loop-after-init g t c =
       spelled = one_term c.in_ok-filter.ensures.ok;
       reads = λ rest made no_and no_or is.
           let first = expression-parts is in
-          let read = c.in_ok-filter.ensures.reads first.after first.first (lacks-and first.chain no_and) first.part in
+          let read = c.in_ok-filter.ensures.reads first.after first.first (and-not-next first.chain no_and) first.part in
           chain-first read.0 read.1 first.chain;
     }
 
@@ -36,7 +36,7 @@ expression-returns-in_err-second-clause-reads g t c =
     λ rest made no_and no_or spelled.
     let next = chain-next (c.loop-after.invariant.reads rest made no_and no_or spelled) is no_or in
     let memory : c.in_err-second.field-0.0 ≡ Memory =
-    c.in_err-second.ensures.reads next.after next.second (lacks-and next.chain no_and) next.part in
+    c.in_err-second.ensures.reads next.after next.second (and-not-next next.chain no_and) next.part in
     search rules
 
 pub expression-loop-after-preserved : goal.expression-loop-after-preserved
@@ -48,7 +48,7 @@ expression-loop-after-preserved g t c =
       reads = λ rest made no_and no_or spelled.
           let so_far = c.loop-after.invariant.reads rest made no_and no_or spelled in
           let next = chain-next so_far is no_or in
-          let read = c.in_ok-second.ensures.reads next.after next.second (lacks-and next.chain no_and) next.part in
+          let read = c.in_ok-second.ensures.reads next.after next.second (and-not-next next.chain no_and) next.part in
           chain-first read.0 (same-either c.loop-after.filter c.in_ok-second.second so_far.first next.second _ next.joined
           so_far.same read.1 c.in_ok-filter-2.ensures next.joins) next.chain;
     }
@@ -61,7 +61,7 @@ expression-loop-after-smaller g t c =
 
 pub expression-returns-clause-reads : goal.expression-returns-clause-reads
 expression-returns-clause-reads g t c =
-    let stops : Lacks word.Or c.loop-after.rest.now = search rules in
+    let stops : IsNotNext word.Or c.loop-after.rest.now = search rules in
     λ rest made no_and no_or spelled. chain-last (c.loop-after.invariant.reads rest made no_and no_or spelled) stops
 
 pub term-returns-in_err-filter-clause-reads : goal.term-returns-in_err-filter-clause-reads
@@ -112,7 +112,7 @@ term-loop-after-smaller g t c =
 
 pub term-returns-clause-reads : goal.term-returns-clause-reads
 term-returns-clause-reads g t c =
-    let stops : Lacks word.And c.loop-after.rest.now = search rules in
+    let stops : IsNotNext word.And c.loop-after.rest.now = search rules in
     λ rest made no_and spelled. chain-last (c.loop-after.invariant.reads rest made no_and spelled) stops
 
 pub factor-returns-in_ok-filter-in-Some-Keyword-Not-default-clause-ok :
@@ -186,7 +186,7 @@ primary-returns-then-depth-eq0-clause-reads g t c =
     let is = first-is _ _ _ _ k.ensures k.field-0-0-is in
     λ rest made spelled.
     let group = group-of (rw is at spelled) in
-    absurd (omega (arith, group.1))
+    absurd (omega (arith, group.some))
 
 pub primary-returns-in_err-filter-in-Some-Open-default-clause-reads :
     goal.primary-returns-in_err-filter-in-Some-Open-default-clause-reads
@@ -195,12 +195,8 @@ primary-returns-in_err-filter-in-Some-Open-default-clause-reads g t c =
     let is = first-is _ _ _ _ k.ensures k.field-0-0-is in
     λ rest made spelled.
     let group = group-of (rw is at spelled) in
-    let e : group.0 ≡ c.args.depth - 1 = omega (arith, group.1) in
-    let no_and : Lacks word.And (Close ∷ rest) = λ w f. cc in
-    let no_or : Lacks word.Or (Close ∷ rest) = λ w f. cc in
-    let inner = rw e at group.2 in
     let memory : c.in_err-filter-in-Some-Open-default.field-0.0 ≡ Memory =
-    c.in_err-filter-in-Some-Open-default.ensures.reads (Close ∷ rest) made no_and no_or inner in
+    c.in_err-filter-in-Some-Open-default.ensures.reads (Close ∷ rest) made group.no_and group.no_or group.spelled in
     search rules
 
 pub primary-returns-in_err-rest-in-Some-Open-default-clause-reads :
@@ -210,11 +206,7 @@ primary-returns-in_err-rest-in-Some-Open-default-clause-reads g t c =
     let is = first-is _ _ _ _ k.ensures k.field-0-0-is in
     λ rest made spelled.
     let group = group-of (rw is at spelled) in
-    let e : group.0 ≡ c.args.depth - 1 = omega (arith, group.1) in
-    let no_and : Lacks word.And (Close ∷ rest) = λ w f. cc in
-    let no_or : Lacks word.Or (Close ∷ rest) = λ w f. cc in
-    let inner = rw e at group.2 in
-    let read = c.in_ok-filter-in-Some-Open-default.ensures.reads (Close ∷ rest) made no_and no_or inner in
+    let read = c.in_ok-filter-in-Some-Open-default.ensures.reads (Close ∷ rest) made group.no_and group.no_or group.spelled in
     absurd (c.in_err-rest-in-Some-Open-default.ensures _ read.0)
 
 pub primary-returns-in_ok-rest-in-Some-Open-default-clause-reads :
@@ -224,11 +216,7 @@ primary-returns-in_ok-rest-in-Some-Open-default-clause-reads g t c =
     let is = first-is _ _ _ _ k.ensures k.field-0-0-is in
     λ rest made spelled.
     let group = group-of (rw is at spelled) in
-    let e : group.0 ≡ c.args.depth - 1 = omega (arith, group.1) in
-    let no_and : Lacks word.And (Close ∷ rest) = λ w f. cc in
-    let no_or : Lacks word.Or (Close ∷ rest) = λ w f. cc in
-    let inner = rw e at group.2 in
-    let read = c.in_ok-filter-in-Some-Open-default.ensures.reads (Close ∷ rest) made no_and no_or inner in
+    let read = c.in_ok-filter-in-Some-Open-default.ensures.reads (Close ∷ rest) made group.no_and group.no_or group.spelled in
     let rest_same : c.in_ok-rest-in-Some-Open-default.rest.now ≡ rest = cc (read.0, c.in_ok-rest-in-Some-Open-default.ensures) in
     (rest_same, read.1)
 

@@ -1,7 +1,7 @@
 use Rattle.std.proofs.Common.{◌+◌, ◌*◌, List, length}
 use Rattle.cql2.specs.declared.filter.Filter.{Filter}
 use Rattle.cql2_text.specs.Predicate.{IsBoth, IsEither}
-use Rattle.cql2_text.specs.Read.{Lacks}
+use Rattle.cql2_text.specs.Read.{IsNotNext}
 use Rattle.cql2_text.specs.Spelled.{Expression, Factor, Spells, Term}
 use Rattle.cql2_text.specs.declared.token.Keyword.TheVariants as word
 use Rattle.cql2_text.specs.declared.token.Token.{Token}
@@ -24,7 +24,7 @@ decreases-primary g l = 4 * l.depth
 abbrev pub invariant-expression-loop-after : goal.invariant-expression-loop-after
 invariant-expression-loop-after g l = record {
   spelled : Spells l.depth Expression l.words l.rest l.filter;
-  reads : (rest : List Token) (made : Filter _) → Lacks word.And rest → Lacks word.Or rest → Spells l.depth Expression l.words rest made
+  reads : (rest : List Token) (made : Filter _) → IsNotNext word.And rest → IsNotNext word.Or rest → Spells l.depth Expression l.words rest made
       → ReadChain (Keyword word.Or) (Spells l.depth Term) IsEither l.rest l.filter rest made;
 }
 
@@ -34,7 +34,7 @@ decreases-expression-loop-after g l = length l.rest
 abbrev pub invariant-term-loop-after : goal.invariant-term-loop-after
 invariant-term-loop-after g l = record {
   spelled : Spells l.depth Term l.words l.rest l.filter;
-  reads : (rest : List Token) (made : Filter _) → Lacks word.And rest → Spells l.depth Term l.words rest made
+  reads : (rest : List Token) (made : Filter _) → IsNotNext word.And rest → Spells l.depth Term l.words rest made
       → ReadChain (Keyword word.And) (Spells l.depth Factor) IsBoth l.rest l.filter rest made;
 }
 

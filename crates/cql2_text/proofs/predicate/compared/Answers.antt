@@ -4,7 +4,7 @@ use Rattle.cql2_text.proofs.SpelledLemmas.{casei-of, same-not, text-at}
 use Rattle.cql2_text.specs.declared.syntax_fault.SyntaxFault.TheVariants.{Memory}
 use Rattle.std.proofs.Common.{refl, subst, ◌≡◌, rules, ap}
 use Rattle.cql2.specs.declared.filter.Filter.{Filter}
-use Rattle.cql2_text.specs.Predicate.{IsNot, width_of}
+use Rattle.cql2_text.specs.Predicate.{IsNot}
 use Rattle.cql2_text.proofs.predicate.compared.Goals as goal
 
 pub returns-in_ok-literal-in-Numeric-clause-ok : goal.returns-in_ok-literal-in-Numeric-clause-ok
@@ -32,7 +32,7 @@ pub returns-in_err-text-in-Text-clause-reads : goal.returns-in_err-text-in-Text-
 returns-in_err-text-in-Text-clause-reads g c =
     λ rest made is.
     let k = rw c.in-Text.is at is in
-    let text = text-at (width_of c.in-Text.column) c.args.words.now rest k.0 _ _ c.width.ensures.value refl k.1 in
+    let text = text-at c.args.words.now rest k.0 _ _ c.width.ensures.value refl k.1 in
     let memory : c.in_err-text-in-Text.field-0.0 ≡ Memory =
     c.in_err-text-in-Text.ensures.reads rest k.0 text in
     search rules
@@ -41,7 +41,7 @@ pub returns-in_ok-text-in-Text-clause-reads : goal.returns-in_ok-text-in-Text-cl
 returns-in_ok-text-in-Text-clause-reads g c =
     λ rest made is.
     let k = rw c.in-Text.is at is in
-    let text = text-at (width_of c.in-Text.column) c.args.words.now rest k.0 _ _ c.width.ensures.value refl k.1 in
+    let text = text-at c.args.words.now rest k.0 _ _ c.width.ensures.value refl k.1 in
     let read = c.in_ok-text-in-Text.ensures.reads rest k.0 text in
     (read.0, rw k.2 (ap (CompareText c.in-Text.column c.args.comparison) read.1))
 

@@ -1,4 +1,4 @@
-use Rattle.cql2_text.proofs.predicate.text.Goals as goal
+use Rattle.cql2_text.proofs.operand.text.Goals as goal
 use Rattle.std.proofs.Common.{◌≡◌}
 
 pub returns-in-Ok-clause-reads : goal.returns-in-Ok-clause-reads

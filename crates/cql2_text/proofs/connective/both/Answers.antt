@@ -1,5 +1,5 @@
 use Rattle.std.proofs.Common.{◌≡◌, refl}
-use Rattle.cql2_text.proofs.parser.either.Goals as goal
+use Rattle.cql2_text.proofs.connective.both.Goals as goal
 
 pub returns : goal.returns
 returns g c =

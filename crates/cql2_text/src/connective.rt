@@ -1,0 +1,68 @@
+//! AND, OR and NOT of filters.
+ghost use Rattle.std.specs.Prelude.{◌≡◌, MatchResult};
+ghost use Rattle.cql2_text.specs.Predicate.{IsBoth, IsEither, IsNot, IsWithin};
+ghost use Rattle.cql2_text.specs.declared.syntax_fault.SyntaxFault.TheVariants as syntax_fault;
+
+use crate::syntax_fault::SyntaxFault;
+use cql2::{Comparison, Filter, Literal, NumericColumn};
+use std::alloc::Allocator;
+
+/// Returns the conjunction of two filters.
+pub(crate) fn both<A: Allocator + Copy>(
+    alloc: A,
+    first: Filter<A>,
+    second: Filter<A>,
+) -> Result<Filter<A>, SyntaxFault>
+    ensures { MatchResult result (IsBoth first second) (λ fault. fault ≡ syntax_fault.Memory) }
+{
+    let first = boxed(alloc, first)?;
+    let second = boxed(alloc, second)?;
+    Ok(Filter::And(first, second))
+}
+
+/// Returns the disjunction of two filters.
+pub(crate) fn either<A: Allocator + Copy>(
+    alloc: A,
+    first: Filter<A>,
+    second: Filter<A>,
+) -> Result<Filter<A>, SyntaxFault>
+    ensures { MatchResult result (IsEither first second) (λ fault. fault ≡ syntax_fault.Memory) }
+{
+    let first = boxed(alloc, first)?;
+    let second = boxed(alloc, second)?;
+    Ok(Filter::Or(first, second))
+}
+
+/// Returns the negation of a filter.
+pub(crate) fn negated<A: Allocator + Copy>(
+    alloc: A,
+    inner: Filter<A>,
+) -> Result<Filter<A>, SyntaxFault>
+    ensures { MatchResult result (IsNot inner) (λ fault. fault ≡ syntax_fault.Memory) }
+{
+    let inner = boxed(alloc, inner)?;
+    Ok(Filter::Not(inner))
+}
+
+fn boxed<A: Allocator + Copy>(alloc: A, filter: Filter<A>) -> Result<Box<Filter<A>, A>, SyntaxFault>
+    ensures { MatchResult result (λ made. made.value ≡ filter) (λ fault. fault ≡ syntax_fault.Memory) }
+{
+    match Box::new(alloc, filter) {
+        Ok(made) => Ok(made),
+        Err(_) => Err(SyntaxFault::Memory),
+    }
+}
+
+/// Returns the filter for a column that is at least one number and at most another.
+pub(crate) fn within<A: Allocator + Copy>(
+    alloc: A,
+    column: NumericColumn,
+    low: Literal,
+    high: Literal,
+) -> Result<Filter<A>, SyntaxFault>
+    ensures { MatchResult result (IsWithin column low high) (λ fault. fault ≡ syntax_fault.Memory) }
+{
+    let first = Filter::CompareNumber(column, Comparison::GreaterOrEqual, low);
+    let second = Filter::CompareNumber(column, Comparison::LessOrEqual, high);
+    both(alloc, first, second)
+}

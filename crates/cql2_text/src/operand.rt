@@ -1,0 +1,103 @@
+//! Literals that a column is compared with or that a function takes.
+ghost use Rattle.std.specs.Prelude.{◌≡◌, ◌≢◌, ◌∷◌, ◌≤◌, ℕ, List, length, IfOk, Err, MatchResult};
+ghost use Rattle.tl_segments.specs.declared.name.TheConstants.{NAME_LENGTH};
+ghost use denote.Ref.{Bor};
+ghost use Rattle.cql2.specs.declared.number.Literal.{Literal as ALiteral};
+ghost use Rattle.cql2.specs.declared.text.Text.{Text as AText};
+ghost use Rattle.cql2_text.specs.Number.{number_of};
+ghost use Rattle.cql2_text.specs.Predicate.{IsNumber, IsText};
+ghost use Rattle.cql2_text.specs.declared.syntax_fault.SyntaxFault.TheVariants as syntax_fault;
+ghost use Rattle.cql2_text.specs.declared.token.Numeral.{Numeral};
+ghost use Rattle.cql2_text.specs.declared.token.Token.{Token};
+ghost use Rattle.cql2_text.specs.declared.token.Token.TheVariants as token;
+
+use crate::character::compared_text;
+use crate::fault::{Expected, FilterFlaw};
+use crate::literal::literal_of;
+use crate::syntax_fault::SyntaxFault;
+use crate::terminal::next;
+use crate::token::{Keyword, Numeral, Token};
+use cql2::{Literal, NumericColumn, Text};
+use std::alloc::Allocator;
+
+/// Takes a number and returns it with the tokens after it.
+pub(crate) fn numeral<'a>(
+    words: &'a [Token<'a>],
+) -> Result<(Numeral<'a>, &'a [Token<'a>]), SyntaxFault>
+    ensures { MatchResult result (λ read. words.now ≡ token.Number read.0 ∷ read.1.now)
+        (λ fault. (numeral : Numeral) (rest : List Token) → words.now ≢ token.Number numeral ∷ rest) }
+{
+    match next(words) {
+        Some((Token::Number(numeral), rest)) => Ok((numeral, rest)),
+        Some((Token::Text(_spelling), _rest)) => {
+            Err(SyntaxFault::at(words, FilterFlaw::WrongType))
+        }
+        _ => Err(SyntaxFault::unexpected(words, Expected::Number)),
+    }
+}
+
+/// Reads a number that a column is compared with.
+pub(crate) fn number<'a>(
+    column: NumericColumn,
+    words: &'a [Token<'a>],
+) -> Result<(Literal, &'a [Token<'a>]), SyntaxFault>
+    ensures ok { IfOk result (λ read. IsNumber column words.now read.1.now read.0) }
+
+    // A number that the column can't hold is refused for its flaw.
+    ensures refused { (numeral : Numeral) (rest : List Token) (flaw : FilterFlaw) → words.now ≡ token.Number numeral ∷ rest
+        → number_of column numeral ≡ Err flaw → result ≡ Err (syntax_fault.At (length words.now) 0 flaw) }
+    ensures reads { (rest : List Token) (literal : ALiteral) → IsNumber column words.now rest literal
+        → MatchResult result (λ read. (read.1.now ≡ rest) × (read.0.number ≡ literal.number)) (λ fault. ⊥) }
+{
+    match next(words) {
+        Some((Token::Number(numeral), rest)) => match literal_of(column, numeral) {
+            Ok(literal) => Ok((literal, rest)),
+            Err(flaw) => Err(SyntaxFault::at(words, flaw)),
+        },
+        Some((Token::Text(_spelling), _rest)) => {
+            Err(SyntaxFault::at(words, FilterFlaw::WrongType))
+        }
+        Some((Token::Keyword(Keyword::Casei), _rest)) => {
+            Err(SyntaxFault::at(words, FilterFlaw::WrongType))
+        }
+        _ => Err(SyntaxFault::unexpected(words, Expected::Number)),
+    }
+}
+
+/// Takes a string literal and returns its inside with the tokens after it.
+pub(crate) fn spelling<'a>(
+    words: &'a [Token<'a>],
+) -> Result<(&'a [u8], &'a [Token<'a>]), SyntaxFault>
+    ensures { MatchResult result (λ read. words.now ≡ token.Text read.0 ∷ read.1.now)
+        (λ fault. (spelling : Bor (List ℕ)) (rest : List Token) → words.now ≢ token.Text spelling ∷ rest) }
+{
+    match next(words) {
+        Some((Token::Text(spelling), rest)) => Ok((spelling, rest)),
+        Some((Token::Number(_numeral), _rest)) => {
+            Err(SyntaxFault::at(words, FilterFlaw::WrongType))
+        }
+        Some((Token::Keyword(Keyword::Casei), _rest)) => {
+            Err(SyntaxFault::at(words, FilterFlaw::WrongType))
+        }
+        _ => Err(SyntaxFault::unexpected(words, Expected::Text)),
+    }
+}
+
+/// Reads a text that is compared with a column of this width.
+pub(crate) fn text<'a, A: Allocator + Copy>(
+    alloc: A,
+    width: usize,
+    words: &'a [Token<'a>],
+) -> Result<(Text<A>, &'a [Token<'a>]), SyntaxFault>
+    requires { width ≤ NAME_LENGTH }
+    ensures ok { IfOk result (λ read. IsText width words.now read.1.now read.0) }
+    ensures reads { (rest : List Token) (text : AText A) → IsText width words.now rest text
+        → MatchResult result (λ read. (read.1.now ≡ rest) × (read.0.bytes.items ≡ text.bytes.items))
+        (λ fault. fault ≡ syntax_fault.Memory) }
+{
+    let (spelling, rest) = spelling(words)?;
+    match compared_text(alloc, spelling, width) {
+        Ok(text) => Ok((text, rest)),
+        Err(flaw) => Err(SyntaxFault::in_text(words, flaw)),
+    }
+}
