@@ -29,7 +29,7 @@ flush_counted flush counts counts' is same = grind (arith, is, same)
 write_counts : (request : Request) (known : List ℕ → Option (List ℕ)) (fault : WriteFault) (out out' : Writer)
     → Writes request known (Err fault) out out' → CountsFault fault out.counts out'.counts
 write_counts (Run asked) known fault out out' is =
-    subst (λ (counts : WriteCounts). CountsFault fault counts out'.counts) is.outcome.before.counts is.outcome.row.5
+    subst (λ (counts : WriteCounts). CountsFault fault counts out'.counts) is.outcome.2.before.counts is.outcome.2.row.5
 write_counts (Select asked) known fault out out' is =
     subst (λ (counts : WriteCounts). CountsFault fault counts out'.counts)
     (is.2.stops.outcome.before.counts ∙ counties_counts is.2.written) is.2.stops.outcome.row.5
