@@ -70,31 +70,28 @@ list=$root/share/extractd/installed
 # Prints what to install: the mode, the source, and the path below PREFIX, separated by tabs.
 files() {
     row 755 "$program" bin/extractd
-    for page in "$here"/packaging/man/*.1; do
+    for page in "$here"/deploy/packaging/man/*.1; do
         row 644 "$page" "share/man/man1/${page##*/}"
     done
-    row 644 "$here/packaging/completions/extractd.bash" share/bash-completion/completions/extractd
-    row 644 "$here/packaging/completions/_extractd" share/zsh/site-functions/_extractd
-    row 644 "$here/examples/c/extractd.h" include/extractd.h
-    row 644 "$here/examples/server/extractd.service" lib/systemd/system/extractd.service
+    row 644 "$here/deploy/packaging/completions/extractd.bash" share/bash-completion/completions/extractd
+    row 644 "$here/deploy/packaging/completions/_extractd" share/zsh/site-functions/_extractd
+    row 644 "$here/tools/c/extractd.h" include/extractd.h
+    row 644 "$here/deploy/server/extractd.service" lib/systemd/system/extractd.service
     documents | while IFS= read -r file; do
-        row 644 "$here/$file" "share/doc/extractd/$file"
+        mode=644
+        [ ! -x "$here/$file" ] || mode=755
+        row $mode "$here/$file" "share/doc/extractd/$file"
     done
 }
 
 row() { printf '%s\t%s\t%s\n' "$@"; }
 
-# Prints the documents, and the examples that they name or users need: counties, programs, addresses, and the server's configuration.
+# Prints the documents, the examples, what compiles programs in C, and the server's configuration.
 documents() {
     (
         cd "$here"
-        printf '%s\n' README.md CHANGELOG.md CONTRIBUTING.md SECURITY.md LICENSE examples/README.md examples/job.py
-        find docs examples/one examples/town -type f
-        for file in examples/*.RT? examples/*.s examples/*.bpf examples/*.csv examples/*.awk examples/*.sql examples/refused_filters.txt \
-            examples/c/*.c examples/c/subset/*.c examples/c/*.h examples/c/*.sh examples/c/forward.py examples/c/*flags* \
-            examples/server/*.conf examples/server/*.service; do
-            echo "$file"
-        done
+        printf '%s\n' README.md CHANGELOG.md CONTRIBUTING.md SECURITY.md LICENSE
+        find docs examples tools/c deploy/server -name __pycache__ -prune -o -type f -print
     )
 }
 

@@ -1,7 +1,7 @@
 #!/usr/bin/env python3
 """Generates programs and finds their verdicts by a search for annotations.
 
-    python3 annotations.py             writes the file examples/verdicts/generated.txt to standard output
+    python3 annotations.py             writes the file tests/verdicts/generated.txt to standard output
     python3 annotations.py PROGRAM     prints the verdict on one program, with `|` between its lines
 
 A verdict is `accepted` or the line of a refusal. The rules are those of docs/verifier.md, implemented here a second time: kinds and their

@@ -1,5 +1,5 @@
 #!/usr/bin/env python3
-"""Compares the table of public calls, examples/calls.txt, with the sources, and reports what is wrong.
+"""Compares the table of public calls, tests/calls.txt, with the sources, and reports what is wrong.
 
     python3 calls.py             prints each row that is wrong and each call without a row; exits with 1 if there are any
     python3 calls.py --list      prints the calls in the sources, each with the kinds of its cells
@@ -13,7 +13,7 @@ or through the type that it is a method of, or if its result may say that memory
 - `by` and the path of another call, which makes this one and whose sweep covers both;
 - `none` if the call never does it, whatever its types allow, followed by the path of the test that shows this, if there is one;
 - `Global` if all memory comes from the global allocator, which no test can make fail;
-- `system` if the operating system opens, reads or writes: examples/try.sh tests that on real files.
+- `system` if the operating system opens, reads or writes: tests/try.sh tests that on real files.
 
 A line that begins with two blanks continues the row above it, and a line that begins with `#` is a comment.
 """

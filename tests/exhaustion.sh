@@ -1,5 +1,5 @@
 #!/usr/bin/env bash
-# Tests how a built program ends when a resource runs out: examples/exhaustion.sh PATH_TO_extractd
+# Tests how a built program ends when a resource runs out: tests/exhaustion.sh PATH_TO_extractd
 #
 # Runs each command, and then the server, with too little of
 # - memory: in address spaces (`ulimit -v`) from far too small to ample, where it isn't started, or exits with 4 and `refused memory`, or succeeds; also with
@@ -24,8 +24,8 @@
 set -u
 export LC_ALL=C
 top=$(realpath "$(dirname "$0")/..")
-# shellcheck source=tools/testing.sh
-. "$top/tools/testing.sh"
+# shellcheck source=tests/testing.sh
+. "$top/tests/testing.sh"
 
 if [ $# -ne 1 ] || ! is_program "$1"; then
     echo "usage: ${0##*/} PATH_TO_extractd" >&2
@@ -108,7 +108,7 @@ try_shown() {
 
 # Makes a county of 20,000 segments by drawing the example county 50 times, each time after the first with other numbers.
 make_large_county() {
-    python3 -B - "$top/examples" large <<'END'
+    python3 -B - "$top/tools" large <<'END'
 import sys
 from pathlib import Path
 
@@ -164,7 +164,7 @@ END
 }
 
 make_programs() {
-    cp "$top"/examples/*.bpf "$top"/examples/*.s .
+    cp "$top"/examples/programs/* .
     # This program also selects every segment. It calls `names`, so types 4, 5 and 6 are loaded.
     printf 'call 3\nmov r0, 1\nexit\n' > asking.s
     extractd asm --source asking.s > asking.bpf

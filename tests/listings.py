@@ -8,7 +8,7 @@
 of one instruction are in annotations.py, joins and the texts of a listing are here. The built program supplies nothing
 but the words of a text, by `asm`.
 
-The first form takes the programs of examples/verdicts, those of the documents, and COUNT that it draws. For each,
+The first form takes the programs of tests/verdicts, those of the documents, and COUNT that it draws. For each,
 `explain` has to write the listing that this script makes, without source lines and with some. Its standard error and
 exit status have to be those of `verify`, and the verdict has to be this script's and that of the program's row. If
 annotations.py can search the program's annotations, the least one has to hold the states of the listing. Each text of

@@ -31,10 +31,13 @@ from enum import Enum
 from pathlib import Path
 from random import Random
 
-import forward
+TOP = Path(__file__).resolve().parent.parent
+TOOLS = TOP / "tools" / "c"
+COUNTY = TOP / "examples"
+sys.path.insert(0, str(TOOLS))
 
-HERE = Path(__file__).resolve().parent
-COUNTY = HERE.parent
+import forward  # noqa: E402
+
 CODE = "01001"
 LEVELS = ("-O1", "-O2", "-Os")
 ORDER_FLAGS = ("-mllvm", "-disable-block-placement", "-disable-branch-fold")
@@ -358,12 +361,12 @@ class Build:
 
     def flags(self) -> list[str]:
         if self.cpu is None:
-            return [f"@{HERE / 'gcc-flags'}", self.level, "-w"]
-        flags = (HERE / "flags").read_text().split()
+            return [f"@{TOOLS / 'gcc-flags'}", self.level, "-w"]
+        flags = (TOOLS / "flags").read_text().split()
         if self.order is Order.FORWARD:
             flags = [flag for flag in flags if flag not in ORDER_FLAGS]
         if self.level == "-O1":
-            flags += (HERE / "flags-O1").read_text().split()
+            flags += (TOOLS / "flags-O1").read_text().split()
         return [*flags, f"-mcpu={self.cpu}", self.level, "-Wno-everything", "-Wpass-failed"]
 
     def words(self, source: Path, scratch: Path) -> Path:
@@ -377,7 +380,7 @@ class Build:
 
     def compile(self, source: Path, code: Path) -> subprocess.CompletedProcess[bytes]:
         try:
-            return run(self.compiler, *self.flags(), f"-I{HERE}", "-c", source, "-o", code)
+            return run(self.compiler, *self.flags(), f"-I{TOOLS}", "-c", source, "-o", code)
         except BuildFailure as failure:
             if "Branch target out of insn range" in str(failure):
                 raise LoopFailure from failure
@@ -401,7 +404,7 @@ def native_rows(source: Path, harness: Path, scratch: Path) -> bytes:
     """Returns the rows that the program writes when it runs on this machine. Undefined behavior ends it."""
     program = scratch / "native"
     trap = ("-fsanitize=undefined", "-fsanitize-undefined-trap-on-error")
-    run("cc", "-w", "-O1", *trap, f"-I{HERE}", "-include", HERE / "native.h", source, harness, "-o", program)
+    run("cc", "-w", "-O1", *trap, f"-I{TOOLS}", "-include", TOOLS / "native.h", source, harness, "-o", program)
     return run(program, COUNTY, CODE).stdout
 
 
@@ -446,7 +449,7 @@ def try_program(source: str, builds: list[Build], harness: Path) -> Outcome:
 def try_programs(count: int, seed: int, builds: list[Build]) -> Iterator[Outcome]:
     with tempfile.TemporaryDirectory() as folder:
         harness = Path(folder) / "native.o"
-        run("cc", "-std=c11", "-O1", "-c", HERE / "native.c", "-o", harness)
+        run("cc", "-std=c11", "-O1", "-c", TOOLS / "native.c", "-o", harness)
         sources = [draw_program(seed, number) for number in range(count)]
         with ThreadPoolExecutor(os.cpu_count()) as pool:
             yield from pool.map(lambda source: try_program(source, builds, harness), sources)

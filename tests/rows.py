@@ -1,5 +1,5 @@
 #!/usr/bin/env python3
-"""Runs a built program on the rows of the tables in examples/rows, and reports each row with a different result.
+"""Runs a built program on the rows of the tables in tests/rows, and reports each row with a different result.
 
     python3 rows.py PATH_TO_extractd [TABLE..]
 

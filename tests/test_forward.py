@@ -11,7 +11,9 @@ import tempfile
 import unittest
 from pathlib import Path
 
-import forward
+sys.path.insert(0, str(Path(__file__).resolve().parent.parent / "tools" / "c"))
+
+import forward  # noqa: E402
 
 ORDERS = (
     # A program whose jumps lead forwards stays as it is.

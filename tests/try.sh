@@ -1,11 +1,11 @@
 #!/usr/bin/env bash
-# Tests a built program: examples/try.sh [--only PART]... PROGRAM
+# Tests a built program: tests/try.sh PROGRAM [PART]...
 #
 # The parts are listed by --help. Each has units: a page, a table of rows, a script. try/units.sh lists these, and try/unit.sh tests one. Units run side by
 # side, one per processor, each in a folder and a process of its own. The counts don't depend on what runs beside what.
 #
-# Prints what failed and what is left out, the output of each unit as a whole when it has ended, then the counts. On a terminal, standard error shows what
-# runs. Exit status 0 means that nothing failed, 1 that something did, 2 that the command line can't be used.
+# Prints what failed and what is left out, the output of each unit as a whole when it has ended, the parts that weren't named, then the counts. On a terminal,
+# standard error shows what runs. Exit status 0 means that nothing failed, 1 that something did, 2 that the command line can't be used.
 #
 # Needs bash, coreutils and util-linux. Where another command is missing, what needs it is left out. With REQUIRE_ALL set, as .ci/run sets it, the command
 # is installed, as root on Debian 12, and anything left out is a failure.
@@ -13,12 +13,12 @@
 set -u
 export LC_ALL=C
 top=$(realpath "$(dirname "$0")/..")
-# shellcheck source=tools/testing.sh
-. "$top/tools/testing.sh"
-# shellcheck source=examples/try/units.sh
-. "$top/examples/try/units.sh"
+# shellcheck source=tests/testing.sh
+. "$top/tests/testing.sh"
+# shellcheck source=tests/try/units.sh
+. "$top/tests/try/units.sh"
 
-usage() { echo "usage: ${0##*/} [--only PART]... PROGRAM"; }
+usage() { echo "usage: ${0##*/} PROGRAM [PART]..."; }
 
 misused() {
     usage >&2
@@ -29,9 +29,8 @@ show_help() {
     usage
     cat <<END
 
-Tests a built program, such as crates/extractd/out/extractd.
-
-  --only PART  tests only this part, or only the unit with this file, such as docs/filters.md
+Tests a built program, such as crates/extractd/out/extractd: all parts, or those that are named. A file, such as
+docs/filters.md, names its unit alone.
 
 The parts:
 $(describe_parts)
@@ -40,7 +39,7 @@ JOBS in the environment is the number of units that run at once, by default that
 END
 }
 
-# select_units PART: adds the units of a part, or the one with this file. Files are named from the top of the clone.
+# select_units NAME: adds the units of a part, or the one with this file. Files are named from the top of the clone.
 select_units() {
     local part unit
     for part in $(all_parts); do
@@ -52,25 +51,37 @@ select_units() {
 
 # read_arguments ARGUMENT..: sets `program` and `units`.
 read_arguments() {
-    local before part
-    while [ $# -gt 1 ] && [ "$1" = --only ]; do
-        before=${#units[@]}
-        select_units "$2"
-        [ ${#units[@]} -gt "$before" ] || { echo "${0##*/}: --only $2: no part and no unit; see --help" >&2; exit 2; }
-        shift 2
-    done
+    local before name
     [ "${1-}" != --help ] || { show_help; exit; }
-    { [ $# -eq 1 ] && is_program "$1"; } || misused
+    { [ $# -ge 1 ] && is_program "$1"; } || misused
     [[ $jobs =~ ^[1-9][0-9]*$ ]] || { echo "${0##*/}: JOBS is a number from 1, and $jobs isn't" >&2; exit 2; }
     program=$(realpath "$1")
-    [ ${#units[@]} -gt 0 ] || for part in $(all_parts); do select_units "$part"; done
+    shift
+    # shellcheck disable=SC2046 # They are words.
+    [ $# -gt 0 ] || set -- $(all_parts)
+    for name; do
+        before=${#units[@]}
+        select_units "$name"
+        [ ${#units[@]} -gt "$before" ] || { echo "${0##*/}: $name: no part and no unit; see --help" >&2; exit 2; }
+    done
+}
+
+# list_omitted: prints the parts of which not every unit was tested.
+list_omitted() {
+    local part unit omitted=""
+    for part in $(all_parts); do
+        for unit in $(units_of "$part"); do
+            case " ${units[*]} " in *" $unit "*) ;; *) omitted+=" $part"; break ;; esac
+        done
+    done
+    [ -z "$omitted" ] || echo "not tested, or not whole:$omitted"
 }
 
 # begin UNIT: tests it in a session of its own, so that `stop` finds all that it has started.
 begin() {
     local folder=$scratch/${#begun[@]}
     mkdir "$folder"
-    if [ "$1" = examples/exhaustion.sh ]; then set -- "$1" "$top/$1" "$program"; else set -- "$1" "$top/examples/try/unit.sh" "$1"; fi
+    if [ "$1" = tests/exhaustion.sh ]; then set -- "$1" "$top/$1" "$program"; else set -- "$1" "$top/tests/try/unit.sh" "$1"; fi
     TMPDIR=$folder setsid "$BASH" "${@:2}" > "$folder/said" 2>&1 < /dev/null &
     begun+=("$1")
     running[$!]=$1 folders[$!]=$folder
@@ -159,4 +170,5 @@ for unit in "${units[@]}"; do
     begin "$unit"
 done
 while [ ${#running[@]} -gt 0 ]; do await; done
+list_omitted
 finish

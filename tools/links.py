@@ -1,7 +1,7 @@
 #!/usr/bin/env python3
 """Checks the links of the documents: each leads to a file that exists, and to a heading of it if it names one.
 
-    python3 links.py
+    python3 tools/links.py
 
 Addresses on the web aren't fetched. Prints each broken link, and then the number of links. Exit status 1 means that
 a link is broken.
@@ -14,7 +14,7 @@ from collections.abc import Iterator
 from pathlib import Path
 
 ROOT = Path(__file__).resolve().parent.parent
-PAGES = [ROOT / "README.md", *sorted(ROOT.glob("docs/*.md")), *sorted(ROOT.glob("examples/**/*.md"))]
+PAGES = [path for folder in (ROOT, ROOT / "docs", ROOT / "examples") for path in sorted(folder.glob("*.md"))]
 FENCED = re.compile(r"^```.*?^```", re.DOTALL | re.MULTILINE)
 LINK = re.compile(r"\]\(([^)\s]+)\)")
 

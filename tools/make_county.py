@@ -2,17 +2,18 @@
 """Writes a small made-up county for the examples: TGR01001.RT1, .RT4, .RT5
 and .RT6, and in the folder `one` what they have of a single segment.
 
-    python3 make_county.py [FOLDER]
+    python3 tools/make_county.py [FOLDER]
 
-The files go into FOLDER, by default the folder of this script. Every run
-writes the same bytes: the numbers come from a generator in this script, so
-no version of Python changes them. Nothing in the files describes a real
-street, stream or boundary.
+The files go into FOLDER, by default `examples`. Every run writes the same
+bytes: the numbers come from a generator in this script, so no version of
+Python changes them. Nothing in the files describes a real street, stream or
+boundary.
 """
 
 import sys
 from pathlib import Path
 
+TOP = Path(__file__).resolve().parent.parent
 CODE = "01001"
 SEED = 20060101
 JOINED_SEED = 59    # for types 4, 5 and 6, so that type 1 doesn't depend on them
@@ -352,7 +353,7 @@ def one_of_them(segments, type_4, type_5, type_6):
 
 
 def main():
-    folder = Path(sys.argv[1]) if len(sys.argv) > 1 else Path(__file__).parent
+    folder = Path(sys.argv[1]) if len(sys.argv) > 1 else TOP / "examples"
     chains = county(Dice(SEED))
     segments = [segment for chain_segments in chains for segment in chain_segments]
     files = (segments, *joined(Dice(JOINED_SEED), chains))

@@ -1,9 +1,9 @@
 #!/usr/bin/env python3
 """Writes a made-up county with a town in it: record types 1, 2, 4, 5 and 6 as TGR01007.RT1 to .RT6.
 
-    python3 mktown.py [--seed N] [--code CODE] [FOLDER]
+    python3 tools/make_town.py [--seed N] [--code CODE] [FOLDER]
 
-The files go into FOLDER, by default `town` next to this script. The county has a bent street grid, a river, creeks, a
+The files go into FOLDER, by default `examples/town`. The county has a bent street grid, a river, creeks, a
 lake, a railroad, an interstate and rural roads. Streets, streams and boundaries are drawn as lines first. Then all
 lines are cut where they cross, so every segment ends at a node, as in the Bureau's files. Points between the two ends
 are shape points, record type 2.
@@ -24,6 +24,7 @@ from pathlib import Path
 
 from make_county import LINE_END, Dice, record
 
+TOP = Path(__file__).resolve().parent.parent
 CODE = "01007"
 SEED = 2006
 FIRST_TLID = 207000000
@@ -606,8 +607,8 @@ def county(seed: int, code: str) -> dict[str, list[bytes]]:
 
 def main() -> None:
     parser = argparse.ArgumentParser(description="Writes a made-up county with a town in it, as TIGER/Line files.")
-    add, town = parser.add_argument, Path(__file__).parent / "town"
-    add("folder", nargs="?", type=Path, default=town, help="where the files go (default: town, next to this script)")
+    add, town = parser.add_argument, TOP / "examples" / "town"
+    add("folder", nargs="?", type=Path, default=town, help="where the files go (default: examples/town)")
     add("--seed", type=int, default=SEED, help="another seed draws another county (default: %(default)s)")
     add("--code", default=CODE, help="the county's code, five digits (default: %(default)s)")
     arguments = parser.parse_args()

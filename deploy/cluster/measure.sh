@@ -54,11 +54,11 @@ measure() {
 has() { command -v "$1" > /dev/null || { echo "left out: $1"; return 1; }; }
 types_1() { find data -name 'TGR?????.RT1' | sort; }
 
-one_by_one() { types_1 | while read -r file; do "$top/examples/cluster/county.sh" "$filter" rows "$file"; done; }
-by_xargs() { types_1 | xargs -n 1 -P "$1" "$top/examples/cluster/county.sh" "$filter" rows; }
+one_by_one() { types_1 | while read -r file; do "$top/deploy/cluster/county.sh" "$filter" rows "$file"; done; }
+by_xargs() { types_1 | xargs -n 1 -P "$1" "$top/deploy/cluster/county.sh" "$filter" rows; }
 by_slurm() {
     local job
-    job=$(cd "$top" && sbatch --parsable --array=1-5 --cpus-per-task=1 --output=/dev/null examples/cluster/slurm.sh \
+    job=$(cd "$top" && sbatch --parsable --array=1-5 --cpus-per-task=1 --output=/dev/null deploy/cluster/slurm.sh \
         "$folder/data" "$folder/rows" "$filter")
     while squeue --noheader --jobs="$job" | grep -q .; do sleep 0.2; done
 }
@@ -88,7 +88,7 @@ same_rows
 for n in "${at_once[@]}"; do measure xargs "$n" by_xargs "$n"; same_rows; done
 if has parallel; then
     for n in "${at_once[@]}"; do
-        measure parallel "$n" "$top/examples/cluster/parallel.sh" data parallel "$filter" "$n"
+        measure parallel "$n" "$top/deploy/cluster/parallel.sh" data parallel "$filter" "$n"
         cmp parallel/rows rows.first
         rm -rf parallel
     done

@@ -1,5 +1,5 @@
 #!/usr/bin/env bash
-# Builds a Debian package from a built program: packaging/deb.sh PROGRAM OUT.deb
+# Builds a Debian package from a built program: deploy/packaging/deb.sh PROGRAM OUT.deb
 #
 # PROGRAM is an x86-64 ELF file. The package contains what install.sh installs, in Debian's folders, and the program without debug symbols.
 # Needs dpkg-dev and binutils, but not root. MAINTAINER is the package's maintainer, such as `Name <address>`. Two builds of the same commit
@@ -19,7 +19,7 @@ if [ $# -ne 2 ]; then
     exit 2
 fi
 program=$1 out=$2
-top=$(realpath "$(dirname "$0")/..")
+top=$(realpath "$(dirname "$0")/../..")
 for command in dpkg-deb dpkg-shlibdeps objdump strip; do
     command -v "$command" > /dev/null || fail "$command: not found; install dpkg-dev and binutils"
 done
@@ -50,10 +50,10 @@ stage() {
     gzip -9n "$root"/usr/share/man/man1/*
     gzip -9n < "$documents/CHANGELOG.md" > "$documents/changelog.gz"
     changelog | gzip -9n > "$documents/changelog.Debian.gz"
-    install -m 644 "$top/packaging/copyright" "$documents/copyright"
+    install -m 644 "$top/deploy/packaging/copyright" "$documents/copyright"
     rm "$documents/CHANGELOG.md" "$documents/LICENSE" "$documents/CONTRIBUTING.md"
     # The service has its own folder; a copy would only differ from it.
-    rm "$documents/examples/server/extractd.service"
+    rm "$documents/deploy/server/extractd.service"
 }
 
 changelog() {

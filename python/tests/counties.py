@@ -10,6 +10,7 @@ from pathlib import Path
 
 TOP = Path(__file__).parents[2]
 EXAMPLES = TOP / "examples"
+TOOLS = TOP / "tools"
 CODE = "01001"
 SEGMENTS = 400
 

@@ -28,7 +28,7 @@ from batches import (
     wait_for,
     write_counties,
 )
-from counties import EXAMPLES, TOP
+from counties import TOP
 from test_interrupts import processes_with
 from tigerline import __main__ as command
 
@@ -189,7 +189,7 @@ class TestScheduler:
 
 
 class TestScripts:
-    """The scripts of examples/cluster select the rows of `extractd`, in the order of the counties."""
+    """The scripts of deploy/cluster select the rows of `extractd`, in the order of the counties."""
 
     @pytest.fixture(autouse=True)
     def program(self, tmp_path: Path, monkeypatch: pytest.MonkeyPatch, extractd: str) -> None:
@@ -201,7 +201,7 @@ class TestScripts:
 
     def script(self, name: str, *arguments: object) -> int:
         return subprocess.run(
-            [EXAMPLES / "cluster" / name, *map(str, arguments)], cwd=TOP, stdout=sys.stderr
+            [TOP / "deploy/cluster" / name, *map(str, arguments)], cwd=TOP, stdout=sys.stderr
         ).returncode
 
     def rows(self, data: Path) -> bytes:

@@ -1,4 +1,4 @@
-"""The documents' examples of the package. examples/try.sh tests the other blocks."""
+"""The documents' examples of the package. tests/try.sh tests the other blocks."""
 
 import doctest
 import os

@@ -12,7 +12,7 @@ from collections.abc import Callable, Iterator
 from pathlib import Path
 
 import pytest
-from counties import CODE, EXAMPLES, SEGMENTS, TOP, gdal_rows, records
+from counties import CODE, EXAMPLES, SEGMENTS, TOOLS, TOP, gdal_rows, records
 from test_features_command import Running, start  # noqa: F401 (a fixture)
 
 LARGE, TOWN = "01003", "01007"
@@ -24,14 +24,14 @@ pytestmark = pytest.mark.usefixtures("scratch")
 
 def write_large_county(folder: Path) -> None:
     """Writes a county of some thousand segments: several from make_county.py, each with its own TLIDs."""
-    sys.path.insert(0, str(EXAMPLES))
+    sys.path.insert(0, str(TOOLS))
     try:
-        spec = importlib.util.spec_from_file_location("make_county", EXAMPLES / "make_county.py")
+        spec = importlib.util.spec_from_file_location("make_county", TOOLS / "make_county.py")
         assert spec is not None and spec.loader is not None
         make_county = importlib.util.module_from_spec(spec)
         spec.loader.exec_module(make_county)
     finally:
-        sys.path.remove(str(EXAMPLES))
+        sys.path.remove(str(TOOLS))
     lines = []
     for seed in range(CHAINS):
         for chain in make_county.county(make_county.Dice(seed)):

@@ -15,7 +15,7 @@ from typing import NamedTuple
 
 import pytest
 import tigerline
-from counties import EXAMPLES, TOP
+from counties import EXAMPLES, TOOLS
 
 ADDRESSES, SPOILT = 1000, 250  # per county
 PARTS = 12
@@ -239,7 +239,7 @@ def draw(random: Random, index: Index, kind: str) -> Drawn:
 @pytest.fixture(scope="module")
 def many_segments(tmp_path_factory: pytest.TempPathFactory) -> Path:
     """Writes a county of some thousand segments: several from make_county, each with its own TLIDs."""
-    maker = module(TOP / "examples/make_county.py")
+    maker = module(TOOLS / "make_county.py")
     folder = tmp_path_factory.mktemp("county")
     chains = []
     for part in range(PARTS):

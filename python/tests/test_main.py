@@ -230,7 +230,7 @@ class TestTasks:
     def test_any_name_main_over_three_counties(self, out: Path, tmp_path: Path) -> None:
         data = copy_county(tmp_path / "data")
         shutil.copytree(EXAMPLES / "town", data, dirs_exist_ok=True)
-        command = [sys.executable, "-B", EXAMPLES / "mktown.py", "--seed", "7", "--code", "01009", data]
+        command = [sys.executable, "-B", TOP / "tools/make_town.py", "--seed", "7", "--code", "01009", data]
         subprocess.run(command, check=True)
         assert run(data, out / "a.csv", "--where", "HAS_NAME('Main')", "--geometry", "none").returncode == 0
         with open(out / "a.csv", newline="", encoding="utf-8") as file:

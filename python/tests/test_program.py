@@ -147,9 +147,10 @@ class TestBuilt:
             list(tigerline.rows(where + "(", EXAMPLES, CODE))
 
     def test_program(self, extractd: str, tmp_path: Path) -> None:
-        words = (EXAMPLES / "not_water.bpf").read_bytes()
+        path = EXAMPLES / "programs/not_water.bpf"
+        words = path.read_bytes()
         expected = [int(line[5:15]) for line in records(EXAMPLES / "TGR01001.RT1") if line[55:56] != b"H"]
-        for program in (words, EXAMPLES / "not_water.bpf", os.path.relpath(EXAMPLES / "not_water.bpf")):
+        for program in (words, path, os.path.relpath(path)):
             assert [row.TLID for row in tigerline.rows(program=program, data=EXAMPLES, counties=CODE)] == expected
         with pytest.raises(Refused, match="refused 40 place 0 ReadsNothing"):
             list(tigerline.rows(program=words[16:], data=EXAMPLES, counties=CODE))

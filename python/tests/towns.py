@@ -1,4 +1,4 @@
-"""Made-up counties of several towns, each drawn by examples/mktown.py, with the names of their cities in record type C.
+"""Made-up counties of several towns, each drawn by tools/make_town.py, with the names of their cities in record type C.
 
 Towns in the same place of two counties have the same streets, but other names and ZIP Codes.
 """
@@ -12,7 +12,7 @@ from random import Random
 from types import ModuleType
 from typing import NamedTuple
 
-from counties import EXAMPLES
+from counties import TOOLS
 
 CITIES = (
     "Milford Ashby Brent Centre Dunmore Easton Fulmer Gilby Harlan Ironton Jasper Kelso Lowry Mayhew Norwood Orrville Pinson "
@@ -59,16 +59,16 @@ class Town(NamedTuple):
 
 @contextmanager
 def loaded() -> Iterator[ModuleType]:
-    """Loads a copy of examples/mktown.py whose constants may be replaced."""
-    sys.path.insert(0, str(EXAMPLES))
-    kept = sys.modules.pop("mktown", None)
+    """Loads a copy of tools/make_town.py whose constants may be replaced."""
+    sys.path.insert(0, str(TOOLS))
+    kept = sys.modules.pop("make_town", None)
     try:
-        yield importlib.import_module("mktown")
+        yield importlib.import_module("make_town")
     finally:
-        sys.path.remove(str(EXAMPLES))
-        sys.modules.pop("mktown", None)
+        sys.path.remove(str(TOOLS))
+        sys.modules.pop("make_town", None)
         if kept:
-            sys.modules["mktown"] = kept
+            sys.modules["make_town"] = kept
 
 
 def write_county(

@@ -1,7 +1,7 @@
 # Prints bash's completions of a command line's last word, one per line: bash complete.bash FILE WORD...
 # It is part of the tests.
 set -u
-# shellcheck source=packaging/completions/extractd.bash
+# shellcheck source=deploy/packaging/completions/extractd.bash
 source "$1"
 shift
 # compopt works only while an interactive shell completes.

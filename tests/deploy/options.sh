@@ -1,5 +1,5 @@
 #!/usr/bin/env bash
-# Compares the manual pages and the completions with a built program: packaging/tests/options.sh PATH_TO_extractd
+# Compares the manual pages and the completions with a built program: tests/deploy/options.sh PATH_TO_extractd
 #
 # Each command and each option of its --help must be in its manual page and in both completions, and no other may be there. Each page must render
 # without a warning and name the program's version. Each offered column must be accepted, and docs/filters.md must have all numeric columns.
@@ -11,10 +11,10 @@
 set -u
 export LC_ALL=C.UTF-8
 here=$(realpath "$(dirname "$0")")
-packaging=$(dirname "$here")
-examples=$(dirname "$packaging")/examples
-# shellcheck source=tools/testing.sh
-. "$packaging/../tools/testing.sh"
+top=$(realpath "$here/../..")
+packaging=$top/deploy/packaging
+# shellcheck source=tests/testing.sh
+. "$top/tests/testing.sh"
 
 if [ $# -ne 1 ] || ! is_program "$1"; then
     echo "usage: ${0##*/} PATH_TO_extractd" >&2
@@ -42,12 +42,12 @@ bash_offers() { bash "$here/complete.bash" "$packaging/completions/extractd.bash
 # zsh_offers LINE: prints zsh's completions at the end of a line. All lines were completed in one run.
 zsh_offers() { grep -F -- "$1: " "$scratch/zsh" | sed "s/^$1: //; s/ -[a-zA-Z] / /g"; }
 
-
 commands=$(help_of | sed -n '/^Commands:$/,/^$/s/^  \([a-z-]*\) .*/\1/p')
 mkdir "$scratch/zdot"
-cd "$examples" || exit
+cd "$top/examples" || exit
 {
-    printf '%s\n' 'extractd ' 'extractd --' 'extractd run --data . ' 'extractd select --data=. 0' 'extractd verify --program all.' 'extractd run --data to' 'extractd select --score '
+    printf '%s\n' 'extractd ' 'extractd --' 'extractd run --data . ' 'extractd select --data=. 0' \
+        'extractd geocode-batch --addresses addr' 'extractd run --data to' 'extractd select --score '
     for command in $commands; do echo "extractd $command --"; done
 } > "$scratch/lines"
 zsh=
@@ -77,10 +77,10 @@ same 'the commands in the page of extractd' "$commands" "$(sed -n 's/^\.It Xr ex
 offers 'counties' 01001 extractd run --data . ''
 same 'bash: counties after --data=' 01001 "$(bash_offers extractd select --data = . 0)"
 [ -z "$zsh" ] || same 'zsh: counties after --data=' 01001 "$(zsh_offers 'extractd select --data=. 0')"
-offers 'files' all.bpf extractd verify --program all.
+offers 'files' addresses.csv extractd geocode-batch --addresses addr
 offers 'folders' town extractd run --data to
 
-columns=$(sed -n -E 's/^\| (number|coordinate) \| ([A-Z, ]*) \|.*/\2/p' "$examples/../docs/filters.md" | tr -d ,)
+columns=$(sed -n -E 's/^\| (number|coordinate) \| ([A-Z, ]*) \|.*/\2/p' "$top/docs/filters.md" | tr -d ,)
 offers 'columns' "$columns" extractd select --score ''
 for column in $columns; do
     same "$column is accepted" '' "$(echo TRUE | "$program" compile --filter - --score "$column" 2>&1 > "$scratch/bpf")"

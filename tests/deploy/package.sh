@@ -1,7 +1,7 @@
 #!/usr/bin/env bash
-# Tests the package and install.sh with a built program: packaging/try.sh PATH_TO_extractd
+# Tests the package and install.sh with a built program: tests/deploy/package.sh PATH_TO_extractd
 #
-# 1. The manual pages and completions match the program: tests/options.sh.
+# 1. The manual pages and completions match the program: options.sh.
 # 2. deb.sh builds the same package twice, and lintian has no complaints.
 # 3. The package is installed in a clean root, which debootstrap makes. The first command of README.md runs. The server runs within its unit's
 #    limits, without capabilities, on a read-only system. nginx with its site runs in front of it, at the real ports of a network of their own.
@@ -17,9 +17,10 @@
 set -u
 export LC_ALL=C.UTF-8
 here=$(realpath "$(dirname "$0")")
-top=$(dirname "$here")
-# shellcheck source=tools/testing.sh
-. "$top/tools/testing.sh"
+top=$(realpath "$here/../..")
+packaging=$top/deploy/packaging
+# shellcheck source=tests/testing.sh
+. "$top/tests/testing.sh"
 
 if [ $# -ne 1 ] || ! is_program "$1"; then
     echo "usage: ${0##*/} PATH_TO_extractd" >&2
@@ -47,13 +48,13 @@ documents=usr/share/doc/extractd
 
 # try_building: tests two builds of the package, refusals, and lintian's report.
 try_building() {
-    does 'the package is built' "$here/deb.sh" "$program" "$package"
+    does 'the package is built' "$packaging/deb.sh" "$program" "$package"
     [ -e "$package" ] || return
     sleep 1
-    does 'the package is built again' "$here/deb.sh" "$program" "$scratch/again.deb"
+    does 'the package is built again' "$packaging/deb.sh" "$program" "$scratch/again.deb"
     does 'both are equal' cmp "$package" "$scratch/again.deb"
-    same 'no package of a script' "deb.sh: $here/deb.sh: not an x86-64 ELF file" "$("$here/deb.sh" "$here/deb.sh" "$scratch/no.deb" 2>&1)"
-    same 'no package of another program' 'deb.sh: /bin/true: --version isn'\''t that of extractd' "$("$here/deb.sh" /bin/true "$scratch/no.deb" 2>&1)"
+    same 'no package of a script' "deb.sh: $packaging/deb.sh: not an x86-64 ELF file" "$("$packaging/deb.sh" "$packaging/deb.sh" "$scratch/no.deb" 2>&1)"
+    same 'no package of another program' 'deb.sh: /bin/true: --version isn'\''t that of extractd' "$("$packaging/deb.sh" /bin/true "$scratch/no.deb" 2>&1)"
     same 'nothing is left of it' '' "$(find "$scratch" -name 'no.deb' -o -name '.extractd*')"
     same 'it depends on the C library' libc6 "$(dpkg-deb -f "$package" Depends | tr -d ' ' | tr ',' '\n' | sed -n 's/^\(libc6\)(.*/\1/p')"
     needs 'what lintian reports' lintian || return
@@ -127,12 +128,12 @@ start_server() {
 # start_nginx: runs nginx with only the packaged site, or with the packaged configuration if there is no site, and a certificate. Sets `url`.
 start_nginx() {
     local folder=$root/etc/nginx name=extractd arguments=() waited
-    if [ -e "$root/$documents/examples/server/site.conf" ]; then
+    if [ -e "$root/$documents/deploy/server/site.conf" ]; then
         rm -f "$folder/sites-enabled/default"
-        cp "$root/$documents/examples/server/site.conf" "$folder/conf.d/extractd.conf"
+        cp "$root/$documents/deploy/server/site.conf" "$folder/conf.d/extractd.conf"
         url=https://127.0.0.1
     else
-        cp "$root/$documents/examples/server/nginx.conf" "$folder/nginx.conf"
+        cp "$root/$documents/deploy/server/nginx.conf" "$folder/nginx.conf"
         name=server url=https://127.0.0.1:8443 arguments=(-p /etc/nginx -c nginx.conf)
     fi
     inside openssl req -x509 -newkey rsa:2048 -nodes -days 1 -subj /CN=extractd -keyout "/etc/nginx/$name.key" -out "/etc/nginx/$name.crt" 2> /dev/null
@@ -150,12 +151,12 @@ ask() { inside curl -k -s -m 60 "$@"; }
 # try_routes URL: sends requests of each kind and compares the replies with the commands' output.
 try_routes() {
     local examples=/$documents/examples
-    same "$1: a verdict" accepted "$(ask --data-binary "@$examples/all.bpf" "$1/verify")"
-    same "$1: rows" "$(inside extractd run --program "$examples/not_water.bpf" --data "$examples" 01001 | sha256sum)" \
-        "$(ask --data-binary "@$examples/not_water.bpf" "$1/extract" | sha256sum)"
+    same "$1: a verdict" accepted "$(ask --data-binary "@$examples/programs/all.bpf" "$1/verify")"
+    same "$1: rows" "$(inside extractd run --program "$examples/programs/not_water.bpf" --data "$examples" 01001 | sha256sum)" \
+        "$(ask --data-binary "@$examples/programs/not_water.bpf" "$1/extract" | sha256sum)"
     same "$1: a house number" "$(inside extractd geocode --data "$examples" --number 1785 --name persimmon 01001)" \
         "$(ask "$1/geocode?number=1785&name=persimmon")"
-    same "$1: a job" 1 "$(ask --data-binary "@$examples/all.bpf" "$1/jobs")"
+    same "$1: a job" 1 "$(ask --data-binary "@$examples/programs/all.bpf" "$1/jobs")"
     same "$1: a job is removed" dropped "$(ask -X DELETE "$1/jobs/1")"
 }
 
@@ -189,10 +190,10 @@ try_server() {
     try_routes http://127.0.0.1:8080
     start_nginx
     # Job ids continue.
-    same "$url: a verdict" accepted "$(ask --data-binary "@/$documents/examples/all.bpf" "$url/verify")"
-    same "$url: rows" "$(inside extractd run --program "/$documents/examples/all.bpf" --data "/$documents/examples" 01001 | sha256sum)" \
-        "$(ask --data-binary "@/$documents/examples/all.bpf" "$url/extract" | sha256sum)"
-    same "$url: a body in chunks" accepted "$(ask -H 'Transfer-Encoding: chunked' --data-binary "@/$documents/examples/all.bpf" "$url/verify")"
+    same "$url: a verdict" accepted "$(ask --data-binary "@/$documents/examples/programs/all.bpf" "$url/verify")"
+    same "$url: rows" "$(inside extractd run --program "/$documents/examples/programs/all.bpf" --data "/$documents/examples" 01001 | sha256sum)" \
+        "$(ask --data-binary "@/$documents/examples/programs/all.bpf" "$url/extract" | sha256sum)"
+    same "$url: a body in chunks" accepted "$(ask -H 'Transfer-Encoding: chunked' --data-binary "@/$documents/examples/programs/all.bpf" "$url/verify")"
     same "$url: no route" 'not found' "$(ask "$url/none")"
     end
     end
@@ -209,11 +210,11 @@ try_package() {
     same 'dpkg finds no fault' '' "$(inside dpkg --audit)"
     same 'the version' "$("$program" --version 2>&1)" "$(inside extractd --version 2>&1)"
     same 'the first command' 110 "$(inside extractd select --where "CFCC = 'A41'" --data /$documents/examples 01001 | wc -l)"
-    same 'the header' '' "$(cmp "$root/usr/include/extractd.h" "$top/examples/c/extractd.h" 2>&1)"
+    same 'the header' '' "$(cmp "$root/usr/include/extractd.h" "$top/tools/c/extractd.h" 2>&1)"
     same 'completions in bash' 'complete -F _extractd extractd' "$(inside bash -c '. /usr/share/bash-completion/completions/extractd && complete -p extractd')"
     same 'completions in zsh' '#compdef extractd' "$(head -n 1 "$root/usr/share/zsh/vendor-completions/_extractd")"
-    same 'the pages' "$(cd "$here/man" && printf '%s.gz\n' ./*)" "$(cd "$root/usr/share/man/man1" && printf '%s\n' ./extractd*)"
-    same 'a page' "$(cat "$here/man/extractd-run.1")" "$(zcat "$root/usr/share/man/man1/extractd-run.1.gz")"
+    same 'the pages' "$(cd "$packaging/man" && printf '%s.gz\n' ./*)" "$(cd "$root/usr/share/man/man1" && printf '%s\n' ./extractd*)"
+    same 'a page' "$(cat "$packaging/man/extractd-run.1")" "$(zcat "$root/usr/share/man/man1/extractd-run.1.gz")"
     does 'the unit' inside systemd-analyze verify --man=no /usr/lib/systemd/system/extractd.service
     try_server
     inside systemctl --quiet enable extractd.service
@@ -246,7 +247,7 @@ try_install() {
 }
 
 if needs 'the package' dpkg-shlibdeps strip; then
-    does 'manual pages and completions' "$here/tests/options.sh" "$program"
+    does 'manual pages and completions' "$here/options.sh" "$program"
     cat "$scratch/said"
     try_building
 fi

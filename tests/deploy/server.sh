@@ -1,10 +1,10 @@
 #!/usr/bin/env bash
-# Tests the files next to it with a built program: examples/server/try.sh PATH_TO_extractd
+# Tests the files of deploy/server with a built program: tests/deploy/server.sh PATH_TO_extractd
 #
 # It needs bash, coreutils and curl. Other tests need
 # - nginx (1.19.5 or later) and openssl, which makes a certificate that is valid for a day: site.conf, through nginx.conf;
 # - systemd-analyze, of systemd 249 or later: extractd.service;
-# - python3 (3.8 or later): ../job.py.
+# - python3 (3.8 or later): examples/job.py.
 # What needs a command that is missing is left out. With REQUIRE_ALL set, as .ci/run sets it, missing commands are installed, as root on Debian 12, and
 # anything left out is a failure.
 #
@@ -18,10 +18,10 @@
 
 set -u
 export LC_ALL=C
-here=$(realpath "$(dirname "$0")")
-examples=$(dirname "$here")
-# shellcheck source=tools/testing.sh
-. "$examples/../tools/testing.sh"
+top=$(realpath "$(dirname "$0")/../..")
+examples=$top/examples
+# shellcheck source=tests/testing.sh
+. "$top/tests/testing.sh"
 
 if [ $# -ne 1 ] || ! is_program "$1"; then
     echo "usage: ${0##*/} PATH_TO_extractd" >&2
@@ -303,11 +303,11 @@ try_down() {
 # start_nginx [EDIT]: runs site.conf, changed by a further sed command, in front of the server at `port`, and sets `url`.
 start_nginx() {
     local tls nginx
-    cp "$here/nginx.conf" proxy
+    cp "$top/deploy/server/nginx.conf" proxy
     for _ in {1..20}; do
         tls=$((30000 + RANDOM % 2000))
         sed -e "s/127\.0\.0\.1:8080/127.0.0.1:$port/" -e "s/listen 443 /listen 127.0.0.1:$tls /" -e 's|/var/log/nginx/||' -e "${1-}" \
-            "$here/site.conf" > proxy/site.conf
+            "$top/deploy/server/site.conf" > proxy/site.conf
         if nginx -t -q -e stderr -p "$PWD/proxy" -c nginx.conf 2> nginx.err && [ ! -s nginx.err ]; then pass; else fail "nginx -t: $(cat nginx.err)"; fi
         nginx -e stderr -p "$PWD/proxy" -c nginx.conf -g 'daemon off;' 2> nginx.err < /dev/null &
         nginx=$!
@@ -357,7 +357,7 @@ try_proxy() {
 }
 
 head -c 65544 /dev/zero > wordy
-cp "$examples/all.bpf" "$examples/not_water.bpf" "$examples/not_water.s" .
+cp "$examples/programs/all.bpf" "$examples/programs/not_water.bpf" "$examples/programs/not_water.s" .
 tail -c 8 all.bpf > bare.bpf
 head -c 1048577 /dev/zero > long
 head -c 1048576 /dev/zero > longest
@@ -405,7 +405,7 @@ if needs 'extractd.service' systemd-analyze; then
     mkdir unit
     # A unit's command line can't name a program with a blank in its path, so this is a link.
     ln -s "$program" unit/extractd
-    sed "s|^ExecStart=/usr/local/bin/extractd |ExecStart=$PWD/unit/extractd |" "$here/extractd.service" > unit/extractd.service
+    sed "s|^ExecStart=/usr/local/bin/extractd |ExecStart=$PWD/unit/extractd |" "$top/deploy/server/extractd.service" > unit/extractd.service
     # An unknown line only causes a message, not a failure.
     if systemd-analyze verify --man=no "$PWD/unit/extractd.service" > unit/said 2>&1 && [ ! -s unit/said ]; then pass; else
         fail "systemd-analyze verify: $(cat unit/said)"

@@ -36,7 +36,7 @@ is_unprivileged() {
 # files that can't be used.
 try_commands() {
     # shellcheck disable=SC2034 # The file uses them.
-    county=$top/examples all=$top/examples/all.bpf rows=92400
+    county=$top/examples all=$top/examples/programs/all.bpf rows=92400
     mkdir folder empty folders faulty
     : > nothing
     : > empty/TGR01001.RT1

@@ -1,13 +1,13 @@
 # shellcheck shell=bash
 # A page of the documents. unit.sh sources this.
 #
-# - A block ```console shows a terminal. Each command in it, `$ ` and continuation lines after `> `, runs in a copy of the documents and the
-#   examples, and must print what is below it. Words after `console` name commands that the block needs in addition to coreutils: if one isn't
+# - A block ```console shows a terminal. Each command in it, `$ ` and continuation lines after `> `, runs in a copy of the clone without
+#   its tests, and must print what is below it. Words after `console` name commands that the block needs in addition to coreutils: if one isn't
 #   here, the block is left out. python/try.sh tests those that need `tigerline`. `rt` is simulated: `rt try -- ..` and `rt run -- ..` run the
 #   program that is tested, and `.ci/run` does nothing.
 # - A block ```bash is commands that succeed and print nothing. Words after `bash` name commands as above.
 # - A block ```asm that a block ```hex follows is a program and its words: `asm` makes these of it, and of what `dis` writes of them.
-# - In a block ```verdicts each row is a program and its verdict, as in examples/verdicts.
+# - In a block ```verdicts each row is a program and its verdict, as in tests/verdicts.
 # - A block ```http FOLDER shows a terminal next to a server just started over the county in FOLDER. The server is at port 8080 there and at
 #   a free one here. Words after the folder name further commands. Heads that curl shows are compared without their CRs.
 # - A row of a table with a status, its phrase and a text is a reply. A row with a request in its first cell, in which `\n` ends a line, and a
@@ -24,7 +24,7 @@ enter_clone() {
     mkdir -p clone/crates/extractd/out clone/.ci
     printf '#!/bin/sh\n' > clone/.ci/run
     chmod 755 clone/.ci/run
-    cp -R "$top/README.md" "$top/docs" "$top/examples" "$top/python" "$top/quickstart.sh" "$top/tools" clone
+    cp -R "$top/README.md" "$top/deploy" "$top/docs" "$top/examples" "$top/python" "$top/quickstart.sh" "$top/tools" clone
     cp "$(command -v extractd)" clone/crates/extractd/out/extractd
     cd clone || exit 1
 }

@@ -7,20 +7,20 @@ set -u
 export LC_ALL=C
 unit=$1
 top=$(realpath "$(dirname "$0")/../..")
-# shellcheck source=tools/testing.sh
-. "$top/tools/testing.sh"
-# shellcheck source=examples/try/units.sh
-. "$top/examples/try/units.sh"
-# shellcheck source=examples/try/server.sh
-. "$top/examples/try/server.sh"
-# shellcheck source=examples/try/verdicts.sh
-. "$top/examples/try/verdicts.sh"
-# shellcheck source=examples/try/requests.sh
-. "$top/examples/try/requests.sh"
-# shellcheck source=examples/try/documents.sh
-. "$top/examples/try/documents.sh"
-# shellcheck source=examples/try/cases.sh
-. "$top/examples/try/cases.sh"
+# shellcheck source=tests/testing.sh
+. "$top/tests/testing.sh"
+# shellcheck source=tests/try/units.sh
+. "$top/tests/try/units.sh"
+# shellcheck source=tests/try/server.sh
+. "$top/tests/try/server.sh"
+# shellcheck source=tests/try/verdicts.sh
+. "$top/tests/try/verdicts.sh"
+# shellcheck source=tests/try/requests.sh
+. "$top/tests/try/requests.sh"
+# shellcheck source=tests/try/documents.sh
+. "$top/tests/try/documents.sh"
+# shellcheck source=tests/try/cases.sh
+. "$top/tests/try/cases.sh"
 
 # compare SCRIPT ARGUMENT..: a script that compares many things. If all agree, it prints how many they are.
 compare() {
@@ -33,8 +33,8 @@ check() {
     local said
     case $unit in
     # The table of verdicts on generated programs, and the made-up town, must be the outputs of their scripts.
-    examples/annotations.py) said=$(python3 -B "$top/$unit" | diff - "$top/examples/verdicts/generated.txt") ;;
-    examples/mktown.py) said=$(python3 -B "$top/$unit" town && diff -r town "$top/examples/town") ;;
+    tests/annotations.py) said=$(python3 -B "$top/$unit" | diff - "$top/tests/verdicts/generated.txt") ;;
+    tools/make_town.py) said=$(python3 -B "$top/$unit" town && diff -r town "$top/examples/town") ;;
     *) said=$(python3 -B "$top/$unit" 2>&1) ;;
     esac || { fail "$unit" "$(head -n 30 <<< "$said")"; return; }
     pass
@@ -45,11 +45,11 @@ try_script() {
     # shellcheck disable=SC2046 # They are words.
     needs "$unit" $(commands_of "$unit") || return
     case $unit in
-    examples/rows/*) compare examples/rows.py "$(command -v extractd)" "$top/$unit" ;;
-    examples/filters.py) compare "$unit" 300 ;;
-    examples/addresses.py) compare "$unit" 1000 ;;
-    examples/listings.py) compare "$unit" ;;
-    examples/c/random_programs.py) compare "$unit" --count 40 --cpu v2 ;;
+    tests/rows/*) compare tests/rows.py "$(command -v extractd)" "$top/$unit" ;;
+    tests/filters.py) compare "$unit" 300 ;;
+    tests/addresses.py) compare "$unit" 1000 ;;
+    tests/listings.py) compare "$unit" ;;
+    tests/random_programs.py) compare "$unit" --count 40 --cpu v2 ;;
     *) check ;;
     esac
 }
@@ -62,8 +62,8 @@ echo silent > "$HOME/.curlrc"
 cd "$scratch" || exit 1
 case $unit in
 *.md) try_page "$unit" ;;
-examples/verdicts/*) try_verdict_table "$unit" ;;
-examples/try/commands/*) try_commands "$unit" ;;
+tests/verdicts/*) try_verdict_table "$unit" ;;
+tests/try/commands/*) try_commands "$unit" ;;
 *) try_script ;;
 esac
 finish

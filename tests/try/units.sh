@@ -8,8 +8,8 @@ all_parts() { echo exhaustion listings addresses filters sources c rows commands
 describe_parts() {
     cat <<'END'
   documents    what README.md, docs/*.md and examples/README.md show
-  verdicts     the programs of examples/verdicts, by `verify` and by the server
-  rows         the tables of examples/rows
+  verdicts     the programs of tests/verdicts, by `verify` and by the server
+  rows         the tables of tests/rows
   filters      300 filters, against SQLite
   addresses    1,000 addresses, against a second reading of the files
   listings     listings of `explain`, against a second reading of the rules
@@ -24,13 +24,13 @@ END
 units_of() {
     case $1 in
     documents) printf '%s\n' docs/*.md README.md examples/README.md ;;
-    verdicts) printf '%s\n' examples/verdicts/*.txt ;;
-    rows) printf '%s\n' examples/rows/*.txt ;;
-    filters | addresses | listings) echo "examples/$1.py" ;;
-    c) printf '%s\n' examples/c/random_programs.py examples/c/test_forward.py ;;
-    commands) printf '%s\n' examples/try/commands/*.sh ;;
-    exhaustion) echo examples/exhaustion.sh ;;
-    sources) printf '%s\n' examples/annotations.py examples/mktown.py examples/calls.py examples/links.py ;;
+    verdicts) printf '%s\n' tests/verdicts/*.txt ;;
+    rows) printf '%s\n' tests/rows/*.txt ;;
+    filters | addresses | listings) echo "tests/$1.py" ;;
+    c) printf '%s\n' tests/random_programs.py tests/test_forward.py ;;
+    commands) printf '%s\n' tests/try/commands/*.sh ;;
+    exhaustion) echo tests/exhaustion.sh ;;
+    sources) printf '%s\n' tests/annotations.py tools/make_town.py tests/calls.py tools/links.py ;;
     esac
 }
 
@@ -39,11 +39,11 @@ commands_of() {
     # shellcheck disable=SC2016 # Nothing in a pattern is expanded.
     case $1 in
     *.md) sed -n -E '/tigerline/d; s/^```(console|bash) //p; s/^```http [^ ]+/curl/p' "$1" ;;
-    examples/verdicts/* | examples/try/commands/long_program.sh) echo curl ;;
-    examples/try/commands/batches.sh) echo script ;;
-    examples/rows/* | examples/annotations.py | examples/calls.py | examples/links.py) echo python3 ;;
-    examples/exhaustion.sh) echo curl python3 ;;
-    examples/c/random_programs.py) echo python3.11 clang llvm-objcopy cc ;;
+    tests/verdicts/* | tests/try/commands/long_program.sh) echo curl ;;
+    tests/try/commands/batches.sh) echo script ;;
+    tests/rows/* | tests/annotations.py | tests/calls.py | tools/links.py) echo python3 ;;
+    tests/exhaustion.sh) echo curl python3 ;;
+    tests/random_programs.py) echo python3.11 clang llvm-objcopy cc ;;
     *.py) echo python3.11 ;;
     esac
 }

@@ -1,6 +1,6 @@
 /* Runs a program in C on this machine, over a county's files, and prints the rows that `extractd run` prints:
 
-       cc -g -Iexamples/c -include examples/c/native.h PROGRAM.c examples/c/native.c -o program
+       cc -g -Itools/c -include tools/c/native.h PROGRAM.c tools/c/native.c -o program
        ./program DIR CODE
 
    Written from docs/records.md and docs/helpers.md, independently of extractd's code, so that each can check the other.

@@ -6,7 +6,7 @@ use std::alloc::Global;
 use std::test::Fail;
 
 // A program that is refused, and the text on standard error: one or two programs for each kind of refusal. A rule's other rows are in
-// examples/verdicts.
+// tests/verdicts.
 const REFUSED_PROGRAMS: Table = Table {
     rows: 47,
     text: r"

@@ -1,4 +1,4 @@
-//! The examples of docs/http.md in order, row for row. examples/try.sh compares the document with these tables, and sends the examples to the
+//! The examples of docs/http.md in order, row for row. tests/try.sh compares the document with these tables, and sends the examples to the
 //! program.
 use fixtures::Table;
 

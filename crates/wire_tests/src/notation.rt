@@ -18,7 +18,7 @@ const ONE: &str = "{lantern}\\r\\n; \
     5000601001     130  Old Lantern{text  *19}Ct    \\r\\n5000601001     133  County Road 67{text  *22}\\r\\n; \
     60006 107000725  1       3901       3999{text  *22}01  36067     \\r\\n";
 
-// The program examples/not_water.s and its text.
+// The program examples/programs/not_water.s and its text.
 const NOT_WATER: &str = "{asm ldxb r0, [r1+55] | add r0, -72 | exit}";
 
 const NOT_WATER_TEXT: &str = "\

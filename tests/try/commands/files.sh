@@ -11,7 +11,7 @@ try_rows() {
     cp "$county/TGR01001.RT1" 'a county'
     wanted=$(paste <(printf '0%.0s\n' {1..400}) <(tr -d '\r' < "$county/TGR01001.RT1") | sha256sum)
     if [ "$(extractd run --program "$all" --data "$county" 01001 | sha256sum)" = "$wanted" ]; then pass; else
-        fail "the rows of examples/all.bpf are the lines of TGR01001.RT1, each behind a score of 0 and a tab"
+        fail "the rows of examples/programs/all.bpf are the lines of TGR01001.RT1, each behind a score of 0 and a tab"
     fi
     try_case 0 "$rows" '' 'extractd run --program "$all" --data "$county" 01001'
     try_case 0 "$rows" '' 'extractd run --data "$county" 01001 --program "$all"'
