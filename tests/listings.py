@@ -39,7 +39,7 @@ from annotations import (
 )
 
 TOP = Path(__file__).resolve().parent.parent
-VERDICTS = TOP / "examples" / "verdicts"
+VERDICTS = TOP / "tests" / "verdicts"
 DOCUMENTS = TOP / "docs"
 # Instructions; a longer program has too many annotations to try.
 SEARCHED_AT_MOST = 64

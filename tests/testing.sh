@@ -14,6 +14,15 @@ fail() {
     printf '%s\n' "$@"
 }
 
+# try_shown TEXT: docs/refusals.md, below the folder `top`, must have every text of status 3 and of a wrong argument, with FILE for a file's name.
+try_shown() {
+    # shellcheck disable=SC2154 # The script sets `top`.
+    case $(cat "$top/docs/refusals.md") in
+    *"\`$1\`"*) pass ;;
+    *) fail "docs/refusals.md doesn't show: $1" ;;
+    esac
+}
+
 # skip TEXT: prints what isn't tested, and why.
 skip() {
     if [ -n "${REQUIRE_ALL-}" ]; then fail "left out: $1"; else printf 'left out: %s\n' "$1"; fi

@@ -66,23 +66,28 @@ read_arguments() {
     done
 }
 
-# list_omitted: prints the parts of which not every unit was tested.
+# list_omitted: prints the parts that weren't tested, or only in part.
 list_omitted() {
-    local part unit omitted=""
+    local part unit tested omitted all_omitted=""
     for part in $(all_parts); do
+        tested=0 omitted=0
         for unit in $(units_of "$part"); do
-            case " ${units[*]} " in *" $unit "*) ;; *) omitted+=" $part"; break ;; esac
+            case " ${units[*]} " in *" $unit "*) tested=$((tested + 1)) ;; *) omitted=$((omitted + 1)) ;; esac
         done
+        [ $omitted = 0 ] || all_omitted+=", $part"
+        [ $omitted = 0 ] || [ $tested = 0 ] || all_omitted+=" ($omitted of $((tested + omitted)))"
     done
-    [ -z "$omitted" ] || echo "not tested, or not whole:$omitted"
+    [ -z "$all_omitted" ] || echo "not tested: ${all_omitted#, }"
 }
 
 # begin UNIT: tests it in a session of its own, so that `stop` finds all that it has started.
 begin() {
     local folder=$scratch/${#begun[@]}
     mkdir "$folder"
-    if [ "$1" = tests/exhaustion.sh ]; then set -- "$1" "$top/$1" "$program"; else set -- "$1" "$top/tests/try/unit.sh" "$1"; fi
-    TMPDIR=$folder setsid "$BASH" "${@:2}" > "$folder/said" 2>&1 < /dev/null &
+    case $1 in
+    tests/exhaustion/*) TMPDIR=$folder setsid "$BASH" "$top/$1" "$program" > "$folder/said" 2>&1 < /dev/null & ;;
+    *) TMPDIR=$folder setsid "$BASH" "$top/tests/try/unit.sh" "$1" > "$folder/said" 2>&1 < /dev/null & ;;
+    esac
     begun+=("$1")
     running[$!]=$1 folders[$!]=$folder
 }

@@ -14,14 +14,6 @@ try_case() {
     fi
 }
 
-# try_shown TEXT: docs/refusals.md must have every text of status 3 and of a wrong argument, with FILE for a file's name.
-try_shown() {
-    case $(cat "$top/docs/refusals.md") in
-    *"\`$1\`"*) pass ;;
-    *) fail "docs/refusals.md doesn't show: $1" ;;
-    esac
-}
-
 # unprivileged ARGUMENT..: runs the program without root's right to read every file.
 unprivileged() {
     if [ "$(id -u)" = 0 ]; then setpriv --bounding-set=-dac_override,-dac_read_search -- extractd "$@"; else extractd "$@"; fi

@@ -29,7 +29,7 @@ units_of() {
     filters | addresses | listings) echo "tests/$1.py" ;;
     c) printf '%s\n' tests/random_programs.py tests/test_forward.py ;;
     commands) printf '%s\n' tests/try/commands/*.sh ;;
-    exhaustion) echo tests/exhaustion.sh ;;
+    exhaustion) printf '%s\n' tests/exhaustion/{memory,server,files}.sh ;;
     sources) printf '%s\n' tests/annotations.py tools/make_town.py tests/calls.py tools/links.py ;;
     esac
 }
@@ -42,7 +42,7 @@ commands_of() {
     tests/verdicts/* | tests/try/commands/long_program.sh) echo curl ;;
     tests/try/commands/batches.sh) echo script ;;
     tests/rows/* | tests/annotations.py | tests/calls.py | tools/links.py) echo python3 ;;
-    tests/exhaustion.sh) echo curl python3 ;;
+    tests/exhaustion/*) echo curl python3 ;;
     tests/random_programs.py) echo python3.11 clang llvm-objcopy cc ;;
     *.py) echo python3.11 ;;
     esac
