@@ -1,0 +1,102 @@
+"""What the verifier knows of values and of a state: kinds, their order, and faults."""
+# Needs only Python 3.8 or later.
+
+from typing import NamedTuple
+
+WORD = 1 << 64
+RECORD_BYTES, FRAME_BYTES, SLOT_BYTES = 228, 512, 8
+LEAST_OFFSET, GREATEST_OFFSET = -32768, 32767
+
+
+class Kind(NamedTuple):
+    sort: str
+    low: int
+    high: int
+
+    def below(self, other):
+        within = other.sort == self.sort and other.low <= self.low and self.high <= other.high
+        return other is NOTHING or within
+
+    def single(self):
+        return self.low == self.high
+
+    def pointer(self):
+        return self.sort in ("record", "frame")
+
+
+NOTHING = Kind("nothing", 0, 0)
+
+
+def number(low, high=None):
+    return Kind("number", low, low if high is None else high)
+
+
+class State(NamedTuple):
+    """The registers, the marks, and pairs of a slot and its kind for the slots that hold a known value."""
+
+    registers: tuple
+    marks: frozenset
+    slots: frozenset = frozenset()
+
+    def read(self, name):
+        """Returns the kind of a register. Fails if nothing is known of it."""
+        kind = self.registers[index(name)]
+        check(kind is not NOTHING, "40", "ReadsNothing(%d)" % index(name))
+        return kind
+
+    def put(self, name, kind):
+        at = index(name)
+        return self._replace(registers=self.registers[:at] + (kind,) + self.registers[at + 1 :])
+
+    def mark(self, first, count):
+        return self._replace(marks=self.marks.union(range(first, first + count)))
+
+    def slot(self, slot):
+        """Returns the kind of a slot."""
+        return dict(self.slots).get(slot, NOTHING)
+
+    def forget(self, reached):
+        """Forgets the slots that contain one of these bytes."""
+        return self._replace(slots=frozenset(pair for pair in self.slots if not set(own_bytes(pair[0])).intersection(reached)))
+
+    def keep(self, slot, kind):
+        """Puts a kind into a slot. A number marks the slot's bytes, and a pointer unmarks them."""
+        own = own_bytes(slot)
+        marks = self.marks.difference(own) if kind.pointer() else self.marks.union(own)
+        return State(self.registers, marks, self.forget(own).slots | {(slot, kind)})
+
+    def is_proper(self):
+        """Returns whether marks and slots agree."""
+        return all(self.marks.isdisjoint(own_bytes(slot)) if kind.pointer() else self.marks.issuperset(own_bytes(slot)) for slot, kind in self.slots)
+
+    def below(self, other):
+        if other is UNREACHED or not self.marks >= other.marks:
+            return False
+        return all(kind.below(above) for kind, above in zip(self.registers, other.registers)) and all(
+            self.slot(slot).below(above) for slot, above in other.slots
+        )
+
+
+def own_bytes(slot):
+    return range(SLOT_BYTES * slot, SLOT_BYTES * (slot + 1))
+
+
+UNREACHED = None
+ENTRY = State((NOTHING, Kind("record", 0, 0)) + (NOTHING,) * 8 + (Kind("frame", FRAME_BYTES, FRAME_BYTES),), frozenset())
+
+
+def below(state, other):
+    return state is UNREACHED or state.below(other)
+
+
+class Fault(Exception):
+    """The first failing check."""
+
+
+def check(passes, cause, name):
+    if not passes:
+        raise Fault(cause, name)
+
+
+def index(register):
+    return int(register[1:])
