@@ -7,114 +7,114 @@ use Rattle.std.specs.Io.KnownBytes.{IsAtEnd, Keeps}
 use Rattle.counted_io.specs.Device.{Reader}
 use Rattle.counted_io.proofs.KnownBytesLemmas.{Consumes-append, Consumes-from_keeps}
 use Rattle.http_request.proofs.TakeLemmas.{Takes-append, Takes-refl}
-use Rattle.http_request.specs.Reading.{EndsInBody, FailsInBody, LacksMemory, ReadsBody, Takes}
+use Rattle.http_request.specs.Reading.{EndsInBody, FailsInBody, OutOfMemoryInBody, ReadsBody, Takes}
 
 -- the body so far: the first bytes after the head, then the bytes taken
-pub record IsBodySoFar (behind : List ℕ) (count : ℕ) (body : List ℕ) (old new : Reader) : Type 0 where
+pub record IsBodySoFar (after_head : List ℕ) (count : ℕ) (body : List ℕ) (old new : Reader) : Type 0 where
   pub taken : List ℕ
   pub takes : Takes taken old new
-  pub is_body : body ≡ take count behind ++ taken
+  pub is_body : body ≡ take count after_head ++ taken
   pub within : length body ≤ count
 
 -- before the first read
-pub body_begins : {behind front : List ℕ} {count room : ℕ} {body : List ℕ} {input : Reader} → body ≡ front ++ take room behind → front ≡ []
-    → room ≡ min count (length behind) → IsBodySoFar behind count body input input
-body_begins {behind} {count} {room} {body} {input} is nothing least =
-    let same : body ≡ take (min count (length behind)) behind = is ∙ ap (λ (xs : List ℕ). xs ++ take room behind) nothing ∙ ap
-    (λ (n : ℕ). take n behind) least in
+pub body_begins : {after_head front : List ℕ} {count room : ℕ} {body : List ℕ} {input : Reader} → body ≡ front ++ take room after_head → front ≡ []
+    → room ≡ min count (length after_head) → IsBodySoFar after_head count body input input
+body_begins {after_head} {count} {room} {body} {input} is nothing least =
+    let same : body ≡ take (min count (length after_head)) after_head = is ∙ ap (λ (xs : List ℕ). xs ++ take room after_head) nothing ∙ ap
+    (λ (n : ℕ). take n after_head) least in
     record {
       taken = [];
       takes = Takes-refl input;
-      is_body = same ∙ take_min count behind ∙ sym (append-nil (take count behind));
-      within = omega (arith, ap length same, length-take (min count (length behind)) behind);
+      is_body = same ∙ take_min count after_head ∙ sym (append-nil (take count after_head));
+      within = omega (arith, ap length same, length-take (min count (length after_head)) after_head);
     }
 
 -- the number of bytes of an incomplete body
-so_far-length : (behind : List ℕ) (count : ℕ) (body : List ℕ) (old new : Reader) → (so_far : IsBodySoFar behind count body old new)
-    → length body < count → length body ≡ length behind + length so_far.taken
-so_far-length behind count body old new so_far short =
-    omega (arith, ap length so_far.is_body, length-append (take count behind) so_far.taken, length-take count behind)
+so_far-length : (after_head : List ℕ) (count : ℕ) (body : List ℕ) (old new : Reader) → (so_far : IsBodySoFar after_head count body old new)
+    → length body < count → length body ≡ length after_head + length so_far.taken
+so_far-length after_head count body old new so_far short =
+    omega (arith, ap length so_far.is_body, length-append (take count after_head) so_far.taken, length-take count after_head)
 
 -- one more piece, with the bytes that a read returned
-pub body_more : {behind : List ℕ} {count : ℕ} {body more : List ℕ} (given rest : List ℕ) (read : ℕ) {old now new : Reader}
-    → IsBodySoFar behind count body old now → Takes (take read given) now new → more ≡ body ++ take read (given ++ rest)
-    → read ≤ length given → length body + read ≤ count → IsBodySoFar behind count more old new
-body_more {behind} {count} {body} {more} given rest read {old} {now} {new} so_far takes is inside fits =
+pub body_more : {after_head : List ℕ} {count : ℕ} {body more : List ℕ} (given rest : List ℕ) (read : ℕ) {old now new : Reader}
+    → IsBodySoFar after_head count body old now → Takes (take read given) now new → more ≡ body ++ take read (given ++ rest)
+    → read ≤ length given → length body + read ≤ count → IsBodySoFar after_head count more old new
+body_more {after_head} {count} {body} {more} given rest read {old} {now} {new} so_far takes is inside fits =
     let same : more ≡ body ++ take read given = is ∙ ap (λ (xs : List ℕ). body ++ xs) (take-append-le read given rest inside) in
     record {
       taken = so_far.taken ++ take read given;
       takes = Takes-append so_far.taken (take read given) old now new so_far.takes takes;
       is_body = same ∙ ap (λ (xs : List ℕ). xs ++ take read given) so_far.is_body
-          ∙ append_assoc (take count behind) so_far.taken (take read given);
+          ∙ append_assoc (take count after_head) so_far.taken (take read given);
       within = omega (arith, ap length same, length-append body (take read given), length-take-le read given inside);
     }
 
 -- the input ended
-pub body_ends : {behind : List ℕ} {count : ℕ} {body : List ℕ} (piece : List ℕ) {read : ℕ} {old now new : Reader}
-    → IsBodySoFar behind count body old now → length body < count → Takes (take read piece) now new → read ≡ 0 → IsAtEnd new.left
-    → EndsInBody behind count old new
-body_ends {behind} {count} {body} piece {read} {old} {now} {new} so_far short takes none ended = record {
+pub body_ends : {after_head : List ℕ} {count : ℕ} {body : List ℕ} (piece : List ℕ) {read : ℕ} {old now new : Reader}
+    → IsBodySoFar after_head count body old now → length body < count → Takes (take read piece) now new → read ≡ 0 → IsAtEnd new.left
+    → EndsInBody after_head count old new
+body_ends {after_head} {count} {body} piece {read} {old} {now} {new} so_far short takes none ended = record {
   taken = so_far.taken ++ take read piece;
   takes = Takes-append so_far.taken (take read piece) old now new so_far.takes takes;
   ended = ended;
-  short = rw (none, append-nil) (omega (arith, length-append behind so_far.taken, so_far-length behind count body old now so_far short));
+  short = rw (none, append-nil) (omega (arith, length-append after_head so_far.taken, so_far-length after_head count body old now so_far short));
 }
 
 -- a read failed
-pub body_fails : {behind : List ℕ} {count : ℕ} {body : List ℕ} {old now new : Reader} → IsBodySoFar behind count body old now
-    → length body < count → Keeps now.left new.left → new.failed ≢ now.failed → FailsInBody behind count old new
-body_fails {behind} {count} {body} {old} {now} {new} so_far short kept failed = record {
+pub body_fails : {after_head : List ℕ} {count : ℕ} {body : List ℕ} {old now new : Reader} → IsBodySoFar after_head count body old now
+    → length body < count → Keeps now.left new.left → new.failed ≢ now.failed → FailsInBody after_head count old new
+body_fails {after_head} {count} {body} {old} {now} {new} so_far short keeps failed = record {
   taken = so_far.taken ++ [];
   fails = record {
     consumed = Consumes-append old.left now.left new.left so_far.taken [] so_far.takes.consumed
-        (Consumes-from_keeps now.left new.left kept);
+        (Consumes-from_keeps now.left new.left keeps);
     failed = λ same. failed (same ∙ sym so_far.takes.failed);
   };
-  short = rw append-nil (omega (arith, length-append behind so_far.taken, so_far-length behind count body old now so_far short));
+  short = rw append-nil (omega (arith, length-append after_head so_far.taken, so_far-length after_head count body old now so_far short));
 }
 
 -- an allocation failed for a piece
-pub body_lacks_memory : {behind : List ℕ} {count : ℕ} {body : List ℕ} (given : List ℕ) (read : ℕ) {old now new : Reader}
-    → IsBodySoFar behind count body old now → length body < count → Takes (take read given) now new → 0 < read → read ≤ length given
-    → length body + read ≤ count → LacksMemory behind count old new
-body_lacks_memory {behind} {count} {body} given read {old} {now} {new} so_far short takes some inside fits = record {
+pub body_out_of_memory : {after_head : List ℕ} {count : ℕ} {body : List ℕ} (given : List ℕ) (read : ℕ) {old now new : Reader}
+    → IsBodySoFar after_head count body old now → length body < count → Takes (take read given) now new → 0 < read → read ≤ length given
+    → length body + read ≤ count → OutOfMemoryInBody after_head count old new
+body_out_of_memory {after_head} {count} {body} given read {old} {now} {new} so_far short takes some inside fits = record {
   taken = so_far.taken ++ take read given;
   takes = Takes-append so_far.taken (take read given) old now new so_far.takes takes;
   within = omega (
     arith,
     length-append so_far.taken (take read given),
     length-take-le read given inside,
-    so_far-length behind count body old now so_far short,
+    so_far-length after_head count body old now so_far short,
   );
-  wanted = omega arith;
-  came = (
-      let all = length-append behind (so_far.taken ++ take read given) in let last = length-append so_far.taken (take read given) in
+  nonempty = omega arith;
+  received = (
+      let all = length-append after_head (so_far.taken ++ take read given) in let last = length-append so_far.taken (take read given) in
       let long = length-take-le read given inside in omega (arith, some));
 }
 
 -- bytes that fit are the first of all bytes
-take_front : (behind taken : List ℕ) (count : ℕ) → length (take count behind) + length taken ≤ count
-    → take count behind ++ taken ≡ take count (behind ++ taken)
-take_front behind taken count fits = elim (cases_lt count (length behind)) [
+take_front : (after_head taken : List ℕ) (count : ℕ) → length (take count after_head) + length taken ≤ count
+    → take count after_head ++ taken ≡ take count (after_head ++ taken)
+take_front after_head taken count fits = elim (cases_lt count (length after_head)) [
   | inl more ↦
-      let none : taken ≡ [] = nil_from_length taken (omega (arith, length-take-le count behind)) in
+      let none : taken ≡ [] = nil_from_length taken (omega (arith, length-take-le count after_head)) in
       rw (none, append-nil, append-nil) refl
   | inr all ↦
-      let whole : take count behind ≡ behind = take_all count behind all in
-      rw whole (sym (take_all count (behind ++ taken) (omega (arith, length-append behind taken, ap length whole))))
+      let whole : take count after_head ≡ after_head = take_all count after_head all in
+      rw whole (sym (take_all count (after_head ++ taken) (omega (arith, length-append after_head taken, ap length whole))))
 ]
 
 -- the body is complete
-pub body_whole : (behind : List ℕ) (count : ℕ) (body : List ℕ) (old new : Reader) → IsBodySoFar behind count body old new
-    → count ≤ length body → ReadsBody behind count body old new
-body_whole behind count body old new so_far whole =
-    let front = take count behind in
+pub body_whole : (after_head : List ℕ) (count : ℕ) (body : List ℕ) (old new : Reader) → IsBodySoFar after_head count body old new
+    → count ≤ length body → ReadsBody after_head count body old new
+body_whole after_head count body old new so_far whole =
+    let front = take count after_head in
     let len : length body ≡ length front + length so_far.taken =
     omega (arith, ap length so_far.is_body, length-append front so_far.taken) in
     record {
       taken = so_far.taken;
       takes = so_far.takes;
-      whole = omega (arith, len, length-take count behind, length-append behind so_far.taken, so_far.within);
-      is_body = so_far.is_body ∙ take_front behind so_far.taken count (omega (arith, len, so_far.within));
-      exact = omega (arith, len, length-take count behind, so_far.within);
+      whole = omega (arith, len, length-take count after_head, length-append after_head so_far.taken, so_far.within);
+      is_body = so_far.is_body ∙ take_front after_head so_far.taken count (omega (arith, len, so_far.within));
+      exact = omega (arith, len, length-take count after_head, so_far.within);
     }

@@ -11,7 +11,7 @@ use Rattle.counted_io.proofs.KnownBytesLemmas.{Consumes-append, Consumes-from_ke
 use Rattle.http_request.specs.Head.{HasNoHead}
 use Rattle.http_request.proofs.HeadLemmas.{empty-HasNoRequest, empty-MayBecomeRequest}
 use Rattle.http_request.proofs.TakeLemmas.{Takes-append, Takes-refl}
-use Rattle.http_request.specs.Reading.{Takes, FailsInHead, LacksHead}
+use Rattle.http_request.specs.Reading.{Takes, FailsInHead, ReadsNoHead}
 
 -- the bytes read so far, which hold no complete head
 pub record HasReadSoFar (bytes : List ℕ) (count : ℕ) (old new : Reader) : Type 0 where
@@ -69,35 +69,35 @@ HasNoHead-from_full bytes full none more head rest has =
     none has.tree _ (has.reads.0, front-append bytes more (print_request has.tree) rest (omega (arith, has.short)) has.reads.1)
 
 -- the parser refused the bytes read
-pub lacks_by_refusal : (bytes : List ℕ) (count : ℕ) {old new : Reader} → Takes (take count bytes) old new → count ≤ length bytes → 0 < count
-    → length bytes ≡ 8192 → RequestOverflows 64 (take count bytes) → LacksHead old new
-lacks_by_refusal bytes count takes inside some full many = record {
+pub no_head_by_refusal : (bytes : List ℕ) (count : ℕ) {old new : Reader} → Takes (take count bytes) old new → count ≤ length bytes → 0 < count
+    → length bytes ≡ 8192 → RequestOverflows 64 (take count bytes) → ReadsNoHead old new
+no_head_by_refusal bytes count takes inside some full many = record {
   taken = take count bytes;
   takes = takes;
   some = omega (arith, length-take-le count bytes inside);
-  lacks = inl (HasNoHead-from_overflows (take count bytes) many);
+  no_head = inl (HasNoHead-from_overflows (take count bytes) many);
   room = omega (arith, length-take-le count bytes inside);
 }
 
 -- there is no room for another byte
-pub lacks_by_limit : (bytes : List ℕ) (count : ℕ) (old new : Reader) → length bytes ≡ 8192 → length bytes ≤ count
-    → HasReadSoFar bytes count old new → LacksHead old new
-lacks_by_limit bytes count old new full past so_far = record {
+pub no_head_by_limit : (bytes : List ℕ) (count : ℕ) (old new : Reader) → length bytes ≡ 8192 → length bytes ≤ count
+    → HasReadSoFar bytes count old new → ReadsNoHead old new
+no_head_by_limit bytes count old new full past so_far = record {
   taken = take count bytes;
   takes = so_far.takes;
   some = omega (arith, length-take-le count bytes so_far.inside, so_far.inside);
-  lacks = inl (HasNoHead-from_full (take count bytes) (omega (arith, length-take-le count bytes so_far.inside, so_far.inside)) so_far.none);
+  no_head = inl (HasNoHead-from_full (take count bytes) (omega (arith, length-take-le count bytes so_far.inside, so_far.inside)) so_far.none);
   room = omega (arith, length-take-le count bytes so_far.inside, so_far.inside);
 }
 
 -- a read failed, and it took no byte
 pub fails : {bytes : List ℕ} {count : ℕ} {old now new : Reader} → length bytes ≡ 8192 → count < length bytes
     → HasReadSoFar bytes count old now → Keeps now.left new.left → new.failed ≢ now.failed → FailsInHead old new
-fails {bytes} {count} {old} {now} {new} full inside so_far kept failed = record {
+fails {bytes} {count} {old} {now} {new} full inside so_far keeps failed = record {
   taken = take count bytes;
   fails = record {
     consumed = rw append-nil at (Consumes-append old.left now.left new.left (take count bytes) [] so_far.takes.consumed
-        (Consumes-from_keeps now.left new.left kept));
+        (Consumes-from_keeps now.left new.left keeps));
     failed = λ same. failed (same ∙ sym so_far.takes.failed);
   };
   part = HasNoHead-from_request (take count bytes) so_far.none;

@@ -4,7 +4,7 @@ use Rattle.std.specs.Prelude.{unwrap_or}
 use Rattle.std.proofs.lemmas.List.{append-nil, take-append-le}
 use Rattle.std.specs.Io.KnownBytes.{Consumes, IsAtEnd, Keeps}
 use Rattle.counted_io.specs.Device.{Reader}
-use Rattle.http_request.specs.Reading.{EndsInBody, LacksHead, ReadsBody, ReadsHead, RequestParts, Takes}
+use Rattle.http_request.specs.Reading.{EndsInBody, ReadsNoHead, ReadsBody, ReadsHead, RequestParts, Takes}
 use Rattle.http_request.specs.Whole.{HadHead, HadNoHead, HadRequest, HadShortRequest, left_of}
 use Rattle.http_request.proofs.TakeLemmas.{Takes-append}
 use Rattle.http_request.proofs.HeadLemmas.{HasHead-append}
@@ -30,43 +30,43 @@ known_at_end taken old new takes ended =
 
 -- a head was read
 pub had_head : (request : RequestParts) (old new : Reader) → ReadsHead request old new
-    → HadHead request.head (request.behind ++ left_of new) old
+    → HadHead request.head (request.after_head ++ left_of new) old
 had_head request old new read = record {
   input = read.taken ++ left_of new;
   known = known_whole read.taken old new read.takes;
-  has = HasHead-append read.taken (left_of new) request.head request.behind read.has;
+  has = HasHead-append read.taken (left_of new) request.head request.after_head read.has;
 }
 
 -- no head could be read
-pub had_no_head : (old new : Reader) → LacksHead old new → HadNoHead old
-had_no_head old new lacking = elim lacking.lacks [
+pub had_no_head : (old new : Reader) → ReadsNoHead old new → HadNoHead old
+had_no_head old new reads = elim reads.no_head [
   | inl never ↦ record {
-    input = lacking.taken ++ left_of new;
-    known = known_whole lacking.taken old new lacking.takes;
+    input = reads.taken ++ left_of new;
+    known = known_whole reads.taken old new reads.takes;
     has_none = never (left_of new);
   }
   | inr none ↦ record {
-    input = lacking.taken;
-    known = known_at_end lacking.taken old new lacking.takes none.0;
+    input = reads.taken;
+    known = known_at_end reads.taken old new reads.takes none.0;
     has_none = none.1;
   }
 ]
 
 -- a head was read, then bytes after it
 had_more : (request : RequestParts) (taken : List ℕ) (old now new : Reader) → ReadsHead request old now → Takes taken now new
-    → HadHead request.head (request.behind ++ taken ++ left_of new) old
+    → HadHead request.head (request.after_head ++ taken ++ left_of new) old
 had_more request taken old now new read takes = record {
   input = read.taken ++ taken ++ left_of new;
   known = known_whole (read.taken ++ taken) old new (Takes-append read.taken taken old now new read.takes takes);
-  has = HasHead-append (read.taken ++ taken) (left_of new) request.head (request.behind ++ taken)
-      (HasHead-append read.taken taken request.head request.behind read.has);
+  has = HasHead-append (read.taken ++ taken) (left_of new) request.head (request.after_head ++ taken)
+      (HasHead-append read.taken taken request.head request.after_head read.has);
 }
 
 -- a head was read, then the body
 pub had_request : (request : RequestParts) (count : ℕ) (body : List ℕ) (old now new : Reader) → ReadsHead request old now
-    → ReadsBody request.behind count body now new → HadRequest request.head count body old
+    → ReadsBody request.after_head count body now new → HadRequest request.head count body old
 had_request request count body old now new read body_read =
-    let there = request.behind ++ body_read.taken in
+    let there = request.after_head ++ body_read.taken in
     record {
       rest = there ++ left_of new;
       had = had_more request body_read.taken old now new read body_read.takes;
@@ -76,9 +76,9 @@ had_request request count body old now new read body_read =
 
 -- a head was read, and the input ended within the body
 pub had_short_request : (request : RequestParts) (count : ℕ) (old now new : Reader) → ReadsHead request old now
-    → EndsInBody request.behind count now new → HadShortRequest request.head count old
+    → EndsInBody request.after_head count now new → HadShortRequest request.head count old
 had_short_request request count old now new read ends =
-    let there = request.behind ++ ends.taken in
+    let there = request.after_head ++ ends.taken in
     let none = nothing_left new.left ends.ended in
     record {
       rest = there ++ left_of new;

@@ -3,7 +3,7 @@ use Rattle.std.specs.Prelude.{ℕ, ◌≤◌, List, length, take, Option, None, 
 use Rattle.httparse.specs.declared.spans.HeaderSpan.{HeaderSpan}
 use Rattle.httparse.specs.Spans.{IsRequestOf, IsRequestWithin}
 use Rattle.counted_io.specs.Device.{Reader}
-use Rattle.http_request.specs.Reading.{FailsInHead, IsClosed, LacksHead, Takes}
+use Rattle.http_request.specs.Reading.{FailsInHead, IsClosed, ReadsNoHead, Takes}
 use Rattle.http_request.specs.declared.head.Found.{Found}
 use Rattle.http_request.specs.declared.head.HeadFault.{HeadFault}
 use Rattle.http_request.specs.declared.head.TheConstants.{HEAD_LIMIT}
@@ -19,6 +19,6 @@ pub record FindsHead (bytes : List ℕ) (headers : List HeaderSpan) (found : Fou
 
 abbrev pub AnswersSearch : List ℕ → List HeaderSpan → Result (Option Found) HeadFault → Reader → Reader → Type 0
 AnswersSearch bytes headers (Ok (Some found)) old new = FindsHead bytes headers found old new
-AnswersSearch bytes headers (Ok None) old new = LacksHead old new
+AnswersSearch bytes headers (Ok None) old new = ReadsNoHead old new
 AnswersSearch bytes headers (Err Closed) old new = IsClosed old new
 AnswersSearch bytes headers (Err Read) old new = FailsInHead old new

@@ -36,16 +36,16 @@ const PIECE: usize = 16_384;
 /// Allocates for the bytes that have been read, so an announced length alone allocates nothing. No read is retried, not even after `Interrupted`.
 pub fn read_body<A: Allocator + Copy, R: CountedRead>(
     alloc: A,
-    behind: &[u8],
+    after_head: &[u8],
     length: usize,
     input: &mut R,
 ) -> Result<Vec<u8, A>, BodyFault>
     ensures { MatchResult result
-        (λ body. ReadsBody behind.now length body.items (reader R.remaining R.failed_reads input.old) (reader R.remaining R.failed_reads input.new))
-        (λ fault. EndsBody fault behind.now length (reader R.remaining R.failed_reads input.old) (reader R.remaining R.failed_reads input.new)) }
+        (λ body. ReadsBody after_head.now length body.items (reader R.remaining R.failed_reads input.old) (reader R.remaining R.failed_reads input.new))
+        (λ fault. EndsBody fault after_head.now length (reader R.remaining R.failed_reads input.old) (reader R.remaining R.failed_reads input.new)) }
 {
     let mut body = Vec::new(alloc);
-    body.extend_from_slice(&behind[..length.min(behind.len())])?;
+    body.extend_from_slice(&after_head[..length.min(after_head.len())])?;
     let mut piece = [0; PIECE];
     while body.len() < length {
         let most = (length - body.len()).min(PIECE);

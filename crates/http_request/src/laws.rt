@@ -2,7 +2,7 @@
 ghost use Rattle.std.specs.Prelude.{◌≡◌, ℕ, List, ◌++◌};
 ghost use Rattle.counted_io.specs.Device.{Reader};
 ghost use Rattle.http_request.specs.Head.{Head, HasHead};
-ghost use Rattle.http_request.specs.Reading.{EndsInBody, LacksHead, ReadsBody, ReadsHead, RequestParts};
+ghost use Rattle.http_request.specs.Reading.{EndsInBody, ReadsNoHead, ReadsBody, ReadsHead, RequestParts};
 ghost use Rattle.http_request.specs.Whole.{HadHead, HadNoHead, HadRequest, HadShortRequest, left_of};
 ghost use Rattle.http_request.specs.declared.head.TheConstants.{HEAD_LIMIT, HEADER_LIMIT};
 ghost use Rattle.http_request.specs.declared.length.TheConstants.{BODY_LIMIT};
@@ -16,17 +16,17 @@ pub fn limits()
 
 /// An input begins with at most one head, followed by one rest, and bytes that arrive later only lengthen that rest.
 pub fn one_head()
-    ensures unique { (input : List ℕ) (head other : Head) (rest behind : List ℕ) → HasHead input head rest → HasHead input other behind
-        → (head ≡ other) × (rest ≡ behind) }
+    ensures unique { (input : List ℕ) (head other : Head) (rest other_rest : List ℕ) → HasHead input head rest → HasHead input other other_rest
+        → (head ≡ other) × (rest ≡ other_rest) }
     ensures lasting { (input more : List ℕ) (head : Head) (rest : List ℕ) → HasHead input head rest → HasHead (input ++ more) head (rest ++ more) }
 {}
 
 /// The bytes read, in any number of reads, determine what the complete input has, if that is known.
 pub fn whole_inputs()
-    ensures head { (request : RequestParts) (old new : Reader) → ReadsHead request old new → HadHead request.head (request.behind ++ left_of new) old }
-    ensures no_head { (old new : Reader) → LacksHead old new → HadNoHead old }
+    ensures head { (request : RequestParts) (old new : Reader) → ReadsHead request old new → HadHead request.head (request.after_head ++ left_of new) old }
+    ensures no_head { (old new : Reader) → ReadsNoHead old new → HadNoHead old }
     ensures body { (request : RequestParts) (count : ℕ) (bytes : List ℕ) (old now new : Reader) → ReadsHead request old now
-        → ReadsBody request.behind count bytes now new → HadRequest request.head count bytes old }
+        → ReadsBody request.after_head count bytes now new → HadRequest request.head count bytes old }
     ensures short_body { (request : RequestParts) (count : ℕ) (old now new : Reader) → ReadsHead request old now
-        → EndsInBody request.behind count now new → HadShortRequest request.head count old }
+        → EndsInBody request.after_head count now new → HadShortRequest request.head count old }
 {}

@@ -46,7 +46,7 @@ fn are_digits(bytes: &[u8]) -> bool
     bytes.iter().all(|byte| byte.is_ascii_digit())
 }
 
-/// Returns the number that digits denote.
+/// Stops as soon as the number exceeds the limit, so it can't overflow.
 fn number_up_to_limit(digits: &[u8]) -> Result<usize, LengthFault>
     requires { IsTrue (list_all is_ascii_digit digits.now) }
     ensures { result ≡ up_to_limit (digits_value 10 digits.now) }

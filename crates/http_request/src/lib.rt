@@ -1,4 +1,4 @@
-//! An HTTP/1.1 request, read from a reader: its head without allocating, and its body in as much memory as it has bytes.
+//! Reads HTTP/1.1 requests: the head without allocating, and the body into memory allocated as its bytes arrive.
 #![tactic(auto)]
 
 mod body;

@@ -21,7 +21,7 @@ pub struct Request<'a> {
     target: &'a str,
     // The places of the headers in the bytes.
     headers: &'a [HeaderSpan],
-    behind: &'a [u8],
+    after_head: &'a [u8],
 }
 
 impl<'a> Model for Request<'a> {
@@ -33,7 +33,7 @@ impl<'a> Model for Request<'a> {
 
     ghost view = { λ request. record {
       head = record { method = request.method.now; target = request.target.now; headers = map (header_bytes request.bytes.now) request.headers.now };
-      behind = request.behind.now;
+      after_head = request.after_head.now;
     } };
 
     ghost invariant = { λ request. All (IsHeaderWithin (length request.bytes.now)) request.headers.now };
@@ -47,14 +47,14 @@ impl<'a> Request<'a> {
         ensures method { result.head.method ≡ span_bytes bytes.now spans.method }
         ensures target { result.head.target ≡ span_bytes bytes.now spans.path }
         ensures headers { result.head.headers ≡ map (header_bytes bytes.now) (take spans.headers headers.now) }
-        ensures behind { result.behind ≡ drop spans.len bytes.now }
+        ensures after_head { result.after_head ≡ drop spans.len bytes.now }
     {
         Request {
             bytes,
             method: spans.method.of(bytes),
             target: str::from_utf8(spans.path.of(bytes)).unwrap(),
             headers: &headers[..spans.headers],
-            behind: &bytes[spans.len..],
+            after_head: &bytes[spans.len..],
         }
     }
 
@@ -76,10 +76,10 @@ impl<'a> Request<'a> {
 
     /// Returns the bytes read after the head: the start of the body, if there is one, and possibly more.
     #[inline]
-    pub fn behind(&self) -> &'a [u8]
-        ensures { result.now ≡ self.now.behind }
+    pub fn after_head(&self) -> &'a [u8]
+        ensures { result.now ≡ self.now.after_head }
     {
-        self.behind
+        self.after_head
     }
 
     /// Returns the body's length in bytes, as the head announces it.
@@ -121,7 +121,7 @@ impl<'a> Request<'a> {
     }
 }
 
-/// Returns whether a header has this name, in any case (RFC 9110, section 5.1).
+/// Compares a header's name without regard to case (RFC 9110, section 5.1).
 fn is_named(bytes: &[u8], header: &HeaderSpan, name: &str) -> bool
     requires { IsHeaderWithin (length bytes.now) header.now }
     ensures { result ≡ is_named name.now (header_bytes bytes.now header.now) }

@@ -133,23 +133,23 @@ module _ {K : Type 0} where
   unfolding seek
   parameter_step rows key byte path param no_catch_all = simp (param, no_catch_all, or_else_none)
 
-  row_gone : (key : K) (byte : ℕ) (path : List ℕ) → seek 0 (([], key) ∷ []) (byte ∷ path) ≡ None
-  row_gone key byte path = one_step (([], key) ∷ []) byte path refl refl ∙ seek_none 0 path
+  row_ended : (key : K) (byte : ℕ) (path : List ℕ) → seek 0 (([], key) ∷ []) (byte ∷ path) ≡ None
+  row_ended key byte path = one_step (([], key) ∷ []) byte path refl refl ∙ seek_none 0 path
 
   -- the path's own byte may equal the parameter's token; the row is found anyway
 
-  taken : (key : K) (path : List ℕ) → or_else (seek 0 (([], key) ∷ []) path) (parameter key (param_token ∷ path)) ≡ parameter key
+  found_by_token : (key : K) (path : List ℕ) → or_else (seek 0 (([], key) ∷ []) path) (parameter key (param_token ∷ path)) ≡ parameter key
       (param_token ∷ path)
   unfolding seek param_step
-  taken key [] = refl
-  taken key (byte ∷ path) = ap (λ (found : Option K). or_else found (parameter key (param_token ∷ byte ∷ path))) (row_gone key byte path)
+  found_by_token key [] = refl
+  found_by_token key (byte ∷ path) = ap (λ (found : Option K). or_else found (parameter key (param_token ∷ byte ∷ path))) (row_ended key byte path)
 
-  taken_at : (key : K) (byte : ℕ) (path : List ℕ) → (param_token == byte) ≡ true
+  found_by_byte : (key : K) (byte : ℕ) (path : List ℕ) → (param_token == byte) ≡ true
       → or_else (seek 0 (([], key) ∷ []) path) (parameter key (byte ∷ path)) ≡ parameter key (byte ∷ path)
-  taken_at key byte path is =
+  found_by_byte key byte path is =
       let token : param_token ≡ byte = grind (arith, nat_tests) in
       subst (λ (byte : ℕ). or_else (seek 0 (([], key) ∷ []) path) (parameter key (byte ∷ path)) ≡ parameter key (byte ∷ path)) token
-      (taken key path)
+      (found_by_token key path)
 
   parameter_alone : (key : K) (byte : ℕ) (path : List ℕ) → seek 0 ((param_token ∷ [], key) ∷ []) (byte ∷ path) ≡ parameter key (byte ∷ path)
   parameter_alone key byte path =
@@ -157,7 +157,7 @@ module _ {K : Type 0} where
     where
       by_test : (same : Bool) → (param_token == byte) ≡ same → or_else (seek 0 (cond same (([], key) ∷ []) []) path)
           (parameter key (byte ∷ path)) ≡ parameter key (byte ∷ path)
-      by_test true is = taken_at key byte path is
+      by_test true is = found_by_byte key byte path is
       by_test false is = ap (λ (found : Option K). or_else found (parameter key (byte ∷ path))) (seek_none 0 path)
 
   seek_end : (rows : RowsOf K) → seek 0 rows [] ≡ own rows
@@ -191,85 +191,85 @@ module _ {K : Type 0} where
 
   -- the row among literal rows, which come first
 
-  own_behind : (front : List ℕ) (key : K) (rows : RowsOf K) → own ((with_parameter front, key) ∷ rows) ≡ own rows
-  own_behind [] key rows = refl
-  own_behind (byte ∷ front) key rows = refl
+  own_parameter : (front : List ℕ) (key : K) (rows : RowsOf K) → own ((with_parameter front, key) ∷ rows) ≡ own rows
+  own_parameter [] key rows = refl
+  own_parameter (byte ∷ front) key rows = refl
 
   -- neither token continues a row that begins with a byte, nor a literal row
-  step_among : (first : ℕ) (text : List ℕ) (key : K) (before behind : RowsOf K) → first < 256 → AreLiteral before → AreLiteral behind
-      → (step param_token (before ++ (first ∷ text, key) ∷ behind) ≡ [])
-      × (step catch_all_token (before ++ (first ∷ text, key) ∷ behind) ≡ [])
-  step_among first text key before behind small literal more = (by_token param_token (omega arith), by_token catch_all_token (omega arith))
+  step_among : (first : ℕ) (text : List ℕ) (key : K) (before after : RowsOf K) → first < 256 → AreLiteral before → AreLiteral after
+      → (step param_token (before ++ (first ∷ text, key) ∷ after) ≡ [])
+      × (step catch_all_token (before ++ (first ∷ text, key) ∷ after) ≡ [])
+  step_among first text key before after small literal more = (by_token param_token (omega arith), by_token catch_all_token (omega arith))
     where
-      by_token : (token : ℕ) → 256 ≤ token → step token (before ++ (first ∷ text, key) ∷ behind) ≡ []
+      by_token : (token : ℕ) → 256 ≤ token → step token (before ++ (first ∷ text, key) ∷ after) ≡ []
       by_token token large =
-          step_append token before ((first ∷ text, key) ∷ behind)
-          ∙ ap (λ (steps : RowsOf K). steps ++ step token ((first ∷ text, key) ∷ behind)) (step_token token before large literal)
-          ∙ step_front token first text key behind small large ∙ step_token token behind large more
+          step_append token before ((first ∷ text, key) ∷ after)
+          ∙ ap (λ (steps : RowsOf K). steps ++ step token ((first ∷ text, key) ∷ after)) (step_token token before large literal)
+          ∙ step_front token first text key after small large ∙ step_token token after large more
 
   AreLiteral-append : (rows more : RowsOf K) → AreLiteral rows → AreLiteral more → AreLiteral (rows ++ more)
   AreLiteral-append [] more are are_more = are_more
   AreLiteral-append ((text, key) ∷ rows) more are are_more = (are.0, AreLiteral-append rows more are.1 are_more)
 
-  pub seek_among : (front : List ℕ) (key : K) (before behind : RowsOf K) (path : List ℕ) → IsText front → AreLiteral before
-      → AreLiteral behind
-      → seek 0 (before ++ (with_parameter front, key) ∷ behind) path ≡ or_else (seek 0 (before ++ behind) path)
+  pub seek_among : (front : List ℕ) (key : K) (before after : RowsOf K) (path : List ℕ) → IsText front → AreLiteral before
+      → AreLiteral after
+      → seek 0 (before ++ (with_parameter front, key) ∷ after) path ≡ or_else (seek 0 (before ++ after) path)
       (seek 0 ((with_parameter front, key) ∷ []) path)
-  seek_among front key before behind [] are literal more =
-      let own_front = own_behind front key [] in
-      let own_all : own (before ++ (with_parameter front, key) ∷ behind) ≡ own (before ++ behind) =
-      own_append before ((with_parameter front, key) ∷ behind) ∙ ap (or_else (own before)) (own_behind front key behind)
-      ∙ sym (own_append before behind)
+  seek_among front key before after [] are literal more =
+      let own_front = own_parameter front key [] in
+      let own_all : own (before ++ (with_parameter front, key) ∷ after) ≡ own (before ++ after) =
+      own_append before ((with_parameter front, key) ∷ after) ∙ ap (or_else (own before)) (own_parameter front key after)
+      ∙ sym (own_append before after)
       in
       cc (
-        seek_end (before ++ (with_parameter front, key) ∷ behind),
-        seek_end (before ++ behind),
+        seek_end (before ++ (with_parameter front, key) ∷ after),
+        seek_end (before ++ after),
         seek_end ((with_parameter front, key) ∷ []),
-        or_else_none (own (before ++ behind)),
+        or_else_none (own (before ++ after)),
       )
-  seek_among [] key before behind (byte ∷ path) are literal more =
-      let parameters : step param_token (before ++ (param_token ∷ [], key) ∷ behind) ≡ ([], key) ∷ [] =
-      step_append param_token before ((param_token ∷ [], key) ∷ behind)
-      ∙ ap (λ (steps : RowsOf K). steps ++ ([], key) ∷ step param_token behind) (step_token param_token before (omega arith) literal)
-      ∙ ap (λ (steps : RowsOf K). ([], key) ∷ steps) (step_token param_token behind (omega arith) more)
+  seek_among [] key before after (byte ∷ path) are literal more =
+      let parameters : step param_token (before ++ (param_token ∷ [], key) ∷ after) ≡ ([], key) ∷ [] =
+      step_append param_token before ((param_token ∷ [], key) ∷ after)
+      ∙ ap (λ (steps : RowsOf K). steps ++ ([], key) ∷ step param_token after) (step_token param_token before (omega arith) literal)
+      ∙ ap (λ (steps : RowsOf K). ([], key) ∷ steps) (step_token param_token after (omega arith) more)
       in
-      let no_catch_all : step catch_all_token (before ++ (param_token ∷ [], key) ∷ behind) ≡ [] =
-      step_append catch_all_token before ((param_token ∷ [], key) ∷ behind)
-      ∙ ap (λ (steps : RowsOf K). steps ++ step catch_all_token behind) (step_token catch_all_token before (omega arith) literal)
-      ∙ step_token catch_all_token behind (omega arith) more
+      let no_catch_all : step catch_all_token (before ++ (param_token ∷ [], key) ∷ after) ≡ [] =
+      step_append catch_all_token before ((param_token ∷ [], key) ∷ after)
+      ∙ ap (λ (steps : RowsOf K). steps ++ step catch_all_token after) (step_token catch_all_token before (omega arith) literal)
+      ∙ step_token catch_all_token after (omega arith) more
       in
-      let here = parameter_step (before ++ (param_token ∷ [], key) ∷ behind) key byte path parameters no_catch_all in
-      let steps = step_append byte before ((param_token ∷ [], key) ∷ behind) in
-      let literals = literal_step (before ++ behind) byte path (AreLiteral-append before behind literal more) in
-      let literal_steps = step_append byte before behind in
+      let here = parameter_step (before ++ (param_token ∷ [], key) ∷ after) key byte path parameters no_catch_all in
+      let steps = step_append byte before ((param_token ∷ [], key) ∷ after) in
+      let literals = literal_step (before ++ after) byte path (AreLiteral-append before after literal more) in
+      let literal_steps = step_append byte before after in
       let alone = parameter_alone key byte path in
       let same = by_test (param_token == byte) refl in
       cc
     where
       by_test : (same : Bool) → (param_token == byte) ≡ same
-          → or_else (seek 0 (step byte before ++ cond same (([], key) ∷ step byte behind) (step byte behind)) path)
-          (parameter key (byte ∷ path)) ≡ or_else (seek 0 (step byte before ++ step byte behind) path) (parameter key (byte ∷ path))
+          → or_else (seek 0 (step byte before ++ cond same (([], key) ∷ step byte after) (step byte after)) path)
+          (parameter key (byte ∷ path)) ≡ or_else (seek 0 (step byte before ++ step byte after) path) (parameter key (byte ∷ path))
       by_test true is =
           let large : 256 ≤ byte = grind (arith, nat_tests) in
-          rw (step_token byte before large literal, step_token byte behind large more, seek_none 0 path) (taken_at key byte path is)
+          rw (step_token byte before large literal, step_token byte after large more, seek_none 0 path) (found_by_byte key byte path is)
       by_test false is = refl
-  seek_among (first ∷ front) key before behind (byte ∷ path) are literal more =
-      let none = step_among first (with_parameter front) key before behind are.0 literal more in
-      let here = one_step (before ++ (with_parameter (first ∷ front), key) ∷ behind) byte path none.0 none.1 in
-      let steps = step_append byte before ((with_parameter (first ∷ front), key) ∷ behind) in
-      let literals = literal_step (before ++ behind) byte path (AreLiteral-append before behind literal more) in
-      let literal_steps = step_append byte before behind in
+  seek_among (first ∷ front) key before after (byte ∷ path) are literal more =
+      let none = step_among first (with_parameter front) key before after are.0 literal more in
+      let here = one_step (before ++ (with_parameter (first ∷ front), key) ∷ after) byte path none.0 none.1 in
+      let steps = step_append byte before ((with_parameter (first ∷ front), key) ∷ after) in
+      let literals = literal_step (before ++ after) byte path (AreLiteral-append before after literal more) in
+      let literal_steps = step_append byte before after in
       let alone = one_step ((with_parameter (first ∷ front), key) ∷ []) byte path
       (step_front param_token first (with_parameter front) key [] are.0 (omega arith))
       (step_front catch_all_token first (with_parameter front) key [] are.0 (omega arith)) in
-      let same = by_test (first == byte) (seek_among front key (step byte before) (step byte behind) path are.1
-      (step_literal byte before literal) (step_literal byte behind more)) in
+      let same = by_test (first == byte) (seek_among front key (step byte before) (step byte after) path are.1
+      (step_literal byte before literal) (step_literal byte after more)) in
       cc
     where
       by_test : (same : Bool)
-          → seek 0 (step byte before ++ (with_parameter front, key) ∷ step byte behind) path ≡ or_else
-          (seek 0 (step byte before ++ step byte behind) path) (seek 0 ((with_parameter front, key) ∷ []) path)
-          → seek 0 (step byte before ++ cond same ((with_parameter front, key) ∷ step byte behind) (step byte behind)) path ≡ or_else
-          (seek 0 (step byte before ++ step byte behind) path) (seek 0 (cond same ((with_parameter front, key) ∷ []) []) path)
+          → seek 0 (step byte before ++ (with_parameter front, key) ∷ step byte after) path ≡ or_else
+          (seek 0 (step byte before ++ step byte after) path) (seek 0 ((with_parameter front, key) ∷ []) path)
+          → seek 0 (step byte before ++ cond same ((with_parameter front, key) ∷ step byte after) (step byte after)) path ≡ or_else
+          (seek 0 (step byte before ++ step byte after) path) (seek 0 (cond same ((with_parameter front, key) ∷ []) []) path)
       by_test true rest = rest
-      by_test false rest = rw seek_none (sym (or_else_none (seek 0 (step byte before ++ step byte behind) path)))
+      by_test false rest = rw seek_none (sym (or_else_none (seek 0 (step byte before ++ step byte after) path)))

@@ -40,11 +40,11 @@ refused_for_memory route old new error is free = by_error error (row_inserted ro
 before_job : RowsOf (RouteOf Route)
 before_job = entry Assemble ∷ entry Disassemble ∷ entry Extract ∷ entry Geocode ∷ []
 
-behind_job : RowsOf (RouteOf Route)
-behind_job = entry Jobs ∷ entry Verify ∷ []
+after_job : RowsOf (RouteOf Route)
+after_job = entry Jobs ∷ entry Verify ∷ []
 
 pub table : RowsOf (RouteOf Route)
-table = before_job ++ entry Job ∷ behind_job
+table = before_job ++ entry Job ∷ after_job
 
 -- `or_else` and `option_map` move into the branches of a test
 or_else-cond : {K : Type 0} (test : Bool) (key : K) (rest last : Option K)
@@ -59,18 +59,18 @@ option_map-cond f false x rest = refl
 
 finds_route : (path : List ℕ)
     → option_map (λ (found : RouteOf Route). found.value)
-    (or_else (lookup path (before_job ++ behind_job)) (cond (matches Job path) (Some (entry Job).1) None)) ≡ route_of path
-unfolding before_job behind_job
+    (or_else (lookup path (before_job ++ after_job)) (cond (matches Job path) (Some (entry Job).1) None)) ≡ route_of path
+unfolding before_job after_job
 finds_route path = simp (or_else-cond, option_map-cond) refl
 
 pub table_finds : FindsRoutes table
-unfolding table before_job behind_job
+unfolding table before_job after_job
 table_finds path =
     ap (option_map (λ (found : RouteOf Route). found.value))
-    (seek_among (codes "/jobs/") (entry Job).1 before_job behind_job path (search rules) (search rules) (search rules)
+    (seek_among (codes "/jobs/") (entry Job).1 before_job after_job path (search rules) (search rules) (search rules)
     ∙ ap (λ (found : Option (RouteOf Route)). or_else found (seek 0 (entry Job ∷ []) path))
-    (seek_literal (before_job ++ behind_job) path (search rules))
-    ∙ ap (or_else (lookup path (before_job ++ behind_job))) (seek_alone (codes "/jobs/") (entry Job).1 path (search rules)))
+    (seek_literal (before_job ++ after_job) path (search rules))
+    ∙ ap (or_else (lookup path (before_job ++ after_job))) (seek_alone (codes "/jobs/") (entry Job).1 path (search rules)))
     ∙ finds_route path
 
 -- routes that can be inserted one after the other, after which the rows are the table
@@ -79,7 +79,7 @@ MakesTable [] rows = rows ≡ table
 MakesTable (route ∷ more) rows = (nearest (pattern route) rows ≡ None) × MakesTable more (placed (entry route) rows)
 
 pub all_make : MakesTable routes []
-unfolding table before_job behind_job
+unfolding table before_job after_job
 all_make = search rules
 
 -- the next route can be inserted

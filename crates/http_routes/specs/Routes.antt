@@ -53,7 +53,7 @@ route_of text = find (λ route. matches route text) routes
 
 -- the action of a method on a route
 abbrev pub action_of : Route → List ℕ → Option Action
-action_of route method = option_map (λ asks. asks.1) (find (λ asks. bytes_eq asks.0 method) (row route).actions)
+action_of route method = option_map (λ pair. pair.1) (find (λ pair. bytes_eq pair.0 method) (row route).actions)
 
 -- the names, separated by a comma and a blank
 abbrev pub listed : List (List ℕ) → List ℕ
@@ -63,4 +63,4 @@ listed (name ∷ next ∷ names) = name ++ codes ", " ++ listed (next ∷ names)
 
 -- the methods of a route, as in the `Allow` header (RFC 9110, section 10.2.1)
 abbrev pub allow : Route → List ℕ
-allow route = listed (map (λ asks. asks.0) (row route).actions)
+allow route = listed (map (λ pair. pair.0) (row route).actions)

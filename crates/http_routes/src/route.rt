@@ -5,7 +5,7 @@ ghost use Rattle.http_routes.specs.Routes.{action_of, allow, row, verb_name};
 
 use http::Method;
 
-/// The action that a request asks for.
+/// The action that a request names by its path and method.
 #[derive(Clone, Copy, PartialEq, Eq)]
 pub enum Action {
     Verify,
@@ -50,7 +50,7 @@ enum Verb {
 }
 
 impl Verb {
-    /// Returns whether a request's method is this one. Methods are case-sensitive (RFC 9110, section 9.1).
+    /// Compares a request's method with this one. Methods are case-sensitive (RFC 9110, section 9.1).
     fn is(self, method: &[u8]) -> bool
         ensures { result ≡ bytes_eq (verb_name self) method.now }
     {
@@ -83,12 +83,11 @@ impl Route {
         Route::Job,
     ];
 
-    /// Returns the route's row in the table.
     fn row(self) -> Row
         ensures path { result.path.now ≡ (row self).path }
         ensures allow { result.allow.now ≡ allow self }
         ensures short { length result.allow.now ≤ 32 }
-        ensures methods { map (λ asks. (verb_name asks.0, asks.1)) result.methods.now ≡ (row self).actions }
+        ensures methods { map (λ pair. (verb_name pair.0, pair.1)) result.methods.now ≡ (row self).actions }
     {
         row!(self;
             Verify: "/verify" "POST" Post Verify;
@@ -101,7 +100,6 @@ impl Route {
         )
     }
 
-    /// Returns the route's path.
     pub(crate) fn path(self) -> &'static str
         ensures { result.now ≡ (row self).path }
     {
@@ -124,10 +122,9 @@ impl Route {
     }
 }
 
-/// Returns the action of a method among the given methods.
 fn action_among(methods: &[(Verb, Action)], method: &[u8]) -> Option<Action>
-    ensures { result ≡ option_map (λ asks. asks.1) (find (λ asks. bytes_eq (verb_name asks.0) method.now) methods.now) }
+    ensures { result ≡ option_map (λ pair. pair.1) (find (λ pair. bytes_eq (verb_name pair.0) method.now) methods.now) }
 {
-    let found = methods.iter().find(|asks| asks.0.is(method))?;
+    let found = methods.iter().find(|pair| pair.0.is(method))?;
     Some(found.1)
 }

@@ -1,7 +1,7 @@
 use Rattle.std.proofs.Common.{arith, drop, length-append, refl}
 use Rattle.std.proofs.lemmas.List.{length-drop, length-take}
 use Rattle.std.proofs.lemmas.Result.{err_from_is_err_and}
-use Rattle.http_request.proofs.BodyLemmas.{body_begins, body_ends, body_fails, body_lacks_memory, body_more, body_whole}
+use Rattle.http_request.proofs.BodyLemmas.{body_begins, body_ends, body_fails, body_out_of_memory, body_more, body_whole}
 use Rattle.http_request.proofs.body.read_body.Goals as goal
 
 pub loop-piece-init : goal.loop-piece-init
@@ -40,7 +40,7 @@ returns-in_err-extend_from_slice-in-Ok g c =
     let p = err_from_is_err_and c.from_residual-in_err-extend_from_slice-in-Ok.result
     c.from_residual-in_err-extend_from_slice-in-Ok.ensures.1 in
     rw (p.1, p.2) (
-    body_lacks_memory c.read_counted.new.buf c.in-Ok.count c.loop-piece.invariant.so_far (omega arith)
+    body_out_of_memory c.read_counted.new.buf c.in-Ok.count c.loop-piece.invariant.so_far (omega arith)
     (record { consumed = c.in-Ok.ensures.bytes.0; failed = c.in-Ok.ensures.failures }) (grind (arith)) c.in-Ok.ensures.bound.0
     (omega (arith, c.in-Ok.ensures.bound.0, length-take c.min-most.result c.loop-piece.piece, c.min-most.ensures))
     )

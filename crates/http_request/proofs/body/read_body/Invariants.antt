@@ -5,7 +5,7 @@ use Rattle.http_request.proofs.body.read_body.Given as goal
 
 abbrev pub invariant-loop-piece : goal.invariant-loop-piece
 invariant-loop-piece g l = record {
-  so_far : IsBodySoFar l.behind l.length l.body.items (reader g.R.Read.remaining g.R.CountedRead.failed_reads l.initial.input)
+  so_far : IsBodySoFar l.after_head l.length l.body.items (reader g.R.Read.remaining g.R.CountedRead.failed_reads l.initial.input)
       (reader g.R.Read.remaining g.R.CountedRead.failed_reads l.input);
   room : length l.piece ≡ 16384;
 }

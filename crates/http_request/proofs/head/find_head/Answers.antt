@@ -1,5 +1,5 @@
 use Rattle.std.proofs.Common.{◌≡◌, length, arith}
-use Rattle.http_request.proofs.SearchLemmas.{fails, lacks_by_limit, lacks_by_refusal, nothing_read, takes_more}
+use Rattle.http_request.proofs.SearchLemmas.{fails, no_head_by_limit, no_head_by_refusal, nothing_read, takes_more}
 use Rattle.http_request.proofs.head.find_head.Goals as goal
 
 pub loop-count-init : goal.loop-count-init
@@ -34,9 +34,9 @@ returns-in-Err g c =
     let takes = takes_more c.read_counted.new.buf _ c.in-Ok.read _ c.loop-count.invariant c.in-Ok.ensures.bound.0
     c.in-Ok.ensures.bytes.0 c.in-Ok.ensures.failures in
     let room : length c.loop-count.headers ≡ 64 = omega (arith, c.requires.headers) in
-    lacks_by_refusal _ _ takes (omega (arith, c.in-Ok.ensures.bound.0)) (grind (arith)) (omega (arith, c.requires.bytes))
+    no_head_by_refusal _ _ takes (omega (arith, c.in-Ok.ensures.bound.0)) (grind (arith)) (omega (arith, c.requires.bytes))
     (rw room at c.in-Err.ensures.no_room)
 
 pub returns : goal.returns
-returns g c = lacks_by_limit c.loop-count.bytes c.loop-count.count _ _
+returns g c = no_head_by_limit c.loop-count.bytes c.loop-count.count _ _
     (omega (arith, c.requires.bytes)) c.loop-count-test.false c.loop-count.invariant
