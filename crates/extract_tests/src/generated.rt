@@ -1,6 +1,6 @@
 //! Generated lists of events, for a table of jobs and the plain one.
 use crate::pair::Pair;
-use crate::plain::{Asked, Program};
+use crate::plain::{Call, Program};
 use crate::segments::sizes_of;
 use fixtures::{Refusing, Table, TableFault, cells, number};
 use std::alloc::Global;
@@ -92,7 +92,7 @@ fn drawn_event<'a>(
     words: &str,
     programs: &[Program<'a>],
     next_id: u64,
-) -> Result<Asked<'a>, TableFault> {
+) -> Result<Call<'a>, TableFault> {
     let id = match drawn(state, 20) {
         0 => u64::MAX,
         1..=7 => drawn(state, next_id.saturating_add(1)),
@@ -102,10 +102,10 @@ fn drawn_event<'a>(
     let place = drawn(state, programs.len() as u64) as usize;
     let program = programs.get(place).ok_or(TableFault::Rows)?;
     match word {
-        Some("submit") => Ok(Asked::Submit(*program)),
-        Some("turn") => Ok(Asked::Turn(Some(id))),
-        Some("fetch") => Ok(Asked::Fetch(id)),
-        Some("drop") => Ok(Asked::Drop(id)),
+        Some("submit") => Ok(Call::Submit(*program)),
+        Some("turn") => Ok(Call::Turn(Some(id))),
+        Some("fetch") => Ok(Call::Fetch(id)),
+        Some("drop") => Ok(Call::Drop(id)),
         _ => Err(TableFault::Word),
     }
 }
@@ -118,8 +118,8 @@ fn does_same(
 ) -> Result<bool, TableFault> {
     let mut state = list.seed;
     for _ in 0..list.events {
-        let asked = drawn_event(&mut state, list.words, programs, pair.plain.next_id())?;
-        if pair.is_refused(asked, 0) != Some(false) {
+        let call = drawn_event(&mut state, list.words, programs, pair.plain.next_id())?;
+        if pair.is_refused(call, 0) != Some(false) {
             return Ok(false);
         }
     }

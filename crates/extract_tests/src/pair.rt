@@ -1,5 +1,5 @@
 //! A table of jobs, compared with the plain one.
-use crate::plain::{Asked, PlainTable, text_of};
+use crate::plain::{Call, PlainTable, text_of};
 use crate::segments::{counties_of, lines_of};
 use fixtures::{Refusing, TableFault, number, program};
 use jobs::{COUNTY_LIMIT, Event, Jobs};
@@ -13,7 +13,7 @@ pub struct Pair<'a> {
     jobs: Jobs<&'a Refusing<Global>>,
     pub plain: PlainTable,
     /// The last reply of the plain table.
-    said: Vec<u8>,
+    reply: Vec<u8>,
 }
 
 impl<'a> Pair<'a> {
@@ -35,21 +35,21 @@ impl<'a> Pair<'a> {
             heap,
             jobs,
             plain: PlainTable::new(alloc, lines),
-            said: Vec::new(alloc),
+            reply: Vec::new(alloc),
         })
     }
 
     /// Applies an event to the table alone, and returns the reply as text.
-    fn ask(&mut self, asked: Asked<'_>) -> Option<Vec<u8>> {
-        let code = match asked {
-            Asked::Submit(submitted) => program(self.alloc, submitted.text).ok()?,
+    fn apply(&mut self, call: Call<'_>) -> Option<Vec<u8>> {
+        let code = match call {
+            Call::Submit(submitted) => program(self.alloc, submitted.text).ok()?,
             _ => Vec::new(self.alloc),
         };
-        let event = match asked {
-            Asked::Submit(_) => Event::Submit(&code),
-            Asked::Turn(id) => Event::Turn(id.or(self.jobs.next_turn()).unwrap_or(0)),
-            Asked::Fetch(id) => Event::Fetch(id),
-            Asked::Drop(id) => Event::Drop(id),
+        let event = match call {
+            Call::Submit(_) => Event::Submit(&code),
+            Call::Turn(id) => Event::Turn(id.or(self.jobs.next_turn()).unwrap_or(0)),
+            Call::Fetch(id) => Event::Fetch(id),
+            Call::Drop(id) => Event::Drop(id),
         };
         text_of(self.alloc, self.jobs.apply(event)).ok()
     }
@@ -57,23 +57,23 @@ impl<'a> Pair<'a> {
     /// Applies an event to both tables, and returns whether allocation number `nth` was refused. Returns `None` if the table's reply is wrong.
     /// After a refused allocation it must be `refused memory`, and the plain table is left alone; otherwise it must be that of the plain table, with
     /// the same next turn.
-    pub fn is_refused(&mut self, asked: Asked<'_>, nth: u64) -> Option<bool> {
+    pub fn is_refused(&mut self, call: Call<'_>, nth: u64) -> Option<bool> {
         self.heap.refuse(nth);
-        let reply = self.ask(asked)?;
+        let reply = self.apply(call)?;
         let was_refused = self.heap.was_refused();
         self.heap.refuse(0);
         if was_refused {
             return (reply.as_slice() == b"refused memory".as_slice()).then_some(true);
         }
-        self.said = self.plain.reply(asked).ok()?;
-        let is_same = reply == self.said && self.jobs.next_turn() == self.plain.next_turn();
+        self.reply = self.plain.reply(call).ok()?;
+        let is_same = reply == self.reply && self.jobs.next_turn() == self.plain.next_turn();
         is_same.then_some(false)
     }
 
     /// Returns whether the table has the same jobs as the plain one, and none with any other id up to the next one.
     pub fn has_same(&mut self) -> bool {
         for id in 0..=self.plain.next_id() {
-            if self.is_refused(Asked::Fetch(id), 0) != Some(false) {
+            if self.is_refused(Call::Fetch(id), 0) != Some(false) {
                 return false;
             }
         }
@@ -82,9 +82,9 @@ impl<'a> Pair<'a> {
 
     /// Returns the number of allocations of an event. Each of them is refused once, which must leave the table unchanged, before the event is
     /// applied to both tables.
-    fn refusals(&mut self, asked: Asked<'_>) -> Option<u64> {
+    fn refusals(&mut self, call: Call<'_>) -> Option<u64> {
         for nth in 1..=u64::MAX {
-            if !self.is_refused(asked, nth)? {
+            if !self.is_refused(call, nth)? {
                 return nth.checked_sub(1);
             }
             if !self.has_same() {
@@ -98,13 +98,13 @@ impl<'a> Pair<'a> {
     /// refused once: `some`, `none`, or `any` number. If they are `unswept`, none is refused.
     fn is_each_right(&mut self, event: &str, refusals: &str) -> Result<bool, TableFault> {
         let (words, times) = repeated(event)?;
-        let asked = Asked::new(words)?;
+        let call = Call::new(words)?;
         for _ in 0..times {
             let is_same = match refusals {
-                "unswept" => self.is_refused(asked, 0) == Some(false),
-                "none" => self.refusals(asked) == Some(0),
-                "some" => self.refusals(asked) > Some(0),
-                "any" => self.refusals(asked).is_some(),
+                "unswept" => self.is_refused(call, 0) == Some(false),
+                "none" => self.refusals(call) == Some(0),
+                "some" => self.refusals(call) > Some(0),
+                "any" => self.refusals(call).is_some(),
                 _ => return Err(TableFault::Word),
             };
             if !is_same {
@@ -115,10 +115,10 @@ impl<'a> Pair<'a> {
     }
 
     /// Returns whether the id of the next turn is the one in a cell, or there is `none`, without allocating.
-    fn is_next(&mut self, said: &str) -> Result<bool, TableFault> {
-        let id = match said {
+    fn is_next(&mut self, cell: &str) -> Result<bool, TableFault> {
+        let id = match cell {
             "none" => None,
-            _ => Some(number(said)?),
+            _ => Some(number(cell)?),
         };
         self.heap.refuse(1);
         Ok(self.jobs.next_turn() == id && self.heap.count() == 0)
@@ -129,7 +129,7 @@ impl<'a> Pair<'a> {
         match cells {
             ("next", id, "none" | "unswept") => self.is_next(id),
             (event, reply, refusals) => {
-                Ok(self.is_each_right(event, refusals)? && self.plain.in_full(reply)? == self.said)
+                Ok(self.is_each_right(event, refusals)? && self.plain.in_full(reply)? == self.reply)
             }
         }
     }

@@ -28,7 +28,7 @@ impl<'a> Program<'a> {
 
 /// An event of a table.
 #[derive(Clone, Copy)]
-pub enum Asked<'a> {
+pub enum Call<'a> {
     Submit(Program<'a>),
     /// The turn of the job with this id, or of the one whose turn is next.
     Turn(Option<u64>),
@@ -36,15 +36,15 @@ pub enum Asked<'a> {
     Drop(u64),
 }
 
-impl<'a> Asked<'a> {
+impl<'a> Call<'a> {
     /// Reads words like `submit every`, `turn 2` and `turn next`.
     pub fn new(words: &'a str) -> Result<Self, TableFault> {
         match words.split_once(' ') {
-            Some(("submit", name)) => Ok(Asked::Submit(Program::new(name)?)),
-            Some(("turn", "next")) => Ok(Asked::Turn(None)),
-            Some(("turn", id)) => Ok(Asked::Turn(Some(number(id)?))),
-            Some(("fetch", id)) => Ok(Asked::Fetch(number(id)?)),
-            Some(("drop", id)) => Ok(Asked::Drop(number(id)?)),
+            Some(("submit", name)) => Ok(Call::Submit(Program::new(name)?)),
+            Some(("turn", "next")) => Ok(Call::Turn(None)),
+            Some(("turn", id)) => Ok(Call::Turn(Some(number(id)?))),
+            Some(("fetch", id)) => Ok(Call::Fetch(number(id)?)),
+            Some(("drop", id)) => Ok(Call::Drop(number(id)?)),
             _ => Err(TableFault::Word),
         }
     }
@@ -105,12 +105,12 @@ impl PlainTable {
     }
 
     /// Applies an event, and returns the full reply.
-    pub fn reply(&mut self, asked: Asked<'_>) -> Result<Vec<u8>, AllocError> {
-        match asked {
-            Asked::Submit(program) => self.submit(program),
-            Asked::Turn(id) => self.turn(id.or(self.next_turn()).unwrap_or(0)),
-            Asked::Fetch(id) => self.fetch(id),
-            Asked::Drop(id) => self.close(id),
+    pub fn reply(&mut self, call: Call<'_>) -> Result<Vec<u8>, AllocError> {
+        match call {
+            Call::Submit(program) => self.submit(program),
+            Call::Turn(id) => self.turn(id.or(self.next_turn()).unwrap_or(0)),
+            Call::Fetch(id) => self.fetch(id),
+            Call::Drop(id) => self.close(id),
         }
     }
 
@@ -173,9 +173,9 @@ impl PlainTable {
 
     /// Returns the full form of a script's reply. A name of a program, as in `256 600 59136 of every`, is replaced by the rows that the program
     /// selects.
-    pub fn in_full(&self, said: &str) -> Result<Vec<u8>, TableFault> {
-        let Some((numbers, program)) = said.split_once(" of ") else {
-            return Ok(said.as_bytes().to_vec(self.alloc)?);
+    pub fn in_full(&self, reply: &str) -> Result<Vec<u8>, TableFault> {
+        let Some((numbers, program)) = reply.split_once(" of ") else {
+            return Ok(reply.as_bytes().to_vec(self.alloc)?);
         };
         let (done, _) = numbers.split_once(' ').ok_or(TableFault::Word)?;
         let (done, selection) = (number(done)?, Selection::of(program)?);

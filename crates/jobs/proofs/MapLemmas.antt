@@ -120,9 +120,9 @@ pub insert_entry-last : {X : Type 0} (low : ℕ) (es : List (ℕ × X)) (high id
 insert_entry-last low [] high id value ascend above = refl
 insert_entry-last {X} low (e ∷ es) high id value ascend above =
     let within = ascend.1 in
-    let behind : Greater ≡ nat_cmp id e.0 = nat_cmp_is id e.0 Greater (omega arith) in
+    let after : Greater ≡ nat_cmp id e.0 = nat_cmp_is id e.0 Greater (omega arith) in
     let others = insert_entry-last e.0 es high id value ascend.2 above in
-    ap (λ order. match_ordering order ((id, value) ∷ e ∷ es) ((e.0, value) ∷ es) (e ∷ insert_entry nat_cmp es id value)) (sym behind)
+    ap (λ order. match_ordering order ((id, value) ∷ e ∷ es) ((e.0, value) ∷ es) (e ∷ insert_entry nat_cmp es id value)) (sym after)
     ∙ ap (λ (es : List (ℕ × X)). e ∷ es) others
 
 -- ids before an entry are less than its id
@@ -147,24 +147,24 @@ module _ {X Y : Type 0} (seen : X → Y) where
   lookup-seen id es =
       lookup-map_values seen (nat_eq id) es ∙ ap (λ test. option_map seen (lookup test es)) (sym (fun_ext (same_test id)))
 
-  set_value-kept : (test : ℕ → Bool) (es : List (ℕ × X)) (value : X)
+  entries_seen-set_value : (test : ℕ → Bool) (es : List (ℕ × X)) (value : X)
       → entries_seen (set_value test es value) ≡ set_value test (entries_seen es) (seen value)
-  set_value-kept test [] value = refl
-  set_value-kept test (e ∷ es) value = grind (arith, set_value-kept test es value)
+  entries_seen-set_value test [] value = refl
+  entries_seen-set_value test (e ∷ es) value = grind (arith, entries_seen-set_value test es value)
 
   pub set_value-seen : (id : ℕ) (es : List (ℕ × X)) (value : X)
       → entries_seen (set_value (is_at (nat_cmp id)) es value) ≡ set_value (nat_eq id) (entries_seen es) (seen value)
   set_value-seen id es value =
-      ap (λ test. entries_seen (set_value test es value)) (fun_ext (same_test id)) ∙ set_value-kept (nat_eq id) es value
+      ap (λ test. entries_seen (set_value test es value)) (fun_ext (same_test id)) ∙ entries_seen-set_value (nat_eq id) es value
 
-  remove_entry-kept : (test : ℕ → Bool) (es : List (ℕ × X)) → entries_seen (remove_entry test es) ≡ remove_entry test (entries_seen es)
-  remove_entry-kept test [] = refl
-  remove_entry-kept test (e ∷ es) = grind (arith, remove_entry-kept test es)
+  entries_seen-remove_entry : (test : ℕ → Bool) (es : List (ℕ × X)) → entries_seen (remove_entry test es) ≡ remove_entry test (entries_seen es)
+  entries_seen-remove_entry test [] = refl
+  entries_seen-remove_entry test (e ∷ es) = grind (arith, entries_seen-remove_entry test es)
 
   pub remove_entry-seen : (id : ℕ) (es : List (ℕ × X)) → entries_seen (remove_entry (is_at (nat_cmp id)) es) ≡ remove_entry (nat_eq id)
       (entries_seen es)
   remove_entry-seen id es =
-      ap (λ test. entries_seen (remove_entry test es)) (fun_ext (same_test id)) ∙ remove_entry-kept (nat_eq id) es
+      ap (λ test. entries_seen (remove_entry test es)) (fun_ext (same_test id)) ∙ entries_seen-remove_entry (nat_eq id) es
 
   pub insert_entry-seen : (low : ℕ) (es : List (ℕ × X)) (high id : ℕ) (value : X) → Ascend low es high → high < id
       → entries_seen (insert_entry nat_cmp es id value) ≡ entries_seen es ++ (id, seen value) ∷ []

@@ -46,12 +46,12 @@ least-le total jobs None least first = let is = first.0 in omega arith
 least-le total jobs (Some id) least (job, is, next) = let unfinished = next.unfinished in omega arith
 
 -- a later job, with a greater id, that doesn't have fewer segments done
-first_kept : (total : ℕ) (jobs : List (ℕ × JobParts)) (next : Option ℕ) (least : ℕ) (entry : ℕ × JobParts)
+first_same : (total : ℕ) (jobs : List (ℕ × JobParts)) (next : Option ℕ) (least : ℕ) (entry : ℕ × JobParts)
     → All (λ other. other.0 < entry.0) jobs → least ≤ entry.1.done → FirstOf total jobs next least
     → FirstOf total (jobs ++ entry ∷ []) next least
-first_kept total jobs None least entry below further first =
+first_same total jobs None least entry below further first =
     (first.0, All-push (λ (entry : ℕ × JobParts). total ≤ entry.1.done) jobs entry first.1 (let is = first.0 in omega arith))
-first_kept total jobs (Some id) least entry below further (job, is, next) = (
+first_same total jobs (Some id) least entry below further (job, is, next) = (
   job,
   is,
   record {
@@ -72,9 +72,9 @@ first_kept total jobs (Some id) least entry below further (job, is, next) = (
     before (inr nearer) = inl nearer
 
 -- a later job that has fewer segments done
-first_taken : (total : ℕ) (jobs : List (ℕ × JobParts)) (next : Option ℕ) (least : ℕ) (entry : ℕ × JobParts) → entry.1.done < least
+first_changed : (total : ℕ) (jobs : List (ℕ × JobParts)) (next : Option ℕ) (least : ℕ) (entry : ℕ × JobParts) → entry.1.done < least
     → FirstOf total jobs next least → FirstOf total (jobs ++ entry ∷ []) (Some entry.0) entry.1.done
-first_taken total jobs next least entry back first = (
+first_changed total jobs next least entry back first = (
   entry.1,
   refl,
   record {
@@ -106,24 +106,24 @@ module _ {A : Type 0} (total : ℕ) (entries : List (ℕ × Job A)) (entry : ℕ
   split_more : entries ≡ (so_far.seen ++ entry ∷ []) ++ rest
   split_more = split_here ∙ sym (append_assoc so_far.seen (entry ∷ []) rest)
 
-  pub job_passed : least ≤ entry.1.position.done → IsNextSoFar total entries rest next least
-  job_passed further = record {
+  pub next_same : least ≤ entry.1.position.done → IsNextSoFar total entries rest next least
+  next_same further = record {
     seen = so_far.seen ++ entry ∷ [];
     split = split_more;
     first =
         let below = (less_before 0 so_far.seen entry rest last_id (subst (λ entries. Ascend 0 entries last_id) split_here ascend)).1 in
         subst (λ jobs. FirstOf total jobs next least) (sym jobs_more)
-        (first_kept total (jobs_of so_far.seen) next least (entry.0, parts_of entry.1)
+        (first_same total (jobs_of so_far.seen) next least (entry.0, parts_of entry.1)
         (before_all so_far.seen entry.0 below) further so_far.first);
   }
 
-  pub job_taken : entry.1.position.done < least → IsNextSoFar total entries rest (Some entry.0) entry.1.position.done
-  job_taken back = record {
+  pub next_changed : entry.1.position.done < least → IsNextSoFar total entries rest (Some entry.0) entry.1.position.done
+  next_changed back = record {
     seen = so_far.seen ++ entry ∷ [];
     split = split_more;
     first =
         subst (λ jobs. FirstOf total jobs (Some entry.0) entry.1.position.done) (sym jobs_more)
-        (first_taken total (jobs_of so_far.seen) next least (entry.0, parts_of entry.1) back so_far.first);
+        (first_changed total (jobs_of so_far.seen) next least (entry.0, parts_of entry.1) back so_far.first);
   }
 
 -- the next of all jobs

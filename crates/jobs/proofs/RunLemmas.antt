@@ -12,7 +12,7 @@ use Rattle.bpf_meaning.proofs.ExtractLemmas.{one_extract_lem}
 use Rattle.bpf_meaning.specs.Extract.{IsExtract}
 use Rattle.bpf_program.specs.Program.{IsSafeProgram}
 use Rattle.tl_segments.specs.County.{CountyParts}
-use Rattle.jobs.specs.Run.{Exchange, IsOwn, IsRun, given_id, ids_given, program_of, programs_of, turn_count, turns_of}
+use Rattle.jobs.specs.Run.{Exchange, IsOwn, IsRun, assigned_id, assigned_ids, program_of, programs_of, turn_count, turns_of}
 use Rattle.jobs.specs.Segments.{Advances, segments_of}
 use Rattle.jobs.specs.Table.{JobParts, Step, Table, empty_table, job_of, new_job, without_job}
 use Rattle.jobs.specs.declared.event.Event.{Event}
@@ -28,7 +28,7 @@ use Rattle.jobs.proofs.SegmentLemmas.{extract_turned}
 -- The invariant of a table after the exchanges of a run so far.
 pub record IsSoFar (counties : List CountyParts) (past : List Exchange) (table : Table) : Type 0 where
   pub over : table.counties ≡ counties
-  pub ids : ids_given past ≡ range_with_len 1 table.last_id
+  pub ids : assigned_ids past ≡ range_with_len 1 table.last_id
   pub ascend : Ascend 0 table.jobs table.last_id
   pub fresh : (id : ℕ) → table.last_id < id → (programs_of id past ≡ []) × (turns_of id past ≡ 0)
   pub own : (id : ℕ) (job : JobParts) → job_of table id ≡ Some job → IsOwn counties past id job
@@ -48,8 +48,8 @@ abbrev pub exchange_of : Event → Reply → Exchange
 exchange_of event reply = record { event = event; reply = reply }
 
 ids-more : (past : List Exchange) (event : Event) (reply : Reply)
-    → ids_given (past ++ exchange_of event reply ∷ []) ≡ ids_given past ++ cons_option (given_id event reply) []
-ids-more past event reply = filter_map-append (λ exchange. given_id exchange.event exchange.reply) past (exchange_of event reply ∷ [])
+    → assigned_ids (past ++ exchange_of event reply ∷ []) ≡ assigned_ids past ++ cons_option (assigned_id event reply) []
+ids-more past event reply = filter_map-append (λ exchange. assigned_id exchange.event exchange.reply) past (exchange_of event reply ∷ [])
 
 programs-more : (id : ℕ) (past : List Exchange) (event : Event) (reply : Reply)
     → programs_of id (past ++ exchange_of event reply ∷ []) ≡ programs_of id past ++ cons_option (program_of id event reply) []
@@ -61,15 +61,15 @@ turns-more : (id : ℕ) (past : List Exchange) (event : Event) (reply : Reply)
 turns-more id [] event reply = omega arith
 turns-more id (first ∷ past) event reply = let others = turns-more id past event reply in omega arith
 
-programs-kept : (id : ℕ) (past : List Exchange) (event : Event) (reply : Reply) → program_of id event reply ≡ None
+programs-unchanged : (id : ℕ) (past : List Exchange) (event : Event) (reply : Reply) → program_of id event reply ≡ None
     → programs_of id (past ++ exchange_of event reply ∷ []) ≡ programs_of id past
-programs-kept id past event reply none =
+programs-unchanged id past event reply none =
     programs-more id past event reply ∙ ap (λ program. programs_of id past ++ cons_option program []) none
     ∙ append-nil (programs_of id past)
 
-turns-kept : (id : ℕ) (past : List Exchange) (event : Event) (reply : Reply) → turn_count id event reply ≡ 0
+turns-unchanged : (id : ℕ) (past : List Exchange) (event : Event) (reply : Reply) → turn_count id event reply ≡ 0
     → turns_of id (past ++ exchange_of event reply ∷ []) ≡ turns_of id past
-turns-kept id past event reply none = turns-more id past event reply ∙ ap (λ n. turns_of id past + n) none ∙ (omega arith)
+turns-unchanged id past event reply none = turns-more id past event reply ∙ ap (λ n. turns_of id past + n) none ∙ (omega arith)
 
 range-push : (from count : ℕ) → range_with_len from (count + 1) ≡ range_with_len from count ++ (from + count) ∷ []
 range-push from zero = ap (λ n. n ∷ []) {x = from} {y = from + 0} (omega arith)
@@ -80,14 +80,14 @@ range-push from (suc count) =
 
 module _ (counties : List CountyParts) (past : List Exchange) (event : Event) (reply : Reply) where
   -- a job, if the exchange isn't about it
-  own_kept : (id : ℕ) (job : JobParts) → program_of id event reply ≡ None → turn_count id event reply ≡ 0 → IsOwn counties past id job
+  own_unchanged : (id : ℕ) (job : JobParts) → program_of id event reply ≡ None → turn_count id event reply ≡ 0 → IsOwn counties past id job
       → IsOwn counties (past ++ exchange_of event reply ∷ []) id job
-  own_kept id job no_program no_turn own = record {
+  own_unchanged id job no_program no_turn own = record {
     program = own.program;
-    submitted = programs-kept id past event reply no_program ∙ own.submitted;
+    submitted = programs-unchanged id past event reply no_program ∙ own.submitted;
     accepted = own.accepted;
     done = own.done ∙ ap (λ turns. min (length (segments_of counties)) (SEGMENTS_PER_TURN * turns))
-        (sym (turns-kept id past event reply no_turn));
+        (sym (turns-unchanged id past event reply no_turn));
     chosen = own.chosen;
     rows = own.rows;
   }
@@ -98,7 +98,7 @@ module _ (counties : List CountyParts) (past : List Exchange) (event : Event) (r
       → IsOwn counties (past ++ exchange_of event reply ∷ []) id new
   own_turned id old new no_program turn code advances own = record {
     program = own.program;
-    submitted = programs-kept id past event reply no_program ∙ own.submitted;
+    submitted = programs-unchanged id past event reply no_program ∙ own.submitted;
     accepted = subst (λ code. IsSafeProgram own.program code) (sym code) own.accepted;
     done =
         let before = own.done in
@@ -119,34 +119,34 @@ module _ (counties : List CountyParts) (past : List Exchange) (event : Event) (r
     submitted = programs-more id past event reply ∙ ap (λ program. programs_of id past ++ cons_option program []) is_program
         ∙ ap (λ programs. programs ++ program ∷ []) none;
     accepted = safe;
-    done = let turns = turns-kept id past event reply no_turn ∙ no_turns in grind (arith, turns);
+    done = let turns = turns-unchanged id past event reply no_turn ∙ no_turns in grind (arith, turns);
     chosen = 0;
     rows = (refl, refl);
   }
 
   -- an exchange that assigns no id and advances no job, and after which each open job was there before
   module _ (old new : Table) (so_far : IsSoFar counties past old) where
-    pub nothing_given : given_id event reply ≡ None → ((id : ℕ) → program_of id event reply ≡ None)
+    pub nothing_assigned : assigned_id event reply ≡ None → ((id : ℕ) → program_of id event reply ≡ None)
         → ((id : ℕ) → turn_count id event reply ≡ 0) → new.counties ≡ old.counties → new.last_id ≡ old.last_id
         → Ascend 0 new.jobs old.last_id → ((id : ℕ) (job : JobParts) → job_of new id ≡ Some job → job_of old id ≡ Some job)
         → IsSoFar counties (past ++ exchange_of event reply ∷ []) new
-    nothing_given no_id no_program no_turn same last ascend there = record {
+    nothing_assigned no_id no_program no_turn same last ascend there = record {
       over = same ∙ so_far.over;
-      ids = ids-more past event reply ∙ ap (λ id. ids_given past ++ cons_option id []) no_id ∙ append-nil (ids_given past) ∙ so_far.ids
+      ids = ids-more past event reply ∙ ap (λ id. assigned_ids past ++ cons_option id []) no_id ∙ append-nil (assigned_ids past) ∙ so_far.ids
           ∙ ap (λ n. range_with_len 1 n) (sym last);
       ascend = subst (λ high. Ascend 0 new.jobs high) (sym last) ascend;
       fresh = λ id above.
           let before = so_far.fresh id (omega (arith, last)) in
-          (programs-kept id past event reply (no_program id) ∙ before.0, turns-kept id past event reply (no_turn id) ∙ before.1);
-      own = λ id job found. own_kept id job (no_program id) (no_turn id) (so_far.own id job (there id job found));
+          (programs-unchanged id past event reply (no_program id) ∙ before.0, turns-unchanged id past event reply (no_turn id) ∙ before.1);
+      own = λ id job found. own_unchanged id job (no_program id) (no_turn id) (so_far.own id job (there id job found));
     }
 
 unchanged : {counties : List CountyParts} {past : List Exchange} (event : Event) (reply : Reply) {old new : Table}
-    → IsSoFar counties past old → given_id event reply ≡ None → ((id : ℕ) → program_of id event reply ≡ None)
+    → IsSoFar counties past old → assigned_id event reply ≡ None → ((id : ℕ) → program_of id event reply ≡ None)
     → ((id : ℕ) → turn_count id event reply ≡ 0) → new ≡ old → IsSoFar counties (past ++ exchange_of event reply ∷ []) new
 unchanged {counties} {past} event reply {old} so_far no_id no_program no_turn same =
     subst (λ table. IsSoFar counties (past ++ exchange_of event reply ∷ []) table) (sym same)
-    (nothing_given counties past event reply old old so_far no_id no_program no_turn refl refl so_far.ascend (λ id job found. found))
+    (nothing_assigned counties past event reply old old so_far no_id no_program no_turn refl refl so_far.ascend (λ id job found. found))
 
 -- one more step
 step_more : (counties : List CountyParts) (past : List Exchange) (event : Event) (reply : Reply) (old new : Table)
@@ -160,11 +160,11 @@ step_more counties past (Submit program) (Submitted id) old new so_far (room, ne
       ascend = Ascend-push 0 old.jobs old.last_id id (new_job code) (omega (arith, next)) (omega (arith, next)) so_far.ascend;
       fresh = λ q above.
           let before = so_far.fresh q (omega (arith, next)) in (
-            programs-kept q past (Submit program) (Submitted id) (other_program q (omega arith)) ∙ before.0,
-            turns-kept q past (Submit program) (Submitted id) refl ∙ before.1,
+            programs-unchanged q past (Submit program) (Submitted id) (other_program q (omega arith)) ∙ before.0,
+            turns-unchanged q past (Submit program) (Submitted id) refl ∙ before.1,
           );
       own = λ q job found. elim (found_pushed old.jobs id (new_job code) q job found) [
-        | inl there ↦ kept q job there (found_within 0 old.jobs old.last_id q job so_far.ascend there)
+        | inl there ↦ other_job q job there (found_within 0 old.jobs old.last_id q job so_far.ascend there)
         | inr (same, is) ↦ first q job same is
       ];
     })
@@ -178,9 +178,9 @@ step_more counties past (Submit program) (Submitted id) old new so_far (room, ne
     this_program : program_of id (Submit program) (Submitted id) ≡ Some program.now
     this_program = grind (arith, nat_tests)
 
-    kept : (q : ℕ) (job : JobParts) → job_of old q ≡ Some job → (0 < q) × (q ≤ old.last_id)
+    other_job : (q : ℕ) (job : JobParts) → job_of old q ≡ Some job → (0 < q) × (q ≤ old.last_id)
         → IsOwn counties (past ++ exchange_of (Submit program) (Submitted id) ∷ []) q job
-    kept q job there within = own_kept counties past (Submit program) (Submitted id) q job
+    other_job q job there within = own_unchanged counties past (Submit program) (Submitted id) q job
         (other_program' q (let below = within.1 in omega (arith, next))) refl (so_far.own q job there)
 
     first : (q : ℕ) (job : JobParts) → q ≡ id → job ≡ new_job code
@@ -195,16 +195,16 @@ step_more counties past (Submit program) (Refused Memory) old new so_far step = 
 step_more counties past (Turn id) (Turned done total) old new so_far (job, there, job', turned, is, done_is, total_is) =
     subst (λ table. IsSoFar counties (past ++ exchange_of (Turn id) (Turned done total) ∷ []) table) (sym is) (record {
       over = so_far.over;
-      ids = ids-more past (Turn id) (Turned done total) ∙ append-nil (ids_given past) ∙ so_far.ids;
+      ids = ids-more past (Turn id) (Turned done total) ∙ append-nil (assigned_ids past) ∙ so_far.ids;
       ascend = Ascend-set (nat_eq id) 0 old.jobs old.last_id job' so_far.ascend;
       fresh = λ q above.
           let before = so_far.fresh q above in
           let within = found_within 0 old.jobs old.last_id id job so_far.ascend there in (
-            programs-kept q past (Turn id) (Turned done total) refl ∙ before.0,
-            turns-kept q past (Turn id) (Turned done total) (other_turn q (let below = within.1 in omega arith)) ∙ before.1,
+            programs-unchanged q past (Turn id) (Turned done total) refl ∙ before.0,
+            turns-unchanged q past (Turn id) (Turned done total) (other_turn q (let below = within.1 in omega arith)) ∙ before.1,
           );
       own = λ q found_job found. elim (found_changed old.jobs id job job' q found_job there found) [
-        | inl (other, there) ↦ own_kept counties past (Turn id) (Turned done total) q found_job refl (no_turn q other)
+        | inl (other, there) ↦ own_unchanged counties past (Turn id) (Turned done total) q found_job refl (no_turn q other)
             (so_far.own q found_job there)
         | inr (same, is) ↦ moved q found_job same is
       ];
@@ -231,7 +231,7 @@ step_more counties past (Fetch id) (Rows done total rows) old new so_far step = 
 step_more counties past (Fetch id) (Refused NoJob) old new so_far step = unchanged _ _ so_far refl (λ id. refl) (λ id. refl) step.1
 step_more counties past (Drop id) Dropped old new so_far (there, is) =
     subst (λ table. IsSoFar counties (past ++ exchange_of (Drop id) Dropped ∷ []) table) (sym is)
-    (nothing_given counties past (Drop id) Dropped old (without_job old id) so_far refl (λ id. refl) (λ id. refl) refl refl
+    (nothing_assigned counties past (Drop id) Dropped old (without_job old id) so_far refl (λ id. refl) (λ id. refl) refl refl
     (Ascend-remove (nat_eq id) 0 old.jobs old.last_id so_far.ascend)
     (λ q job found. found_removed old.jobs old.last_id id q job so_far.ascend found))
 step_more counties past (Drop id) (Refused NoJob) old new so_far step = unchanged _ _ so_far refl (λ id. refl) (λ id. refl) step.1

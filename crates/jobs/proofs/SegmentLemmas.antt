@@ -13,8 +13,8 @@ use Rattle.tl_segments.specs.County.{CountyParts}
 use Rattle.tl_segments.specs.Segment.{Contents}
 use Rattle.extract.specs.Rows.{AppendsRow, IsChosen}
 use Rattle.bpf_meaning.proofs.ExtractLemmas.{extract_append, extract_push}
-use Rattle.jobs.specs.Inside.{IsPositionIn, left_at, segments_behind}
-use Rattle.jobs.specs.Segments.{Advances, WantsRow, segments_of}
+use Rattle.jobs.specs.Inside.{IsPositionIn, left_at, segments_after}
+use Rattle.jobs.specs.Segments.{Advances, NeedsRow, segments_of}
 use Rattle.jobs.specs.declared.position.Position.{Position}
 use Rattle.jobs.specs.declared.turn.TheConstants.{SEGMENTS_PER_TURN}
 
@@ -28,14 +28,14 @@ pub drop_found : {X : Type 0} (xs : List X) (i : ℕ) (d x : X) → true ≡ nat
 drop_found xs i d x inside is = drop_item xs i d x (grind (arith, nat_tests)) is
 
 -- at the start of counties, all their segments are left
-pub behind_none : (counties : List CountyParts) → segments_behind 0 counties ≡ segments_of counties
-behind_none [] = refl
-behind_none (county ∷ counties) = refl
+pub after_none : (counties : List CountyParts) → segments_after 0 counties ≡ segments_of counties
+after_none [] = refl
+after_none (county ∷ counties) = refl
 
 -- a position in the first county leaves all segments of the other counties
-pub behind_within : (segment : ℕ) (county : CountyParts) (counties : List CountyParts) → segment ≤ length county.segments
-    → segments_behind segment (county ∷ counties) ≡ drop segment (segments_of (county ∷ counties))
-behind_within segment county counties within = sym (drop-append-le segment county.segments (segments_of counties) within)
+pub after_within : (segment : ℕ) (county : CountyParts) (counties : List CountyParts) → segment ≤ length county.segments
+    → segments_after segment (county ∷ counties) ≡ drop segment (segments_of (county ∷ counties))
+after_within segment county counties within = sym (drop-append-le segment county.segments (segments_of counties) within)
 
 module _ (counties : List CountyParts) (done at segment : ℕ) (county : CountyParts)
     (here : drop at counties ≡ county ∷ drop (at + 1) counties) where
@@ -44,17 +44,17 @@ module _ (counties : List CountyParts) (done at segment : ℕ) (county : CountyP
       → left_at counties (record { done = done; county = at; segment = segment }) ≡ found ∷ left_at counties
       (record { done = done + 1; county = at; segment = segment + 1 })
   left_found found is =
-      ap (λ counties. segments_behind segment counties) here
+      ap (λ counties. segments_after segment counties) here
       ∙ ap (λ (front : List Contents). front ++ segments_of (drop (at + 1) counties)) is
-      ∙ ap (λ counties. found ∷ segments_behind (segment + 1) counties) (sym here)
+      ∙ ap (λ counties. found ∷ segments_after (segment + 1) counties) (sym here)
 
   -- a county with no segments left is skipped
-  pub left_passed : length county.segments ≤ segment → left_at counties (record { done = done; county = at; segment = segment }) ≡ left_at
+  pub left_skipped : length county.segments ≤ segment → left_at counties (record { done = done; county = at; segment = segment }) ≡ left_at
       counties (record { done = done; county = at + 1; segment = 0 })
-  left_passed none =
-      ap (λ counties. segments_behind segment counties) here
+  left_skipped none =
+      ap (λ counties. segments_after segment counties) here
       ∙ ap (λ (front : List Contents). front ++ segments_of (drop (at + 1) counties)) (drop_all segment county.segments none)
-      ∙ sym (behind_none (drop (at + 1) counties))
+      ∙ sym (after_none (drop (at + 1) counties))
 
 -- the segments of one more county, each of which has fewer than 2^32
 pub segments_more : (counties : List CountyParts) (i : ℕ) (county : CountyParts) (total : ℕ) → i < length counties
@@ -74,25 +74,25 @@ segments_more counties i county total inside is so_far few =
     ((omega (arith, count)), omega arith)
 
 -- After all segments of the first `number` counties, which are done, `left` more segments of the other counties are done.
-pub record IsLeftBehind (counties : List CountyParts) (done number left : ℕ) : Type 0 where
+pub record IsLeftAfter (counties : List CountyParts) (done number left : ℕ) : Type 0 where
   pub few : left ≤ length (segments_of (drop number counties))
   pub rest : drop done (segments_of counties) ≡ drop left (segments_of (drop number counties))
 
-pub all_behind : (counties : List CountyParts) (done : ℕ) → done ≤ length (segments_of counties) → IsLeftBehind counties done 0 done
-all_behind counties done within = record { few = within; rest = refl }
+pub all_left : (counties : List CountyParts) (done : ℕ) → done ≤ length (segments_of counties) → IsLeftAfter counties done 0 done
+all_left counties done within = record { few = within; rest = refl }
 
 module _ (counties : List CountyParts) (done number left : ℕ) (county : CountyParts)
-    (left_here : drop number counties ≡ county ∷ drop (number + 1) counties) (behind : IsLeftBehind counties done number left) where
+    (left_here : drop number counties ≡ county ∷ drop (number + 1) counties) (so_far : IsLeftAfter counties done number left) where
   -- a county whose segments are all done
-  pub behind_county : length county.segments ≤ left → IsLeftBehind counties done (number + 1) (left - length county.segments)
-  behind_county whole =
+  pub left_after_county : length county.segments ≤ left → IsLeftAfter counties done (number + 1) (left - length county.segments)
+  left_after_county whole =
       let others = segments_of (drop (number + 1) counties) in
       let count : length (segments_of (drop number counties)) ≡ length county.segments + length others =
       ap (λ counties. length (segments_of counties)) left_here ∙ length-append county.segments others in
       record {
-        few = (let few = behind.few in omega (arith, count));
+        few = (let few = so_far.few in omega (arith, count));
         rest =
-            behind.rest
+            so_far.rest
             ∙ ap (λ counties. drop left (segments_of counties)) left_here
             ∙ ap (λ n. drop n (county.segments ++ others)) {x = left} {y = length county.segments + (left - length county.segments)}
             (omega arith)
@@ -106,26 +106,26 @@ module _ (counties : List CountyParts) (done number left : ℕ) (county : County
     within = within;
     few = few;
     left =
-        ap (λ counties. segments_behind left counties) left_here
-        ∙ behind_within left county (drop (number + 1) counties) (omega arith)
+        ap (λ counties. segments_after left counties) left_here
+        ∙ after_within left county (drop (number + 1) counties) (omega arith)
         ∙ ap (λ counties. drop left (segments_of counties)) (sym left_here)
-        ∙ sym behind.rest;
+        ∙ sym so_far.rest;
   }
 
 -- all counties are done
-pub position_end : (counties : List CountyParts) (done number left : ℕ) → IsLeftBehind counties done number left → number ≡ length counties
+pub position_end : (counties : List CountyParts) (done number left : ℕ) → IsLeftAfter counties done number left → number ≡ length counties
     → length (segments_of counties) < 2 ^ 64 → done ≤ length (segments_of counties)
     → IsPositionIn counties (record { done = done; county = length counties; segment = 0 })
-position_end counties done number left behind last few within =
+position_end counties done number left so_far last few within =
     let none : drop number counties ≡ [] = drop_all number counties (omega (arith, last)) in
     record {
       within = within;
       few = few;
       left =
-          ap (λ counties. segments_behind 0 counties) (drop_all (length counties) counties (omega arith))
+          ap (λ counties. segments_after 0 counties) (drop_all (length counties) counties (omega arith))
           ∙ sym (drop_all left [] (omega arith))
           ∙ ap (λ counties. drop left (segments_of counties)) (sym none)
-          ∙ sym behind.rest;
+          ∙ sym so_far.rest;
     }
 
 -- the position after one more segment
@@ -240,9 +240,9 @@ module _ (code : List Insn) (counties : List CountyParts) (from now : Position) 
       (rw (none, append-nil) (take_all SEGMENTS_PER_TURN so_far.seen (let counted = so_far.counted in omega arith)))
 
   -- an allocation fails for the row of the next segment
-  pub turn_wants : (segment : Contents) (others : List Contents) → left_at counties now ≡ segment ∷ others → count < SEGMENTS_PER_TURN
-      → IsChosen code segment → WantsRow code (segments_of counties) from.done
-  turn_wants segment others left few chosen = (
+  pub turn_needs_row : (segment : Contents) (others : List Contents) → left_at counties now ≡ segment ∷ others → count < SEGMENTS_PER_TURN
+      → IsChosen code segment → NeedsRow code (segments_of counties) from.done
+  turn_needs_row segment others left few chosen = (
     segment,
     subst (λ left. Contains (take SEGMENTS_PER_TURN left) segment) (sym (so_far.left ∙ ap (λ left. so_far.seen ++ left) left))
         (next_among so_far.seen segment others SEGMENTS_PER_TURN (let counted = so_far.counted in omega (arith, few))),
@@ -250,8 +250,8 @@ module _ (code : List Insn) (counties : List CountyParts) (from now : Position) 
   )
 
   -- if an allocation fails, the appended rows are removed
-  pub taken_off : take (length rows) new_rows ≡ rows
-  taken_off = ap (λ rows'. take (length rows) rows') so_far.appended ∙ take_at rows so_far.text (length rows) refl
+  pub rows_restored : take (length rows) new_rows ≡ rows
+  rows_restored = ap (λ rows'. take (length rows) rows') so_far.appended ∙ take_at rows so_far.text (length rows) refl
 
 -- the extract of the segments done, with those of a turn added
 pub extract_turned : {code : List Insn} {segments : List Contents} {done new_done : ℕ} {rows new_rows : List ℕ} (chosen : ℕ)

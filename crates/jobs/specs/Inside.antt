@@ -10,13 +10,13 @@ use Rattle.jobs.specs.declared.position.Position.{Position}
 use Rattle.jobs.specs.declared.position.TheConstants.{COUNTY_LIMIT}
 
 -- the segments of the first county without its first `segment` ones, and those of the other counties
-abbrev pub segments_behind : ℕ → List CountyParts → List Contents
-segments_behind segment [] = []
-segments_behind segment (county ∷ counties) = drop segment county.segments ++ segments_of counties
+abbrev pub segments_after : ℕ → List CountyParts → List Contents
+segments_after segment [] = []
+segments_after segment (county ∷ counties) = drop segment county.segments ++ segments_of counties
 
 -- the segments left at a position
 abbrev pub left_at : List CountyParts → Position → List Contents
-left_at counties position = segments_behind position.segment (drop position.county counties)
+left_at counties position = segments_after position.segment (drop position.county counties)
 
 -- a position after the segments that are done, in counties whose segments can be counted in 64 bits
 pub record IsPositionIn (counties : List CountyParts) (position : Position) : Type 0 where

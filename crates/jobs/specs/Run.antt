@@ -23,17 +23,17 @@ IsRun old [] new = new ≡ old
 IsRun old (exchange ∷ exchanges) new = (now : Table) × Step old exchange.event exchange.reply now × IsRun now exchanges new
 
 -- the id that an exchange assigned
-abbrev pub given_id : Event → Reply → Option ℕ
-given_id (Submit program) (Submitted id) = Some id
-given_id event reply = None
+abbrev pub assigned_id : Event → Reply → Option ℕ
+assigned_id (Submit program) (Submitted id) = Some id
+assigned_id event reply = None
 
 -- the assigned ids, in order
-abbrev pub ids_given : List Exchange → List ℕ
-ids_given exchanges = filter_map (λ exchange. given_id exchange.event exchange.reply) exchanges
+abbrev pub assigned_ids : List Exchange → List ℕ
+assigned_ids exchanges = filter_map (λ exchange. assigned_id exchange.event exchange.reply) exchanges
 
 -- the program of a submission that was answered with this id
 abbrev pub program_of : ℕ → Event → Reply → Option (List ℕ)
-program_of id (Submit program) (Submitted given) = if given == id then Some program.now else None
+program_of id (Submit program) (Submitted assigned) = if assigned == id then Some program.now else None
 program_of id event reply = None
 
 -- the programs of the submissions that were answered with this id

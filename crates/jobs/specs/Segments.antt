@@ -25,5 +25,5 @@ pub record Advances (code : List Insn) (segments : List Contents) (done : ℕ) (
   pub appended : new_rows ≡ rows ++ text
 
 -- a row needs memory: the code selects one of a turn's segments
-abbrev pub WantsRow : List Insn → List Contents → ℕ → Type 0
-WantsRow code segments done = (segment : Contents) × Contains (next_segments segments done) segment × IsChosen code segment
+abbrev pub NeedsRow : List Insn → List Contents → ℕ → Type 0
+NeedsRow code segments done = (segment : Contents) × Contains (next_segments segments done) segment × IsChosen code segment

@@ -5,7 +5,7 @@ use Rattle.bpf_insn.specs.declared.instruction.Insn.{Insn}
 use Rattle.bpf_program.specs.Program.{IsSafeProgram, IsProgramFault}
 use Rattle.bpf_program.specs.declared.program.ProgramFault.TheVariants as program_fault
 use Rattle.tl_segments.specs.County.{CountyParts}
-use Rattle.jobs.specs.Segments.{Advances, WantsRow, segments_of}
+use Rattle.jobs.specs.Segments.{Advances, NeedsRow, segments_of}
 use Rattle.jobs.specs.declared.event.Event.{Event}
 use Rattle.jobs.specs.declared.event.Event.TheVariants.{Submit, Turn, Fetch, Drop}
 use Rattle.jobs.specs.declared.event.Reply.{Reply}
@@ -80,7 +80,7 @@ Step old (Turn id) (Turned done total) new =
     × (done ≡ job'.done) × (total ≡ total_of old)
 Step old (Turn id) (Refused NoJob) new = (job_of old id ≡ None) × (new ≡ old)
 Step old (Turn id) (Refused Memory) new =
-    (job : JobParts) × (job_of old id ≡ Some job) × WantsRow job.code (segments_of old.counties) job.done × (new ≡ old)
+    (job : JobParts) × (job_of old id ≡ Some job) × NeedsRow job.code (segments_of old.counties) job.done × (new ≡ old)
 Step old (Fetch id) (Rows done total rows) new =
     (job : JobParts) × (job_of old id ≡ Some job) × (done ≡ job.done) × (total ≡ total_of old) × (rows.now ≡ job.rows) × (new ≡ old)
 Step old (Fetch id) (Refused NoJob) new = (job_of old id ≡ None) × (new ≡ old)

@@ -2,7 +2,7 @@
 ghost use Rattle.std.specs.Prelude.{◌≡◌, ℕ, ◌^◌, ◌<◌, List, length, OnErr, OnOk};
 ghost use Rattle.tl_segments.specs.County.{CountyParts};
 ghost use Rattle.jobs.specs.Inside.{IsPositionIn, parts_of};
-ghost use Rattle.jobs.specs.Segments.{WantsRow, segments_of};
+ghost use Rattle.jobs.specs.Segments.{NeedsRow, segments_of};
 ghost use Rattle.jobs.specs.Table.{IsTurned, new_job};
 
 use crate::position::Position;
@@ -33,12 +33,12 @@ impl<A: Allocator> Job<A> {
     }
 
     /// Advances by a turn. If an allocation fails, the job is unchanged.
-    pub fn go_on(&mut self, counties: &[County<A>]) -> Result<(), AllocError>
+    pub fn advance(&mut self, counties: &[County<A>]) -> Result<(), AllocError>
         requires { IsPositionIn counties.now self.old.position }
         ensures position { IsPositionIn counties.now self.new.position }
         ensures ok { OnOk result (IsTurned counties.now (parts_of self.old) (parts_of self.new)) }
         ensures err { OnErr result (parts_of self.new ≡ parts_of self.old) }
-        ensures wants { OnErr result (WantsRow self.old.verified.code (segments_of counties.now) self.old.position.done) }
+        ensures needs_row { OnErr result (NeedsRow self.old.verified.code (segments_of counties.now) self.old.position.done) }
     {
         self.position = advance_from(&self.verified, counties, self.position, &mut self.rows)?;
         Ok(())

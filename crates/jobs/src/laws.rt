@@ -3,7 +3,7 @@ ghost use Rattle.std.specs.Prelude.{◌≡◌, ◌≢◌, ℕ, List, [], ◌∷�
 ghost use Rattle.std.specs.Borrow.{Bor};
 ghost use Rattle.std.specs.List.{range_with_len};
 ghost use Rattle.tl_segments.specs.County.{CountyParts};
-ghost use Rattle.jobs.specs.Run.{Exchange, IsOwn, IsRun, ids_given, programs_of, turns_of};
+ghost use Rattle.jobs.specs.Run.{Exchange, IsOwn, IsRun, assigned_ids, programs_of, turns_of};
 ghost use Rattle.jobs.specs.Table.{JobParts, Step, Table, empty_table, job_of};
 ghost use Rattle.jobs.specs.declared.event.Event.{Event};
 ghost use Rattle.jobs.specs.declared.event.Event.TheVariants.{Submit};
@@ -37,13 +37,13 @@ pub fn runs()
         → (id other_id : ℕ) (job other_job : JobParts) → job_of table id ≡ Some job → job_of other other_id ≡ Some other_job
         → programs_of id exchanges ≡ programs_of other_id others → turns_of id exchanges ≡ turns_of other_id others → job ≡ other_job }
     ensures ids { (counties : List CountyParts) (exchanges : List Exchange) (table : Table) → IsRun (empty_table counties) exchanges table
-        → ids_given exchanges ≡ range_with_len 1 table.last_id }
+        → assigned_ids exchanges ≡ range_with_len 1 table.last_id }
     ensures counties { (counties : List CountyParts) (exchanges : List Exchange) (table : Table) → IsRun (empty_table counties) exchanges table
         → table.counties ≡ counties }
 {}
 
 /// A step after a run makes a longer run. The calls of a table and their replies, in order, are therefore a run from the table's first state.
-pub fn runs_go_on()
+pub fn runs_extend()
     ensures { (old now new : Table) (exchanges : List Exchange) (event : Event) (reply : Reply)
         → IsRun old exchanges now → Step now event reply new → IsRun old (exchanges ++ record { event = event; reply = reply } ∷ []) new }
 {}

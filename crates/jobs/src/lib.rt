@@ -1,4 +1,4 @@
-//! A table of jobs: extracts of counties made turn by turn, many at the same time, each isolated from the others.
+//! A table of jobs. Each job makes the extract of its own program over the same counties, turn by turn, isolated from the other jobs.
 #![tactic(auto)]
 
 mod event;

@@ -1,4 +1,4 @@
-//! A job's position among the segments of counties.
+//! A job's position among the segments of all counties.
 ghost use Rattle.std.specs.Prelude.{◌≡◌, ◌+◌, ◌^◌, ◌<◌, ◌≤◌, ◌∷◌, [], length, MatchOption};
 ghost use Rattle.jobs.specs.Inside.{IsPositionIn, left_at};
 ghost use Rattle.jobs.specs.Segments.{segments_of};
@@ -9,7 +9,6 @@ use tl_segments::{County, Segment};
 /// The greatest number of counties that jobs process.
 pub const COUNTY_LIMIT: usize = 100_000;
 
-/// Returns the number of segments of counties.
 pub(crate) fn count_segments<A: Allocator>(counties: &[County<A>]) -> u64
     requires { length counties.now ≤ COUNTY_LIMIT }
     ensures { result ≡ length (segments_of counties.now) }
@@ -33,7 +32,6 @@ pub(crate) struct Position {
 }
 
 impl Position {
-    /// Returns the position before all segments.
     pub fn start() -> Self
         ensures { result ≡ record { done = 0; county = 0; segment = 0 } }
     {
@@ -44,8 +42,8 @@ impl Position {
         }
     }
 
-    /// Returns the position after `done` segments. Visits the counties, but not their segments.
-    pub fn behind<A: Allocator>(done: u64, counties: &[County<A>]) -> Self
+    /// Finds the position after `done` segments. Visits the counties, but not their segments.
+    pub fn after<A: Allocator>(done: u64, counties: &[County<A>]) -> Self
         requires within { done ≤ length (segments_of counties.now) }
         requires few { length (segments_of counties.now) < 2 ^ 64 }
         ensures done { result.done ≡ done }

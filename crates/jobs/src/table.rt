@@ -59,7 +59,6 @@ impl<A: Allocator + Copy> Jobs<A> {
         }
     }
 
-    /// Returns the counties of the table.
     pub fn counties(&self) -> &[County<A>]
         ensures value { result.now ≡ self.now.counties }
         ensures few { length result.now ≤ COUNTY_LIMIT }
@@ -114,7 +113,7 @@ impl<A: Allocator + Copy> Jobs<A> {
         let Some(job) = self.jobs.get_mut(&id) else {
             return Err(JobFault::NoJob);
         };
-        job.go_on(self.counties.as_slice())?;
+        job.advance(self.counties.as_slice())?;
         Ok(job.position.done)
     }
 

@@ -1,7 +1,7 @@
 //! Turns, which advance an extract by a limited number of segments.
 ghost use Rattle.std.specs.Prelude.{◌≡◌, ◌≤◌, length, IfOk, OnErr};
 ghost use Rattle.jobs.specs.Inside.{IsPositionIn};
-ghost use Rattle.jobs.specs.Segments.{Advances, WantsRow, segments_of};
+ghost use Rattle.jobs.specs.Segments.{Advances, NeedsRow, segments_of};
 
 use crate::position::{COUNTY_LIMIT, Position, count_segments};
 use bpf_machine::Bare;
@@ -27,16 +27,16 @@ pub fn advance<A: Allocator>(
     requires few { length counties.now ≤ COUNTY_LIMIT }
     ensures ok { IfOk result (λ now. Advances verified.now.code (segments_of counties.now) done rows.old.items now rows.new.items) }
     ensures err { OnErr result (rows.new.items ≡ rows.old.items) }
-    ensures wants { OnErr result (WantsRow verified.now.code (segments_of counties.now) done) }
+    ensures needs_row { OnErr result (NeedsRow verified.now.code (segments_of counties.now) done) }
 {
     // Counting shows that the number of segments fits in 64 bits, which a position requires.
     let _total = count_segments(counties);
-    let from = Position::behind(done, counties);
+    let from = Position::after(done, counties);
     let position = advance_from(verified, counties, from, rows)?;
     Ok(position.done)
 }
 
-/// Does the same from a position, and returns the position after the turn.
+/// [`advance`] from a known position, without a visit to the counties before it. Returns the position after the turn.
 pub(crate) fn advance_from<A: Allocator>(
     verified: &Verified<A>,
     counties: &[County<A>],
@@ -47,7 +47,7 @@ pub(crate) fn advance_from<A: Allocator>(
     ensures position { IfOk result (IsPositionIn counties.now) }
     ensures ok { IfOk result (λ now. Advances verified.now.code (segments_of counties.now) from.done rows.old.items now.done rows.new.items) }
     ensures err { OnErr result (rows.new.items ≡ rows.old.items) }
-    ensures wants { OnErr result (WantsRow verified.now.code (segments_of counties.now) from.done) }
+    ensures needs_row { OnErr result (NeedsRow verified.now.code (segments_of counties.now) from.done) }
 {
     let before = rows.len();
     let mut bare = Bare::start();
@@ -56,9 +56,9 @@ pub(crate) fn advance_from<A: Allocator>(
         let Some(segment) = position.next(counties) else {
             return Ok(position);
         };
-        if let Err(wanting) = push_row_if_chosen(verified, segment, &mut bare, rows) {
+        if let Err(error) = push_row_if_chosen(verified, segment, &mut bare, rows) {
             rows.truncate(before);
-            return Err(wanting);
+            return Err(error);
         }
     }
     Ok(position)

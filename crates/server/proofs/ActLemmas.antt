@@ -13,22 +13,22 @@ use Rattle.wire.specs.State.{StateParts}
 use Rattle.wire.specs.Turn.{IsTurn}
 use Rattle.wire.specs.declared.fault.WireFault.{WireFault}
 use Rattle.wire.specs.declared.fault.WireFault.TheVariants.{Closed, Read, Write, WriteZero}
-use Rattle.wire.specs.declared.serving.Extent.{Extent}
+use Rattle.wire.specs.declared.decision.RequestRead.{RequestRead}
 
 -- the acts from one state to the other
 abbrev LeadsTo : StateParts → StateParts → Type 0
 LeadsTo old new = (acts : List Act) × AreActs old acts new
 
-after_turn : (old now new : StateParts) (said : Option JobReply) → IsTurn old.table said now.table → LeadsTo now new → LeadsTo old new
+after_turn : (old now new : StateParts) (reply : Option JobReply) → IsTurn old.table reply now.table → LeadsTo now new → LeadsTo old new
 after_turn old now new None turn leads =
     (Rested ∷ leads.0, (now, (turn.0, ap (λ (table : Table). record { table = table }) turn.1), leads.1))
-after_turn old now new (Some said) turn leads = (Turned turn.0 said ∷ leads.0, (now, (turn.1, turn.2), leads.1))
+after_turn old now new (Some reply) turn leads = (Turned turn.0 reply ∷ leads.0, (now, (turn.1, turn.2), leads.1))
 
 module _ (old now : Connection) (new : StateParts) (leads : LeadsTo now.state new) where
-  after_reply : (extent : Extent) (written : Result (Unit {0}) WriteFault) → IsReplied extent written old now → LeadsTo old.state new
-  after_reply extent written is = (Replied is.input is.reply ∷ leads.0, (now.state, (extent, is.replies), leads.1))
+  after_reply : (request_read : RequestRead) (written : Result (Unit {0}) WriteFault) → IsReplied request_read written old now → LeadsTo old.state new
+  after_reply request_read written is = (Replied is.input is.reply ∷ leads.0, (now.state, (request_read, is.replies), leads.1))
 
-  after_serving : (result : Result Extent WireFault) → IsServed result old now → LeadsTo old.state new
+  after_serving : (result : Result RequestRead WireFault) → IsServed result old now → LeadsTo old.state new
   after_serving (Ok done) is = after_reply is.0 _ is.1
   after_serving (Err Write) is = after_reply is.0 _ is.1
   after_serving (Err WriteZero) is = after_reply is.0 _ is.1

@@ -1,7 +1,7 @@
 -- The rounds of a server, one per connection.
 use Rattle.std.specs.Prelude.{◌≡◌, ℕ, zero, suc}
 use Rattle.std.specs.declared.io.Error.{Error}
-use Rattle.server.specs.Acceptor.{Accepts, FailsOne, TakesOne}
+use Rattle.server.specs.Acceptor.{Accepts, AcceptsOne, FailsOne}
 use Rattle.server.specs.Service.{Serves, ServesSome}
 
 -- a service, with the counts of the accepts
@@ -11,7 +11,7 @@ pub record Serving (S : Type 0) : Type 0 where
 
 -- a connection was accepted and served once, then one turn was made
 pub record IsRound {S : Type 0} (serves : Serves S) (turns : S → S → Type 0) (old new : Serving S) : Type 0 where
-  pub takes : TakesOne old.accepts new.accepts
+  pub accepts_one : AcceptsOne old.accepts new.accepts
   pub served : S
   pub serves_client : ServesSome serves old.service served
   pub makes_turn : turns served new.service

@@ -2,7 +2,7 @@
 use Rattle.std.specs.Prelude.{◌≡◌, ℕ, refl}
 use Rattle.std.specs.Coded.{Coded, code_by, coded×, coded_ℕ}
 use Rattle.counted_io.specs.Counted.{next_count}
-use Rattle.server.specs.Service.{Ends, Serves}
+use Rattle.server.specs.Service.{ClientStreams, Serves}
 use Rattle.server.specs.declared.service.Close.{Close}
 
 -- a service, the number of connections that it served, and the number of turns that it made, both modulo 2^64
@@ -17,9 +17,9 @@ tallied_code {S} code =
     (λ t. (t.service, (t.served, t.turns))) (λ p. record { service = p.0; served = p.1.0; turns = p.1.1 }) (λ _. refl)
 
 -- the service served a client, which counts as one
-pub record ServesTallied {S : Type 0} (serves : Serves S) (old : Tallied S) (ends : Ends) (close : Close) (new : Tallied S) (new_ends : Ends)
-    : Type 0 where
-  pub serves_client : serves old.service ends close new.service new_ends
+pub record ServesTallied {S : Type 0} (serves : Serves S) (old : Tallied S) (streams : ClientStreams) (close : Close) (new : Tallied S)
+    (new_streams : ClientStreams) : Type 0 where
+  pub serves_client : serves old.service streams close new.service new_streams
   pub served : new.served ≡ next_count old.served
   pub turns : new.turns ≡ old.turns
 

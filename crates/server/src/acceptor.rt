@@ -1,7 +1,7 @@
 //! Accepting connections one by one.
 ghost use Rattle.std.specs.Prelude.{◌≡◌, IfErr, false};
 ghost use Rattle.std.specs.IoError.{error_kind};
-ghost use Rattle.server.specs.Acceptor.{CountsAccept, is_passed_over};
+ghost use Rattle.server.specs.Acceptor.{CountsAccept, is_transient};
 
 use counted_io::count_one;
 use std::io;
@@ -9,12 +9,12 @@ use std::io::ErrorKind;
 use std::marker::Model;
 use std::net::OpenListener;
 
-/// An acceptor of connections at a listener, which counts them and the accepts that failed. Contracts see it as a record with the fields `taken`
-/// and `failed`.
+/// Accepts connections at a listener, and counts them and the accepts that failed. Contracts see it as a record with the fields `accepted` and
+/// `failed`.
 #[derive(Drop)]
 pub struct Acceptor<'a, L> {
     listener: &'a L,
-    taken: u64,
+    accepted: u64,
     failed: u64,
 }
 
@@ -23,17 +23,17 @@ impl<'a, L> Model for Acceptor<'a, L> {
 
     ghost Value = { Accepts };
 
-    ghost view = { λ a. record { taken = a.taken; failed = a.failed } };
+    ghost view = { λ a. record { accepted = a.accepted; failed = a.failed } };
 }
 
 impl<'a, L: OpenListener> Acceptor<'a, L> {
     /// Returns an acceptor that has accepted no connection yet.
     pub fn new(listener: &'a L) -> Self
-        ensures { result ≡ record { taken = 0; failed = 0 } }
+        ensures { result ≡ record { accepted = 0; failed = 0 } }
     {
         Acceptor {
             listener,
-            taken: 0,
+            accepted: 0,
             failed: 0,
         }
     }
@@ -42,7 +42,7 @@ impl<'a, L: OpenListener> Acceptor<'a, L> {
     pub(crate) fn accept(&mut self) -> io::Result<L::Stream>
         ensures { CountsAccept result self.old self.new }
     {
-        let Some(taken) = self.taken.checked_add(1) else {
+        let Some(accepted) = self.accepted.checked_add(1) else {
             count_one(&mut self.failed);
             return Err(io::Error::from(ErrorKind::Other));
         };
@@ -53,20 +53,20 @@ impl<'a, L: OpenListener> Acceptor<'a, L> {
                 return Err(error);
             }
         };
-        self.taken = taken;
+        self.accepted = accepted;
         Ok(stream)
     }
 }
 
 /// Accepts the next connection that its client hasn't aborted.
 fn next_stream<L: OpenListener>(listener: &L) -> io::Result<L::Stream>
-    ensures { IfErr result (λ error. is_passed_over (error_kind error) ≡ false) }
+    ensures { IfErr result (λ error. is_transient (error_kind error) ≡ false) }
 {
     for _ in 0..u64::MAX {
         match listener.accept() {
             Ok((stream, _)) => return Ok(stream),
             Err(error) => {
-                if !is_passed_over(error.kind()) {
+                if !is_transient(error.kind()) {
                     return Err(error);
                 }
             }
@@ -75,9 +75,9 @@ fn next_stream<L: OpenListener>(listener: &L) -> io::Result<L::Stream>
     Err(io::Error::from(ErrorKind::Other))
 }
 
-/// Returns whether the next connection can be accepted after an accept failed in this way.
-fn is_passed_over(kind: ErrorKind) -> bool
-    ensures { result ≡ is_passed_over kind }
+/// An accept that failed in this way concerns one connection only, or a signal: the next one can succeed.
+fn is_transient(kind: ErrorKind) -> bool
+    ensures { result ≡ is_transient kind }
 {
     matches!(kind, ErrorKind::ConnectionAborted | ErrorKind::Interrupted)
 }

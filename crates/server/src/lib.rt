@@ -2,7 +2,7 @@
 #![tactic(auto)]
 
 mod acceptor;
-mod ends;
+mod client_stream;
 pub mod laws;
 mod limits;
 mod service;

@@ -9,13 +9,13 @@ use std::time::Duration;
 /// Limits on how long a client may hold the server.
 #[derive(Clone, Copy)]
 pub struct Limits {
-    /// One read.
-    pub silence: Duration,
-    /// All reads of a request, from the first one on, which comes right after the accept.
+    /// The longest wait in one read.
+    pub idle: Duration,
+    /// The longest time for all reads of a request, counted from the first, which comes right after the accept.
     pub request: Duration,
-    /// All writes of a reply, from the first one on, without the second that each mebibyte adds.
+    /// The longest time for all writes of a reply, counted from the first. Each mebibyte of the reply adds a second.
     pub reply: Duration,
-    /// All reads of bytes that a client sends after its request.
+    /// The longest time for all reads of bytes that a client sends after its request.
     pub linger: Duration,
 }
 
@@ -24,13 +24,13 @@ const MEBIBYTE: u64 = 1_048_576;
 impl Limits {
     /// Returns the program's limits.
     pub fn standard() -> Limits
-        ensures silence { as_nanos result.silence ≡ 10 * 1_000_000_000 }
+        ensures idle { as_nanos result.idle ≡ 10 * 1_000_000_000 }
         ensures request { as_nanos result.request ≡ 30 * 1_000_000_000 }
         ensures reply { as_nanos result.reply ≡ 30 * 1_000_000_000 }
         ensures linger { as_nanos result.linger ≡ 5 * 1_000_000_000 }
     {
         Limits {
-            silence: Duration::from_secs(10),
+            idle: Duration::from_secs(10),
             request: Duration::from_secs(30),
             reply: Duration::from_secs(30),
             linger: Duration::from_secs(5),
@@ -46,18 +46,18 @@ impl Limits {
     }
 }
 
-/// Returns the time that the next call may wait after `passed` of a limit, or `None` if the limit is over.
-pub fn wait_left(silence: Duration, limit: Duration, passed: Duration) -> Option<Duration>
-    ensures { option_map as_nanos result ≡ wait (as_nanos silence) (as_nanos limit) (as_nanos passed) }
+/// Returns the time that the next call may wait after `elapsed` of a limit, or `None` if the limit is over.
+pub fn wait_left(idle: Duration, limit: Duration, elapsed: Duration) -> Option<Duration>
+    ensures { option_map as_nanos result ≡ wait (as_nanos idle) (as_nanos limit) (as_nanos elapsed) }
 {
     // Compares nanoseconds, because comparing durations with `<` proves nothing about their nanoseconds.
-    if limit.as_nanos() <= passed.as_nanos() {
+    if limit.as_nanos() <= elapsed.as_nanos() {
         return None;
     }
-    let left = limit - passed;
-    Some(if left.as_nanos() < silence.as_nanos() {
+    let left = limit - elapsed;
+    Some(if left.as_nanos() < idle.as_nanos() {
         left
     } else {
-        silence
+        idle
     })
 }

@@ -1,7 +1,7 @@
 //! The service of each connection.
 ghost use Rattle.std.specs.Prelude.{⊤};
 ghost use Rattle.counted_io.specs.Device.{reader, writer};
-ghost use Rattle.server.specs.Service.{Ends};
+ghost use Rattle.server.specs.Service.{ClientStreams};
 ghost use Rattle.server.specs.declared.service.Close.{Close};
 
 use counted_io::{CountedRead, CountedWrite};
@@ -17,8 +17,9 @@ pub enum Close {
 
 /// The work for each connection, and the work after it.
 pub trait Service {
-    // The effect of serving a client on the service and on both ends of the client, with the way to close the connection; and the effect of a turn.
-    ghost serves: { Self → Ends → Close → Self → Ends → Type 0 } = { λ _ _ _ _ _. ⊤ };
+    // The effect of serving a client on the service and on the client's reader and writer, with the way to close the connection; and the effect of
+    // a turn.
+    ghost serves: { Self → ClientStreams → Close → Self → ClientStreams → Type 0 } = { λ _ _ _ _ _. ⊤ };
 
     ghost turns: { Self → Self → Type 0 } = { λ _ _. ⊤ };
 

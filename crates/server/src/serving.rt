@@ -5,7 +5,7 @@ ghost use Rattle.server.specs.Service.{ServesSome};
 ghost use Rattle.server.specs.Tally.{ServesTallied, TurnsTallied};
 
 use crate::acceptor::Acceptor;
-use crate::ends::{ClientReader, ClientWriter};
+use crate::client_stream::{ClientReader, ClientWriter};
 use crate::limits::Limits;
 use crate::service::{Close, Service};
 use crate::tally::Tally;
@@ -62,7 +62,7 @@ fn serve_client<C: Clock, S: Service>(
 )
     ensures { ServesSome S.serves service.old service.new }
 {
-    let reader = ClientReader::new(&stream, clock, limits.silence, limits.request);
+    let reader = ClientReader::new(&stream, clock, limits.idle, limits.request);
     let writer = ClientWriter::new(&stream, clock, *limits);
     let close = service.serve(&mut Counting::new(reader), &mut Counting::new(writer));
     if close == Close::Lingering || has_unread(&stream) {

@@ -2,7 +2,7 @@
 use crate::service::{Close, Service};
 use counted_io::{CountedRead, CountedWrite};
 use std::alloc::Allocator;
-use wire::{Extent, State, serve_request};
+use wire::{RequestRead, State, serve_request};
 
 impl<A: Allocator + Copy> Service for State<A> {
     ghost use Rattle.server.specs.Service.{HasServed, HasTurned};
@@ -13,8 +13,8 @@ impl<A: Allocator + Copy> Service for State<A> {
 
     fn serve<R: CountedRead, W: CountedWrite>(&mut self, input: &mut R, out: &mut W) -> Close {
         match serve_request(self, input, out) {
-            Ok(Extent::Part) => Close::Lingering,
-            Ok(Extent::Whole) | Err(_) => Close::AtOnce,
+            Ok(RequestRead::Partial) => Close::Lingering,
+            Ok(RequestRead::Complete) | Err(_) => Close::AtOnce,
         }
     }
 

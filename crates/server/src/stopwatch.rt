@@ -15,7 +15,7 @@ impl<'a, C: Clock> Stopwatch<'a, C> {
     }
 
     /// Returns the time since the first call that could read the clock.
-    pub fn passed(&mut self) -> io::Result<Duration> {
+    pub fn elapsed(&mut self) -> io::Result<Duration> {
         let now = Instant::now(self.clock)?;
         let start = *self.start.get_or_insert(now);
         Ok(now.duration_since(start))

@@ -12,7 +12,7 @@ use Rattle.jobs.specs.declared.fault.JobFault.TheVariants.{Full, NoJob, Program,
 use Rattle.counted_io.specs.Device.{Writer}
 use Rattle.counted_io.specs.Writing.{WritesText}
 use Rattle.counted_io.specs.declared.writing.WriteFault.{WriteFault}
-use Rattle.wire.specs.Answer.{AsksJob, status_reply}
+use Rattle.wire.specs.Answer.{IsJobReply, status_reply}
 use Rattle.wire.specs.Reading.{WritesReply}
 
 pub writes_such : (is_reply : ReplyParts → Type 0) (reply : ReplyParts) (written : Result (Unit {0}) WriteFault) (old new : Writer)
@@ -20,8 +20,8 @@ pub writes_such : (is_reply : ReplyParts → Type 0) (reply : ReplyParts) (writt
 writes_such is_reply reply written old new is writes = record { reply = reply; is_such = is; writes = writes }
 
 -- an invalid id belongs to no job
-pub of_no_job : (asked : ℕ → Event) (id : Option ℕ) (table : Table) → None ≡ id → AsksJob asked id table (status_reply NotFound) table
-of_no_job asked id table none = subst (λ id. AsksJob asked id table (status_reply NotFound) table) none (refl, refl)
+pub of_no_job : (make : ℕ → Event) (id : Option ℕ) (table : Table) → None ≡ id → IsJobReply make id table (status_reply NotFound) table
+of_no_job make id table none = subst (λ id. IsJobReply make id table (status_reply NotFound) table) none (refl, refl)
 
 -- an event of the table doesn't change its counties
 pub step_counties : (old : Table) (event : Event) (reply : JobReply) (new : Table) → Step old event reply new → new.counties ≡ old.counties
@@ -41,7 +41,7 @@ step_counties old (Drop id) (Refused NoJob) new step = ap (λ (table : Table). t
 step_counties old event reply new none = absurd none
 
 -- nor does an event for a job
-pub asked_counties : (asked : ℕ → Event) (id : Option ℕ) (old : Table) (reply : ReplyParts) (new : Table) → AsksJob asked id old reply new
+pub job_counties : (make : ℕ → Event) (id : Option ℕ) (old : Table) (reply : ReplyParts) (new : Table) → IsJobReply make id old reply new
     → new.counties ≡ old.counties
-asked_counties asked None old reply new same = ap (λ (table : Table). table.counties) same.1
-asked_counties asked (Some id) old reply new told = step_counties old told.event told.said new told.step
+job_counties make None old reply new same = ap (λ (table : Table). table.counties) same.1
+job_counties make (Some id) old reply new is = step_counties old is.event is.table_reply new is.step

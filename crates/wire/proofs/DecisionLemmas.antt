@@ -8,7 +8,7 @@ use Rattle.std.specs.Prelude.{Result, Ok, Err, if◌then◌else◌}
 use Rattle.http_reply.specs.declared.status.Status.TheVariants.{BadRequest, NotFound}
 use Rattle.http_request.specs.Head.{Head}
 use Rattle.http_request.specs.Length.{body_length}
-use Rattle.http_request.specs.Reading.{EndsInBody, FailsInBody, LacksHead, LacksMemory, ReadsBody, ReadsHead, RequestParts, Takes}
+use Rattle.http_request.specs.Reading.{EndsInBody, FailsInBody, ReadsNoHead, OutOfMemoryInBody, ReadsBody, ReadsHead, RequestParts, Takes}
 use Rattle.http_request.specs.Whole.{left_of}
 use Rattle.http_request.specs.declared.length.LengthFault.{LengthFault}
 use Rattle.http_request.proofs.HeadLemmas.{HasHead-append, HasHead-some, HasHead-unique}
@@ -21,21 +21,21 @@ use Rattle.http_routes.specs.Target.{path_of}
 use Rattle.http_routes.specs.declared.route.Action.{Action}
 use Rattle.http_routes.specs.declared.route.Route.{Route}
 use Rattle.counted_io.specs.Device.{Reader}
-use Rattle.wire.specs.Decision.{AnnouncesBody, DecisionParts, Refuses, Disallows, Asks, IsDecided, IsEnough, asked_action, asked_by, decide}
+use Rattle.wire.specs.Decision.{AnnouncesBody, DecisionParts, Refuses, Disallows, Accepts, IsDecided, IsEnough, requested_action, routed_by, decide}
 use Rattle.wire.specs.Decision.{decide_action, decide_body, decide_route, length_status, takes_body}
 use Rattle.wire.specs.Reading.{Decides, StopsInBody}
 use Rattle.wire.specs.Serving.{FailsUndecided, ReadsEnough}
 
 -- an input without a head is refused
-pub decides_no_head : (old new : Reader) → LacksHead old new → Decides (Refuses BadRequest) old new
-decides_no_head old new lacks =
-    let had = had_no_head old new lacks in
+pub decides_no_head : (old new : Reader) → ReadsNoHead old new → Decides (Refuses BadRequest) old new
+decides_no_head old new reads =
+    let had = had_no_head old new reads in
     record {
       input = had.input;
       is_input = had.known;
       decided = inl (had.has_none, refl);
       read =
-          record { taken = lacks.taken; takes = lacks.takes; some = lacks.some; enough = inl lacks.room };
+          record { taken = reads.taken; takes = reads.takes; some = reads.some; enough = inl reads.room };
     }
 
 -- the decision on a head, whatever follows it
@@ -46,11 +46,11 @@ decides_by_head request decision old new reads decided =
     record {
       input = had.input;
       is_input = had.known;
-      decided = inr (request.head, request.behind ++ left_of new, had.has, decided _);
+      decided = inr (request.head, request.after_head ++ left_of new, had.has, decided _);
       read = record {
         taken = reads.taken;
         takes = reads.takes;
-        some = HasHead-some reads.taken request.head request.behind reads.has;
+        some = HasHead-some reads.taken request.head request.after_head reads.has;
         enough = inl reads.room;
       };
     }
@@ -73,84 +73,84 @@ decides_no_action request route old new reads is_route none =
 -- the decision on a head with an action, by its route
 by_action : (head : Head) (found : Option Route) (action : Action) (rest : List ℕ)
     → option_and_then (λ route. action_of route head.method) found ≡ Some action
-    → decide_route head found rest ≡ (if takes_body action then decide_body head action (body_length head) rest else Asks
-    (asked_by head action []))
-by_action head None action rest asks = cc
-by_action head (Some route) action rest asks = ap (λ found. decide_action head route found rest) asks
+    → decide_route head found rest ≡ (if takes_body action then decide_body head action (body_length head) rest else Accepts
+    (routed_by head action []))
+by_action head None action rest requests = cc
+by_action head (Some route) action rest requests = ap (λ found. decide_action head route found rest) requests
 
-without_body : (head : Head) (action : Action) (rest : List ℕ) → asked_action head ≡ Some action → takes_body action ≡ false
-    → decide head rest ≡ Asks (asked_by head action [])
-without_body head action rest asks none = by_action head (route_of (path_of head.target)) action rest asks ∙ rw none refl
+without_body : (head : Head) (action : Action) (rest : List ℕ) → requested_action head ≡ Some action → takes_body action ≡ false
+    → decide head rest ≡ Accepts (routed_by head action [])
+without_body head action rest requests none = by_action head (route_of (path_of head.target)) action rest requests ∙ rw none refl
 
-pub with_body : (head : Head) (action : Action) (rest : List ℕ) → asked_action head ≡ Some action → takes_body action ≡ true
+pub with_body : (head : Head) (action : Action) (rest : List ℕ) → requested_action head ≡ Some action → takes_body action ≡ true
     → decide head rest ≡ decide_body head action (body_length head) rest
-with_body head action rest asks takes = by_action head (route_of (path_of head.target)) action rest asks ∙ rw takes refl
+with_body head action rest requests takes = by_action head (route_of (path_of head.target)) action rest requests ∙ rw takes refl
 
-pub asked : (head : Head) (route : Route) (action : Action) → route_of (path_of head.target) ≡ Some route
-    → action_of route head.method ≡ Some action → asked_action head ≡ Some action
-asked head route action is_route is_action = ap (λ found. option_and_then (λ route. action_of route head.method) found) is_route ∙ is_action
+pub requested : (head : Head) (route : Route) (action : Action) → route_of (path_of head.target) ≡ Some route
+    → action_of route head.method ≡ Some action → requested_action head ≡ Some action
+requested head route action is_route is_action = ap (λ found. option_and_then (λ route. action_of route head.method) found) is_route ∙ is_action
 
 pub decides_without_body : (request : RequestParts) (action : Action) (old new : Reader) → ReadsHead request old new
-    → asked_action request.head ≡ Some action → takes_body action ≡ false → Decides (Asks (asked_by request.head action [])) old new
-decides_without_body request action old new reads asks none =
-    decides_by_head request _ old new reads (λ rest. sym (without_body request.head action rest asks none))
+    → requested_action request.head ≡ Some action → takes_body action ≡ false → Decides (Accepts (routed_by request.head action [])) old new
+decides_without_body request action old new reads requests none =
+    decides_by_head request _ old new reads (λ rest. sym (without_body request.head action rest requests none))
 
 -- The head was read. It requests an action with a body, and announces this length.
-pub record ReadsAsking (request : RequestParts) (announced : Result ℕ LengthFault) (old new : Reader) : Type 0 where
+pub record ReadsAnnounced (request : RequestParts) (announced : Result ℕ LengthFault) (old new : Reader) : Type 0 where
   pub reads : ReadsHead request old new
   pub action : Action
-  pub asks : asked_action request.head ≡ Some action
+  pub requests : requested_action request.head ≡ Some action
   pub takes : takes_body action ≡ true
   pub announces : body_length request.head ≡ announced
 
-abbrev pub asking : {request : RequestParts} {old new : Reader} {action : Action} {announced : Result ℕ LengthFault}
-    → ReadsHead request old new → asked_action request.head ≡ Some action → takes_body action ≡ true
-    → announced ≡ body_length request.head → ReadsAsking request announced old new
-asking {action = action} reads asks takes is =
-    record { reads = reads; action = action; asks = asks; takes = takes; announces = sym is }
+abbrev pub announcing : {request : RequestParts} {old new : Reader} {action : Action} {announced : Result ℕ LengthFault}
+    → ReadsHead request old new → requested_action request.head ≡ Some action → takes_body action ≡ true
+    → announced ≡ body_length request.head → ReadsAnnounced request announced old new
+announcing {action = action} reads requests takes is =
+    record { reads = reads; action = action; requests = requests; takes = takes; announces = sym is }
 
 -- the decision on such a head depends on the length and on the bytes that follow
-by_length : (request : RequestParts) (announced : Result ℕ LengthFault) (old new : Reader) (head : ReadsAsking request announced old new)
+by_length : (request : RequestParts) (announced : Result ℕ LengthFault) (old new : Reader) (head : ReadsAnnounced request announced old new)
     (rest : List ℕ) → decide request.head rest ≡ decide_body request.head head.action announced rest
 by_length request announced old new head rest =
-    with_body request.head head.action rest head.asks head.takes
+    with_body request.head head.action rest head.requests head.takes
     ∙ ap (λ announced. decide_body request.head head.action announced rest) head.announces
 
-pub decides_no_length : (request : RequestParts) (fault : LengthFault) (old new : Reader) → ReadsAsking request (Err fault) old new
+pub decides_no_length : (request : RequestParts) (fault : LengthFault) (old new : Reader) → ReadsAnnounced request (Err fault) old new
     → Decides (Refuses (length_status fault)) old new
 decides_no_length request fault old new head =
     decides_by_head request _ old new head.reads (λ rest. sym (by_length request (Err fault) old new head rest))
 
-module _ (request : RequestParts) (count : ℕ) (old now new : Reader) (head : ReadsAsking request (Ok count) old now) where
+module _ (request : RequestParts) (count : ℕ) (old now new : Reader) (head : ReadsAnnounced request (Ok count) old now) where
   -- the announced body, if these bytes were read after the head
   abbrev announced : (more : List ℕ) → AnnouncesBody (head.reads.taken ++ more)
   announced more = record {
     head = request.head;
-    rest = request.behind ++ more;
-    has = HasHead-append head.reads.taken more request.head request.behind head.reads.has;
+    rest = request.after_head ++ more;
+    has = HasHead-append head.reads.taken more request.head request.after_head head.reads.has;
     action = head.action;
-    asks = head.asks;
+    requests = head.requests;
     takes = head.takes;
     count = count;
     announces = head.announces;
   }
 
   -- no more bytes were read after the head than the body has
-  read_enough : (more : List ℕ) → Takes more now new → length more ≤ count - length request.behind → ReadsEnough old new
+  read_enough : (more : List ℕ) → Takes more now new → length more ≤ count - length request.after_head → ReadsEnough old new
   read_enough more takes fits = record {
     taken = head.reads.taken ++ more;
     takes = Takes-append head.reads.taken more old now new head.reads.takes takes;
-    some = (let some = HasHead-some head.reads.taken request.head request.behind head.reads.has in
+    some = (let some = HasHead-some head.reads.taken request.head request.after_head head.reads.has in
         let long = length-append head.reads.taken more in omega arith);
     enough = enough more fits;
   }
     where
-      enough : (more : List ℕ) → length more ≤ count - length request.behind → IsEnough (head.reads.taken ++ more)
+      enough : (more : List ℕ) → length more ≤ count - length request.after_head → IsEnough (head.reads.taken ++ more)
       enough [] fits = inl (subst (λ taken. length taken ≤ HEAD_LIMIT) (sym (append-nil head.reads.taken)) head.reads.room)
-      enough (byte ∷ bytes) fits = inr (announced (byte ∷ bytes), (let long = length-append request.behind (byte ∷ bytes) in omega arith))
+      enough (byte ∷ bytes) fits = inr (announced (byte ∷ bytes), (let long = length-append request.after_head (byte ∷ bytes) in omega arith))
 
-  pub decides_with_body : (body : List ℕ) → ReadsBody request.behind count body now new
-      → Decides (Asks (asked_by request.head head.action body)) old new
+  pub decides_with_body : (body : List ℕ) → ReadsBody request.after_head count body now new
+      → Decides (Accepts (routed_by request.head head.action body)) old new
   decides_with_body body reads =
       let had = had_request request count body old now new head.reads reads in
       record {
@@ -166,10 +166,10 @@ module _ (request : RequestParts) (count : ℕ) (old now new : Reader) (head : R
       }
     where
       whole : (rest : List ℕ) → count ≤ length rest → body ≡ take count rest
-          → decide_body request.head head.action (Ok count) rest ≡ Asks (asked_by request.head head.action body)
+          → decide_body request.head head.action (Ok count) rest ≡ Accepts (routed_by request.head head.action body)
       whole rest within is_body = rw is_body (rw (le-leb count (length rest) within) refl)
 
-  pub decides_short_body : EndsInBody request.behind count now new → Decides (Refuses BadRequest) old new
+  pub decides_short_body : EndsInBody request.after_head count now new → Decides (Refuses BadRequest) old new
   decides_short_body ends =
       let had = had_short_request request count old now new head.reads ends in
       record {
@@ -182,13 +182,13 @@ module _ (request : RequestParts) (count : ℕ) (old now new : Reader) (head : R
           sym (by_length request (Ok count) old now head had.rest ∙ cut had.rest had.short),
         );
         read = read_enough ends.taken ends.takes
-            (let short = ends.short in let long = length-append request.behind ends.taken in omega arith);
+            (let short = ends.short in let long = length-append request.after_head ends.taken in omega arith);
       }
     where
       cut : (rest : List ℕ) → length rest < count → decide_body request.head head.action (Ok count) rest ≡ Refuses BadRequest
       cut rest short = rw (lt-leb count (length rest) short) refl
 
-  pub undecided_in_body : FailsInBody request.behind count now new → FailsUndecided old new
+  pub undecided_in_body : FailsInBody request.after_head count now new → FailsUndecided old new
   undecided_in_body fails = record {
     taken = head.reads.taken ++ fails.taken;
     fails = record {
@@ -198,13 +198,13 @@ module _ (request : RequestParts) (count : ℕ) (old now new : Reader) (head : R
     undecided = inr (announced fails.taken, fails.short);
   }
 
-  pub stops_in_body : LacksMemory request.behind count now new → StopsInBody old new
-  stops_in_body lacks = record {
+  pub stops_in_body : OutOfMemoryInBody request.after_head count now new → StopsInBody old new
+  stops_in_body reads = record {
     input = head.reads.taken ++ left_of now;
     is_input = known_whole head.reads.taken old now head.reads.takes;
     announced = announced (left_of now);
-    wanted = lacks.wanted;
-    read = read_enough lacks.taken lacks.takes lacks.within;
+    nonempty = reads.nonempty;
+    read = read_enough reads.taken reads.takes reads.within;
   }
 
 -- an input has only one decision

@@ -9,6 +9,6 @@ pub found_first : (key : List ℕ) (name value : List ℕ) (pairs : List (List �
 found_first key name value pairs is = rw is refl
 
 -- a pair with another key is skipped
-pub passed_over : (key : List ℕ) (name value : List ℕ) (pairs : List (List ℕ × List ℕ)) → bytes_eq (decoded name) key ≡ false
+pub skipped : (key : List ℕ) (name value : List ℕ) (pairs : List (List ℕ × List ℕ)) → bytes_eq (decoded name) key ≡ false
     → value_in key ((name, value) ∷ pairs) ≡ value_in key pairs
-passed_over key name value pairs isnt = rw isnt refl
+skipped key name value pairs isnt = rw isnt refl

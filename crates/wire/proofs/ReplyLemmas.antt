@@ -30,11 +30,11 @@ use Rattle.tl_segments.specs.County.{CountyParts}
 use Rattle.wire.proofs.DecisionLemmas.{one_decision}
 use Rattle.wire.proofs.EventLemmas.{fetched, reply_of_job, same_table}
 use Rattle.wire.proofs.VerdictLemmas.{one_extract, one_verdict}
-use Rattle.wire.specs.Answer.{Answers, AnswersAction, AsksJob, AssemblesTo, DisassemblesTo, GeocodesTo, Replies, Submits, TellsTable}
+use Rattle.wire.specs.Answer.{Answers, AnswersAction, IsJobReply, AssemblesTo, DisassemblesTo, GeocodesTo, Replies, Submits, IsTableReply}
 use Rattle.wire.specs.Answer.{job_reply, memory_reply, octets, plain, refusal_reply, source_reply}
-use Rattle.wire.specs.Decision.{AskedParts, DecisionParts, Asks}
+use Rattle.wire.specs.Decision.{RoutedParts, DecisionParts, Accepts}
 use Rattle.wire.specs.State.{StateParts}
-use Rattle.wire.specs.declared.serving.Extent.{Extent}
+use Rattle.wire.specs.declared.decision.RequestRead.{RequestRead}
 
 -- one reply, and one state
 abbrev pub IsOne : {T : Type 0} → ReplyParts → ReplyParts → T → T → Type 0
@@ -52,28 +52,28 @@ record AreKnown (reply other : ReplyParts) : Type 0 where
 
 module _ (reply other : ReplyParts) (are : AreKnown reply other) where
   one_source : (source : List ℕ) → AssemblesTo source reply → AssemblesTo source other → reply ≡ other
-  one_source source (inr (Text text_fault.Memory, faulty, told)) also = absurd (are.known told)
-  one_source source is (inr (Text text_fault.Memory, faulty, told)) = absurd (are.given told)
+  one_source source (inr (Text text_fault.Memory, faulty, is_reply)) also = absurd (are.known is_reply)
+  one_source source is (inr (Text text_fault.Memory, faulty, is_reply)) = absurd (are.given is_reply)
   one_source source (inl is) (inl also) =
       let code = text_of.one-code source is.1.code also.1.code is.1.means also.1.means in
       let coded = subst (λ (code : List Insn). IsCodeOf is.0 code) code is.1.are_words in
       let fits = subst (λ (reply : ReplyParts). AreBytes reply) is.2 are.small in
       let fitting = subst (λ (reply : ReplyParts). AreBytes reply) also.2 are.little in
       is.2 ∙ ap octets (encoder.one_spelling is.0 also.0 also.1.code fits fitting coded also.1.are_words) ∙ sym also.2
-  one_source source (inl is) (inr (NotUtf8, isnt, told)) = absurd (isnt is.1.is_text)
-  one_source source (inr (NotUtf8, isnt, told)) (inl also) = absurd (isnt also.1.is_text)
-  one_source source (inl is) (inr (Text (InLine line flaw), faulty, told)) =
+  one_source source (inl is) (inr (NotUtf8, isnt, is_reply)) = absurd (isnt is.1.is_text)
+  one_source source (inr (NotUtf8, isnt, is_reply)) (inl also) = absurd (isnt also.1.is_text)
+  one_source source (inl is) (inr (Text (InLine line flaw), faulty, is_reply)) =
       absurd (text_of.no-fault source is.1.code line flaw is.1.means faulty.1)
-  one_source source (inr (Text (InLine line flaw), faulty, told)) (inl also) =
+  one_source source (inr (Text (InLine line flaw), faulty, is_reply)) (inl also) =
       absurd (text_of.no-fault source also.1.code line flaw also.1.means faulty.1)
-  one_source source (inr (NotUtf8, isnt, told)) (inr (NotUtf8, isnt', told')) = told ∙ sym told'
-  one_source source (inr (NotUtf8, isnt, told)) (inr (Text (InLine line flaw), faulty, told')) = absurd (isnt faulty.0)
-  one_source source (inr (Text (InLine line flaw), faulty, told)) (inr (NotUtf8, isnt, told')) = absurd (isnt faulty.0)
-  one_source source (inr (Text (InLine line flaw), faulty, told)) (inr (Text (InLine line' flaw'), faulty', told')) =
-      told
+  one_source source (inr (NotUtf8, isnt, is_reply)) (inr (NotUtf8, isnt', is_reply')) = is_reply ∙ sym is_reply'
+  one_source source (inr (NotUtf8, isnt, is_reply)) (inr (Text (InLine line flaw), faulty, is_reply')) = absurd (isnt faulty.0)
+  one_source source (inr (Text (InLine line flaw), faulty, is_reply)) (inr (NotUtf8, isnt, is_reply')) = absurd (isnt faulty.0)
+  one_source source (inr (Text (InLine line flaw), faulty, is_reply)) (inr (Text (InLine line' flaw'), faulty', is_reply')) =
+      is_reply
       ∙ ap (λ fault. source_reply (Text fault))
       (text_of.one-fault source (InLine line flaw) (InLine line' flaw') faulty.1 faulty'.1 (λ e. cc) (λ e. cc))
-      ∙ sym told'
+      ∙ sym is_reply'
 
   abbrev code_reply : CodeFault → ReplyParts
   code_reply fault = refusal_reply (code_fault.refusal fault)
@@ -101,98 +101,98 @@ module _ (reply other : ReplyParts) (are : AreKnown reply other) where
   one_place counties query (inl is) (inl also) = is ∙ sym also
 
 -- A submission has the same reply for each program with these bytes.
-resubmitted : (old new : Table) (program copy : Bor (List ℕ)) (said : JobReply) → program.now ≡ copy.now
-    → Step old (event.Submit copy) said new
-    → Step old (event.Submit program) said new
+resubmitted : (old new : Table) (program copy : Bor (List ℕ)) (reply : JobReply) → program.now ≡ copy.now
+    → Step old (event.Submit copy) reply new
+    → Step old (event.Submit program) reply new
 resubmitted old new program copy (Submitted id) same step = rw same step
 resubmitted old new program copy (Refused Full) same step = step
 resubmitted old new program copy (Refused (Program fault)) same step = rw same step
 resubmitted old new program copy (Refused Memory) same step = step
-resubmitted old new program copy said same step = absurd step
+resubmitted old new program copy reply same step = absurd step
 
-one_table : (old new again : Table) (program : Bor (List ℕ)) (said : JobReply) → Step old (event.Submit program) said new
-    → Step old (event.Submit program) said again → new ≡ again
+one_table : (old new again : Table) (program : Bor (List ℕ)) (reply : JobReply) → Step old (event.Submit program) reply new
+    → Step old (event.Submit program) reply again → new ≡ again
 one_table old new again program (Submitted id) is also =
     let code = verdict.same_code program.now is.2 also.2 is.3.is_code also.3.is_code in
     is.4 ∙ ap (λ (code : List Insn). with_job old id (new_job code)) code ∙ sym also.4
 one_table old new again program (Refused Full) is also = is.1 ∙ sym also.1
 one_table old new again program (Refused (Program fault)) is also = is.3 ∙ sym also.3
 one_table old new again program (Refused Memory) is also = is.1 ∙ sym also.1
-one_table old new again program said is also = absurd is
+one_table old new again program reply is also = absurd is
 
 -- the table after a request to remove a job
 abbrev left_without : Table → ℕ → Option JobParts → Table
 left_without table id None = table
 left_without table id (Some job) = without_job table id
 
-dropped : (old new : Table) (id : ℕ) (given : JobReply) → Step old (event.Drop id) given new
-    → (job_reply given ≡ reply_of_job (λ _. job_reply Dropped) (job_of old id)) × (new ≡ left_without old id (job_of old id))
+dropped : (old new : Table) (id : ℕ) (reply : JobReply) → Step old (event.Drop id) reply new
+    → (job_reply reply ≡ reply_of_job (λ _. job_reply Dropped) (job_of old id)) × (new ≡ left_without old id (job_of old id))
 dropped old new id Dropped ((job, there), is) = rw there (refl, is)
 dropped old new id (Refused NoJob) step = rw step.0 (refl, step.1)
-dropped old new id given step = absurd step
+dropped old new id reply step = absurd step
 
 -- the event of a submission, for a program with these bytes
-submitted : (body : List ℕ) (asked : Event) → Submits body asked
-    → (program : Bor (List ℕ)) × (asked ≡ event.Submit program) × (program.now ≡ body)
+submitted : (body : List ℕ) (made : Event) → Submits body made
+    → (program : Bor (List ℕ)) × (made ≡ event.Submit program) × (program.now ≡ body)
 submitted body (event.Submit program) is = (program, refl, is)
-submitted body asked is = absurd is
+submitted body made is = absurd is
 
 module _ (old new again : StateParts) (reply other : ReplyParts) (are : AreKnown reply other) where
   one_of_job : (make : ℕ → Event) (id : Option ℕ)
-      → ((q : ℕ) (said told : JobReply) → Step old.table (make q) said new.table → Step old.table (make q) told again.table
-      → IsOne (job_reply said) (job_reply told) new.table again.table)
-      → AsksJob make id old.table reply new.table → AsksJob make id old.table other again.table → IsOne reply other new again
+      → ((q : ℕ) (table_reply other_reply : JobReply) → Step old.table (make q) table_reply new.table → Step old.table (make q) other_reply again.table
+      → IsOne (job_reply table_reply) (job_reply other_reply) new.table again.table)
+      → IsJobReply make id old.table reply new.table → IsJobReply make id old.table other again.table → IsOne reply other new again
   one_of_job make None steps is also = (is.0 ∙ sym also.0, same_table new again (is.1 ∙ sym also.1))
   one_of_job make (Some id) steps is also =
-      let both = steps id is.said also.said (subst (λ event. Step old.table event is.said new.table) is.is_event is.step)
-      (subst (λ event. Step old.table event also.said again.table) also.is_event also.step) in
-      (is.told ∙ both.0 ∙ sym also.told, same_table new again both.1)
+      let both = steps id is.table_reply also.table_reply (subst (λ event. Step old.table event is.table_reply new.table) is.is_event is.step)
+      (subst (λ event. Step old.table event also.table_reply again.table) also.is_event also.step) in
+      (is.is_reply ∙ both.0 ∙ sym also.is_reply, same_table new again both.1)
 
-  not_refused : (reply : ReplyParts) (said : JobReply) → reply ≢ memory_reply → reply ≡ job_reply said → said ≢ Refused Memory
-  not_refused reply said known told memory = known (told ∙ ap job_reply memory)
+  not_refused : (reply : ReplyParts) (table_reply : JobReply) → reply ≢ memory_reply → reply ≡ job_reply table_reply → table_reply ≢ Refused Memory
+  not_refused reply table_reply known is_reply memory = known (is_reply ∙ ap job_reply memory)
 
-  one_submission : (body : List ℕ) → TellsTable (Submits body) old.table reply new.table
-      → TellsTable (Submits body) old.table other again.table → IsOne reply other new again
+  one_submission : (body : List ℕ) → IsTableReply (Submits body) old.table reply new.table
+      → IsTableReply (Submits body) old.table other again.table → IsOne reply other new again
   one_submission body is also =
       let first = submitted body is.event is.is_event in
       let second = submitted body also.event also.is_event in
-      let step = subst (λ event. Step old.table event is.said new.table) first.1 is.step in
-      let copied = resubmitted old.table again.table first.0 second.0 also.said (first.2 ∙ sym second.2)
-      (subst (λ event. Step old.table event also.said again.table) second.1 also.step) in
-      let one = submission.one_reply old.table new.table again.table first.0 is.said also.said step copied
-      (not_refused reply is.said are.known is.told) (not_refused other also.said are.given also.told) in
-      let same = one_table old.table new.table again.table first.0 is.said step
-      (subst (λ said. Step old.table (event.Submit first.0) said again.table) (sym one) copied) in
-      (is.told ∙ ap job_reply one ∙ sym also.told, same_table new again same)
+      let step = subst (λ event. Step old.table event is.table_reply new.table) first.1 is.step in
+      let copied = resubmitted old.table again.table first.0 second.0 also.table_reply (first.2 ∙ sym second.2)
+      (subst (λ event. Step old.table event also.table_reply again.table) second.1 also.step) in
+      let one = submission.one_reply old.table new.table again.table first.0 is.table_reply also.table_reply step copied
+      (not_refused reply is.table_reply are.known is.is_reply) (not_refused other also.table_reply are.given also.is_reply) in
+      let same = one_table old.table new.table again.table first.0 is.table_reply step
+      (subst (λ table_reply. Step old.table (event.Submit first.0) table_reply again.table) (sym one) copied) in
+      (is.is_reply ∙ ap job_reply one ∙ sym also.is_reply, same_table new again same)
 
-  one_answer : (action : Action) (asked : AskedParts) → AnswersAction action old asked reply new
-      → AnswersAction action old asked other again → IsOne reply other new again
-  one_answer action.Verify asked is also =
-      (one_verdict asked.body reply other is.0 also.0 are.known are.given, is.1 ∙ sym also.1)
-  one_answer action.Assemble asked is also = (one_source reply other are asked.body is.0 also.0, is.1 ∙ sym also.1)
-  one_answer action.Disassemble asked is also = (one_text reply other are asked.body is.0 also.0, is.1 ∙ sym also.1)
-  one_answer action.Extract asked is also =
-      (one_extract old.table.counties asked.body reply other is.0 also.0 are.known are.given, is.1 ∙ sym also.1)
-  one_answer action.Geocode asked is also =
-      (one_place reply other are old.table.counties asked.query is.0 also.0, is.1 ∙ sym also.1)
-  one_answer action.Submit asked is also = one_submission asked.body is also
-  one_answer action.Fetch asked is also = one_of_job event.Fetch (job_id asked.path) (λ id said told step step'.
-      let first = fetched old.table new.table id said step in
-      let second = fetched old.table again.table id told step' in
+  one_answer : (action : Action) (request : RoutedParts) → AnswersAction action old request reply new
+      → AnswersAction action old request other again → IsOne reply other new again
+  one_answer action.Verify request is also =
+      (one_verdict request.body reply other is.0 also.0 are.known are.given, is.1 ∙ sym also.1)
+  one_answer action.Assemble request is also = (one_source reply other are request.body is.0 also.0, is.1 ∙ sym also.1)
+  one_answer action.Disassemble request is also = (one_text reply other are request.body is.0 also.0, is.1 ∙ sym also.1)
+  one_answer action.Extract request is also =
+      (one_extract old.table.counties request.body reply other is.0 also.0 are.known are.given, is.1 ∙ sym also.1)
+  one_answer action.Geocode request is also =
+      (one_place reply other are old.table.counties request.query is.0 also.0, is.1 ∙ sym also.1)
+  one_answer action.Submit request is also = one_submission request.body is also
+  one_answer action.Fetch request is also = one_of_job event.Fetch (job_id request.path) (λ id table_reply other_reply step step'.
+      let first = fetched old.table new.table id table_reply step in
+      let second = fetched old.table again.table id other_reply step' in
       (first.0 ∙ sym second.0, first.1 ∙ sym second.1)) is also
-  one_answer action.Drop asked is also = one_of_job event.Drop (job_id asked.path) (λ id said told step step'.
-      let first = dropped old.table new.table id said step in
-      let second = dropped old.table again.table id told step' in
+  one_answer action.Drop request is also = one_of_job event.Drop (job_id request.path) (λ id table_reply other_reply step step'.
+      let first = dropped old.table new.table id table_reply step in
+      let second = dropped old.table again.table id other_reply step' in
       (first.0 ∙ sym second.0, first.1 ∙ sym second.1)) is also
 
   one_decided : (decision : DecisionParts) → Answers old decision reply new → Answers old decision other again → IsOne reply other new again
-  one_decided (Asks asked) is also = one_answer asked.action asked is also
+  one_decided (Accepts request) is also = one_answer request.action request is also
   one_decided decision is also = (is.0 ∙ sym also.0, is.1 ∙ sym also.1)
 
 -- a reply to an input, other than out of memory
 pub record IsKnownReply (input : List ℕ) (old : StateParts) (reply : ReplyParts) (new : StateParts) : Type 0 where
-  pub extent : Extent
-  pub replies : Replies input extent old reply new
+  pub request_read : RequestRead
+  pub replies : Replies input request_read old reply new
   pub bytes : AreBytes reply
   pub known : reply ≢ memory_reply
 
@@ -200,7 +200,7 @@ pub one_reply_lem : (input : List ℕ) (old new again : StateParts) (reply other
     → IsKnownReply input old other again → IsOne reply other new again
 one_reply_lem input old new again reply other first second = by first.replies second.replies
   where
-    by : Replies input first.extent old reply new → Replies input second.extent old other again → IsOne reply other new again
+    by : Replies input first.request_read old reply new → Replies input second.request_read old other again → IsOne reply other new again
     by (inr stopped) also = absurd (first.known stopped.3)
     by is (inr stopped) = absurd (second.known stopped.3)
     by (inl is) (inl also) =

@@ -38,11 +38,11 @@ use Rattle.refusals.specs.Refusal.{RefusalParts, line, memory}
 use Rattle.refusals.specs.declared.refusal.Class.{Class}
 use Rattle.refusals.specs.declared.refusal.Class.TheVariants as class
 use Rattle.tl_segments.specs.County.{CountyParts}
-use Rattle.wire.specs.Decision.{AnnouncesBody, AskedParts, DecisionParts, IsDecided, Refuses, Disallows, Asks, extent_of}
-use Rattle.wire.specs.Query.{asked_place}
+use Rattle.wire.specs.Decision.{AnnouncesBody, RoutedParts, DecisionParts, IsDecided, Refuses, Disallows, Accepts, request_read_of}
+use Rattle.wire.specs.Query.{requested_place}
 use Rattle.wire.specs.State.{StateParts, counties_of}
-use Rattle.wire.specs.declared.serving.Extent.{Extent}
-use Rattle.wire.specs.declared.serving.Extent.TheVariants.{Part}
+use Rattle.wire.specs.declared.decision.RequestRead.{RequestRead}
+use Rattle.wire.specs.declared.decision.RequestRead.TheVariants.{Partial}
 
 abbrev pub plain : Status → List ℕ → ReplyParts
 plain status body = record { status = status; media = Plain; allow = None; body = body }
@@ -109,7 +109,7 @@ place_reply counties None = status_reply status.BadRequest
 place_reply counties (Some place) = plain status.Ok (hit_lines (hits_of place counties))
 
 abbrev pub GeocodesTo : List CountyParts → List ℕ → ReplyParts → Type 0
-GeocodesTo counties query reply = (reply ≡ place_reply counties (asked_place query)) ⊎ (reply ≡ memory_reply)
+GeocodesTo counties query reply = (reply ≡ place_reply counties (requested_place query)) ⊎ (reply ≡ memory_reply)
 
 abbrev pub job_fault_reply : JobFault → ReplyParts
 job_fault_reply NoJob = status_reply status.NotFound
@@ -129,44 +129,44 @@ job_reply (Rows done total rows) = rows_reply done total rows.now
 job_reply Dropped = plain status.Ok (codes "dropped\n")
 job_reply (Refused fault) = job_fault_reply fault
 
--- one event of the table of jobs
-pub record TellsTable (asked : Event → Type 0) (old : Table) (reply : ReplyParts) (new : Table) : Type 0 where
+-- the reply of the table of jobs to one such event
+pub record IsTableReply (is_such : Event → Type 0) (old : Table) (reply : ReplyParts) (new : Table) : Type 0 where
   pub event : Event
-  pub is_event : asked event
-  pub said : JobReply
-  pub step : Step old event said new
-  pub told : reply ≡ job_reply said
+  pub is_event : is_such event
+  pub table_reply : JobReply
+  pub step : Step old event table_reply new
+  pub is_reply : reply ≡ job_reply table_reply
 
 -- a program is submitted
 abbrev pub Submits : List ℕ → Event → Type 0
 Submits program (event.Submit submitted) = submitted.now ≡ program
 Submits program other = ⊥
 
--- an event for the job with an id; an invalid id belongs to no job
-abbrev pub AsksJob : (ℕ → Event) → Option ℕ → Table → ReplyParts → Table → Type 0
-AsksJob asked None old reply new = (reply ≡ status_reply status.NotFound) × (new ≡ old)
-AsksJob asked (Some id) old reply new = TellsTable (λ event. event ≡ asked id) old reply new
+-- the reply to an event for the job with an id; an invalid id belongs to no job
+abbrev pub IsJobReply : (ℕ → Event) → Option ℕ → Table → ReplyParts → Table → Type 0
+IsJobReply make None old reply new = (reply ≡ status_reply status.NotFound) × (new ≡ old)
+IsJobReply make (Some id) old reply new = IsTableReply (λ event. event ≡ make id) old reply new
 
 -- The reply to each action, and the state after it. A request about jobs is one event of their table, and nothing else changes the state.
-abbrev pub AnswersAction : Action → StateParts → AskedParts → ReplyParts → StateParts → Type 0
-AnswersAction action.Verify old asked reply new = IsVerified asked.body reply × (new ≡ old)
-AnswersAction action.Assemble old asked reply new = AssemblesTo asked.body reply × (new ≡ old)
-AnswersAction action.Disassemble old asked reply new = DisassemblesTo asked.body reply × (new ≡ old)
-AnswersAction action.Extract old asked reply new = ExtractsTo (counties_of old) asked.body reply × (new ≡ old)
-AnswersAction action.Geocode old asked reply new = GeocodesTo (counties_of old) asked.query reply × (new ≡ old)
-AnswersAction action.Submit old asked reply new = TellsTable (Submits asked.body) old.table reply new.table
-AnswersAction action.Fetch old asked reply new = AsksJob event.Fetch (job_id asked.path) old.table reply new.table
-AnswersAction action.Drop old asked reply new = AsksJob event.Drop (job_id asked.path) old.table reply new.table
+abbrev pub AnswersAction : Action → StateParts → RoutedParts → ReplyParts → StateParts → Type 0
+AnswersAction action.Verify old request reply new = IsVerified request.body reply × (new ≡ old)
+AnswersAction action.Assemble old request reply new = AssemblesTo request.body reply × (new ≡ old)
+AnswersAction action.Disassemble old request reply new = DisassemblesTo request.body reply × (new ≡ old)
+AnswersAction action.Extract old request reply new = ExtractsTo (counties_of old) request.body reply × (new ≡ old)
+AnswersAction action.Geocode old request reply new = GeocodesTo (counties_of old) request.query reply × (new ≡ old)
+AnswersAction action.Submit old request reply new = IsTableReply (Submits request.body) old.table reply new.table
+AnswersAction action.Fetch old request reply new = IsJobReply event.Fetch (job_id request.path) old.table reply new.table
+AnswersAction action.Drop old request reply new = IsJobReply event.Drop (job_id request.path) old.table reply new.table
 
 -- the reply to a decision
 abbrev pub Answers : StateParts → DecisionParts → ReplyParts → StateParts → Type 0
 Answers old (Refuses status) reply new = (reply ≡ status_reply status) × (new ≡ old)
 Answers old (Disallows route) reply new = (reply ≡ disallowed route) × (new ≡ old)
-Answers old (Asks asked) reply new = AnswersAction asked.action old asked reply new
+Answers old (Accepts request) reply new = AnswersAction request.action old request reply new
 
--- The reply to an input of which this extent was read: the reply to its decision; or the out-of-memory reply, if an allocation fails for a body
+-- The reply to an input of which this much was read: the reply to its decision; or the out-of-memory reply, if an allocation fails for a body
 -- that isn't empty, with the state unchanged.
-abbrev pub Replies : List ℕ → Extent → StateParts → ReplyParts → StateParts → Type 0
-Replies input extent old reply new =
-    ((decision : DecisionParts) × IsDecided input decision × (extent ≡ extent_of decision) × Answers old decision reply new)
-    ⊎ ((announced : AnnouncesBody input) × (0 < announced.count) × (extent ≡ Part) × (reply ≡ memory_reply) × (new ≡ old))
+abbrev pub Replies : List ℕ → RequestRead → StateParts → ReplyParts → StateParts → Type 0
+Replies input request_read old reply new =
+    ((decision : DecisionParts) × IsDecided input decision × (request_read ≡ request_read_of decision) × Answers old decision reply new)
+    ⊎ ((announced : AnnouncesBody input) × (0 < announced.count) × (request_read ≡ Partial) × (reply ≡ memory_reply) × (new ≡ old))

@@ -1,5 +1,6 @@
--- The decision on an input: whether it's a request, and what it asks for. It depends on the complete input, not on how that was read.
-use Rattle.std.specs.Prelude.{◌≡◌, ◌⊎◌, ◌<◌, ◌≤◌, ℕ, nat_le, Bool, true, false, if◌then◌else◌, List, [], length, take, Option, Some, None, Result, Ok, Err, IsTrue}
+-- The decision on an input: whether it's a request, and what it requests. It depends on the complete input, not on how that was read.
+use Rattle.std.specs.Prelude.{◌≡◌, ◌⊎◌, ◌<◌, ◌≤◌, ℕ, nat_le, Bool, true, false, if◌then◌else◌, List, [], length, take}
+use Rattle.std.specs.Prelude.{Option, Some, None, Result, Ok, Err, IsTrue}
 use Rattle.std.specs.Option.{option_and_then}
 use Rattle.http_request.specs.Head.{Head, HasHead, HasNoHead, MayBecomeHead}
 use Rattle.http_request.specs.Length.{body_length}
@@ -13,11 +14,11 @@ use Rattle.http_routes.specs.Target.{path_of, query_of}
 use Rattle.http_routes.specs.declared.route.Action.{Action}
 use Rattle.http_routes.specs.declared.route.Action.TheVariants.{Geocode, Fetch, Drop}
 use Rattle.http_routes.specs.declared.route.Route.{Route}
-use Rattle.wire.specs.declared.serving.Extent.{Extent}
-use Rattle.wire.specs.declared.serving.Extent.TheVariants.{Whole, Part}
+use Rattle.wire.specs.declared.decision.RequestRead.{RequestRead}
+use Rattle.wire.specs.declared.decision.RequestRead.TheVariants.{Complete, Partial}
 
 -- an accepted request: its action, the path and the query of its target, and its body
-pub record AskedParts : Type 0 where
+pub record RoutedParts : Type 0 where
   pub action : Action
   pub path : List ℕ
   pub query : List ℕ
@@ -27,13 +28,13 @@ pub record AskedParts : Type 0 where
 pub data DecisionParts : Type 0 where
   Refuses : Status → DecisionParts
   Disallows : Route → DecisionParts
-  Asks : AskedParts → DecisionParts
+  Accepts : RoutedParts → DecisionParts
 
 -- how much of a request was read: all of an accepted request, otherwise only what was needed to refuse it
-abbrev pub extent_of : DecisionParts → Extent
-extent_of (Asks asked) = Whole
-extent_of (Refuses status) = Part
-extent_of (Disallows route) = Part
+abbrev pub request_read_of : DecisionParts → RequestRead
+request_read_of (Accepts request) = Complete
+request_read_of (Refuses status) = Partial
+request_read_of (Disallows route) = Partial
 
 -- the actions with a body: all those requested by POST
 abbrev pub takes_body : Action → Bool
@@ -49,20 +50,20 @@ length_status Invalid = BadRequest
 length_status TooLarge = PayloadTooLarge
 
 -- the request of a head with this body
-abbrev pub asked_by : Head → Action → List ℕ → AskedParts
-asked_by head action body = record { action = action; path = path_of head.target; query = query_of head.target; body = body }
+abbrev pub routed_by : Head → Action → List ℕ → RoutedParts
+routed_by head action body = record { action = action; path = path_of head.target; query = query_of head.target; body = body }
 
 -- A body has the announced length. Bytes that follow it are ignored.
 abbrev pub decide_body : Head → Action → Result ℕ LengthFault → List ℕ → DecisionParts
 decide_body head action (Err fault) rest = Refuses (length_status fault)
 decide_body head action (Ok count) rest =
-    if nat_le count (length rest) then Asks (asked_by head action (take count rest)) else Refuses BadRequest
+    if nat_le count (length rest) then Accepts (routed_by head action (take count rest)) else Refuses BadRequest
 
 -- GET and DELETE take no body, whatever length is announced
 abbrev pub decide_action : Head → Route → Option Action → List ℕ → DecisionParts
 decide_action head route None rest = Disallows route
 decide_action head route (Some action) rest =
-    if takes_body action then decide_body head action (body_length head) rest else Asks (asked_by head action [])
+    if takes_body action then decide_body head action (body_length head) rest else Accepts (routed_by head action [])
 
 -- first the route, then its method, then the body
 abbrev pub decide_route : Head → Option Route → List ℕ → DecisionParts
@@ -80,8 +81,8 @@ IsDecided input decision =
     ⊎ ((head : Head) × (rest : List ℕ) × HasHead input head rest × (decision ≡ decide head rest))
 
 -- the action of a head, by its route and its method
-abbrev pub asked_action : Head → Option Action
-asked_action head = option_and_then (λ route. action_of route head.method) (route_of (path_of head.target))
+abbrev pub requested_action : Head → Option Action
+requested_action head = option_and_then (λ route. action_of route head.method) (route_of (path_of head.target))
 
 -- The input has a head that requests an action with a body, and announces the body's length.
 pub record AnnouncesBody (input : List ℕ) : Type 0 where
@@ -89,7 +90,7 @@ pub record AnnouncesBody (input : List ℕ) : Type 0 where
   pub rest : List ℕ
   pub has : HasHead input head rest
   pub action : Action
-  pub asks : asked_action head ≡ Some action
+  pub requests : requested_action head ≡ Some action
   pub takes : IsTrue (takes_body action)
   pub count : ℕ
   pub announces : body_length head ≡ Ok count

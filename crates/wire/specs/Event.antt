@@ -11,10 +11,10 @@ use Rattle.jobs.specs.declared.event.Event.{Event}
 use Rattle.jobs.specs.declared.event.Event.TheVariants.{Turn, Fetch, Drop}
 use Rattle.jobs.specs.declared.event.Reply.{Reply as JobReply}
 use Rattle.tl_segments.specs.County.{CountyParts}
-use Rattle.wire.specs.Answer.{Replies, Submits, TellsTable, job_reply, memory_reply, rows_reply}
-use Rattle.wire.specs.Decision.{AskedParts, DecisionParts, IsDecided, Refuses, Disallows, Asks}
+use Rattle.wire.specs.Answer.{Replies, Submits, IsTableReply, job_reply, memory_reply, rows_reply}
+use Rattle.wire.specs.Decision.{RoutedParts, DecisionParts, IsDecided, Refuses, Disallows, Accepts}
 use Rattle.wire.specs.State.{StateParts}
-use Rattle.wire.specs.declared.serving.Extent.{Extent}
+use Rattle.wire.specs.declared.decision.RequestRead.{RequestRead}
 
 -- an event that a request can be: any but a turn
 abbrev pub is_requested : Event → Bool
@@ -23,23 +23,23 @@ is_requested event = true
 
 -- one event of the table of jobs, which a request can be, and the table's reply
 abbrev pub IsEvent : StateParts → ReplyParts → StateParts → Type 0
-IsEvent old reply new = TellsTable (λ event. IsTrue (is_requested event)) old.table reply new.table
+IsEvent old reply new = IsTableReply (λ event. IsTrue (is_requested event)) old.table reply new.table
 
 -- the request to the table: run a program as a job, return the progress of the job with an id, or remove it
-abbrev pub IsAsked : Action → AskedParts → Event → Type 0
-IsAsked action.Submit asked event = Submits asked.body event
-IsAsked action.Fetch asked event = (id : ℕ) × (job_id asked.path ≡ Some id) × (event ≡ Fetch id)
-IsAsked action.Drop asked event = (id : ℕ) × (job_id asked.path ≡ Some id) × (event ≡ Drop id)
-IsAsked action asked event = ⊥
+abbrev pub IsEventOf : Action → RoutedParts → Event → Type 0
+IsEventOf action.Submit request event = Submits request.body event
+IsEventOf action.Fetch request event = (id : ℕ) × (job_id request.path ≡ Some id) × (event ≡ Fetch id)
+IsEventOf action.Drop request event = (id : ℕ) × (job_id request.path ≡ Some id) × (event ≡ Drop id)
+IsEventOf action request event = ⊥
 
-abbrev pub AsksEvent : DecisionParts → Event → Type 0
-AsksEvent (Asks asked) event = IsAsked asked.action asked event
-AsksEvent (Refuses status) event = ⊥
-AsksEvent (Disallows route) event = ⊥
+abbrev pub RequestsEvent : DecisionParts → Event → Type 0
+RequestsEvent (Accepts request) event = IsEventOf request.action request event
+RequestsEvent (Refuses status) event = ⊥
+RequestsEvent (Disallows route) event = ⊥
 
 -- an input requests this event of the table
 abbrev pub Requests : List ℕ → Event → Type 0
-Requests input event = (decision : DecisionParts) × IsDecided input decision × AsksEvent decision event
+Requests input event = (decision : DecisionParts) × IsDecided input decision × RequestsEvent decision event
 
 -- an act of a server: it replies to an input, makes a turn of the job with an id, or has no turn to make
 pub data Act : Type 0 where
@@ -48,7 +48,7 @@ pub data Act : Type 0 where
   Rested : Act
 
 abbrev pub Acts : StateParts → Act → StateParts → Type 0
-Acts old (Replied input reply) new = (extent : Extent) × Replies input extent old reply new
+Acts old (Replied input reply) new = (request_read : RequestRead) × Replies input request_read old reply new
 Acts old (Turned id reply) new = IsNextTurn old.table (Some id) × Step old.table (Turn id) reply new.table
 Acts old Rested new = IsNextTurn old.table None × (new ≡ old)
 
@@ -82,4 +82,4 @@ pub record IsOwnReply (counties : List CountyParts) (acts : List Act) (id : ℕ)
   pub are : AreExchanges acts exchanges
   pub job : JobParts
   pub own : IsOwn counties exchanges id job
-  pub told : reply ≡ rows_reply job.done (length (segments_of counties)) job.rows
+  pub is_reply : reply ≡ rows_reply job.done (length (segments_of counties)) job.rows

@@ -27,5 +27,5 @@ abbrev pub place_with : Option (List ℕ) → Option (List ℕ) → Option (List
 place_with (Some number) (Some name) zip = if_in_form (query_of number name zip)
 place_with number name zip = None
 
-abbrev pub asked_place : List ℕ → Option QueryParts
-asked_place query = place_with (first_value (codes "number") query) (first_value (codes "name") query) (first_value (codes "zip") query)
+abbrev pub requested_place : List ℕ → Option QueryParts
+requested_place query = place_with (first_value (codes "number") query) (first_value (codes "name") query) (first_value (codes "zip") query)

@@ -2,7 +2,7 @@
 use Rattle.std.specs.Prelude.{◌≡◌, ◌<◌, ℕ, List, length, Some, Result, Ok, Err, ⊤}
 use Rattle.std.specs.Io.KnownBytes.{Keeps}
 use Rattle.http_reply.specs.Reply.{ReplyParts, reply_text}
-use Rattle.http_request.specs.Reading.{FailsBehind, IsClosed, Takes}
+use Rattle.http_request.specs.Reading.{FailsAfter, IsClosed, Takes}
 use Rattle.counted_io.specs.Device.{Reader, Writer}
 use Rattle.counted_io.specs.Writing.{WritesText}
 use Rattle.counted_io.specs.declared.writing.WriteFault.{WriteFault}
@@ -12,7 +12,7 @@ use Rattle.wire.specs.Decision.{IsEnough, IsUndecided}
 use Rattle.wire.specs.State.{StateParts}
 use Rattle.wire.specs.declared.fault.WireFault.{WireFault}
 use Rattle.wire.specs.declared.fault.WireFault.TheVariants.{Closed, Read, Write, WriteZero}
-use Rattle.wire.specs.declared.serving.Extent.{Extent}
+use Rattle.wire.specs.declared.decision.RequestRead.{RequestRead}
 
 -- a server's state, with the reader and the writer of a connection
 pub record Connection : Type 0 where
@@ -27,14 +27,14 @@ pub record ReadsEnough (old new : Reader) : Type 0 where
   pub some : 0 < length taken
   pub enough : IsEnough taken
 
--- The reader had an input left, of which this extent was read, and which has a reply. The reply was written, completely or up to the writer's
+-- The reader had an input left, of which this much was read, and which has a reply. The reply was written, completely or up to the writer's
 -- fault, and the state is the one after the reply.
-pub record IsReplied (extent : Extent) (written : Result (Unit {0}) WriteFault) (old new : Connection) : Type 0 where
+pub record IsReplied (request_read : RequestRead) (written : Result (Unit {0}) WriteFault) (old new : Connection) : Type 0 where
   pub input : List ℕ
   pub is_input : Keeps old.reader.left (Some input)
   pub read : ReadsEnough old.reader new.reader
   pub reply : ReplyParts
-  pub replies : Replies input extent old.state reply new.state
+  pub replies : Replies input request_read old.state reply new.state
   pub writes : WritesText (reply_text reply) written old.writer new.writer
 
 -- nothing was written, and the state is unchanged
@@ -45,19 +45,19 @@ pub record IsUnanswered (old new : Connection) : Type 0 where
 -- a read failed after bytes that don't suffice for a decision
 pub record FailsUndecided (old new : Reader) : Type 0 where
   pub taken : List ℕ
-  pub fails : FailsBehind taken old new
+  pub fails : FailsAfter taken old new
   pub undecided : IsUndecided taken
 
 -- How serving ends. Either a reply was written, completely or up to the writer's fault; or nothing was written, because there is no input or
 -- because a read failed before the decision.
 abbrev pub IsServed : {T : Type 0} → Result T WireFault → Connection → Connection → Type 0
-IsServed (Ok done) old new = (extent : Extent) × IsReplied extent (Ok tt) old new
-IsServed (Err Write) old new = (extent : Extent) × IsReplied extent (Err write_fault.Write) old new
-IsServed (Err WriteZero) old new = (extent : Extent) × IsReplied extent (Err write_fault.WriteZero) old new
+IsServed (Ok done) old new = (request_read : RequestRead) × IsReplied request_read (Ok tt) old new
+IsServed (Err Write) old new = (request_read : RequestRead) × IsReplied request_read (Err write_fault.Write) old new
+IsServed (Err WriteZero) old new = (request_read : RequestRead) × IsReplied request_read (Err write_fault.WriteZero) old new
 IsServed (Err Closed) old new = IsUnanswered old new × IsClosed old.reader new.reader
 IsServed (Err Read) old new = IsUnanswered old new × FailsUndecided old.reader new.reader
 
--- a written reply comes with the extent of the request that was read
-abbrev pub TellsExtent : Result Extent WireFault → Connection → Connection → Type 0
-TellsExtent (Ok extent) old new = IsReplied extent (Ok tt) old new
-TellsExtent (Err fault) old new = ⊤
+-- a written reply comes with how much of the request was read
+abbrev pub ReturnsRequestRead : Result RequestRead WireFault → Connection → Connection → Type 0
+ReturnsRequestRead (Ok request_read) old new = IsReplied request_read (Ok tt) old new
+ReturnsRequestRead (Err fault) old new = ⊤

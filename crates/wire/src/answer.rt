@@ -83,7 +83,6 @@ impl<'a, A: Allocator> Answer<'a, A> {
     }
 }
 
-/// Returns the status of a refusal, by its class.
 fn class_status(class: Class) -> Status
     ensures { result ≡ class_status class }
 {
@@ -106,7 +105,6 @@ fn plain(lead: ArrayVec<u8, LEAD_LIMIT>, rest: &[u8]) -> Reply<'_>
     }
 }
 
-/// Returns the line with its line end.
 fn with_line_end(line: ArrayString<64>) -> ArrayVec<u8, LEAD_LIMIT>
     ensures { result.items ≡ line.bytes ++ 10 ∷ [] }
 {

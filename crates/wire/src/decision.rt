@@ -1,39 +1,32 @@
-//! The decision on an input: whether it's a request, and what it asks for.
+//! The decision on an input: whether it's a request, and what it requests.
 ghost use Rattle.std.specs.Prelude.{◌≡◌, IfErr, IfOk, IsTrue};
 ghost use Rattle.http_request.specs.Reading.{ReadsHead};
+ghost use Rattle.http_routes.specs.Target.{path_of, query_of};
 ghost use Rattle.counted_io.specs.Device.{Reader, reader};
-ghost use Rattle.wire.specs.Decision.{asked_action, asked_by, extent_of, length_status, takes_body};
-ghost use Rattle.wire.specs.Reading.{Decides, FailsToDecide, asked_of, decision_of, of_head};
+ghost use Rattle.wire.specs.Decision.{length_status, request_read_of, requested_action, takes_body};
+ghost use Rattle.wire.specs.Reading.{Decides, FailsToDecide, decision_of, of_head};
 
-use crate::serving::Extent;
 use counted_io::CountedRead;
 use http_reply::Status;
 use http_request::{BodyFault, HeadBuffer, HeadFault, LengthFault, Request, read_body};
 use http_routes::{Action, Route, Routes, Target};
 use std::alloc::Allocator;
 
-/// An accepted request: its action, the path and the query of its target, and its body.
-#[derive(Drop)]
-pub(crate) struct Asked<'a, A: Allocator> {
-    pub action: Action,
-    pub path: &'a str,
-    pub query: &'a str,
-    pub body: Vec<u8, A>,
+/// How much of a request was read.
+#[derive(Clone, Copy, PartialEq, Eq)]
+pub enum RequestRead {
+    /// Everything that matters: bytes that come later aren't part of the request, or are the body of a request that takes none.
+    Complete,
+    /// Only what was needed to refuse the request: the client may still be sending.
+    Partial,
 }
 
-impl<'a, A: Allocator> Asked<'a, A> {
-    /// Returns a request's action and target with this body.
-    fn of(request: &Request<'a>, action: Action, body: Vec<u8, A>) -> Self
-        ensures { asked_of result ≡ asked_by request.now.head action body.items }
-    {
-        let target = Target::of(request.target());
-        Asked {
-            action,
-            path: target.path,
-            query: target.query,
-            body,
-        }
-    }
+/// An accepted request, whose path and method have an action.
+#[derive(Drop)]
+pub(crate) struct RoutedRequest<'a, A: Allocator> {
+    pub action: Action,
+    pub target: Target<'a>,
+    pub body: Vec<u8, A>,
 }
 
 /// The decision on an input.
@@ -41,17 +34,16 @@ impl<'a, A: Allocator> Asked<'a, A> {
 pub(crate) enum Decision<'a, A: Allocator> {
     Refuses(Status),
     Disallows(Route),
-    Asks(Asked<'a, A>),
+    Accepts(RoutedRequest<'a, A>),
 }
 
 impl<A: Allocator> Decision<'_, A> {
-    /// Returns how much of the request was read.
-    pub fn extent(&self) -> Extent
-        ensures { result ≡ extent_of (decision_of self.now) }
+    pub fn request_read(&self) -> RequestRead
+        ensures { result ≡ request_read_of (decision_of self.now) }
     {
         match self {
-            Decision::Refuses(_) | Decision::Disallows(_) => Extent::Part,
-            Decision::Asks(_) => Extent::Whole,
+            Decision::Refuses(_) | Decision::Disallows(_) => RequestRead::Partial,
+            Decision::Accepts(_) => RequestRead::Complete,
         }
     }
 }
@@ -90,26 +82,34 @@ pub(crate) fn read_decision<'a, A: Allocator + Copy, R: CountedRead>(
     let Some(request) = buffer.read_head(input)? else {
         return Ok(Decision::Refuses(Status::BadRequest));
     };
-    let Some(route) = routes.find(Target::of(request.target()).path) else {
+    let target = Target::of(request.target());
+    let Some(route) = routes.find(target.path) else {
         return Ok(Decision::Refuses(Status::NotFound));
     };
     let Some(action) = route.action(request.method()) else {
         return Ok(Decision::Disallows(route));
     };
     if !takes_body(action) {
-        return Ok(Decision::Asks(Asked::of(&request, action, Vec::new(alloc))));
+        return Ok(Decision::Accepts(RoutedRequest {
+            action,
+            target,
+            body: Vec::new(alloc),
+        }));
     }
-    read_asked(alloc, &request, action, input)
+    read_routed(alloc, &request, target, action, input)
 }
 
 /// Reads the body of a request whose action takes one.
-fn read_asked<'a, A: Allocator + Copy, R: CountedRead>(
+fn read_routed<'a, A: Allocator + Copy, R: CountedRead>(
     alloc: A,
     request: &Request<'a>,
+    target: Target<'a>,
     action: Action,
     input: &mut R,
 ) -> Result<Decision<'a, A>, ReadFault>
-    requires asks { asked_action request.now.head ≡ Some action }
+    requires path { target.path.now ≡ path_of request.now.head.target }
+    requires query { target.query.now ≡ query_of request.now.head.target }
+    requires requests { requested_action request.now.head ≡ Some action }
     requires takes { IsTrue (takes_body action) }
     ensures ok { IfOk result (λ decision. (start : Reader)
         → ReadsHead request.now start (reader R.remaining R.failed_reads input.old)
@@ -122,15 +122,19 @@ fn read_asked<'a, A: Allocator + Copy, R: CountedRead>(
         Ok(length) => length,
         Err(fault) => return Ok(Decision::Refuses(length_status(fault))),
     };
-    match read_body(alloc, request.behind(), length, input) {
-        Ok(body) => Ok(Decision::Asks(Asked::of(request, action, body))),
+    match read_body(alloc, request.after_head(), length, input) {
+        Ok(body) => Ok(Decision::Accepts(RoutedRequest {
+            action,
+            target,
+            body,
+        })),
         Err(BodyFault::Short) => Ok(Decision::Refuses(Status::BadRequest)),
         Err(BodyFault::Read) => Err(ReadFault::Read),
         Err(BodyFault::Memory) => Err(ReadFault::Memory),
     }
 }
 
-/// Returns whether an action takes a body, as all those requested by POST do.
+/// The actions requested by POST take a body, the others none.
 fn takes_body(action: Action) -> bool
     ensures { result ≡ takes_body action }
 {

@@ -3,7 +3,7 @@ ghost use Rattle.std.specs.Prelude.{◌≡◌, ◌⊎◌, IfOk, option_map};
 ghost use Rattle.std.specs.Cow.{cow_str_bytes};
 ghost use Rattle.geocode.specs.Gazetteer.{IsGazetteerOf};
 ghost use Rattle.wire.specs.Answer.{GeocodesTo, place_reply};
-ghost use Rattle.wire.specs.Query.{asked_place, first_value};
+ghost use Rattle.wire.specs.Query.{requested_place, first_value};
 ghost use Rattle.wire.specs.Reply.{reply_of};
 
 use crate::answer::Answer;
@@ -27,7 +27,7 @@ pub(crate) fn geocode<A: Allocator + Copy>(
 {
     match answer_place(alloc, gazetteer, counties, query.as_bytes()) {
         Ok(answer) => answer,
-        Err(_wanting) => Answer::Refused(Refusal::memory()),
+        Err(_error) => Answer::Refused(Refusal::memory()),
     }
 }
 
@@ -38,7 +38,7 @@ fn answer_place<A: Allocator + Copy>(
     query: &[u8],
 ) -> Result<Answer<'static, A>, AllocError>
     requires { IsGazetteerOf gazetteer.now counties.now }
-    ensures { IfOk result (λ answer. reply_of answer ≡ place_reply counties.now (asked_place query.now)) }
+    ensures { IfOk result (λ answer. reply_of answer ≡ place_reply counties.now (requested_place query.now)) }
 {
     let number = first_value(alloc, "number", query)?;
     let name = first_value(alloc, "name", query)?;
@@ -58,7 +58,7 @@ fn answer_place<A: Allocator + Copy>(
 }
 
 /// Returns the value of the first pair with this key.
-#[tactic(auto, using(crate::proofs::QueryLemmas::found_first, crate::proofs::QueryLemmas::passed_over))]
+#[tactic(auto, using(crate::proofs::QueryLemmas::found_first, crate::proofs::QueryLemmas::skipped))]
 fn first_value<'q, A: Allocator + Copy>(
     alloc: A,
     key: &str,

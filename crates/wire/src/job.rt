@@ -1,11 +1,11 @@
-//! The replies of the table of jobs, as answers.
+//! The requests to the table of jobs, and its replies as answers.
 ghost use Rattle.std.specs.Prelude.{◌≡◌, decimal, false};
 ghost use Rattle.http_reply.specs.Reply.{reply_text};
 ghost use Rattle.http_reply.specs.declared.status.Status.TheVariants.{NotFound};
 ghost use Rattle.http_routes.specs.Target.{job_id};
 ghost use Rattle.counted_io.specs.Device.{writer};
 ghost use Rattle.counted_io.specs.Writing.{WritesText};
-ghost use Rattle.wire.specs.Answer.{AsksJob, TellsTable, job_fault_reply, job_reply, status_reply};
+ghost use Rattle.wire.specs.Answer.{IsJobReply, IsTableReply, job_fault_reply, job_reply, status_reply};
 ghost use Rattle.wire.specs.Reading.{WritesReply};
 ghost use Rattle.wire.specs.Turn.{IsTurn, lends_rows};
 ghost use Rattle.wire.specs.Reply.{reply_of};
@@ -21,16 +21,16 @@ use refusals::{Fault, Refusal};
 use std::alloc::Allocator;
 
 /// Applies an event to the table, and writes its reply.
-pub(crate) fn tell<A: Allocator + Copy, W: CountedWrite>(
+pub(crate) fn write_job_reply<A: Allocator + Copy, W: CountedWrite>(
     jobs: &mut Jobs<A>,
     event: Event<'_>,
     out: &mut W,
 ) -> Result<(), WriteFault>
-    ensures { WritesReply (λ reply. TellsTable (λ told. told ≡ event.entry) jobs.old reply jobs.new) result
+    ensures { WritesReply (λ reply. IsTableReply (λ made. made ≡ event.entry) jobs.old reply jobs.new) result
         (writer W.contents W.counts out.old) (writer W.contents W.counts out.new) }
 {
-    let said = jobs.apply(event);
-    job_answer::<A>(said).write(out)
+    let reply = jobs.apply(event);
+    job_answer::<A>(reply).write(out)
 }
 
 /// Writes the progress and the rows of the job that a path names.
@@ -39,11 +39,11 @@ pub(crate) fn fetch<A: Allocator + Copy, W: CountedWrite>(
     path: &str,
     out: &mut W,
 ) -> Result<(), WriteFault>
-    ensures { WritesReply (λ reply. AsksJob Event.Fetch (job_id path.now) jobs.old reply jobs.new) result
+    ensures { WritesReply (λ reply. IsJobReply Event.Fetch (job_id path.now) jobs.old reply jobs.new) result
         (writer W.contents W.counts out.old) (writer W.contents W.counts out.new) }
 {
     match job_id(path) {
-        Some(id) => tell(jobs, Event::Fetch(id), out),
+        Some(id) => write_job_reply(jobs, Event::Fetch(id), out),
         None => no_job::<A, W>(out),
     }
 }
@@ -54,11 +54,11 @@ pub(crate) fn remove<A: Allocator + Copy, W: CountedWrite>(
     path: &str,
     out: &mut W,
 ) -> Result<(), WriteFault>
-    ensures { WritesReply (λ reply. AsksJob Event.Drop (job_id path.now) jobs.old reply jobs.new) result
+    ensures { WritesReply (λ reply. IsJobReply Event.Drop (job_id path.now) jobs.old reply jobs.new) result
         (writer W.contents W.counts out.old) (writer W.contents W.counts out.new) }
 {
     match job_id(path) {
-        Some(id) => tell(jobs, Event::Drop(id), out),
+        Some(id) => write_job_reply(jobs, Event::Drop(id), out),
         None => no_job::<A, W>(out),
     }
 }
@@ -76,15 +76,16 @@ pub(crate) fn next_turn<A: Allocator + Copy>(jobs: &mut Jobs<A>) -> Option<JobRe
     ensures { IsTurn jobs.old result jobs.new }
 {
     let id = jobs.next_turn()?;
-    let said = jobs.apply(Event::Turn(id));
-    Some(without_rows(said))
+    let reply = jobs.apply(Event::Turn(id));
+    Some(without_rows(reply))
 }
 
-/// Returns the reply to a turn, which borrows nothing.
-fn without_rows(said: JobReply<'_>) -> JobReply<'static>
-    ensures { lends_rows said.entry ≡ false → result ≡ said.entry }
+/// Returns the reply to a turn with a lifetime of its own. Only `Rows` borrows from the table, and no turn has that reply, but all cases share the
+/// type's lifetime. The language can't change it, so each case is built anew.
+fn without_rows(reply: JobReply<'_>) -> JobReply<'static>
+    ensures { lends_rows reply.entry ≡ false → result ≡ reply.entry }
 {
-    match said {
+    match reply {
         JobReply::Submitted(id) => JobReply::Submitted(id),
         JobReply::Turned { done, total } => JobReply::Turned { done, total },
         JobReply::Rows { done, total, .. } => JobReply::Rows {
@@ -97,11 +98,10 @@ fn without_rows(said: JobReply<'_>) -> JobReply<'static>
     }
 }
 
-/// Returns the answer for a reply of the table.
-fn job_answer<'a, A: Allocator>(said: JobReply<'a>) -> Answer<'a, A>
-    ensures { reply_of result ≡ job_reply said.entry }
+fn job_answer<'a, A: Allocator>(reply: JobReply<'a>) -> Answer<'a, A>
+    ensures { reply_of result ≡ job_reply reply.entry }
 {
-    match said {
+    match reply {
         JobReply::Submitted(id) => Answer::Line {
             status: Status::Ok,
             line: id_line(id),
@@ -131,7 +131,6 @@ fn job_fault_answer<A: Allocator>(fault: JobFault) -> Answer<'static, A>
     }
 }
 
-/// Returns the id of a job as text.
 fn id_line(id: u64) -> ArrayString<64>
     ensures { result.bytes ≡ decimal id }
 {

@@ -10,7 +10,7 @@ ghost use Rattle.wire.specs.Answer.{ExtractsTo, IsVerified, Replies, memory_repl
 ghost use Rattle.wire.specs.Decision.{DecisionParts, IsDecided};
 ghost use Rattle.wire.specs.Event.{Act, AreActs, AreExchanges, IsEvent, IsOwnReply, Requests};
 ghost use Rattle.wire.specs.State.{StateParts, new_state};
-ghost use Rattle.wire.specs.declared.serving.Extent.{Extent};
+ghost use Rattle.wire.specs.declared.decision.RequestRead.{RequestRead};
 
 /// An input has only one decision. The way it's split into reads therefore doesn't matter: the reply depends on the input alone.
 pub fn decisions()
@@ -21,7 +21,7 @@ pub fn decisions()
 /// table is therefore that of a run of these events. `laws::runs` of the crate `jobs` says about such runs that no job affects another one's
 /// result.
 pub fn requests()
-    ensures one_event { (input : List ℕ) (extent : Extent) (old new : StateParts) (reply : ReplyParts) → Replies input extent old reply new
+    ensures one_event { (input : List ℕ) (request_read : RequestRead) (old new : StateParts) (reply : ReplyParts) → Replies input request_read old reply new
         → (new ≡ old) ⊎ IsEvent old reply new }
     ensures runs { (counties : List CountyParts) (acts : List Act) (state : StateParts) → AreActs (new_state counties) acts state
         → (exchanges : List Exchange) × AreExchanges acts exchanges × IsRun (empty_table counties) exchanges state.table }
@@ -31,7 +31,7 @@ pub fn requests()
 /// such job.
 pub fn isolation()
     ensures { (counties : List CountyParts) (acts : List Act) (state : StateParts) → AreActs (new_state counties) acts state
-        → (input : List ℕ) (extent : Extent) (reply : ReplyParts) (new : StateParts) → Replies input extent state reply new
+        → (input : List ℕ) (request_read : RequestRead) (reply : ReplyParts) (new : StateParts) → Replies input request_read state reply new
         → (id : ℕ) → Requests input (Fetch id) → (reply ≡ status_reply NotFound) ⊎ IsOwnReply counties acts id reply }
 {}
 
@@ -47,8 +47,8 @@ pub fn verdicts()
 /// Unless an allocation fails, the same bytes have only one possible reply on every route, over the same counties and the same table of jobs, and
 /// only one state after it.
 pub fn one_reply()
-    ensures { (input : List ℕ) (extent other_extent : Extent) (old new again : StateParts) (reply other : ReplyParts)
-        → Replies input extent old reply new → Replies input other_extent old other again
+    ensures { (input : List ℕ) (request_read other_read : RequestRead) (old new again : StateParts) (reply other : ReplyParts)
+        → Replies input request_read old reply new → Replies input other_read old other again
         → All (λ byte. byte < 256) reply.body → All (λ byte. byte < 256) other.body → reply ≢ memory_reply → other ≢ memory_reply
         → (reply ≡ other) × (new ≡ again) }
 {}

@@ -11,6 +11,7 @@ mod programs;
 mod serving;
 mod state;
 
+pub use decision::RequestRead;
 pub use fault::WireFault;
-pub use serving::{Extent, serve_one, serve_request};
+pub use serving::{serve_one, serve_request};
 pub use state::State;

@@ -16,7 +16,6 @@ use refusals::{Fault, Refusal};
 use std::alloc::{AllocError, Allocator};
 use tl_segments::County;
 
-/// Returns the verdict on a program.
 pub(crate) fn verify<A: Allocator + Copy>(alloc: A, program: &[u8]) -> Answer<'static, A>
     ensures { IsVerified program.now (reply_of result) }
 {
@@ -26,7 +25,7 @@ pub(crate) fn verify<A: Allocator + Copy>(alloc: A, program: &[u8]) -> Answer<'s
     }
 }
 
-/// Returns the words of a source.
+/// Returns the program's words.
 pub(crate) fn assemble<A: Allocator + Copy>(alloc: A, source: &[u8]) -> Answer<'static, A>
     ensures { AssemblesTo source.now (reply_of result) }
 {
@@ -40,7 +39,7 @@ pub(crate) fn assemble<A: Allocator + Copy>(alloc: A, source: &[u8]) -> Answer<'
     }
 }
 
-/// Returns the text of a program.
+/// Returns the program as text.
 pub(crate) fn disassemble<A: Allocator + Copy>(alloc: A, program: &[u8]) -> Answer<'static, A>
     ensures { DisassemblesTo program.now (reply_of result) }
 {
@@ -71,7 +70,7 @@ pub(crate) fn extract<A: Allocator + Copy>(
             media: MediaType::Octets,
             body: rows,
         },
-        Err(_wanting) => Answer::Refused(Refusal::memory()),
+        Err(_error) => Answer::Refused(Refusal::memory()),
     }
 }
 

@@ -4,14 +4,14 @@ ghost use Rattle.std.specs.Prelude.{◌≡◌};
 ghost use Rattle.counted_io.specs.Writing.{WritesText};
 ghost use Rattle.http_reply.specs.Reply.{reply_text};
 ghost use Rattle.wire.specs.Answer.{Answers, AnswersAction, memory_reply};
-ghost use Rattle.wire.specs.Reading.{WritesReply, asked_of, decision_of, ends_with};
-ghost use Rattle.wire.specs.Serving.{IsServed, TellsExtent};
+ghost use Rattle.wire.specs.Reading.{WritesReply, decision_of, result_of, routed_of};
+ghost use Rattle.wire.specs.Serving.{IsServed, ReturnsRequestRead};
 
 use crate::answer::Answer;
-use crate::decision::{Asked, Decision, ReadFault, read_decision};
+use crate::decision::{Decision, ReadFault, RequestRead, RoutedRequest, read_decision};
 use crate::fault::WireFault;
 use crate::geocoder::geocode;
-use crate::job::{fetch, remove, tell};
+use crate::job::{fetch, remove, write_job_reply};
 use crate::programs::{assemble, disassemble, extract, verify};
 use crate::state::State;
 use counted_io::{CountedRead, CountedWrite, WriteFault};
@@ -21,19 +21,35 @@ use jobs::Event;
 use refusals::Refusal;
 use std::alloc::Allocator;
 
-/// How much of a request was read.
-#[derive(Clone, Copy, PartialEq, Eq)]
-pub enum Extent {
-    /// Everything that matters: bytes that come later aren't part of the request, or are the body of a request that takes none.
-    Whole,
-    /// Only what was needed to refuse the request: the client may still be sending.
-    Part,
-}
-
-/// Reads one request and writes one reply.
+/// Reads one request, writes one reply, and returns how much of the request was read.
 ///
 /// Nothing more is read once the bytes read decide the reply. Reads of the head may also take bytes after it, at most 8,192 bytes with the head. No
 /// read or write is retried, and nothing is flushed. The out-of-memory reply itself doesn't allocate.
+pub fn serve_request<A: Allocator + Copy, R: CountedRead, W: CountedWrite>(
+    state: &mut State<A>,
+    input: &mut R,
+    out: &mut W,
+) -> Result<RequestRead, WireFault>
+    ensures served { IsServed result
+        (record { state = state.old; reader = reader R.remaining R.failed_reads input.old; writer = writer W.contents W.counts out.old })
+        (record { state = state.new; reader = reader R.remaining R.failed_reads input.new; writer = writer W.contents W.counts out.new }) }
+    ensures request_read { ReturnsRequestRead result
+        (record { state = state.old; reader = reader R.remaining R.failed_reads input.old; writer = writer W.contents W.counts out.old })
+        (record { state = state.new; reader = reader R.remaining R.failed_reads input.new; writer = writer W.contents W.counts out.new }) }
+{
+    let mut buffer = HeadBuffer::new();
+    let decision = match read_decision(state.alloc, &state.routes, &mut buffer, input) {
+        Ok(decision) => decision,
+        Err(ReadFault::Closed) => return Err(WireFault::Closed),
+        Err(ReadFault::Read) => return Err(WireFault::Read),
+        Err(ReadFault::Memory) => {
+            return to_result(RequestRead::Partial, write_out_of_memory::<A, W>(out));
+        }
+    };
+    to_result(decision.request_read(), state.answer(&decision, out))
+}
+
+/// Serves like [`serve_request`], but doesn't return how much of the request was read.
 pub fn serve_one<A: Allocator + Copy, R: CountedRead, W: CountedWrite>(
     state: &mut State<A>,
     input: &mut R,
@@ -44,46 +60,25 @@ pub fn serve_one<A: Allocator + Copy, R: CountedRead, W: CountedWrite>(
         (record { state = state.new; reader = reader R.remaining R.failed_reads input.new; writer = writer W.contents W.counts out.new }) }
 {
     match serve_request(state, input, out) {
-        Ok(_extent) => Ok(()),
+        Ok(_request_read) => Ok(()),
         Err(fault) => Err(fault),
     }
 }
 
-/// Does the same as [`serve_one`], and also returns how much of the request was read.
-pub fn serve_request<A: Allocator + Copy, R: CountedRead, W: CountedWrite>(
-    state: &mut State<A>,
-    input: &mut R,
-    out: &mut W,
-) -> Result<Extent, WireFault>
-    ensures served { IsServed result
-        (record { state = state.old; reader = reader R.remaining R.failed_reads input.old; writer = writer W.contents W.counts out.old })
-        (record { state = state.new; reader = reader R.remaining R.failed_reads input.new; writer = writer W.contents W.counts out.new }) }
-    ensures extent { TellsExtent result
-        (record { state = state.old; reader = reader R.remaining R.failed_reads input.old; writer = writer W.contents W.counts out.old })
-        (record { state = state.new; reader = reader R.remaining R.failed_reads input.new; writer = writer W.contents W.counts out.new }) }
-{
-    let mut buffer = HeadBuffer::new();
-    let decision = match read_decision(state.alloc, &state.routes, &mut buffer, input) {
-        Ok(decision) => decision,
-        Err(ReadFault::Closed) => return Err(WireFault::Closed),
-        Err(ReadFault::Read) => return Err(WireFault::Read),
-        Err(ReadFault::Memory) => return end_with(Extent::Part, lack_memory::<A, W>(out)),
-    };
-    end_with(decision.extent(), state.answer(&decision, out))
-}
-
-/// Returns the result of serving, given the result of the write.
-fn end_with(extent: Extent, written: Result<(), WriteFault>) -> Result<Extent, WireFault>
-    ensures { result ≡ ends_with extent written }
+fn to_result(
+    request_read: RequestRead,
+    written: Result<(), WriteFault>,
+) -> Result<RequestRead, WireFault>
+    ensures { result ≡ result_of request_read written }
 {
     match written {
-        Ok(()) => Ok(extent),
+        Ok(()) => Ok(request_read),
         Err(fault) => Err(WireFault::from(fault)),
     }
 }
 
 /// Writes the reply for a failed allocation of the body.
-fn lack_memory<A: Allocator, W: CountedWrite>(out: &mut W) -> Result<(), WriteFault>
+fn write_out_of_memory<A: Allocator, W: CountedWrite>(out: &mut W) -> Result<(), WriteFault>
     ensures { WritesText (reply_text memory_reply) result
         (writer W.contents W.counts out.old) (writer W.contents W.counts out.new) }
 {
@@ -103,32 +98,32 @@ impl<A: Allocator + Copy> State<A> {
         match decision {
             Decision::Refuses(status) => Answer::<A>::Status(*status).write(out),
             Decision::Disallows(route) => Answer::<A>::Disallowed(*route).write(out),
-            Decision::Asks(asked) => self.answer_asked(asked, out),
+            Decision::Accepts(request) => self.answer_request(request, out),
         }
     }
 
     /// Writes the reply to an accepted request.
-    fn answer_asked<W: CountedWrite>(
+    fn answer_request<W: CountedWrite>(
         &mut self,
-        asked: &Asked<'_, A>,
+        request: &RoutedRequest<'_, A>,
         out: &mut W,
     ) -> Result<(), WriteFault>
-        ensures { WritesReply (λ reply. AnswersAction asked.now.action self.old (asked_of asked.now) reply self.new) result
+        ensures { WritesReply (λ reply. AnswersAction request.now.action self.old (routed_of request.now) reply self.new) result
             (writer W.contents W.counts out.old) (writer W.contents W.counts out.new) }
     {
-        let body = asked.body.as_slice();
-        match asked.action {
+        let body = request.body.as_slice();
+        match request.action {
             Action::Verify => verify(self.alloc, body).write(out),
             Action::Assemble => assemble(self.alloc, body).write(out),
             Action::Disassemble => disassemble(self.alloc, body).write(out),
             Action::Extract => extract(self.alloc, self.jobs.counties(), body).write(out),
             Action::Geocode => {
                 let counties = self.jobs.counties();
-                geocode(self.alloc, &self.gazetteer, counties, asked.query).write(out)
+                geocode(self.alloc, &self.gazetteer, counties, request.target.query).write(out)
             }
-            Action::Submit => tell(&mut self.jobs, Event::Submit(body), out),
-            Action::Fetch => fetch(&mut self.jobs, asked.path, out),
-            Action::Drop => remove(&mut self.jobs, asked.path, out),
+            Action::Submit => write_job_reply(&mut self.jobs, Event::Submit(body), out),
+            Action::Fetch => fetch(&mut self.jobs, request.target.path, out),
+            Action::Drop => remove(&mut self.jobs, request.target.path, out),
         }
     }
 }

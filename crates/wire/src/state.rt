@@ -12,7 +12,7 @@ use std::alloc::{AllocError, Allocator, Global};
 use std::marker::Model;
 use tl_segments::County;
 
-/// What a server keeps from one connection to the next: its counties, an index of their street names, and the open jobs. Contracts see it as a
+/// A server's state between connections: its counties, an index of their street names, and the open jobs. Contracts see it as a
 /// record with the table.
 #[derive(Drop)]
 pub struct State<A: Allocator> {

@@ -34,30 +34,30 @@ const REPLIES: Table = Table {
 };
 
 /// Returns the reply for a text in short form, or in full form after `=`. There is none for `80`.
-pub fn reply_of(alloc: Global, said: &str) -> Result<Vec<u8>, TableFault> {
-    if said == "80" {
+pub fn reply_of(alloc: Global, text: &str) -> Result<Vec<u8>, TableFault> {
+    if text == "80" {
         return Ok(Vec::new(alloc));
     }
-    match said.strip_prefix("=") {
-        Some(said) => full_reply(alloc, said),
-        None => short_reply(alloc, said),
+    match text.strip_prefix("=") {
+        Some(text) => full_reply(alloc, text),
+        None => short_reply(alloc, text),
     }
 }
 
 /// Returns the reply for a text in full form: as in the table of short forms, and with the length before the body. Only a reply with status 405
 /// has methods.
-fn full_reply(alloc: Global, said: &str) -> Result<Vec<u8>, TableFault> {
-    if said.starts_with("405 ") {
-        let (status, media, length, body, allow) = cells(said)?.five()?;
+fn full_reply(alloc: Global, text: &str) -> Result<Vec<u8>, TableFault> {
+    if text.starts_with("405 ") {
+        let (status, media, length, body, allow) = cells(text)?.five()?;
         return reply_with(alloc, (status, media, body, allow), size(length)?);
     }
-    let (status, media, length, body) = cells(said)?.four()?;
+    let (status, media, length, body) = cells(text)?.four()?;
     reply_with(alloc, (status, media, body, ""), size(length)?)
 }
 
-fn short_reply(alloc: Global, said: &str) -> Result<Vec<u8>, TableFault> {
+fn short_reply(alloc: Global, text: &str) -> Result<Vec<u8>, TableFault> {
     let replies = REPLIES.joined(alloc)?;
-    let ((status, media, body, allow), rest) = cells_for(&replies, said)?;
+    let ((status, media, body, allow), rest) = cells_for(&replies, text)?;
     let body = body.replace(alloc, "@", rest)?;
     let allow = allow.replace(alloc, "@", rest)?;
     let length = bytes_of(alloc, &body)?.len();
@@ -67,11 +67,11 @@ fn short_reply(alloc: Global, said: &str) -> Result<Vec<u8>, TableFault> {
 /// The status of a reply, its media type, its body and the methods that it allows.
 type Cells<'a> = (&'a str, &'a str, &'a str, &'a str);
 
-/// Returns what the short form of a text stands for, and the text that follows it.
-fn cells_for<'a>(replies: &'a str, said: &'a str) -> Result<(Cells<'a>, &'a str), TableFault> {
+/// Returns the reply of the short form that a text begins with, and the text that follows it.
+fn cells_for<'a>(replies: &'a str, text: &'a str) -> Result<(Cells<'a>, &'a str), TableFault> {
     for row in replies.lines() {
         let (form, status, media, body, allow) = cells(row)?.five()?;
-        if let Some(rest) = after_form(said, form) {
+        if let Some(rest) = after_form(text, form) {
             return Ok(((status, media, body, allow), rest));
         }
     }
@@ -79,11 +79,11 @@ fn cells_for<'a>(replies: &'a str, said: &'a str) -> Result<(Cells<'a>, &'a str)
 }
 
 /// Returns the text that follows a short form, if a text is in that form. Without `@` there is none.
-fn after_form<'a>(said: &'a str, form: &str) -> Option<&'a str> {
+fn after_form<'a>(text: &'a str, form: &str) -> Option<&'a str> {
     let Some(form) = form.strip_suffix(" @") else {
-        return (said == form).then_some("");
+        return (text == form).then_some("");
     };
-    let rest = said.strip_prefix(form)?;
+    let rest = text.strip_prefix(form)?;
     if rest.is_empty() {
         Some(rest)
     } else {
@@ -115,11 +115,11 @@ fn halves<'a>(text: &'a str, separator: &str) -> Result<(&'a str, &'a str), Tabl
 }
 
 /// Returns the bytes of a request. If it contains `>>`, the last line of the head announces the length of the body that follows.
-fn request_of(alloc: Global, asked: &str) -> Result<Vec<u8>, TableFault> {
-    if !asked.contains(">>") {
-        return bytes_of(alloc, asked);
+fn request_of(alloc: Global, short: &str) -> Result<Vec<u8>, TableFault> {
+    if !short.contains(">>") {
+        return bytes_of(alloc, short);
     }
-    let (line, body) = halves(asked, " >>")?;
+    let (line, body) = halves(short, " >>")?;
     let body = if body.is_empty() {
         body
     } else {
@@ -138,8 +138,8 @@ fn request_of(alloc: Global, asked: &str) -> Result<Vec<u8>, TableFault> {
 #[derive(Clone, Copy)]
 struct Line<'a> {
     text: &'a str,
-    asked: &'a str,
-    said: &'a str,
+    request_text: &'a str,
+    reply_text: &'a str,
     takes_memory: bool,
 }
 
@@ -152,11 +152,11 @@ impl<'a> Line<'a> {
             _ if is_marked => return Err(TableFault::Word),
             _ => (false, text),
         };
-        let (asked, said) = halves(line, " => ")?;
+        let (request_text, reply_text) = halves(line, " => ")?;
         Ok(Line {
             text,
-            asked,
-            said,
+            request_text,
+            reply_text,
             takes_memory,
         })
     }
@@ -164,8 +164,8 @@ impl<'a> Line<'a> {
     fn request(self, alloc: Global) -> Result<Row<'a>, TableFault> {
         Ok(Row {
             text: self.text,
-            request: request_of(alloc, self.asked)?,
-            reply: reply_of(alloc, self.said)?,
+            request: request_of(alloc, self.request_text)?,
+            reply: reply_of(alloc, self.reply_text)?,
             is_turn: false,
             is_once: false,
             takes_memory: self.takes_memory,
@@ -176,7 +176,7 @@ impl<'a> Line<'a> {
         Ok(Row {
             text: self.text,
             request: Vec::new(alloc),
-            reply: self.said.as_bytes().to_vec(alloc)?,
+            reply: self.reply_text.as_bytes().to_vec(alloc)?,
             is_turn: true,
             is_once: true,
             takes_memory: self.takes_memory,
@@ -205,10 +205,10 @@ pub fn push_rows<'a>(
     is_marked: bool,
 ) -> Result<(), TableFault> {
     let line = Line::new(text, is_marked)?;
-    let (first, last) = match line.asked {
+    let (first, last) = match line.request_text {
         "turn" => return Ok(rows.push(line.turn(alloc)?)?),
-        "jobs" => (1, number(line.said)?),
-        "job" => (number(line.said)?, number(line.said)?),
+        "jobs" => (1, number(line.reply_text)?),
+        "job" => (number(line.reply_text)?, number(line.reply_text)?),
         _ => return Ok(rows.push(line.request(alloc)?)?),
     };
     if last == 0 {

@@ -118,11 +118,11 @@ impl<'a> Server<'a> {
     fn serve(&mut self, request: &[u8], input: Device, output: Device) -> Served {
         let mut input = reader(request, input);
         let mut out = writer(self.alloc, output);
-        let given = serve_one(&mut self.state, &mut input, &mut out);
+        let received = serve_one(&mut self.state, &mut input, &mut out);
         let flushes = out.flushes();
         let fuse = out.into_inner();
         Served {
-            fault: given.err(),
+            fault: received.err(),
             writes: fuse.calls,
             flushes,
             written: fuse.inner.into_inner().inner,
@@ -150,7 +150,7 @@ impl<'a> Server<'a> {
         if row.is_turn {
             return self.turn().as_ref() == Ok(&row.reply);
         }
-        let (fault, reply) = wanted(row, trial, place);
+        let (fault, reply) = expected(row, trial, place);
         let served = self.serve_at(&row.request, trial, place);
         served.fault == fault
             && served.written.as_slice() == reply
@@ -184,23 +184,23 @@ impl<'a> Server<'a> {
     fn takes_memory(&mut self, row: &Row<'_>) -> Option<bool> {
         for nth in 1..=u64::MAX {
             self.heap.refuse(nth);
-            let given = self.given(row)?;
+            let received = self.received(row)?;
             if !self.heap.was_refused() {
-                return (given == row.reply).then_some(nth > 1);
+                return (received == row.reply).then_some(nth > 1);
             }
-            let wanted = if row.is_turn {
+            let expected = if row.is_turn {
                 b"refused memory"
             } else {
                 OUT_OF_MEMORY
             };
-            if given.as_slice() != wanted || self.heap.count() != nth {
+            if received.as_slice() != expected || self.heap.count() != nth {
                 return None;
             }
         }
         None
     }
 
-    fn given(&mut self, row: &Row<'_>) -> Option<Vec<u8>> {
+    fn received(&mut self, row: &Row<'_>) -> Option<Vec<u8>> {
         if row.is_turn {
             return self.turn().ok();
         }
@@ -241,7 +241,7 @@ fn most_writes(length: usize, trial: Trial) -> u64 {
 /// Returns the fault and the reply for a row's request in a trial at a place.
 ///
 /// A request that ends early is a bad request. If a read fails, nothing is written, unless the request was read completely by then.
-fn wanted<'r>(row: &'r Row<'_>, trial: Trial, place: usize) -> (Option<WireFault>, &'r [u8]) {
+fn expected<'r>(row: &'r Row<'_>, trial: Trial, place: usize) -> (Option<WireFault>, &'r [u8]) {
     let length = row.request.len();
     let reply = row.reply.as_slice();
     match trial {

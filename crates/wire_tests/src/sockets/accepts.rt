@@ -92,7 +92,7 @@ fn serves_two<C: Clock>(rt: &HostRuntime, clock: &C) -> io::Result<bool> {
     Ok(error.kind() == ErrorKind::WouldBlock && (service.served(), service.turns()) == (2, 2))
 }
 
-/// Checks that the loop goes on after a read or a write of a connection fails.
+/// Checks that the loop continues after a read or a write of a connection fails.
 #[test]
 fn until_failure(rt: HostRuntime) -> Result<(), Fail> {
     for call in 1..=usize::MAX {

@@ -70,11 +70,11 @@ fn serve<'a>(rt: &HostRuntime, slow: Slow, text: &'a [u8]) -> io::Result<Exchang
     Ok(service)
 }
 
-fn is_right(rt: &HostRuntime, slow: Slow, wanted: Served) -> io::Result<bool> {
+fn is_right(rt: &HostRuntime, slow: Slow, expected: Served) -> io::Result<bool> {
     let service = serve(rt, slow, &[b'r'; 4096])?;
     Ok(
-        (service.read, service.written) == (wanted.read, wanted.written)
-            && service.fault == wanted.fault
+        (service.read, service.written) == (expected.read, expected.written)
+            && service.fault == expected.fault
             && service.turns == 1,
     )
 }
@@ -82,8 +82,8 @@ fn is_right(rt: &HostRuntime, slow: Slow, wanted: Served) -> io::Result<bool> {
 #[test]
 fn clocks(rt: HostRuntime) -> Result<(), Fail> {
     for row in CLOCKS.joined(rt.alloc())?.lines() {
-        let (slow, wanted) = cells_of(row).expect(&rt, row);
-        assert!(rt; is_right(&rt, slow, wanted)?, "{row}");
+        let (slow, expected) = cells_of(row).expect(&rt, row);
+        assert!(rt; is_right(&rt, slow, expected)?, "{row}");
     }
     Ok(())
 }

@@ -33,14 +33,14 @@ struct Closing {
 
 /// Returns a row's connection, the step of the clock and the time at the end.
 fn cells_of(row: &str) -> Result<(Closing, u64, u64), TableFault> {
-    let (sent, request, close, linger, step, passed) = cells(row)?.six()?;
+    let (sent, request, close, linger, step, elapsed) = cells(row)?.six()?;
     let closing = Closing {
         sent: size(sent)?,
         request: size(request)?,
         close: close_of(close)?,
         linger: Duration::from_millis(number(linger)?),
     };
-    Ok((closing, number(step)?, number(passed)?))
+    Ok((closing, number(step)?, number(elapsed)?))
 }
 
 /// Serves a client with a service that replies with 50 bytes. Returns the number of bytes that the client got, or `None` if it has left.
@@ -57,7 +57,7 @@ fn received<C: Clock>(rt: &HostRuntime, clock: &C, closing: Closing) -> io::Resu
     };
     let hour = Duration::from_secs(3600);
     let limits = Limits {
-        silence: hour,
+        idle: hour,
         request: hour,
         reply: hour,
         linger: closing.linger,
@@ -73,11 +73,11 @@ fn received<C: Clock>(rt: &HostRuntime, clock: &C, closing: Closing) -> io::Resu
 #[test]
 fn closes(rt: HostRuntime) -> Result<(), Fail> {
     for row in CLOSES.joined(rt.alloc())?.lines() {
-        let (closing, step, passed) = cells_of(row).expect(&rt, row);
+        let (closing, step, elapsed) = cells_of(row).expect(&rt, row);
         let clock = SteppingClock::new(step);
         let received = received(&rt, &clock, closing)?;
         assert_eq!(rt; received, Some(50), "{row}");
-        assert_eq!(rt; clock.passed(), passed, "{row}");
+        assert_eq!(rt; clock.elapsed(), elapsed, "{row}");
     }
     Ok(())
 }

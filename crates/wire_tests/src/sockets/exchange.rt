@@ -147,8 +147,8 @@ impl SteppingClock {
         }
     }
 
-    /// Returns the number of milliseconds that have passed.
-    pub fn passed(&self) -> u64 {
+    /// Returns the number of milliseconds that have elapsed.
+    pub fn elapsed(&self) -> u64 {
         self.now.get()
     }
 }
@@ -168,7 +168,7 @@ impl Clock for SteppingClock {
 /// Returns limits short enough for a test to wait for.
 pub fn short_limits() -> Limits {
     Limits {
-        silence: Duration::from_millis(200),
+        idle: Duration::from_millis(200),
         request: Duration::from_millis(500),
         reply: Duration::from_millis(200),
         linger: Duration::from_millis(200),

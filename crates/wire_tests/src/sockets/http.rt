@@ -40,7 +40,7 @@ ends; POST /verify HTTP/1.1\r\nContent-Length: 16\r\n\r\n{every}; 92; HTTP/1.1 2
 
 /// A request, and what its reply begins with.
 #[derive(Drop)]
-struct Asked {
+struct Case {
     /// What the client does after its request, if there is a connection.
     then: Option<Then>,
     request: Vec<u8>,
@@ -48,7 +48,7 @@ struct Asked {
     start: Vec<u8>,
 }
 
-impl Asked {
+impl Case {
     fn new(alloc: Global, row: &str) -> Result<Self, TableFault> {
         let (word, request, length, start) = cells(row)?.four()?;
         let then = match word {
@@ -58,7 +58,7 @@ impl Asked {
         if start.is_empty() && length != "0" {
             return Err(TableFault::Word);
         }
-        Ok(Asked {
+        Ok(Case {
             then,
             request: bytes(alloc, request)?,
             length: size(length)?,
@@ -98,7 +98,7 @@ pub fn serve<C: Clock>(
 }
 
 /// Returns the reply of the state, without a connection.
-fn ask(alloc: Global, state: &mut State<Global>, request: &[u8]) -> Vec<u8> {
+fn reply_of(alloc: Global, state: &mut State<Global>, request: &[u8]) -> Vec<u8> {
     let mut out = Counting::new(Vec::new(alloc));
     let _fault = serve_one(state, &mut Counting::new(request), &mut out);
     out.into_inner()
@@ -110,13 +110,13 @@ fn requests(rt: HostRuntime) -> Result<(), Fail> {
     let listener = TcpListener::bind(&rt, "127.0.0.1:0")?;
     let mut state = state_of(rt.alloc(), r"{rt1\n*600}").ok_or(AllocError)?;
     for row in REQUESTS.joined(rt.alloc())?.lines() {
-        let asked = Asked::new(rt.alloc(), row).expect(&rt, row);
-        let reply = match asked.then {
-            None => ask(rt.alloc(), &mut state, &asked.request),
-            Some(then) => serve(&rt, &listener, &rt, &mut state, then, &asked.request)?,
+        let case = Case::new(rt.alloc(), row).expect(&rt, row);
+        let reply = match case.then {
+            None => reply_of(rt.alloc(), &mut state, &case.request),
+            Some(then) => serve(&rt, &listener, &rt, &mut state, then, &case.request)?,
         };
-        assert_eq!(rt; reply.len(), asked.length, "{row}");
-        assert!(rt; reply.as_slice().starts_with(&asked.start), "{row}");
+        assert_eq!(rt; reply.len(), case.length, "{row}");
+        assert!(rt; reply.as_slice().starts_with(&case.start), "{row}");
     }
     Ok(())
 }

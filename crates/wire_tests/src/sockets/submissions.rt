@@ -28,17 +28,17 @@ const CALLS: usize = 2;
 
 /// A request of the script, with its replies.
 #[derive(Drop)]
-struct Asked {
+struct Step {
     request: Vec<u8>,
     reply: Vec<u8>,
     /// The reply if a read of the submission fails.
     reply_without_job: Vec<u8>,
 }
 
-impl Asked {
+impl Step {
     fn new(alloc: Global, row: &str) -> Result<Self, TableFault> {
         let (request, reply, reply_without_job) = cells(row)?.three()?;
-        Ok(Asked {
+        Ok(Step {
             request: bytes(alloc, request)?,
             reply: bytes(alloc, reply)?,
             reply_without_job: bytes(alloc, reply_without_job)?,
@@ -55,10 +55,10 @@ impl Asked {
 }
 
 /// Returns the requests of the script.
-fn script(alloc: Global) -> Result<Vec<Asked>, TableFault> {
+fn script(alloc: Global) -> Result<Vec<Step>, TableFault> {
     let mut script = Vec::new(alloc);
     for row in SCRIPT.joined(alloc)?.lines() {
-        script.push(Asked::new(alloc, row)?)?;
+        script.push(Step::new(alloc, row)?)?;
     }
     Ok(script)
 }
@@ -81,7 +81,7 @@ fn is_replied<C: Clock>(
 fn is_failed(
     rt: &HostRuntime,
     listener: &TcpListener,
-    script: &[Asked],
+    script: &[Step],
     call: usize,
     kind: ErrorKind,
 ) -> Option<bool> {
@@ -93,15 +93,15 @@ fn is_failed(
         _ => submission.reply_if(call),
     };
     let mut is_right = is_replied(rt, listener, &clock, &mut state, &submission.request, reply)?;
-    for asked in later {
-        let reply = asked.reply_if(call);
-        is_right = is_replied(rt, listener, rt, &mut state, &asked.request, reply)? && is_right;
+    for step in later {
+        let reply = step.reply_if(call);
+        is_right = is_replied(rt, listener, rt, &mut state, &step.request, reply)? && is_right;
     }
     is_right.then_some(clock.has_failed())
 }
 
 /// Returns the number of calls of a submission that failed, one at a time, up to the first that isn't reached.
-fn failures(rt: &HostRuntime, script: &[Asked], kind: ErrorKind) -> Option<usize> {
+fn failures(rt: &HostRuntime, script: &[Step], kind: ErrorKind) -> Option<usize> {
     let listener = TcpListener::bind(rt, "127.0.0.1:0").ok()?;
     for call in 1..=usize::MAX {
         if !is_failed(rt, &listener, script, call, kind)? {

@@ -3,7 +3,7 @@ use fixtures::{Table, TableFault, cells, number};
 use server::{Limits, wait_left};
 use std::time::Duration;
 
-// The call; the milliseconds that have passed; for a write, the number of bytes of the reply including this write; and the milliseconds that it may
+// The call; the milliseconds that have elapsed; for a write, the number of bytes of the reply including this write; and the milliseconds that it may
 // wait.
 const WAITS: Table = Table {
     rows: 20,
@@ -31,27 +31,27 @@ linger; 5000; 0; none",
 };
 
 /// Returns the time that a call may wait after this time. A write's reply has this number of bytes, including this write.
-fn wait_of(call: &str, passed: Duration, bytes: u64) -> Result<Option<Duration>, TableFault> {
+fn wait_of(call: &str, elapsed: Duration, bytes: u64) -> Result<Option<Duration>, TableFault> {
     let limits = Limits::standard();
     match call {
-        "read" => Ok(wait_left(limits.silence, limits.request, passed)),
+        "read" => Ok(wait_left(limits.idle, limits.request, elapsed)),
         "write" => {
             let limit = limits.reply_limit(bytes);
-            Ok(wait_left(limit, limit, passed))
+            Ok(wait_left(limit, limit, elapsed))
         }
-        "linger" => Ok(wait_left(limits.linger, limits.linger, passed)),
+        "linger" => Ok(wait_left(limits.linger, limits.linger, elapsed)),
         _ => Err(TableFault::Word),
     }
 }
 
 fn is_right(row: &str) -> Result<bool, TableFault> {
-    let (call, passed, bytes, wait) = cells(row)?.four()?;
+    let (call, elapsed, bytes, wait) = cells(row)?.four()?;
     let wait = match wait {
         "none" => None,
         _ => Some(Duration::from_millis(number(wait)?)),
     };
-    let passed = Duration::from_millis(number(passed)?);
-    Ok(wait_of(call, passed, number(bytes)?)? == wait)
+    let elapsed = Duration::from_millis(number(elapsed)?);
+    Ok(wait_of(call, elapsed, number(bytes)?)? == wait)
 }
 
 #[test]

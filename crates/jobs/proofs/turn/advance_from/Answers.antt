@@ -1,5 +1,5 @@
 use Rattle.std.proofs.Common.{◌∙◌, ap, arith, take}
-use Rattle.jobs.proofs.SegmentLemmas.{none_turned, one_turned_more, taken_off, turn_of_rest, turn_wants, turn_whole}
+use Rattle.jobs.proofs.SegmentLemmas.{none_turned, one_turned_more, rows_restored, turn_of_rest, turn_needs_row, turn_whole}
 use Rattle.jobs.proofs.turn.advance_from.Goals as goal
 
 pub loop-turned-init : goal.loop-turned-init
@@ -15,11 +15,11 @@ returns-in-Err-clause-err g c =
     c.truncate.ensures.items
     ∙ ap (λ rows. take c.len-before.result rows) c.in-Err.ensures.err
     ∙ ap (λ n. take n c.loop-turned.rows.items) (c.len-before.ensures ∙ c.args.rows.now.ok.0)
-    ∙ taken_off _ _ _ _ _ _ _ c.loop-turned.invariant.1
+    ∙ rows_restored _ _ _ _ _ _ _ c.loop-turned.invariant.1
 
-pub returns-in-Err-clause-wants : goal.returns-in-Err-clause-wants
-returns-in-Err-clause-wants g c =
-    turn_wants _ _ _ _ _ _ _ c.loop-turned.invariant.1 _ _ c.in-Some.ensures.next.0 c.loop-turned-test.true c.in-Err.ensures.chosen
+pub returns-in-Err-clause-needs_row : goal.returns-in-Err-clause-needs_row
+returns-in-Err-clause-needs_row g c =
+    turn_needs_row _ _ _ _ _ _ _ c.loop-turned.invariant.1 _ _ c.in-Some.ensures.next.0 c.loop-turned-test.true c.in-Err.ensures.chosen
 
 pub loop-turned-preserved : goal.loop-turned-preserved
 loop-turned-preserved g c = (

@@ -9,4 +9,4 @@ invariant-loop-error g l =
     (record { accepts = l.initial.acceptor; service = l.initial.service }) (record { accepts = l.acceptor; service = l.service })
 
 abbrev pub decreases-loop-error : goal.decreases-loop-error
-decreases-loop-error g l = 2 ^ 64 - 1 - l.acceptor.taken
+decreases-loop-error g l = 2 ^ 64 - 1 - l.acceptor.accepted

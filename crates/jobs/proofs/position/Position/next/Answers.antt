@@ -1,5 +1,5 @@
 use Rattle.std.proofs.Common.{◌+◌, ◌∙◌, ap, sym}
-use Rattle.jobs.proofs.SegmentLemmas.{drop_found, left_found, left_passed, position_more}
+use Rattle.jobs.proofs.SegmentLemmas.{drop_found, left_found, left_skipped, position_more}
 use Rattle.jobs.proofs.position.Position.next.Goals as goal
 
 pub returns-in-Some-get-clause-position : goal.returns-in-Some-get-clause-position
@@ -15,6 +15,6 @@ pub loop-county-preserved : goal.loop-county-preserved
 loop-county-preserved g c =
     let county = drop_found _ _ _ _ c.in-Some.ensures.lookup.0 c.in-Some.ensures.lookup.1 in
     let none = rw c.segments.ensures.value at c.in_default-get.ensures.lookup.3 in (
-      sym (left_passed c.args.counties.now c.loop-county.self.done c.loop-county.self.county _ _ county none) ∙ c.loop-county.invariant.0,
+      sym (left_skipped c.args.counties.now c.loop-county.self.done c.loop-county.self.county _ _ county none) ∙ c.loop-county.invariant.0,
       c.loop-county.invariant.1,
     )

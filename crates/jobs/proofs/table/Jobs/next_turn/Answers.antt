@@ -2,7 +2,7 @@ use Rattle.std.proofs.Common.{◌≡◌, ◌∙◌, ap, subst, sym}
 use Rattle.jobs.specs.Inside.{Ascend, jobs_of, parts_of}
 use Rattle.jobs.specs.Table.{total_of}
 use Rattle.jobs.proofs.MapLemmas.{Ascend-seen}
-use Rattle.jobs.proofs.NextLemmas.{FirstOf, all_seen, job_passed, job_taken, next_turn_is, none_seen}
+use Rattle.jobs.proofs.NextLemmas.{FirstOf, all_seen, next_same, next_changed, next_turn_is, none_seen}
 use Rattle.jobs.proofs.table.Jobs.next_turn.Goals as goal
 
 pub loop-id-init : goal.loop-id-init
@@ -13,13 +13,13 @@ pub loop-id-preserved-then-job-least : goal.loop-id-preserved-then-job-least
 loop-id-preserved-then-job-least g c =
     let all = c.into_iter-id-iterator.ensures.into_iter_gives ∙ c.iter-id-items.ensures.rest in
     let ascend = subst (λ entries. Ascend 0 entries c.self.inside.last_id) (sym all) c.self.invariant.ascend in
-    job_taken _ _ (c.in-Some.id.now, c.in-Some.job.now) _ _ _ ascend _ _ c.loop-id.invariant c.in-Some.ensures.steps c.if-job-least.true
+    next_changed _ _ (c.in-Some.id.now, c.in-Some.job.now) _ _ _ ascend _ _ c.loop-id.invariant c.in-Some.ensures.steps c.if-job-least.true
 
 pub loop-id-preserved : goal.loop-id-preserved
 loop-id-preserved g c =
     let all = c.into_iter-id-iterator.ensures.into_iter_gives ∙ c.iter-id-items.ensures.rest in
     let ascend = subst (λ entries. Ascend 0 entries c.self.inside.last_id) (sym all) c.self.invariant.ascend in
-    job_passed _ _ (c.in-Some.id.now, c.in-Some.job.now) _ _ _ ascend _ _ c.loop-id.invariant c.in-Some.ensures.steps c.if-job-least.false
+    next_same _ _ (c.in-Some.id.now, c.in-Some.job.now) _ _ _ ascend _ _ c.loop-id.invariant c.in-Some.ensures.steps c.if-job-least.false
 
 pub returns : goal.returns
 returns g c =

@@ -1,4 +1,4 @@
-//! The two ends of a client's connection, whose calls wait no longer than the limits allow.
+//! The reader and the writer of a client's connection. No call waits longer than the limits allow.
 ghost use Rattle.std.specs.Prelude.{◌≡◌, ◌+◌, ◌-◌, ◌^◌, min, IfOk, OnErr, OnOk, IsSome};
 ghost use Rattle.std.specs.Io.{WritesAtMost};
 ghost use Rattle.std.specs.Option.{option_map};
@@ -17,32 +17,32 @@ use std::time::{Clock, Duration};
 pub struct ClientReader<'a, C> {
     stream: &'a TcpStream,
     stopwatch: Stopwatch<'a, C>,
-    silence: Duration,
+    idle: Duration,
     limit: Duration,
     // The socket's read timeout, once it's set.
     timeout: Option<Duration>,
 }
 
 impl<'a, C: Clock> ClientReader<'a, C> {
-    /// Returns a reader that waits at most `silence` in one read, and at most `limit` in all reads, counted from the first.
-    pub fn new(stream: &'a TcpStream, clock: &'a C, silence: Duration, limit: Duration) -> Self {
+    /// Returns a reader that waits at most `idle` in one read, and at most `limit` in all reads, counted from the first.
+    pub fn new(stream: &'a TcpStream, clock: &'a C, idle: Duration, limit: Duration) -> Self {
         ClientReader {
             stream,
             stopwatch: Stopwatch::new(clock),
-            silence,
+            idle,
             limit,
             timeout: None,
         }
     }
 
-    // The timeout stays the same while more than the silence is left, and each change costs a system call.
-    fn set_timeout(&mut self, passed: Duration) -> io::Result<()>
+    // The timeout stays the same while more than `idle` is left, and each change costs a system call.
+    fn set_timeout(&mut self, elapsed: Duration) -> io::Result<()>
         ensures waits { OnOk result (IsSome self.new.timeout) }
-        ensures rule { OnOk result (option_map as_nanos self.new.timeout ≡ wait (as_nanos self.old.silence) (as_nanos self.old.limit) (as_nanos passed)) }
-        ensures silence { self.new.silence ≡ self.old.silence }
+        ensures rule { OnOk result (option_map as_nanos self.new.timeout ≡ wait (as_nanos self.old.idle) (as_nanos self.old.limit) (as_nanos elapsed)) }
+        ensures idle { self.new.idle ≡ self.old.idle }
         ensures limit { self.new.limit ≡ self.old.limit }
     {
-        let wait = wait_left(self.silence, self.limit, passed).ok_or(timed_out())?;
+        let wait = wait_left(self.idle, self.limit, elapsed).ok_or(timed_out())?;
         if self.timeout != Some(wait) {
             self.stream.set_read_timeout(Some(wait))?;
             self.timeout = Some(wait);
@@ -54,8 +54,8 @@ impl<'a, C: Clock> ClientReader<'a, C> {
 impl<C: Clock> Read for ClientReader<'_, C> {
     fn read(&mut self, buf: &mut [u8]) -> io::Result<usize> {
         for _ in 0..u64::MAX {
-            let passed = self.stopwatch.passed()?;
-            self.set_timeout(passed)?;
+            let elapsed = self.stopwatch.elapsed()?;
+            self.set_timeout(elapsed)?;
             match self.stream.read(buf) {
                 Err(error) if error.kind() == ErrorKind::Interrupted => {}
                 Err(error) if error.kind() == ErrorKind::WouldBlock => return Err(timed_out()),
@@ -98,8 +98,8 @@ impl<'a, C: Clock> ClientWriter<'a, C> {
         ensures limits { self.new.limits ≡ self.old.limits }
     {
         let limit = self.limit(unwritten);
-        let passed = self.stopwatch.passed()?;
-        let wait = wait_left(limit, limit, passed).ok_or(timed_out())?;
+        let elapsed = self.stopwatch.elapsed()?;
+        let wait = wait_left(limit, limit, elapsed).ok_or(timed_out())?;
         self.stream.set_write_timeout(Some(wait))
     }
 

@@ -1,9 +1,9 @@
 use Rattle.std.proofs.Common.{arith}
-use Rattle.jobs.proofs.SegmentLemmas.{all_behind, behind_county, drop_item, position_end, position_here}
-use Rattle.jobs.proofs.position.Position.behind.Goals as goal
+use Rattle.jobs.proofs.SegmentLemmas.{all_left, left_after_county, drop_item, position_end, position_here}
+use Rattle.jobs.proofs.position.Position.after.Goals as goal
 
 pub loop-number-init : goal.loop-number-init
-loop-number-init g c = all_behind _ _ c.requires.within
+loop-number-init g c = all_left _ _ c.requires.within
 
 pub returns-then-left-segments-clause-position : goal.returns-then-left-segments-clause-position
 returns-then-left-segments-clause-position g c =
@@ -15,7 +15,7 @@ pub loop-number-preserved : goal.loop-number-preserved
 loop-number-preserved g c =
     let here = drop_item _ _ _ _ c.loop-number-test.true c.index-counties-number.is in
     let whole = rw c.segments.ensures.value at c.if-left-segments.false in
-    rw c.segments.ensures.value (behind_county _ _ _ _ c.index-counties-number.result here c.loop-number.invariant whole)
+    rw c.segments.ensures.value (left_after_county _ _ _ _ c.index-counties-number.result here c.loop-number.invariant whole)
 
 pub returns-clause-position : goal.returns-clause-position
 returns-clause-position g c =

@@ -1,5 +1,5 @@
 use Rattle.std.proofs.Common.{refl}
-use Rattle.wire.proofs.job.tell.Goals as goal
+use Rattle.wire.proofs.job.write_job_reply.Goals as goal
 
 pub returns : goal.returns
 returns g c = record {
@@ -7,9 +7,9 @@ returns g c = record {
   is_such = record {
     event = c.args.event;
     is_event = refl;
-    said = c.apply-said.result;
-    step = c.apply-said.follows.holds-at-none;
-    told = c.job_answer.ensures;
+    table_reply = c.apply-reply.result;
+    step = c.apply-reply.follows.holds-at-none;
+    is_reply = c.job_answer.ensures;
   };
   writes = c.write.ensures;
 }

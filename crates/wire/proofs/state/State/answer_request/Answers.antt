@@ -1,7 +1,7 @@
 use Rattle.std.proofs.Common.{refl, ap, ◌∙◌}
 use Rattle.wire.specs.Reply.{reply_of}
-use Rattle.wire.proofs.AnswerLemmas.{asked_counties, step_counties, writes_such}
-use Rattle.wire.proofs.state.State.answer_asked.Goals as goal
+use Rattle.wire.proofs.AnswerLemmas.{job_counties, step_counties, writes_such}
+use Rattle.wire.proofs.state.State.answer_request.Goals as goal
 
 pub returns-in-Verify : goal.returns-in-Verify
 returns-in-Verify g c = writes_such _ (reply_of c.verify.result) _ _ _
@@ -27,10 +27,10 @@ returns-in-Geocode g c =
     writes_such _ (reply_of c.geocode.result) _ _ _ (rw c.in-Geocode.is (rw counties at c.geocode.ensures, refl)) c.write-in-Geocode.ensures
 
 pub invariant_of-self : goal.invariant_of-self
-invariant_of-self g c = rw (step_counties _ _ _ _ c.tell.ensures.is_such.step) c.self.invariant
+invariant_of-self g c = rw (step_counties _ _ _ _ c.write_job_reply.ensures.is_such.step) c.self.invariant
 
 pub invariant_of-self-in-Fetch : goal.invariant_of-self-in-Fetch
-invariant_of-self-in-Fetch g c = rw (asked_counties _ _ _ _ _ c.fetch.ensures.is_such) c.self.invariant
+invariant_of-self-in-Fetch g c = rw (job_counties _ _ _ _ _ c.fetch.ensures.is_such) c.self.invariant
 
 pub invariant_of-self-in-Drop : goal.invariant_of-self-in-Drop
-invariant_of-self-in-Drop g c = rw (asked_counties _ _ _ _ _ c.remove.ensures.is_such) c.self.invariant
+invariant_of-self-in-Drop g c = rw (job_counties _ _ _ _ _ c.remove.ensures.is_such) c.self.invariant

@@ -1,5 +1,5 @@
 use Rattle.jobs.proofs.RunLemmas.{run_push}
-use Rattle.jobs.proofs.laws.runs_go_on.Goals as goal
+use Rattle.jobs.proofs.laws.runs_extend.Goals as goal
 
 pub returns : goal.returns
 returns c = run_push

@@ -1,5 +1,5 @@
 use Rattle.std.proofs.Common.{◌≡◌}
-use Rattle.server.proofs.ends.ClientWriter.write_in_time.Given as goal
+use Rattle.server.proofs.client_stream.ClientWriter.write_in_time.Given as goal
 
 -- a write that is retried has changed neither the count nor the limits
 abbrev pub invariant-loop : goal.invariant-loop
