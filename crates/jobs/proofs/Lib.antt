@@ -1,5 +1,6 @@
 mod MapLemmas
 pub mod SegmentLemmas
+mod RowsLemmas
 mod TableLemmas
 mod NextLemmas
 pub mod RunLemmas

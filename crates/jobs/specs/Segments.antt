@@ -16,6 +16,13 @@ segments_of counties = flat_map (λ county. county.segments) counties
 abbrev pub next_segments : List Contents → ℕ → List Contents
 next_segments segments done = take SEGMENTS_PER_TURN (drop done segments)
 
+-- the extract of segments was appended to the rows
+pub record AppendsExtract (code : List Insn) (segments : List Contents) (rows new_rows : List ℕ) : Type 0 where
+  pub text : List ℕ
+  pub chosen : ℕ
+  pub is_extract : IsExtract code segments text chosen
+  pub appended : new_rows ≡ rows ++ text
+
 -- After the first `done` segments, the extract of a turn's segments was appended to the rows.
 pub record Advances (code : List Insn) (segments : List Contents) (done : ℕ) (rows : List ℕ) (new_done : ℕ) (new_rows : List ℕ) : Type 0 where
   pub moved : new_done ≡ min (length segments) (done + SEGMENTS_PER_TURN)

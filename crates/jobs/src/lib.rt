@@ -6,11 +6,13 @@ mod fault;
 mod job;
 pub mod laws;
 mod position;
+mod rows;
 mod table;
 mod turn;
 
 pub use event::{Event, Reply};
 pub use fault::JobFault;
 pub use position::COUNTY_LIMIT;
+pub use rows::all_rows;
 pub use table::{JOB_LIMIT, Jobs};
 pub use turn::{SEGMENTS_PER_TURN, advance};

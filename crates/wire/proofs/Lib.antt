@@ -1,7 +1,6 @@
 mod AnswerLemmas
 mod DecisionLemmas
 mod EventLemmas
-mod RowsLemmas
 mod ServingLemmas
 mod QueryLemmas
 mod VerdictLemmas
