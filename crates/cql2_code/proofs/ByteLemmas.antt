@@ -89,9 +89,9 @@ value_below (suc count) (byte ∷ bytes) short small =
 equal_words : (x y : ℕ) → x < 2 ^ 64 → y < 2 ^ 64
     → is_met (condition_of Equal) Bits64 x (cast_unsigned w64 (cast_signed w64 y)) ≡ (x == y)
 equal_words x y small others =
-    let kept : low_bits w64 x ≡ x = omega arith in
+    let unchanged : low_bits w64 x ≡ x = omega arith in
     let same : low_bits w64 y ≡ y = omega arith in
-    ap (λ (z : ℕ). z == low_bits w64 (cast_unsigned w64 (cast_signed w64 y))) kept
+    ap (λ (z : ℕ). z == low_bits w64 (cast_unsigned w64 (cast_signed w64 y))) unchanged
     ∙ ap (λ (z : ℕ). x == low_bits w64 z) (of_z-to_z w64 y others) ∙ ap (λ (z : ℕ). x == z) same
 
 chunk_short : (chunk : Chunk) → chunk_length chunk ≤ 8
@@ -123,16 +123,16 @@ module _ (segment : Contents) (is : IsSegment segment) where
       ap bytes_value (first_of at 0 within) ∙ one
 
   -- a test of a byte compares its value
-  pub byte_told : (at : ℕ) (comparison : Comparison) (byte : ℕ) → at < 228 → byte < 2 ^ 8
+  pub byte_answer : (at : ℕ) (comparison : Comparison) (byte : ℕ) → at < 228 → byte < 2 ^ 8
       → answer (byte_test at comparison byte) segment ≡ compares comparison (pos (get_or segment.bytes at 0)) (pos byte)
-  byte_told at comparison byte within small =
+  byte_answer at comparison byte within small =
       let below = is.bytes.bytes at in
       ap (λ (number : ℕ). is_met (condition_of comparison) Bits64 number (cast_unsigned w64 (pos byte))) (byte_read at within)
       ∙ compared comparison (pos (get_or segment.bytes at 0)) (pos byte) (small_fits _ (omega arith)) (small_fits byte (omega arith))
 
   pub byte_equals : (at byte : ℕ) → at < 228 → byte < 2 ^ 8
       → answer (byte_test at Equal byte) segment ≡ (get_or segment.bytes at 0 == byte)
-  byte_equals at byte within small = byte_told at Equal byte within small ∙ equal_numbers (get_or segment.bytes at 0) byte
+  byte_equals at byte within small = byte_answer at Equal byte within small ∙ equal_numbers (get_or segment.bytes at 0) byte
 
   chunk_below : (chunk : Chunk) (at : ℕ) → bytes_value (take (chunk_length chunk) (drop at segment.bytes)) < 2 ^ 64
   chunk_below chunk at =

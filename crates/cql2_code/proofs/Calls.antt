@@ -16,7 +16,7 @@ use Rattle.bpf_meaning.specs.declared.effect.Change.TheVariants.{CallHelper}
 use Rattle.tl_segments.specs.Segment.{ranges_of}
 use Rattle.std.specs.Prelude.{slice_get}
 use Rattle.cql2_code.specs.Layout.{call}
-use Rattle.cql2_code.proofs.Steps.{with_1, with_2, Begins, Does, Scratch, Setting, after_at, changes, goes, running, state}
+use Rattle.cql2_code.proofs.Steps.{with_1, with_2, Begins, Does, Scratch, Setting, after_at, changes, continues_at, running, state}
 
 -- after a call, register 0 holds the answer, and registers 1 to 5 hold nothing
 
@@ -39,31 +39,31 @@ answered from answer second = record {
 }
 
 pub calls_field : (on : Setting) (from : Scratch) (id : ℕ) → is_allowed (between 0 16) id ≡ true
-    → Does on (call 1) (with_1 from id) (answered from (or_zero (field_number on.segment.bytes id)) 0)
+    → Does on (call helper.Field) (with_1 from id) (answered from (or_zero (field_number on.segment.bytes id)) 0)
 calls_field on from id allowed =
-    changes on (call 1) (CallHelper helper.Field (id ∷ 0 ∷ 0 ∷ [])) (with_1 from id)
+    changes on (call helper.Field) (CallHelper helper.Field (id ∷ 0 ∷ 0 ∷ [])) (with_1 from id)
     (answered from (or_zero (field_number on.segment.bytes id)) 0) (λ place. rw allowed) (λ place next. refl)
 
 pub calls_has : (on : Setting) (from : Scratch) (id : ℕ) → is_allowed (between 0 16) id ≡ true
-    → Does on (call 2) (with_1 from id) (answered from (truth (is_some (field_number on.segment.bytes id))) 0)
+    → Does on (call helper.Has) (with_1 from id) (answered from (truth (is_some (field_number on.segment.bytes id))) 0)
 calls_has on from id allowed =
-    changes on (call 2) (CallHelper helper.Has (id ∷ 0 ∷ 0 ∷ [])) (with_1 from id)
+    changes on (call helper.Has) (CallHelper helper.Has (id ∷ 0 ∷ 0 ∷ [])) (with_1 from id)
     (answered from (truth (is_some (field_number on.segment.bytes id))) 0) (λ place. rw allowed) (λ place next. refl)
 
 pub calls_coordinate : (on : Setting) (from : Scratch) (id : ℕ) → is_allowed (between 0 3) id ≡ true
-    → Does on (call 9) (with_1 from id) (answered from (coordinate on.segment.bytes id) 0)
+    → Does on (call helper.Coord) (with_1 from id) (answered from (coordinate on.segment.bytes id) 0)
 calls_coordinate on from id allowed =
-    changes on (call 9) (CallHelper helper.Coord (id ∷ 0 ∷ 0 ∷ [])) (with_1 from id)
+    changes on (call helper.Coord) (CallHelper helper.Coord (id ∷ 0 ∷ 0 ∷ [])) (with_1 from id)
     (answered from (coordinate on.segment.bytes id) 0) (λ place. rw allowed) (λ place next. refl)
 
-pub calls_names : (on : Setting) (from : Scratch) → Does on (call 3) from (answered from (length on.segment.names) 0)
+pub calls_names : (on : Setting) (from : Scratch) → Does on (call helper.Names) from (answered from (length on.segment.names) 0)
 calls_names on from =
-    changes on (call 3) (CallHelper helper.Names (0 ∷ 0 ∷ 0 ∷ [])) from (answered from (length on.segment.names) 0) (λ place. refl)
+    changes on (call helper.Names) (CallHelper helper.Names (0 ∷ 0 ∷ 0 ∷ [])) from (answered from (length on.segment.names) 0) (λ place. refl)
     (λ place next. refl)
 
-pub calls_ranges : (on : Setting) (from : Scratch) → Does on (call 4) from (answered from (length (ranges_of on.segment)) 0)
+pub calls_ranges : (on : Setting) (from : Scratch) → Does on (call helper.Ranges) from (answered from (length (ranges_of on.segment)) 0)
 calls_ranges on from =
-    changes on (call 4) (CallHelper helper.Ranges (0 ∷ 0 ∷ 0 ∷ [])) from (answered from (length (ranges_of on.segment)) 0) (λ place. refl)
+    changes on (call helper.Ranges) (CallHelper helper.Ranges (0 ∷ 0 ∷ 0 ∷ [])) from (answered from (length (ranges_of on.segment)) 0) (λ place. refl)
     (λ place next. refl)
 
 -- every 64-bit number is allowed
@@ -71,9 +71,9 @@ pub any_allowed : (number : ℕ) → number < 2 ^ 64 → is_allowed (between 0 (
 any_allowed number fits = grind (arith, nat_tests)
 
 pub calls_in_range : (on : Setting) (from : Scratch) (range house : ℕ) → range < 2 ^ 64 → house < 2 ^ 64
-    → Does on (call 5) (with_2 (with_1 from range) house) (answered from (sides house (slice_get (ranges_of on.segment) range)) house)
+    → Does on (call helper.InRange) (with_2 (with_1 from range) house) (answered from (sides house (slice_get (ranges_of on.segment) range)) house)
 calls_in_range on from range house fits_range fits_house =
-    changes on (call 5) (CallHelper helper.InRange (range ∷ house ∷ 0 ∷ [])) (with_2 (with_1 from range) house)
+    changes on (call helper.InRange) (CallHelper helper.InRange (range ∷ house ∷ 0 ∷ [])) (with_2 (with_1 from range) house)
     (answered from (sides house (slice_get (ranges_of on.segment) range)) house)
     (λ place. rw (any_allowed range fits_range, any_allowed house fits_house)) (λ place next. refl)
 
@@ -81,14 +81,14 @@ calls_in_range on from range house fits_range fits_house =
 abbrev pub scored : Setting → ℕ → Setting
 scored on score = record on { score = score }
 
-pub calls_emit : (on : Setting) (from : Scratch) (number place : ℕ) → number < 2 ^ 64 → instruction_at on.code place ≡ Some (call 8)
+pub calls_emit : (on : Setting) (from : Scratch) (number place : ℕ) → number < 2 ^ 64 → instruction_at on.code place ≡ Some (call helper.Emit)
     → Begins on.code (place + 1)
     → running (scored on number) (answered from 0 0) (place + 1) ≡ after on.code on.segment (state on (with_1 from number) place)
 calls_emit on from number place fits at begins =
     let held : Scratch = with_1 from number in
     let change = CallHelper helper.Emit (number ∷ 0 ∷ 0 ∷ []) in
-    let effect : instruction_effect on.code on.segment (state on held place) (place + 1) (call 8) ≡ go_on on.code (place + 1) change =
+    let effect : instruction_effect on.code on.segment (state on held place) (place + 1) (call helper.Emit) ≡ go_on on.code (place + 1) change =
     rw (any_allowed number fits) in
     sym
-    (after_at on (state on held place) (call 8) at ∙ ap (next_of on.segment (state on held place)) effect
-    ∙ goes on (state on held place) (place + 1) change begins)
+    (after_at on (state on held place) (call helper.Emit) at ∙ ap (next_of on.segment (state on held place)) effect
+    ∙ continues_at on (state on held place) (place + 1) change begins)

@@ -6,7 +6,7 @@ use Rattle.bpf_insn.specs.declared.instruction.Insn.{Insn}
 use Rattle.bpf_insn.specs.declared.instruction.Source.TheVariants.{Immediate, Register}
 use Rattle.bpf_insn.proofs.PlaceLemmas.{word_count-append}
 use Rattle.cql2.specs.declared.filter.Comparison.{Comparison}
-use Rattle.cql2_code.specs.Layout.{comparison_code, first_beyond, is_narrow, jump_if, opposite, question_code, r1, w1, wide_load}
+use Rattle.cql2_code.specs.Layout.{comparison_code, first_skip, is_narrow, jump_if, opposite, question_code, from_argument_1, into_argument_1, wide_load}
 use Rattle.cql2_code.proofs.Steps.{HasAt, has_back, has_front}
 use Rattle.cql2_code.specs.Question.{Question}
 use Rattle.cql2_code.specs.declared.question.Test.{Test}
@@ -17,17 +17,17 @@ jumping test falls = if falls then opposite test.comparison else test.comparison
 
 -- the code of a comparison, by whether an immediate holds its operand
 abbrev pub comparison_by : Bool → Comparison → ℤ → ℕ → List Insn
-comparison_by true comparison operand beyond = jump_if comparison (Immediate operand) (pos beyond) ∷ []
-comparison_by false comparison operand beyond =
-    wide_load w1 (immediate_operand operand) ∷ jump_if comparison (Register r1) (pos beyond) ∷ []
+comparison_by true comparison operand skip = jump_if comparison (Immediate operand) (pos skip) ∷ []
+comparison_by false comparison operand skip =
+    wide_load into_argument_1 (immediate_operand operand) ∷ jump_if comparison (Register from_argument_1) (pos skip) ∷ []
 
-pub comparison_is : (comparison : Comparison) (operand : ℤ) (beyond : ℕ)
-    → comparison_by (is_narrow operand) comparison operand beyond ≡ comparison_code comparison operand beyond
-comparison_is comparison operand beyond = by_size (is_narrow operand)
+pub comparison_is : (comparison : Comparison) (operand : ℤ) (skip : ℕ)
+    → comparison_by (is_narrow operand) comparison operand skip ≡ comparison_code comparison operand skip
+comparison_is comparison operand skip = by_size (is_narrow operand)
   where
     by_size : (narrow : Bool)
-        → comparison_by narrow comparison operand beyond
-        ≡ (if narrow then comparison_by true comparison operand beyond else comparison_by false comparison operand beyond)
+        → comparison_by narrow comparison operand skip
+        ≡ (if narrow then comparison_by true comparison operand skip else comparison_by false comparison operand skip)
     by_size true = refl
     by_size false = refl
 
@@ -37,28 +37,28 @@ pub record Joint : Type 0 where
   pub middle : ℕ
   pub end : ℕ
   pub words : ℕ
-  pub beyond : ℕ
+  pub skip : ℕ
   pub is : middle + words ≡ end
 
-abbrev pub joint_of : (place : ℕ) (first second : List Insn) (beyond : ℕ) → Joint
-joint_of place first second beyond = record {
+abbrev pub joint_of : (place : ℕ) (first second : List Insn) (skip : ℕ) → Joint
+joint_of place first second skip = record {
   start = place;
   middle = place + word_count first;
   end = place + word_count (first ++ second);
   words = word_count second;
-  beyond = beyond;
+  skip = skip;
   is = let count = word_count-append first second in omega arith;
 }
 
 -- the place that the first one jumps to
 abbrev pub first_jump : Joint → Bool → Bool → ℕ
-first_jump joint falls neutral = joint.middle + first_beyond falls neutral joint.words joint.beyond
+first_jump joint falls neutral = joint.middle + first_skip falls neutral joint.words joint.skip
 
-pub jumps_on : (joint : Joint) → joint.middle + (joint.words + joint.beyond) ≡ joint.end + joint.beyond
+pub jumps_on : (joint : Joint) → joint.middle + (joint.words + joint.skip) ≡ joint.end + joint.skip
 jumps_on joint = let e = joint.is in omega arith
 
 -- what holds at both exits of the second one holds where the first one jumps to
-pub first_target : (Such : ℕ → Type 0) (joint : Joint) (falls neutral : Bool) → Such joint.end → Such (joint.end + joint.beyond)
+pub first_target : (Such : ℕ → Type 0) (joint : Joint) (falls neutral : Bool) → Such joint.end → Such (joint.end + joint.skip)
     → Such (first_jump joint falls neutral)
 first_target Such joint true true end target = subst Such (sym (jumps_on joint)) target
 first_target Such joint false true end target = subst Such (sym joint.is) end
@@ -66,21 +66,21 @@ first_target Such joint true false end target = subst Such (sym joint.is) end
 first_target Such joint false false end target = subst Such (sym (jumps_on joint)) target
 
 -- a code at a place with its two exits: its end, and a number of words past it
-pub record Placed (Such : ℕ → Type 0) (code : List Insn) (place : ℕ) (insns : List Insn) (beyond : ℕ) : Type 0 where
+pub record Placed (Such : ℕ → Type 0) (code : List Insn) (place : ℕ) (insns : List Insn) (skip : ℕ) : Type 0 where
   pub has : HasAt code place insns
   pub end : Such (place + word_count insns)
-  pub target : Such (place + word_count insns + beyond)
+  pub target : Such (place + word_count insns + skip)
 
 -- the second of two codes
-pub second_placed : (Such : ℕ → Type 0) (code : List Insn) (place : ℕ) (insns others : List Insn) (beyond : ℕ)
-    → Placed Such code place (insns ++ others) beyond → Placed Such code (place + word_count insns) others beyond
-second_placed Such code place insns others beyond placed =
+pub second_placed : (Such : ℕ → Type 0) (code : List Insn) (place : ℕ) (insns others : List Insn) (skip : ℕ)
+    → Placed Such code place (insns ++ others) skip → Placed Such code (place + word_count insns) others skip
+second_placed Such code place insns others skip placed =
     let count = word_count-append insns others in
     let e : place + word_count insns + word_count others ≡ place + word_count (insns ++ others) = omega arith in
     record {
       has = has_back code place insns others placed.has;
       end = subst Such (sym e) placed.end;
-      target = subst (λ (p : ℕ). Such (p + beyond)) (sym e) placed.target;
+      target = subst (λ (p : ℕ). Such (p + skip)) (sym e) placed.target;
     }
 
 -- two joined questions and their exits
@@ -89,26 +89,26 @@ pub record Pair : Type 0 where
   pub first : Question
   pub second : Question
   pub falls : Bool
-  pub beyond : ℕ
+  pub skip : ℕ
 
 abbrev pub second_code : Pair → List Insn
-second_code pair = question_code pair.second pair.falls pair.beyond
+second_code pair = question_code pair.second pair.falls pair.skip
 
-abbrev pub beyond_first : Pair → ℕ
-beyond_first pair = first_beyond pair.falls pair.neutral (word_count (second_code pair)) pair.beyond
+abbrev pub skip_first : Pair → ℕ
+skip_first pair = first_skip pair.falls pair.neutral (word_count (second_code pair)) pair.skip
 
 abbrev pub first_code : Pair → List Insn
-first_code pair = question_code pair.first pair.neutral (beyond_first pair)
+first_code pair = question_code pair.first pair.neutral (skip_first pair)
 
 abbrev pub both_code : Pair → List Insn
 both_code pair = first_code pair ++ second_code pair
 
 -- the first of them
-pub first_placed : (Such : ℕ → Type 0) (code : List Insn) (place : ℕ) (pair : Pair) → Placed Such code place (both_code pair) pair.beyond
-    → Such (place + word_count (first_code pair)) → Placed Such code place (first_code pair) (beyond_first pair)
+pub first_placed : (Such : ℕ → Type 0) (code : List Insn) (place : ℕ) (pair : Pair) → Placed Such code place (both_code pair) pair.skip
+    → Such (place + word_count (first_code pair)) → Placed Such code place (first_code pair) (skip_first pair)
 first_placed Such code place pair placed end = record {
   has = has_front code place (first_code pair) (second_code pair) placed.has;
   end = end;
-  target = first_target Such (joint_of place (first_code pair) (second_code pair) pair.beyond) pair.falls pair.neutral placed.end
+  target = first_target Such (joint_of place (first_code pair) (second_code pair) pair.skip) pair.falls pair.neutral placed.end
       placed.target;
 }

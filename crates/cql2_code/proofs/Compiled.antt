@@ -18,7 +18,7 @@ use Rattle.cql2.specs.declared.filter.Filter.{Filter}
 use Rattle.tl_segments.specs.Segment.{Contents, IsSegment}
 use Rattle.cql2_code.specs.Chosen.{Chooses, count_of, rows_of, score_of}
 use Rattle.cql2_code.specs.declared.fault.CompileFault.{CompileFault}
-use Rattle.cql2_code.specs.Layout.{IsTooLong, MayBeRefused, Refuses, Writes, answer_code, chosen_code, copy, program, question_code, r1, score_code, w6}
+use Rattle.cql2_code.specs.Layout.{IsTooLong, MayBeRefused, Refuses, Writes, answer_code, chosen_code, copy, program, question_code, from_argument_1, score_code, into_record}
 use Rattle.cql2_code.specs.Lowering.{asks_whether}
 use Rattle.cql2_code.specs.Question.{Question}
 use Rattle.cql2_code.specs.declared.question.Exits.{Exits}
@@ -70,12 +70,12 @@ chosen_words score first all =
 
 -- a program, assembled back to front
 pub program_written : {question : Question} {exits : Exits} {end whole : List Insn} (score : Option NumericColumn)
-    → end ≡ chosen_code score ++ answer_code 0 → exits.falls ≡ true → exits.beyond ≡ word_count (chosen_code score)
-    → Writes question exits end whole → copy w6 r1 ∷ whole ≡ program score question
-program_written {question} {exits} {end} {whole} score last falls beyond written =
-    ap (λ (rest : List Insn). copy w6 r1 ∷ rest)
-    (written.code ∙ ap (λ (b : Bool). question_code question b exits.beyond ++ end) falls
-    ∙ ap (λ (n : ℕ). question_code question true n ++ end) beyond
+    → end ≡ chosen_code score ++ answer_code 0 → exits.falls ≡ true → exits.skip ≡ word_count (chosen_code score)
+    → Writes question exits end whole → copy into_record from_argument_1 ∷ whole ≡ program score question
+program_written {question} {exits} {end} {whole} score last falls skip written =
+    ap (λ (rest : List Insn). copy into_record from_argument_1 ∷ rest)
+    (written.code ∙ ap (λ (b : Bool). question_code question b exits.skip ++ end) falls
+    ∙ ap (λ (n : ℕ). question_code question true n ++ end) skip
     ∙ ap (λ (rest : List Insn). question_code question true (word_count (chosen_code score)) ++ rest) last)
 
 -- a program is refused if its end is
@@ -83,18 +83,18 @@ pub end_refused : {rest : List Insn} {fault : CompileFault} (score : Option Nume
     → chosen_code score ++ answer_code 0 ≡ front ++ rest → MayBeRefused rest fault → MayBeRefused (program score question) fault
 end_refused score question front is refused = record {
   too_long = λ other.
-      longer (copy w6 r1 ∷ question_code question true (word_count (chosen_code score)))
+      longer (copy into_record from_argument_1 ∷ question_code question true (word_count (chosen_code score)))
       (subst IsTooLong (sym is) (longer front (refused.too_long other)));
 }
 
 -- a program is refused if its question's code is
 pub question_refused : {question : Question} {exits : Exits} {end : List Insn} {fault : CompileFault} (score : Option NumericColumn)
-    → end ≡ chosen_code score ++ answer_code 0 → exits.falls ≡ true → exits.beyond ≡ word_count (chosen_code score)
+    → end ≡ chosen_code score ++ answer_code 0 → exits.falls ≡ true → exits.skip ≡ word_count (chosen_code score)
     → Refuses question exits end fault → MayBeRefused (program score question) fault
-question_refused {question} score last falls beyond refused = record {
+question_refused {question} score last falls skip refused = record {
   too_long = λ other.
-      subst IsTooLong (program_written {question = question} score last falls beyond (record { code = refl }))
-      (longer (copy w6 r1 ∷ []) (refused.too_long other));
+      subst IsTooLong (program_written {question = question} score last falls skip (record { code = refl }))
+      (longer (copy into_record from_argument_1 ∷ []) (refused.too_long other));
 }
 
 -- a property of a result's code, if there is one

@@ -22,7 +22,7 @@ use Rattle.bpf_verify.proofs.StateLaws.{reflexive}
 use Rattle.bpf_verify.specs.Annotation.{PassesAt}
 use Rattle.bpf_verify.specs.AbstractState.{AbstractState, Unreached, Edges, IsWithin}
 use Rattle.bpf_verify.specs.Transfer.{narrowed, on_edge, transfer}
-use Rattle.cql2_code.specs.Layout.{jump, r0, r1}
+use Rattle.cql2_code.specs.Layout.{jump, from_result, from_argument_1}
 use Rattle.cql2_code.proofs.Known.{Held, annotation_of, any_number, before, nothing, registers_of, rests_after, resting, state_before}
 use Rattle.cql2_code.proofs.Passes.{AllPass, Passes, needed_by}
 use Rattle.cql2_code.proofs.Steps.{conditional_jump, HasAt}
@@ -119,35 +119,35 @@ same_place : (place other : ℕ) → pos place ≡ pos other → place ≡ other
 same_place place other e = cc
 
 -- a jump leads to the place at its distance
-leads_there : (code : List Insn) (place beyond : ℕ) (distance : ℤ) → Some (pos beyond) ≡ Some distance → Rests code (place + 1 + beyond)
+leads_there : (code : List Insn) (place skip : ℕ) (distance : ℤ) → Some (pos skip) ≡ Some distance → Rests code (place + 1 + skip)
     → LeadsOn code place distance
-leads_there code place beyond distance jumps target =
-    let e = same_distance (pos beyond) distance jumps in
+leads_there code place skip distance jumps target =
+    let e = same_distance (pos skip) distance jumps in
     record {
-      target = place + 1 + beyond;
+      target = place + 1 + skip;
       is_target = ap (λ (d : ℤ). pos (place + 1) +ℤ d) (sym e);
       later = omega arith;
       begins = target.begins;
     }
 
 -- and to no other place
-only_there : (place beyond : ℕ) (distance : ℤ) (to : ℕ) → Some (pos beyond) ≡ Some distance → pos (place + 1) +ℤ distance ≡ pos to
-    → place + 1 + beyond ≡ to
-only_there place beyond distance to jumps leads =
-    let e = same_distance (pos beyond) distance jumps in same_place (place + 1 + beyond) to (ap (λ (d : ℤ). pos (place + 1) +ℤ d) e ∙ leads)
+only_there : (place skip : ℕ) (distance : ℤ) (to : ℕ) → Some (pos skip) ≡ Some distance → pos (place + 1) +ℤ distance ≡ pos to
+    → place + 1 + skip ≡ to
+only_there place skip distance to jumps leads =
+    let e = same_distance (pos skip) distance jumps in same_place (place + 1 + skip) to (ap (λ (d : ℤ). pos (place + 1) +ℤ d) e ∙ leads)
 
-pub good_jump : (code : List Insn) (place beyond : ℕ) → instruction_at code place ≡ Some (jump (pos beyond))
-    → Rests code (place + 1 + beyond) → IsGoodAt code place (jump (pos beyond))
-good_jump code place beyond at target = record {
+pub good_jump : (code : List Insn) (place skip : ℕ) → instruction_at code place ≡ Some (jump (pos skip))
+    → Rests code (place + 1 + skip) → IsGoodAt code place (jump (pos skip))
+good_jump code place skip at target = record {
   passes = record {
     edges = record { next = Unreached; target = resting };
-    passes = ap (λ (found : Option Insn). transfer (state_before found) (jump (pos beyond))) at;
+    passes = ap (λ (found : Option Insn). transfer (state_before found) (jump (pos skip))) at;
     next = tt;
     target = λ distance to jumps leads.
-        subst (λ (p : ℕ). IsWithin resting (annotation_of code p)) (only_there place beyond distance to jumps leads)
+        subst (λ (p : ℕ). IsWithin resting (annotation_of code p)) (only_there place skip distance to jumps leads)
         (subst (IsWithin resting) (sym target.needs) (reflexive resting));
   };
-  leads = λ distance jumps. leads_there code place beyond distance jumps target;
+  leads = λ distance jumps. leads_there code place skip distance jumps target;
 }
 
 -- the state before a conditional jump: a number in register 0, and in register 1 if it is an operand
@@ -156,19 +156,19 @@ held_before (Immediate number) = record nothing { v0 = any_number }
 held_before (Register register) = record nothing { v0 = any_number; v1 = any_number }
 
 -- what the jump implies for its operands if it is taken, and if it isn't
-unfoldable told : Condition → Source → Bool → Option Narrowed
-told condition (Immediate number) taken =
+unfoldable implied : Condition → Source → Bool → Option Narrowed
+implied condition (Immediate number) taken =
     refine condition Bits64 (between 0 (2 ^ 64 - 1)) (single (low_bits w64 (immediate_operand number))) taken
-told condition (Register register) taken = refine condition Bits64 (between 0 (2 ^ 64 - 1)) (between 0 (2 ^ 64 - 1)) taken
+implied condition (Register register) taken = refine condition Bits64 (between 0 (2 ^ 64 - 1)) (between 0 (2 ^ 64 - 1)) taken
 
 -- the state on an edge of the jump
 abbrev edge_by : Condition → Source → Option Narrowed → AbstractState
-edge_by condition source told =
+edge_by condition source implied =
     on_edge (record { registers = registers_of (held_before source); frame = unwritten })
-    (record { condition = condition; width = Bits64; left = r0; right = source }) (narrowed told)
+    (record { condition = condition; width = Bits64; left = from_result; right = source }) (narrowed implied)
 
 abbrev edge : Condition → Source → Bool → AbstractState
-edge condition source taken = edge_by condition source (told condition source taken)
+edge condition source taken = edge_by condition source (implied condition source taken)
 
 abbrev edges : Condition → Source → Edges
 edges condition source = record { next = edge condition source false; target = edge condition source true }
@@ -176,11 +176,11 @@ edges condition source = record { next = edge condition source false; target = e
 -- the operand of a conditional jump is an immediate or register 1
 pub data IsOperand : Source → Type 0 where
   is_immediate : (number : ℤ) → IsOperand (Immediate number)
-  is_register : IsOperand (Register r1)
+  is_register : IsOperand (Register from_argument_1)
 
 -- the edges of the jump need only the record's pointer
-edge_rests : (condition : Condition) (source : Source) (told : Option Narrowed) → IsOperand source
-    → IsWithin (edge_by condition source told) resting
+edge_rests : (condition : Condition) (source : Source) (implied : Option Narrowed) → IsOperand source
+    → IsWithin (edge_by condition source implied) resting
 edge_rests condition source None operand = tt
 edge_rests condition source (Some both) (is_immediate number) = rests_after (record nothing { v0 = Number both.left })
 edge_rests condition source (Some both) is_register = rests_after (record nothing { v0 = Number both.left; v1 = Number both.right })
@@ -188,31 +188,31 @@ edge_rests condition source (Some both) is_register = rests_after (record nothin
 edge_leads : (code : List Insn) (place : ℕ) (condition : Condition) (source : Source) (taken : Bool) → IsOperand source → Rests code place
     → IsWithin (edge condition source taken) (annotation_of code place)
 edge_leads code place condition source taken operand rests =
-    subst (IsWithin (edge condition source taken)) (sym rests.needs) (edge_rests condition source (told condition source taken) operand)
+    subst (IsWithin (edge condition source taken)) (sym rests.needs) (edge_rests condition source (implied condition source taken) operand)
 
-branch_passes : (condition : Condition) (source : Source) (beyond : ℕ) → IsOperand source
-    → transfer (before (conditional_jump condition source beyond)) (conditional_jump condition source beyond) ≡ Ok (edges condition source)
-unfolding told
-branch_passes condition source beyond (is_immediate number) = refl
-branch_passes condition source beyond is_register = refl
+branch_passes : (condition : Condition) (source : Source) (skip : ℕ) → IsOperand source
+    → transfer (before (conditional_jump condition source skip)) (conditional_jump condition source skip) ≡ Ok (edges condition source)
+unfolding implied
+branch_passes condition source skip (is_immediate number) = refl
+branch_passes condition source skip is_register = refl
 
 -- a conditional jump at a place, both of whose targets need nothing more
-pub record BranchAt (code : List Insn) (place : ℕ) (condition : Condition) (source : Source) (beyond : ℕ) : Type 0 where
-  pub at : instruction_at code place ≡ Some (conditional_jump condition source beyond)
+pub record BranchAt (code : List Insn) (place : ℕ) (condition : Condition) (source : Source) (skip : ℕ) : Type 0 where
+  pub at : instruction_at code place ≡ Some (conditional_jump condition source skip)
   pub next : Rests code (place + 1)
-  pub target : Rests code (place + 1 + beyond)
+  pub target : Rests code (place + 1 + skip)
 
-pub good_branch : (code : List Insn) (place : ℕ) (condition : Condition) (source : Source) (beyond : ℕ) → IsOperand source
-    → BranchAt code place condition source beyond → IsGoodAt code place (conditional_jump condition source beyond)
-good_branch code place condition source beyond operand branch = record {
+pub good_branch : (code : List Insn) (place : ℕ) (condition : Condition) (source : Source) (skip : ℕ) → IsOperand source
+    → BranchAt code place condition source skip → IsGoodAt code place (conditional_jump condition source skip)
+good_branch code place condition source skip operand branch = record {
   passes = record {
     edges = edges condition source;
-    passes = ap (λ (found : Option Insn). transfer (state_before found) (conditional_jump condition source beyond)) branch.at
-        ∙ branch_passes condition source beyond operand;
+    passes = ap (λ (found : Option Insn). transfer (state_before found) (conditional_jump condition source skip)) branch.at
+        ∙ branch_passes condition source skip operand;
     next = edge_leads code (place + 1) condition source false operand branch.next;
     target = λ distance to jumps leads.
-        subst (λ (p : ℕ). IsWithin (edge condition source true) (annotation_of code p)) (only_there place beyond distance to jumps leads)
-        (edge_leads code (place + 1 + beyond) condition source true operand branch.target);
+        subst (λ (p : ℕ). IsWithin (edge condition source true) (annotation_of code p)) (only_there place skip distance to jumps leads)
+        (edge_leads code (place + 1 + skip) condition source true operand branch.target);
   };
-  leads = λ distance jumps. leads_there code place beyond distance jumps branch.target;
+  leads = λ distance jumps. leads_there code place skip distance jumps branch.target;
 }

@@ -4,7 +4,7 @@ use Rattle.std.proofs.lemmas.Bool.{false≢true}
 use Rattle.bpf_insn.specs.declared.value.Value.{Value}
 use Rattle.bpf_insn.specs.declared.value.Value.TheVariants as value
 use Rattle.bpf_meaning.specs.declared.effect.Change.TheVariants.{SetRegister}
-use Rattle.cql2_code.specs.Layout.{w0}
+use Rattle.cql2_code.specs.Layout.{into_result}
 use Rattle.std.proofs.Common.{map, take, drop}
 use Rattle.std.proofs.Common.{rules}
 use Rattle.std.proofs.lemmas.List.{drop-map, length-map, take-map}
@@ -57,6 +57,6 @@ pub loads : (on : Setting) (from : Scratch) (chunk : Chunk) (i : ℕ) → i + ch
     → Does on (load chunk i) from (with_0 from (chunk_number chunk on.segment.bytes i))
 loads on from chunk i within =
     let number = chunk_number chunk on.segment.bytes i in
-    changes on (load chunk i) (SetRegister w0 (value.Number number)) from (with_0 from number)
-    (λ place. ap (λ (r : Result Value Cause). r >>= set_register on.code (place + 1) w0) (loaded chunk on.segment.bytes i within))
+    changes on (load chunk i) (SetRegister into_result (value.Number number)) from (with_0 from number)
+    (λ place. ap (λ (r : Result Value Cause). r >>= set_register on.code (place + 1) into_result) (loaded chunk on.segment.bytes i within))
     (λ place next. refl)

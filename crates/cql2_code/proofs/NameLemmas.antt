@@ -19,7 +19,7 @@ use Rattle.tl_segments.specs.Segment.{Contents, IsSegment, names_of}
 use Rattle.tl_segments.proofs.SegmentLemmas.{AreBytes-field_of}
 use Rattle.cql2.specs.Truth.{has_name, is as is_truth}
 use Rattle.cql2.specs.declared.filter.Comparison.TheVariants.{GreaterOrEqual, LessOrEqual, NotEqual}
-use Rattle.cql2_code.specs.Lowering.{asks_has_name, is_milestone, is_named, is_named_from, name_block, test}
+use Rattle.cql2_code.specs.Lowering.{asks_has_name, checks_for_end, is_named, is_named_from, name_block, test}
 use Rattle.cql2_code.specs.Question.{answer, condition_of}
 use Rattle.cql2_code.specs.declared.question.Subject.TheVariants.{NameIs, Names}
 use Rattle.cql2_code.proofs.JoinLemmas.{and_assoc, both_answers}
@@ -84,9 +84,9 @@ any_same P good other (suc count) (part ∷ parts) all same =
     ap (λ (first : Bool). first || list_any good (take count parts)) (same part (all 0 part (omega arith)))
     ∙ ap (λ (rest : Bool). other part || rest) (any_same P good other count parts (λ k d inside. all (suc k) d (omega arith)) same)
 
-equal_told : (equal : Bool) → is_met (condition_of NotEqual) Bits64 (number_of_truth equal) 0 ≡ equal
-equal_told true = refl
-equal_told false = refl
+truth_compared : (equal : Bool) → is_met (condition_of NotEqual) Bits64 (number_of_truth equal) 0 ≡ equal
+truth_compared true = refl
+truth_compared false = refl
 
 name_found : (wanted : List ℕ) (name : Option (List ℕ)) → is_name wanted name ≡ passes (λ name. name_equals name wanted) name
 name_found wanted None = refl
@@ -115,8 +115,8 @@ module _ (segment : Contents) (is : IsSegment segment) where
   names_are = All-cons (AreBytes 30) (field_of segment.bytes 20 49) segment.names
       (AreBytes-field_of segment.bytes 228 20 49 is.bytes (omega arith) (omega arith) (omega arith)) is.names
 
-  names_told : (at : ℕ) → at < 2 ^ 62 → answer (test Names GreaterOrEqual (pos at)) segment ≡ nat_lt at (length (names_of segment))
-  names_told at small =
+  names_answer : (at : ℕ) → at < 2 ^ 62 → answer (test Names GreaterOrEqual (pos at)) segment ≡ nat_lt at (length (names_of segment))
+  names_answer at small =
       let few = is.few_names in
       compared GreaterOrEqual (pos (length segment.names)) (pos at) (small_fits _ (omega arith)) (small_fits at (omega arith))
       ∙ at_least_is_less at (length segment.names)
@@ -131,10 +131,10 @@ module _ (segment : Contents) (is : IsSegment segment) where
         inside = test Names GreaterOrEqual (pos at);
         here = test (NameIs at wanted) NotEqual (pos 0);
         rest = is_named_from wanted (at + 1) more;
-        inside_is = names_told at (omega arith);
-        here_is = equal_told _ ∙ name_found (take 30 wanted) (slice_get (names_of segment) at);
+        inside_is = names_answer at (omega arith);
+        here_is = truth_compared _ ∙ name_found (take 30 wanted) (slice_get (names_of segment) at);
         rest_is = named_found wanted (at + 1) more (omega arith);
-      }) (is_milestone at)
+      }) (checks_for_end at)
 
   is_named_rightly : (text : List ℕ) (most : ℕ) → length text ≤ 30 → most < 2 ^ 16
       → answer (is_named text most) segment ≡ list_any (λ name. name_equals name text) (take (1 + most) (names_of segment))
@@ -144,8 +144,8 @@ module _ (segment : Contents) (is : IsSegment segment) where
       ∙ any_same (AreBytes 30) _ _ (suc most) (names_of segment) names_are (λ name are. block_equals text name few are)
       ∙ ap (λ (n : ℕ). list_any (λ name. name_equals name text) (take n (names_of segment))) count
 
-  few_names_told : (most : ℕ) → most < 2 ^ 16 → answer (test Names LessOrEqual (pos most)) segment ≡ nat_le (length segment.names) most
-  few_names_told most small =
+  few_names_answer : (most : ℕ) → most < 2 ^ 16 → answer (test Names LessOrEqual (pos most)) segment ≡ nat_le (length segment.names) most
+  few_names_answer most small =
       let few = is.few_names in
       compared LessOrEqual (pos (length segment.names)) (pos most) (small_fits _ (omega arith)) (small_fits most (omega arith))
 
@@ -156,5 +156,5 @@ module _ (segment : Contents) (is : IsSegment segment) where
       is_named_rightly text most few small
       ∙ known_named (list_any (λ name. name_equals name text) (take (1 + most) (names_of segment))) (nat_le (length segment.names) most)
   has_name_rightly text most few small false =
-      both_answers (few_names_told most small) (ap not (is_named_rightly text most few small))
+      both_answers (few_names_answer most small) (ap not (is_named_rightly text most few small))
       ∙ known_other (list_any (λ name. name_equals name text) (take (1 + most) (names_of segment))) (nat_le (length segment.names) most)

@@ -38,15 +38,15 @@ use Rattle.cql2_code.proofs.JoinLemmas.{is_it, isnt_it, joined_answers, not_not}
 word_small : (number : ℤ) → FitsSigned w64 number → cast_unsigned w64 number < 2 ^ 64
 word_small number fits = search rules
 
-kept : (number : ℤ) → FitsSigned w64 number → low_bits w64 (cast_unsigned w64 number) ≡ cast_unsigned w64 number
-kept number fits = let small = word_small number fits in omega arith
+unchanged : (number : ℤ) → FitsSigned w64 number → low_bits w64 (cast_unsigned w64 number) ≡ cast_unsigned w64 number
+unchanged number fits = let small = word_small number fits in omega arith
 
 -- a number, written as 64 bits and read back
 abbrev read : ℤ → ℤ
 read number = cast_signed w64 (low_bits w64 (cast_unsigned w64 number))
 
 signed : (number : ℤ) → FitsSigned w64 number → read number ≡ number
-signed number fits = ap (cast_signed w64) (kept number fits) ∙ to_z-of_z w64 number fits
+signed number fits = ap (cast_signed w64) (unchanged number fits) ∙ to_z-of_z w64 number fits
 
 equal_words : (x y : ℤ) → FitsSigned w64 x → FitsSigned w64 y
     → (low_bits w64 (cast_unsigned w64 x) == low_bits w64 (cast_unsigned w64 y)) ≡ int_eq x y
@@ -93,32 +93,32 @@ opposite_compares GreaterOrEqual x y = int_less x y
 
 -- helper functions return a column's number
 
-number_told : (column : NumberColumn) (line : List ℕ)
+number_read : (column : NumberColumn) (line : List ℕ)
     → field_number line (field_id column) ≡ number_of (field_at (number_places column) line)
-number_told Tlid line = refl
-number_told Fraddl line = refl
-number_told Toaddl line = refl
-number_told Fraddr line = refl
-number_told Toaddr line = refl
-number_told Zipl line = refl
-number_told Zipr line = refl
-number_told Statel line = refl
-number_told Stater line = refl
-number_told Countyl line = refl
-number_told Countyr line = refl
-number_told Placel line = refl
-number_told Placer line = refl
-number_told Tractl line = refl
-number_told Tractr line = refl
-number_told Blockl line = refl
-number_told Blockr line = refl
+number_read Tlid line = refl
+number_read Fraddl line = refl
+number_read Toaddl line = refl
+number_read Fraddr line = refl
+number_read Toaddr line = refl
+number_read Zipl line = refl
+number_read Zipr line = refl
+number_read Statel line = refl
+number_read Stater line = refl
+number_read Countyl line = refl
+number_read Countyr line = refl
+number_read Placel line = refl
+number_read Placer line = refl
+number_read Tractl line = refl
+number_read Tractr line = refl
+number_read Blockl line = refl
+number_read Blockr line = refl
 
-coordinate_told : (column : CoordinateColumn) (line : List ℕ)
+coordinate_read : (column : CoordinateColumn) (line : List ℕ)
     → coordinate line (coordinate_id column) ≡ coordinate_word (coordinate_of (field_at (coordinate_places column) line))
-coordinate_told Frlong line = refl
-coordinate_told Frlat line = refl
-coordinate_told Tolong line = refl
-coordinate_told Tolat line = refl
+coordinate_read Frlong line = refl
+coordinate_read Frlat line = refl
+coordinate_read Tolong line = refl
+coordinate_read Tolat line = refl
 
 word_of_number : (found : Option ℕ) → or_zero found ≡ coordinate_word (option_map pos found)
 word_of_number None = refl
@@ -134,12 +134,12 @@ word_unless_zero None = refl
 word_unless_zero (Some millionths) = unless_zero_by millionths _ refl
 
 -- the word that a column's test looks at
-word_told : (column : NumericColumn) (segment : Contents)
+word_read : (column : NumericColumn) (segment : Contents)
     → value (subject_of column) segment ≡ coordinate_word (numeric_value column segment.bytes)
-word_told (Number column) segment =
-    ap or_zero (number_told column segment.bytes) ∙ word_of_number (number_of (field_at (number_places column) segment.bytes))
-word_told (Coordinate column) segment =
-    coordinate_told column segment.bytes ∙ word_unless_zero (coordinate_of (field_at (coordinate_places column) segment.bytes))
+word_read (Number column) segment =
+    ap or_zero (number_read column segment.bytes) ∙ word_of_number (number_of (field_at (number_places column) segment.bytes))
+word_read (Coordinate column) segment =
+    coordinate_read column segment.bytes ∙ word_unless_zero (coordinate_of (field_at (coordinate_places column) segment.bytes))
 
 -- a column's values fit into 64 bits
 
@@ -202,21 +202,21 @@ has_coordinate (Some millionths) fits =
 pub has_value_rightly : (column : NumericColumn) (segment : Contents)
     → answer (has_value column) segment ≡ is_some (numeric_value column segment.bytes)
 has_value_rightly (Number column) segment =
-    ap (λ (found : Option ℕ). is_met (condition_of NotEqual) Bits64 (number_of_truth (is_some found)) 0) (number_told column segment.bytes)
+    ap (λ (found : Option ℕ). is_met (condition_of NotEqual) Bits64 (number_of_truth (is_some found)) 0) (number_read column segment.bytes)
     ∙ has_number (number_of (field_at (number_places column) segment.bytes))
 has_value_rightly (Coordinate column) segment =
-    ap (λ (word : ℕ). is_met (condition_of NotEqual) Bits64 word 0) (coordinate_told column segment.bytes)
+    ap (λ (word : ℕ). is_met (condition_of NotEqual) Bits64 word 0) (coordinate_read column segment.bytes)
     ∙ has_coordinate (coordinate_of (field_at (coordinate_places column) segment.bytes)) (coordinate_fits _)
 
 pub none_is : {X : Type 0} (found : Option X) → not (is_some found) ≡ is_none found
 none_is None = refl
 none_is (Some value) = refl
 
--- a word compares with a literal in this way
+-- the comparison of a word with a literal
 abbrev is_so : Comparison → ℕ → ℤ → Bool
 is_so comparison word literal = is_met (condition_of comparison) Bits64 word (cast_unsigned w64 literal)
 
--- a value, if there is one, compares with a literal in this way
+-- the comparison of a value, if there is one, with a literal
 abbrev pub compared_value : Comparison → ℤ → Option ℤ → Option Bool
 compared_value comparison literal found = option_map (λ number. compares comparison number literal) found
 
@@ -238,10 +238,10 @@ module _ (column : NumericColumn) (comparison : Comparison) (literal : ℤ) (seg
       else test (subject_of column) comparison literal) segment
       ≡ is (compared_value comparison literal (numeric_value column segment.bytes)) true
   by_zero true holds =
-      joined_answers true (has_value_rightly column segment) (ap (λ (word : ℕ). is_so comparison word literal) (word_told column segment))
+      joined_answers true (has_value_rightly column segment) (ap (λ (word : ℕ). is_so comparison word literal) (word_read column segment))
       ∙ word_compares comparison literal (numeric_value column segment.bytes) (value_fits column segment.bytes) fits
   by_zero false fails =
-      ap (λ (word : ℕ). is_so comparison word literal) (word_told column segment)
+      ap (λ (word : ℕ). is_so comparison word literal) (word_read column segment)
       ∙ word_alone comparison literal (numeric_value column segment.bytes) (value_fits column segment.bytes) fits fails
 
   compares_rightly : answer (compares_number column comparison literal) segment

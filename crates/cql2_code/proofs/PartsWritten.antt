@@ -4,7 +4,7 @@ use Rattle.std.proofs.lemmas.Bool.{cases_Bool}
 use Rattle.bpf_insn.specs.declared.instruction.Insn.{Insn}
 use Rattle.cql2.specs.declared.filter.Comparison.TheVariants.{NotEqual, Greater, GreaterOrEqual}
 use Rattle.cql2_code.specs.Layout.{Refuses}
-use Rattle.cql2_code.specs.Lowering.{is_milestone, is_named_from, lies_from, test}
+use Rattle.cql2_code.specs.Lowering.{checks_for_end, is_named_from, lies_from, test}
 use Rattle.cql2_code.specs.Question.{Decided, Joined, Question}
 use Rattle.cql2_code.specs.declared.fault.CompileFault.{CompileFault}
 use Rattle.cql2_code.specs.declared.question.Exits.{Exits}
@@ -25,11 +25,11 @@ is_named_from-none wanted at = refl
 abbrev pub lies_here : ℕ → ℕ → ℕ → Question
 lies_here house at more = Joined false (test (InRange at house) NotEqual (pos 0)) (lies_from house (at + 1) more)
 
-pub lies_from-more : (house at more : ℕ) → is_milestone at ≡ false → lies_from house at (suc more) ≡ lies_here house at more
+pub lies_from-more : (house at more : ℕ) → checks_for_end at ≡ false → lies_from house at (suc more) ≡ lies_here house at more
 unfolding lies_from
 lies_from-more house at more further = rw further refl
 
-pub lies_from-milestone : (house at more : ℕ) → is_milestone at ≡ true
+pub lies_from-milestone : (house at more : ℕ) → checks_for_end at ≡ true
     → lies_from house at (suc more) ≡ Joined true (test Ranges Greater (pos at)) (lies_here house at more)
 unfolding lies_from
 lies_from-milestone house at more there = rw there refl
@@ -38,12 +38,12 @@ lies_from-milestone house at more there = rw there refl
 abbrev pub is_named_here : List ℕ → ℕ → ℕ → Question
 is_named_here wanted at more = Joined false (test (NameIs at wanted) NotEqual (pos 0)) (is_named_from wanted (at + 1) more)
 
-pub is_named_from-more : (wanted : List ℕ) (at more : ℕ) → is_milestone at ≡ false
+pub is_named_from-more : (wanted : List ℕ) (at more : ℕ) → checks_for_end at ≡ false
     → is_named_from wanted at (suc more) ≡ is_named_here wanted at more
 unfolding is_named_from
 is_named_from-more wanted at more further = rw further refl
 
-pub is_named_from-milestone : (wanted : List ℕ) (at more : ℕ) → is_milestone at ≡ true
+pub is_named_from-milestone : (wanted : List ℕ) (at more : ℕ) → checks_for_end at ≡ true
     → is_named_from wanted at (suc more) ≡ Joined true (test Names GreaterOrEqual (pos at)) (is_named_here wanted at more)
 unfolding is_named_from
 is_named_from-milestone wanted at more there = rw there refl
@@ -51,7 +51,7 @@ is_named_from-milestone wanted at more there = rw there refl
 -- the question from the first range on is refused if the question from a later one on is
 pub lies_from-here_refused : {exits : Exits} {old : List Insn} {fault : CompileFault} (house : ℕ) (at more : ℕ)
     → Refuses (lies_here house at more) exits old fault → Refuses (lies_from house at (suc more)) exits old fault
-lies_from-here_refused house at more refused = elim (cases_Bool (is_milestone at)) [
+lies_from-here_refused house at more refused = elim (cases_Bool (checks_for_end at)) [
   | inl there ↦ refuses_as (λ new written. written_as (sym (lies_from-milestone house at more there)) written) (second_refused refused)
   | inr further ↦ refuses_as (λ new written. written_as (sym (lies_from-more house at more further)) written) refused
 ]
@@ -68,7 +68,7 @@ lies_from-refused house (suc at) more all is refused =
 -- the question from the first name on is refused if the question from a later one on is
 pub is_named_from-here_refused : {exits : Exits} {old : List Insn} {fault : CompileFault} (wanted : List ℕ) (at more : ℕ)
     → Refuses (is_named_here wanted at more) exits old fault → Refuses (is_named_from wanted at (suc more)) exits old fault
-is_named_from-here_refused wanted at more refused = elim (cases_Bool (is_milestone at)) [
+is_named_from-here_refused wanted at more refused = elim (cases_Bool (checks_for_end at)) [
   | inl there ↦ refuses_as (λ new written. written_as (sym (is_named_from-milestone wanted at more there)) written) (second_refused refused)
   | inr further ↦ refuses_as (λ new written. written_as (sym (is_named_from-more wanted at more further)) written) refused
 ]

@@ -5,6 +5,7 @@ use Rattle.std.specs.Prelude.{nat_le}
 use Rattle.std.specs.Int.{cast_signed, w32}
 use Rattle.bpf_frame.specs.FrameMap as map
 use Rattle.bpf_frame.specs.OrderLaws as maps
+use Rattle.bpf_helpers.specs.declared.helper.Helper.TheVariants as helper
 use Rattle.bpf_insn.specs.Arithmetic.{wide_number}
 use Rattle.bpf_insn.specs.Jump.{jump_distance}
 use Rattle.bpf_insn.specs.declared.instruction.Insn.{Insn}
@@ -21,8 +22,8 @@ use Rattle.bpf_verify.specs.Transfer.{lie_within, transfer}
 use Rattle.tl_segments.specs.declared.segment.TheConstants.{RECORD_LENGTH}
 use Rattle.cql2.specs.declared.column.NumericColumn.{NumericColumn}
 use Rattle.cql2.specs.declared.column.NumericColumn.TheVariants as column
-use Rattle.cql2_code.specs.Layout.{answer_code, call, chosen_code, copy, load, move, move_to_name, r0, r1, r10, set_number, store_name}
-use Rattle.cql2_code.specs.Layout.{store_word, subject_code, w0, w1, w2, w3, w6, wide_load}
+use Rattle.cql2_code.specs.Layout.{answer_code, call, chosen_code, copy, load, move, move_to_name, from_result, from_argument_1, from_frame, set_number, store_name}
+use Rattle.cql2_code.specs.Layout.{store_word, subject_code, into_result, into_argument_1, into_argument_2, into_argument_3, into_record, wide_load}
 use Rattle.cql2_code.specs.Question.{IsSoundSubject, chunk_length, coordinate_id, field_id}
 use Rattle.cql2_code.specs.declared.question.Chunk.{Chunk}
 use Rattle.cql2_code.specs.declared.question.Chunk.TheVariants.{Byte, Word, DoubleWord}
@@ -77,14 +78,14 @@ fewer low high most small = record { low = omega arith; high = small }
 
 -- moves of numbers
 
-pub passes_move_0 : (number : ℕ) → number < 2 ^ 64 → Passes (move w0 (pos number)) answered
+pub passes_move_0 : (number : ℕ) → number < 2 ^ 64 → Passes (move into_result (pos number)) answered
 passes_move_0 number fits =
-    passes (move w0 (pos number)) (record nothing { v0 = Number (single number) }) (record nothing { v0 = any_number }) refl refl
+    passes (move into_result (pos number)) (record nothing { v0 = Number (single number) }) (record nothing { v0 = any_number }) refl refl
     (record { v0 = among number (2 ^ 64 - 1) (omega arith); v1 = tt; v2 = tt; v3 = tt; frame = maps.reflexive map.unwritten })
 
-pub passes_move_1 : (number most : ℕ) → number ≤ most → Passes (move w1 (pos number)) (given most)
+pub passes_move_1 : (number most : ℕ) → number ≤ most → Passes (move into_argument_1 (pos number)) (given most)
 passes_move_1 number most small =
-    passes (move w1 (pos number)) (record nothing { v1 = Number (single number) }) (record nothing { v1 = up_to most }) refl refl
+    passes (move into_argument_1 (pos number)) (record nothing { v1 = Number (single number) }) (record nothing { v1 = up_to most }) refl refl
     (record { v0 = tt; v1 = among number most small; v2 = tt; v3 = tt; frame = maps.reflexive map.unwritten })
 
 -- the end of a program
@@ -102,28 +103,28 @@ takes insn low high frame fits is straight =
 
 -- calls
 
-passes_field : Passes (call 1) answered
-passes_field = takes (call 1) 0 99999999999 map.unwritten (lit< tt) refl refl
+passes_field : Passes (call helper.Field) answered
+passes_field = takes (call helper.Field) 0 99999999999 map.unwritten (lit< tt) refl refl
 
-passes_has : Passes (call 2) answered
-passes_has = takes (call 2) 0 1 map.unwritten (lit< tt) refl refl
+passes_has : Passes (call helper.Has) answered
+passes_has = takes (call helper.Has) 0 1 map.unwritten (lit< tt) refl refl
 
-passes_names : Passes (call 3) answered
-passes_names = takes (call 3) 0 5000 map.unwritten (lit< tt) refl refl
+passes_names : Passes (call helper.Names) answered
+passes_names = takes (call helper.Names) 0 5000 map.unwritten (lit< tt) refl refl
 
-passes_ranges : Passes (call 4) answered
-passes_ranges = takes (call 4) 1 1001 map.unwritten (lit< tt) refl refl
+passes_ranges : Passes (call helper.Ranges) answered
+passes_ranges = takes (call helper.Ranges) 1 1001 map.unwritten (lit< tt) refl refl
 
-passes_in_range : Passes (call 5) answered
-passes_in_range = takes (call 5) 0 3 map.unwritten (lit< tt) refl refl
+passes_in_range : Passes (call helper.InRange) answered
+passes_in_range = takes (call helper.InRange) 0 3 map.unwritten (lit< tt) refl refl
 
-passes_name_is : Passes (call 7) answered
-passes_name_is = takes (call 7) 0 1 (stored 8) (lit< tt) refl refl
+passes_name_is : Passes (call helper.NameIs) answered
+passes_name_is = takes (call helper.NameIs) 0 1 (stored 8) (lit< tt) refl refl
 
-passes_coordinate : Passes (call 9) answered
-passes_coordinate = takes (call 9) 0 (2 ^ 64 - 1) map.unwritten (lit< tt) refl refl
+passes_coordinate : Passes (call helper.Coord) answered
+passes_coordinate = takes (call helper.Coord) 0 (2 ^ 64 - 1) map.unwritten (lit< tt) refl refl
 
-passes_emit : Passes (call 8) resting
+passes_emit : Passes (call helper.Emit) resting
 passes_emit = record {
   after = knowing (record nothing { v0 = Number (single 0) });
   passes = refl;
@@ -150,9 +151,9 @@ wide number = wide_number (cast_signed w32 (number % 2 ^ 32)) (cast_signed w32 (
 wide_fits : (number : ℕ) → number < 2 ^ 64 → wide number ≤ 2 ^ 64 - 1
 wide_fits number fits = let is = wide_is number fits in omega arith
 
-pub passes_wide_load_1 : (number : ℕ) → number < 2 ^ 64 → Passes (wide_load w1 number) compared
+pub passes_wide_load_1 : (number : ℕ) → number < 2 ^ 64 → Passes (wide_load into_argument_1 number) compared
 passes_wide_load_1 number fits =
-    passes (wide_load w1 number) (record nothing { v0 = any_number; v1 = Number (single (wide number)) })
+    passes (wide_load into_argument_1 number) (record nothing { v0 = any_number; v1 = Number (single (wide number)) })
     (record nothing { v0 = any_number; v1 = any_number }) refl refl
     (record {
       v0 = kinds.reflexive any_number;
@@ -178,17 +179,17 @@ passes_second insn number fits is straight =
       frame = maps.reflexive map.unwritten;
     })
 
-passes_set_number : (number : ℕ) → number < 2 ^ 64 → Passes (set_number w2 number) given_two
+passes_set_number : (number : ℕ) → number < 2 ^ 64 → Passes (set_number into_argument_2 number) given_two
 passes_set_number number fits = by_size (nat_le number 2147483647)
   where
-    by_size : (small : Bool) → Passes (if small then move w2 (pos number) else wide_load w2 number) given_two
-    by_size true = passes_second (move w2 (pos number)) number (omega arith) refl refl
-    by_size false = passes_second (wide_load w2 number) (wide number) (wide_fits number fits) refl refl
+    by_size : (small : Bool) → Passes (if small then move into_argument_2 (pos number) else wide_load into_argument_2 number) given_two
+    by_size true = passes_second (move into_argument_2 (pos number)) number (omega arith) refl refl
+    by_size false = passes_second (wide_load into_argument_2 number) (wide number) (wide_fits number fits) refl refl
 
-before_set_number : (number : ℕ) → before (set_number w2 number) ≡ given_any
+before_set_number : (number : ℕ) → before (set_number into_argument_2 number) ≡ given_any
 before_set_number number = by_size (nat_le number 2147483647)
   where
-    by_size : (small : Bool) → before (if small then move w2 (pos number) else wide_load w2 number) ≡ given_any
+    by_size : (small : Bool) → before (if small then move into_argument_2 (pos number) else wide_load into_argument_2 number) ≡ given_any
     by_size true = refl
     by_size false = refl
 
@@ -197,22 +198,22 @@ exactly : (insn : Insn) (needed : AbstractState) → transfer (before insn) insn
     → jump_distance insn ≡ None → Passes insn needed
 exactly insn needed is straight = record { after = needed; passes = is; straight = straight; within = reflexive needed }
 
-passes_copy_10 : Passes (copy w2 r10) (pointed FRAME_LENGTH)
-passes_copy_10 = exactly (copy w2 r10) (pointed FRAME_LENGTH) refl refl
+passes_copy_10 : Passes (copy into_argument_2 from_frame) (pointed FRAME_LENGTH)
+passes_copy_10 = exactly (copy into_argument_2 from_frame) (pointed FRAME_LENGTH) refl refl
 
 passes_move_to_name : Passes move_to_name (pointed 480)
 passes_move_to_name = exactly move_to_name (pointed 480) refl refl
 
-passes_move_3 : Passes (move w3 (pos 30)) (named 0)
-passes_move_3 = exactly (move w3 (pos 30)) (named 0) refl refl
+passes_move_3 : Passes (move into_argument_3 (pos 30)) (named 0)
+passes_move_3 = exactly (move into_argument_3 (pos 30)) (named 0) refl refl
 
-passes_copy_0 : Passes (copy w1 r0) given_any
+passes_copy_0 : Passes (copy into_argument_1 from_result) given_any
 passes_copy_0 =
-    passes (copy w1 r0) (record nothing { v0 = any_number; v1 = any_number }) (record nothing { v1 = any_number }) refl refl
+    passes (copy into_argument_1 from_result) (record nothing { v0 = any_number; v1 = any_number }) (record nothing { v1 = any_number }) refl refl
     (record { v0 = tt; v1 = kinds.reflexive any_number; v2 = tt; v3 = tt; frame = maps.reflexive map.unwritten })
 
 -- the first instruction of a program
-pub passes_keep : Passes (copy w6 r1) resting
+pub passes_keep : Passes (copy into_record from_argument_1) resting
 passes_keep = record {
   after = knowing (record nothing { v1 = to_record });
   passes = refl;
@@ -252,7 +253,7 @@ name_is_passes name wanted fits = (
     passes_copy_10,
     (
       passes_move_to_name,
-      (passes_move_3, all_pass-append (store_name wanted) (call 7 ∷ []) answered (store_passes wanted) (passes_name_is, tt)),
+      (passes_move_3, all_pass-append (store_name wanted) (call helper.NameIs ∷ []) answered (store_passes wanted) (passes_name_is, tt)),
     ),
   ),
 )
@@ -268,7 +269,7 @@ subject_passes subject.Names sound = (passes_names, tt)
 subject_passes subject.Ranges sound = (passes_ranges, tt)
 subject_passes (subject.InRange range house) sound =
     let fits = sound.0 in (
-      subst (Passes (move w1 (pos range))) (sym (before_set_number house)) (passes_move_1 range (2 ^ 64 - 1) (omega arith)),
+      subst (Passes (move into_argument_1 (pos range))) (sym (before_set_number house)) (passes_move_1 range (2 ^ 64 - 1) (omega arith)),
       (passes_set_number house sound.1, (passes_in_range, tt)),
     )
 subject_passes (subject.NameIs name wanted) sound = name_is_passes name wanted sound.0

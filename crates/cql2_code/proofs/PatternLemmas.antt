@@ -1,14 +1,14 @@
 -- The exact bytes of a pattern, and how it ends.
 use Rattle.std.proofs.Common.{◌≡◌, ℕ, suc, ◌+◌, ◌-◌, ◌==◌, ◌<◌, ◌≤◌, Bool, not, true, false, List, [], ◌∷◌, ◌++◌, length, map, take, drop}
 use Rattle.std.proofs.Common.{get_or, slice_get, Option, None, Some, refl, sym, ap, ◌∙◌, subst, arith, take-append-drop}
-use Rattle.std.proofs.lemmas.Bool.{le-leb, lt-leb}
+use Rattle.std.proofs.lemmas.Bool.{le-leb}
 use Rattle.std.proofs.lemmas.List.{drop_more, length-map}
 use Rattle.cql2.specs.declared.column.TextColumn.{TextColumn}
 use Rattle.cql2.specs.declared.pattern.PatternByte.{PatternByte}
 use Rattle.cql2.specs.declared.pattern.PatternByte.TheVariants.{Exactly, EitherCase, Any}
 use Rattle.cql2_code.specs.Lowering.{are_wanted, both, ends_filled, ends_so, exact_bytes, has_bytes, is_each_wanted, is_filled, is_like}
 use Rattle.cql2_code.specs.Lowering.{is_wanted, offset_of, width_of}
-use Rattle.cql2_code.specs.Question.{Decided, Joined, Question}
+use Rattle.cql2_code.specs.Question.{Joined, Question}
 use Rattle.cql2_code.proofs.LikeLemmas.{Spells, spells}
 
 -- one wanted byte, and more
@@ -70,23 +70,13 @@ exact_bytes-other pattern bytes at within front other =
 pub spelled : (pattern : List PatternByte) (bytes : List ℕ) → exact_bytes pattern ≡ Some bytes → pattern ≡ map Exactly bytes
 spelled pattern bytes found = subst (λ (some : Option (List ℕ)). Spells some pattern) found (spells pattern)
 
--- a pattern that is longer than a column
-pub is_like-long : (column : TextColumn) (pattern : List PatternByte) (is_open : Bool) → width_of column < length pattern
-    → is_like column pattern is_open ≡ Decided false
-is_like-long column pattern is_open long = rw (lt-leb (length pattern) (width_of column) long) refl
-
--- a pattern that isn't
+-- a pattern that is no longer than a column
 abbrev pub with_ends : TextColumn → List PatternByte → Bool → Question → Question
 with_ends column pattern is_open first = both first (ends_so is_open (ends_filled pattern) column (length pattern))
 
 pub is_like-short : (column : TextColumn) (pattern : List PatternByte) (is_open : Bool) → length pattern ≤ width_of column
     → is_like column pattern is_open ≡ with_ends column pattern is_open (are_wanted (offset_of column) pattern)
 is_like-short column pattern is_open short = rw (le-leb (length pattern) (width_of column) short) refl
-
-pub is_like-each : (column : TextColumn) (pattern : List PatternByte) (is_open : Bool) → length pattern ≤ width_of column
-    → exact_bytes pattern ≡ None
-    → is_like column pattern is_open ≡ with_ends column pattern is_open (is_each_wanted (offset_of column) pattern)
-is_like-each column pattern is_open short none = is_like-short column pattern is_open short ∙ rw none refl
 
 pub is_like-exact : (column : TextColumn) (bytes : List ℕ) (is_open : Bool) → length bytes ≤ width_of column
     → is_like column (map Exactly bytes) is_open

@@ -7,7 +7,7 @@ use Rattle.cql2.specs.declared.column.NumericColumn.{NumericColumn}
 use Rattle.cql2.specs.declared.column.NumericColumn.TheVariants as column
 use Rattle.cql2_code.specs.Layout.{answer_code, chosen_code, program, question_code}
 use Rattle.cql2_code.specs.Question.{Question}
-use Rattle.cql2_code.proofs.Runs.{Stands}
+use Rattle.cql2_code.proofs.Runs.{IsAt}
 use Rattle.cql2_code.proofs.Steps.{Begins, HasAt, has_back, has_front}
 
 -- instructions after others are at the place after those
@@ -51,8 +51,8 @@ module _ (score : Option NumericColumn) (question : Question) where
   pub has_other : HasAt code_of (1 + word_count middle_of + word_count (chosen_code score)) (answer_code 0)
   has_other = has_back code_of (1 + word_count middle_of) (chosen_code score) (answer_code 0) has_end
 
-  pub question_stands : Stands code_of 1 middle_of (word_count (chosen_code score))
-  question_stands = record {
+  pub question_at : IsAt code_of 1 middle_of (word_count (chosen_code score))
+  question_at = record {
     has = has_front code_of 1 middle_of (chosen_code score ++ answer_code 0) has_middle;
     end = chosen_begins code_of (1 + word_count middle_of) score has_chosen;
     target = ap is_some has_other.0;

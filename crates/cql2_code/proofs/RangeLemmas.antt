@@ -13,7 +13,7 @@ use Rattle.tl_segments.specs.declared.range.RangeFields.{RangeFields}
 use Rattle.tl_segments.specs.declared.segment.TheConstants.{RANGE_LIMIT}
 use Rattle.cql2.specs.Truth.{has_number, is as is_truth}
 use Rattle.cql2.specs.declared.filter.Comparison.TheVariants.{Greater, NotEqual}
-use Rattle.cql2_code.specs.Lowering.{asks_has_number, is_milestone, lies_from, test}
+use Rattle.cql2_code.specs.Lowering.{asks_has_number, checks_for_end, lies_from, test}
 use Rattle.cql2_code.specs.Question.{answer, condition_of}
 use Rattle.cql2_code.specs.declared.question.Subject.TheVariants.{InRange, Ranges}
 use Rattle.cql2_code.proofs.JoinLemmas.{asked_answers}
@@ -33,8 +33,8 @@ side_found house None = refl
 side_found house (Some range) = some_side (lies_on house range.fraddl range.toaddl) (lies_on house range.fraddr range.toaddr)
 
 module _ (segment : Contents) (is : IsSegment segment) where
-  ranges_told : (at : ℕ) → at < 2 ^ 62 → answer (test Ranges Greater (pos at)) segment ≡ nat_lt at (length (ranges_of segment))
-  ranges_told at small =
+  ranges_answer : (at : ℕ) → at < 2 ^ 62 → answer (test Ranges Greater (pos at)) segment ≡ nat_lt at (length (ranges_of segment))
+  ranges_answer at small =
       let few = is.few_ranges in
       compared Greater (pos (length (ranges_of segment))) (pos at) (small_fits _ (omega arith)) (small_fits at (omega arith))
 
@@ -48,10 +48,10 @@ module _ (segment : Contents) (is : IsSegment segment) where
         inside = test Ranges Greater (pos at);
         here = test (InRange at house) NotEqual (pos 0);
         rest = lies_from house (at + 1) more;
-        inside_is = ranges_told at (omega arith);
+        inside_is = ranges_answer at (omega arith);
         here_is = side_found house (slice_get (ranges_of segment) at);
         rest_is = lies_found house (at + 1) more (omega arith);
-      }) (is_milestone at)
+      }) (checks_for_end at)
 
   lies_on_some : (house count : ℕ) → length (ranges_of segment) ≤ count → count ≤ 2 ^ 62
       → answer (lies_from house 0 count) segment ≡ list_any (has_number house) (ranges_of segment)

@@ -8,8 +8,8 @@ use Rattle.std.specs.Prelude.{Err, IfErr, IsErrAnd, Ok, Result}
 use Rattle.bpf_insn.proofs.PlaceLemmas.{word_count-append}
 use Rattle.bpf_insn.specs.Code.{word_count}
 use Rattle.bpf_insn.specs.declared.instruction.Insn.{Insn}
-use Rattle.cql2_code.specs.Layout.{IsTooLong, MayBeRefused, Puts, Refuses, Writes, first_beyond, has_far_jump, has_many_words, is_far_jump, question_code}
-use Rattle.cql2_code.specs.Lowering.{PutsBefore}
+use Rattle.cql2_code.specs.Layout.{IsTooLong, MayBeRefused, Prepends, Refuses, Writes, first_skip, has_far_jump, has_many_words, is_far_jump, question_code}
+use Rattle.cql2_code.specs.Lowering.{PrependsBefore}
 use Rattle.cql2_code.specs.Question.{Joined, Question}
 use Rattle.cql2_code.specs.declared.fault.CompileFault.{CompileFault}
 use Rattle.cql2_code.specs.declared.fault.CompileFault.TheVariants.{TooLong}
@@ -27,16 +27,16 @@ pub refuses_as : {question other : Question} {exits others : Exits} {old olds : 
     → Refuses other others olds fault
 refuses_as same refused = record { too_long = λ is. subst IsTooLong (same _ (record { code = refl })).code (refused.too_long is) }
 
-pub puts_as : {T : Type 0} {question other : Question} {exits others : Exits} {old olds : List Insn} (result : Result T CompileFault)
-    (new : List Insn) → ((new : List Insn) → Writes question exits old new → Writes other others olds new) → Puts result question exits old new
-    → Puts result other others olds new
-puts_as result new same puts = MatchResult-weaker result puts (λ _ written. same new written) (λ fault refused. refuses_as same refused)
+pub prepends_as : {T : Type 0} {question other : Question} {exits others : Exits} {old olds : List Insn} (result : Result T CompileFault)
+    (new : List Insn) → ((new : List Insn) → Writes question exits old new → Writes other others olds new) → Prepends result question exits old new
+    → Prepends result other others olds new
+prepends_as result new same puts = MatchResult-weaker result puts (λ _ written. same new written) (λ fault refused. refuses_as same refused)
 
 -- a call is refused if a call that it makes is
-pub puts_refused : {T : Type 0} {question : Question} {exits : Exits} {old : List Insn} {fault : CompileFault} (result : Result T CompileFault)
-    (new : List Insn) → IsErrAnd result (λ same. same ≡ fault) → Refuses question exits old fault → Puts result question exits old new
-puts_refused {T} {question} {exits} {old} (Err same) new is refused = subst (Refuses question exits old) (sym is) refused
-puts_refused (Ok none) new is refused = absurd is
+pub prepends_refused : {T : Type 0} {question : Question} {exits : Exits} {old : List Insn} {fault : CompileFault} (result : Result T CompileFault)
+    (new : List Insn) → IsErrAnd result (λ same. same ≡ fault) → Refuses question exits old fault → Prepends result question exits old new
+prepends_refused {T} {question} {exits} {old} (Err same) new is refused = subst (Refuses question exits old) (sym is) refused
+prepends_refused (Ok none) new is refused = absurd is
 
 -- a call returns the fault of a call that it makes
 pub refused_by : {T : Type 0} {code : List Insn} {fault : CompileFault} (result : Result T CompileFault)
@@ -52,10 +52,10 @@ second_refused {neutral} {first} {second} {exits} {old} refused = record {
 }
   where
     code : List Insn
-    code = question_code second exits.falls exits.beyond
+    code = question_code second exits.falls exits.skip
 
     front : List Insn
-    front = question_code first neutral (first_beyond exits.falls neutral (word_count code) exits.beyond)
+    front = question_code first neutral (first_skip exits.falls neutral (word_count code) exits.skip)
 
 pub second_refused_if : {second : Question} {exits : Exits} {old : List Insn} {fault : CompileFault} (neutral : Bool) (first : Question)
     (both : Bool) → Refuses second exits old fault → Refuses (if both then Joined neutral first second else second) exits old fault
@@ -63,8 +63,8 @@ second_refused_if neutral first true refused = second_refused refused
 second_refused_if neutral first false refused = refused
 
 -- the code after a pattern's bytes is refused
-pub puts_before_refused : {second : Question} {exits : Exits} {old : List Insn} {fault : CompileFault} (result : Result Exits CompileFault)
-    (new : List Insn) → IsErrAnd result (λ same. same ≡ fault) → Refuses second exits old fault → PutsBefore result (Some second) exits old new
-puts_before_refused {second} {exits} {old} (Err same) new is refused =
+pub prepends_before_refused : {second : Question} {exits : Exits} {old : List Insn} {fault : CompileFault} (result : Result Exits CompileFault)
+    (new : List Insn) → IsErrAnd result (λ same. same ≡ fault) → Refuses second exits old fault → PrependsBefore result (Some second) exits old new
+prepends_before_refused {second} {exits} {old} (Err same) new is refused =
     λ wanted. subst (Refuses (Joined true wanted second) exits old) (sym is) (second_refused refused)
-puts_before_refused (Ok none) new is refused = absurd is
+prepends_before_refused (Ok none) new is refused = absurd is

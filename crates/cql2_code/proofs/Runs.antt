@@ -13,12 +13,12 @@ use Rattle.bpf_insn.proofs.PlaceLemmas.{word_count-append}
 use Rattle.bpf_meaning.specs.Step.{Configuration, after}
 use Rattle.tl_segments.specs.Segment.{IsSegment}
 use Rattle.cql2.specs.declared.filter.Comparison.{Comparison}
-use Rattle.cql2_code.specs.Layout.{comparison_code, first_beyond, is_narrow, jump, opposite, question_code, r1, subject_code, test_code, w1}
+use Rattle.cql2_code.specs.Layout.{comparison_code, first_skip, is_narrow, jump, opposite, question_code, from_argument_1, subject_code, test_code, into_argument_1}
 use Rattle.cql2_code.specs.Layout.{wide_load}
 use Rattle.cql2_code.specs.Question.{IsSound, IsSoundTest, Question, Decided, Holds, Opposite, Joined, answer, condition_of, is_so, joined}
 use Rattle.cql2_code.specs.Question.{value as number_in}
 use Rattle.cql2_code.specs.declared.question.Test.{Test}
-use Rattle.cql2_code.proofs.Codes.{Joint, Pair, Placed, beyond_first, comparison_by, comparison_is, first_code, first_placed, joint_of}
+use Rattle.cql2_code.proofs.Codes.{Joint, Pair, Placed, skip_first, comparison_by, comparison_is, first_code, first_placed, joint_of}
 use Rattle.cql2_code.proofs.Codes.{jumping, jumps_on, second_code, second_placed}
 use Rattle.cql2_code.proofs.Operands.{operand_fits, opposite_is_not, wide_is}
 use Rattle.cql2_code.proofs.Steps.{with_0, with_1, Begins, Reaches, Does, JumpsAt, Scratch, Setting, and_on, begins_at, has_front, jumps}
@@ -47,29 +47,29 @@ arrives_by on from scratch place to is =
     record { scratch = scratch; reaches = steps_on on _ (running on scratch to) _ is (stays on (running on scratch to)) }
 
 -- the exit that a question's code takes for this answer
-abbrev pub way_out : Bool → Bool → ℕ → ℕ → ℕ
-way_out falls answer end beyond = if beq answer falls then end else end + beyond
+abbrev pub exit_of : Bool → Bool → ℕ → ℕ → ℕ
+exit_of falls answer end skip = if beq answer falls then end else end + skip
 
 -- the condition of a test's jump, given the answer that falls through
-taken_to : (comparison : Comparison) (falls : Bool) (x y end beyond : ℕ)
-    → (if is_met (condition_of (if falls then opposite comparison else comparison)) Bits64 x y then end + beyond else end)
-    ≡ way_out falls (is_met (condition_of comparison) Bits64 x y) end beyond
-taken_to comparison true x y end beyond =
-    ap (λ (b : Bool). if b then end + beyond else end) (opposite_is_not comparison x y)
+taken_to : (comparison : Comparison) (falls : Bool) (x y end skip : ℕ)
+    → (if is_met (condition_of (if falls then opposite comparison else comparison)) Bits64 x y then end + skip else end)
+    ≡ exit_of falls (is_met (condition_of comparison) Bits64 x y) end skip
+taken_to comparison true x y end skip =
+    ap (λ (b : Bool). if b then end + skip else end) (opposite_is_not comparison x y)
     ∙ by_answer (is_met (condition_of comparison) Bits64 x y)
   where
-    by_answer : (b : Bool) → (if not b then end + beyond else end) ≡ way_out true b end beyond
+    by_answer : (b : Bool) → (if not b then end + skip else end) ≡ exit_of true b end skip
     by_answer true = refl
     by_answer false = refl
-taken_to comparison false x y end beyond = by_answer (is_met (condition_of comparison) Bits64 x y)
+taken_to comparison false x y end skip = by_answer (is_met (condition_of comparison) Bits64 x y)
   where
-    by_answer : (b : Bool) → (if b then end + beyond else end) ≡ way_out false b end beyond
+    by_answer : (b : Bool) → (if b then end + skip else end) ≡ exit_of false b end skip
     by_answer true = refl
     by_answer false = refl
 
 -- a code at a place, with two exits where instructions begin
-abbrev pub Stands : List Insn → ℕ → List Insn → ℕ → Type 0
-Stands code place insns beyond = Placed (Begins code) code place insns beyond
+abbrev pub IsAt : List Insn → ℕ → List Insn → ℕ → Type 0
+IsAt code place insns skip = Placed (Begins code) code place insns skip
 
 -- the registers and the frame once register 0 holds the number that a test looks at
 abbrev taken : Setting → Test → Scratch → Scratch
@@ -82,33 +82,33 @@ is_taken on test falls =
 
 -- the place that the jump reaches, given the place after it
 abbrev jumped : Setting → Test → Bool → ℕ → ℕ → ℕ
-jumped on test falls beyond end = if is_taken on test falls then end + beyond else end
+jumped on test falls skip end = if is_taken on test falls then end + skip else end
 
-narrow_compares : (on : Setting) (from : Scratch) (test : Test) (falls : Bool) (beyond place : ℕ)
-    → Stands on.code place (comparison_by true (jumping test falls) test.operand beyond) beyond
-    → Arrives on (running on (taken on test from) place) (jumped on test falls beyond (place + 1))
-narrow_compares on from test falls beyond place stands =
+narrow_compares : (on : Setting) (from : Scratch) (test : Test) (falls : Bool) (skip place : ℕ)
+    → IsAt on.code place (comparison_by true (jumping test falls) test.operand skip) skip
+    → Arrives on (running on (taken on test from) place) (jumped on test falls skip (place + 1))
+narrow_compares on from test falls skip place placed =
     let n = number_in test.subject on.segment in
     arrives_by on (taken on test from) (taken on test from) place _
-    (jumps_by_immediate on from n place beyond (condition_of (jumping test falls)) test.operand
-    (record { at = stands.has.0; next = stands.end; target = stands.target }))
+    (jumps_by_immediate on from n place skip (condition_of (jumping test falls)) test.operand
+    (record { at = placed.has.0; next = placed.end; target = placed.target }))
 
-wide_compares : (on : Setting) (from : Scratch) (test : Test) (falls : Bool) (beyond place : ℕ) → FitsSigned w64 test.operand
-    → Stands on.code place (comparison_by false (jumping test falls) test.operand beyond) beyond
-    → Arrives on (running on (taken on test from) place) (jumped on test falls beyond (place + 3))
-wide_compares on from test falls beyond place fits stands =
+wide_compares : (on : Setting) (from : Scratch) (test : Test) (falls : Bool) (skip place : ℕ) → FitsSigned w64 test.operand
+    → IsAt on.code place (comparison_by false (jumping test falls) test.operand skip) skip
+    → Arrives on (running on (taken on test from) place) (jumped on test falls skip (place + 3))
+wide_compares on from test falls skip place fits placed =
     let e : place + 2 + 1 ≡ place + 3 = omega arith in
-    let jump : JumpsAt on (place + 2) (condition_of (jumping test falls)) (Register r1) beyond = record {
-      at = stands.has.1.0;
-      next = subst (Begins on.code) (sym e) stands.end;
-      target = subst (λ (p : ℕ). Begins on.code (p + beyond)) (sym e) stands.target;
+    let jump : JumpsAt on (place + 2) (condition_of (jumping test falls)) (Register from_argument_1) skip = record {
+      at = placed.has.1.0;
+      next = subst (Begins on.code) (sym e) placed.end;
+      target = subst (λ (p : ℕ). Begins on.code (p + skip)) (sym e) placed.target;
     } in
     let jumps = arrives_by on both both (place + 2) _
-    (jumps_by_register on from (number_in test.subject on.segment) operand (place + 2) beyond (condition_of (jumping test falls)) jump) in
-    let there = subst (λ (p : ℕ). Arrives on (running on both (place + 2)) (jumped on test falls beyond p)) e jumps in
+    (jumps_by_register on from (number_in test.subject on.segment) operand (place + 2) skip (condition_of (jumping test falls)) jump) in
+    let there = subst (λ (p : ℕ). Arrives on (running on both (place + 2)) (jumped on test falls skip p)) e jumps in
     record {
       scratch = there.scratch;
-      reaches = steps_on on _ (running on both (place + 2)) _ (loads.step place stands.has.0 (ap is_some stands.has.1.0)) there.reaches;
+      reaches = steps_on on _ (running on both (place + 2)) _ (loads.step place placed.has.0 (ap is_some placed.has.1.0)) there.reaches;
     }
   where
     operand : ℕ
@@ -117,77 +117,78 @@ wide_compares on from test falls beyond place fits stands =
     both : Scratch
     both = with_1 (taken on test from) operand
 
-    loads : Does on (wide_load w1 operand) (taken on test from) both
-    loads = subst (λ (n : ℕ). Does on (wide_load w1 operand) (taken on test from) (with_1 (taken on test from) n))
+    loads : Does on (wide_load into_argument_1 operand) (taken on test from) both
+    loads = subst (λ (n : ℕ). Does on (wide_load into_argument_1 operand) (taken on test from) (with_1 (taken on test from) n))
         (wide_is operand (operand_fits test.operand fits)) (loads_wide_1 on (taken on test from) _ _)
 
 -- the instructions at a place lead to the place that a test's jump reaches
 abbrev Compares : Setting → Scratch → Test → Bool → ℕ → ℕ → List Insn → Type 0
-Compares on from test falls beyond place insns =
-    Stands on.code place insns beyond
-    → Arrives on (running on (taken on test from) place) (jumped on test falls beyond (place + word_count insns))
+Compares on from test falls skip place insns =
+    IsAt on.code place insns skip
+    → Arrives on (running on (taken on test from) place) (jumped on test falls skip (place + word_count insns))
 
-compares_by : (on : Setting) (from : Scratch) (test : Test) (falls narrow : Bool) (beyond place : ℕ) → FitsSigned w64 test.operand
-    → Compares on from test falls beyond place (comparison_by narrow (jumping test falls) test.operand beyond)
-compares_by on from test falls true beyond place fits stands = narrow_compares on from test falls beyond place stands
-compares_by on from test falls false beyond place fits stands = wide_compares on from test falls beyond place fits stands
+compares_by : (on : Setting) (from : Scratch) (test : Test) (falls narrow : Bool) (skip place : ℕ) → FitsSigned w64 test.operand
+    → Compares on from test falls skip place (comparison_by narrow (jumping test falls) test.operand skip)
+compares_by on from test falls true skip place fits = narrow_compares on from test falls skip place
+compares_by on from test falls false skip place fits = wide_compares on from test falls skip place fits
 
-compares : (on : Setting) (from : Scratch) (test : Test) (falls : Bool) (beyond place : ℕ) → FitsSigned w64 test.operand
-    → Compares on from test falls beyond place (comparison_code (jumping test falls) test.operand beyond)
-compares on from test falls beyond place fits =
-    subst (Compares on from test falls beyond place) (comparison_is (jumping test falls) test.operand beyond)
-    (compares_by on from test falls (is_narrow test.operand) beyond place fits)
+compares : (on : Setting) (from : Scratch) (test : Test) (falls : Bool) (skip place : ℕ) → FitsSigned w64 test.operand
+    → Compares on from test falls skip place (comparison_code (jumping test falls) test.operand skip)
+compares on from test falls skip place fits =
+    subst (Compares on from test falls skip place) (comparison_is (jumping test falls) test.operand skip)
+    (compares_by on from test falls (is_narrow test.operand) skip place fits)
 
-test_leads : (on : Setting) (test : Test) (falls : Bool) (beyond place : ℕ) → IsSoundTest test → IsSegment on.segment
-    → Stands on.code place (test_code test falls beyond) beyond
-    → Leads on place (way_out falls (is_so test on.segment) (place + word_count (test_code test falls beyond)) beyond)
-test_leads on test falls beyond place sound segment stands scratch =
-    let count = word_count-append front back in
-    let e : place + word_count front + word_count back ≡ place + word_count (test_code test falls beyond) = omega arith in
-    let out = taken_to test.comparison falls (number_in test.subject on.segment) (immediate_operand test.operand)
-    (place + word_count (test_code test falls beyond)) beyond in
-    let there = subst (Arrives on (running on (taken on test first.to) (place + word_count front)))
-    (ap (jumped on test falls beyond) e ∙ out) (compares on first.to test falls beyond (place + word_count front) sound.operand after) in
-    record {
-      scratch = there.scratch;
-      reaches = and_on on _ (running on (taken on test first.to) (place + word_count front)) _
-          (first.runs.reaches place (has_front on.code place front back stands.has)
-          (begins_at on.code (place + word_count front) back after.has after.end)) there.reaches;
-    }
-  where
-    front : List Insn
-    front = subject_code test.subject
+module _ (on : Setting) where
+  test_leads : (test : Test) (falls : Bool) (skip place : ℕ) → IsSoundTest test → IsSegment on.segment
+      → IsAt on.code place (test_code test falls skip) skip
+      → Leads on place (exit_of falls (is_so test on.segment) (place + word_count (test_code test falls skip)) skip)
+  test_leads test falls skip place sound segment placed scratch =
+      let count = word_count-append front back in
+      let e : place + word_count front + word_count back ≡ place + word_count (test_code test falls skip) = omega arith in
+      let out = taken_to test.comparison falls (number_in test.subject on.segment) (immediate_operand test.operand)
+      (place + word_count (test_code test falls skip)) skip in
+      let there = subst (Arrives on (running on (taken on test first.to) (place + word_count front)))
+      (ap (jumped on test falls skip) e ∙ out) (compares on first.to test falls skip (place + word_count front) sound.operand after) in
+      record {
+        scratch = there.scratch;
+        reaches = and_on on _ (running on (taken on test first.to) (place + word_count front)) _
+            (first.runs.reaches place (has_front on.code place front back placed.has)
+            (begins_at on.code (place + word_count front) back after.has after.end)) there.reaches;
+      }
+    where
+      front : List Insn
+      front = subject_code test.subject
 
-    back : List Insn
-    back = comparison_code (jumping test falls) test.operand beyond
+      back : List Insn
+      back = comparison_code (jumping test falls) test.operand skip
 
-    after : Stands on.code (place + word_count front) back beyond
-    after = second_placed (Begins on.code) on.code place front back beyond stands
+      after : IsAt on.code (place + word_count front) back skip
+      after = second_placed (Begins on.code) on.code place front back skip placed
 
-    first : Takes on test.subject scratch
-    first = takes on test.subject scratch sound.subject segment
+      first : Takes on test.subject scratch
+      first = takes on test.subject scratch sound.subject segment
 
 -- a decided question: no instruction, or a jump
-decided_leads : (on : Setting) (found falls : Bool) (beyond place : ℕ)
-    → Stands on.code place (question_code (Decided found) falls beyond) beyond
-    → Leads on place (way_out falls found (place + word_count (question_code (Decided found) falls beyond)) beyond)
-decided_leads on found falls beyond place stands = by_test (beq found falls) stands
+decided_leads : (on : Setting) (found falls : Bool) (skip place : ℕ)
+    → IsAt on.code place (question_code (Decided found) falls skip) skip
+    → Leads on place (exit_of falls found (place + word_count (question_code (Decided found) falls skip)) skip)
+decided_leads on found falls skip place placed = by_test (beq found falls) placed
   where
     code_of : Bool → List Insn
-    code_of same = if same then [] else jump (pos beyond) ∷ []
+    code_of same = if same then [] else jump (pos skip) ∷ []
 
-    by_test : (same : Bool) → Stands on.code place (code_of same) beyond
-        → Leads on place (if same then place + word_count (code_of same) else place + word_count (code_of same) + beyond)
-    by_test true stands scratch =
+    by_test : (same : Bool) → IsAt on.code place (code_of same) skip
+        → Leads on place (if same then place + word_count (code_of same) else place + word_count (code_of same) + skip)
+    by_test true placed scratch =
         let e : place ≡ place + 0 = omega arith in
         subst (Arrives on (running on scratch place)) e (record { scratch = scratch; reaches = stays on (running on scratch place) })
-    by_test false stands scratch = arrives_by on scratch scratch place _ (jumps on scratch place beyond stands.has.0 stands.target)
+    by_test false placed scratch = arrives_by on scratch scratch place _ (jumps on scratch place skip placed.has.0 placed.target)
 
 -- the first question decides, or the second one does
 decides : (on : Setting) (joint : Joint) (falls neutral a b : Bool)
-    → Leads on joint.start (way_out neutral a joint.middle (first_beyond falls neutral joint.words joint.beyond))
-    → Leads on joint.middle (way_out falls b joint.end joint.beyond)
-    → Leads on joint.start (way_out falls (joined neutral a b) joint.end joint.beyond)
+    → Leads on joint.start (exit_of neutral a joint.middle (first_skip falls neutral joint.words joint.skip))
+    → Leads on joint.middle (exit_of falls b joint.end joint.skip)
+    → Leads on joint.start (exit_of falls (joined neutral a b) joint.end joint.skip)
 decides on joint true true true b one two = leads_on on joint.start joint.middle _ one two
 decides on joint false true true b one two = leads_on on joint.start joint.middle _ one two
 decides on joint true false false b one two = leads_on on joint.start joint.middle _ one two
@@ -197,33 +198,33 @@ decides on joint false true false b one two = subst (Leads on joint.start) joint
 decides on joint true false true b one two = subst (Leads on joint.start) joint.is one
 decides on joint false false true b one two = subst (Leads on joint.start) (jumps_on joint) one
 
-exchanged : (falls answer : Bool) (end beyond : ℕ) → way_out (not falls) answer end beyond ≡ way_out falls (not answer) end beyond
-exchanged true true end beyond = refl
-exchanged true false end beyond = refl
-exchanged false true end beyond = refl
-exchanged false false end beyond = refl
+exchanged : (falls answer : Bool) (end skip : ℕ) → exit_of (not falls) answer end skip ≡ exit_of falls (not answer) end skip
+exchanged true true end skip = refl
+exchanged true false end skip = refl
+exchanged false true end skip = refl
+exchanged false false end skip = refl
 
 -- from the first instruction of a question's code, a run reaches the exit for its answer
-pub question_leads : (on : Setting) (question : Question) (falls : Bool) (beyond place : ℕ) → IsSound question → IsSegment on.segment
-    → Stands on.code place (question_code question falls beyond) beyond
-    → Leads on place (way_out falls (answer question on.segment) (place + word_count (question_code question falls beyond)) beyond)
-question_leads on (Decided found) falls beyond place sound segment stands = decided_leads on found falls beyond place stands
-question_leads on (Holds test) falls beyond place sound segment stands = test_leads on test falls beyond place sound segment stands
-question_leads on (Opposite question) falls beyond place sound segment stands =
+pub question_leads : (on : Setting) (question : Question) (falls : Bool) (skip place : ℕ) → IsSound question → IsSegment on.segment
+    → IsAt on.code place (question_code question falls skip) skip
+    → Leads on place (exit_of falls (answer question on.segment) (place + word_count (question_code question falls skip)) skip)
+question_leads on (Decided found) falls skip place sound segment placed = decided_leads on found falls skip place placed
+question_leads on (Holds test) falls skip place sound segment placed = test_leads on test falls skip place sound segment placed
+question_leads on (Opposite question) falls skip place sound segment placed =
     subst (Leads on place)
-    (exchanged falls (answer question on.segment) (place + word_count (question_code question (not falls) beyond)) beyond)
-    (question_leads on question (not falls) beyond place sound segment stands)
-question_leads on (Joined neutral first second) falls beyond place sound segment stands =
-    let after = second_placed (Begins on.code) on.code place (first_code pair) (second_code pair) beyond stands in
+    (exchanged falls (answer question on.segment) (place + word_count (question_code question (not falls) skip)) skip)
+    (question_leads on question (not falls) skip place sound segment placed)
+question_leads on (Joined neutral first second) falls skip place sound segment placed =
+    let after = second_placed (Begins on.code) on.code place (first_code pair) (second_code pair) skip placed in
     let end = begins_at on.code joint.middle (second_code pair) after.has after.end in
-    let before = first_placed (Begins on.code) on.code place pair stands end in
+    let before = first_placed (Begins on.code) on.code place pair placed end in
     decides on joint falls neutral (answer first on.segment) (answer second on.segment)
-    (question_leads on first neutral (beyond_first pair) place sound.0 segment before)
-    (subst (λ (p : ℕ). Leads on joint.middle (way_out falls (answer second on.segment) p beyond)) joint.is
-    (question_leads on second falls beyond joint.middle sound.1 segment after))
+    (question_leads on first neutral (skip_first pair) place sound.0 segment before)
+    (subst (λ (p : ℕ). Leads on joint.middle (exit_of falls (answer second on.segment) p skip)) joint.is
+    (question_leads on second falls skip joint.middle sound.1 segment after))
   where
     pair : Pair
-    pair = record { neutral = neutral; first = first; second = second; falls = falls; beyond = beyond }
+    pair = record { neutral = neutral; first = first; second = second; falls = falls; skip = skip }
 
     joint : Joint
-    joint = joint_of place (first_code pair) (second_code pair) beyond
+    joint = joint_of place (first_code pair) (second_code pair) skip

@@ -24,7 +24,7 @@ use Rattle.cql2.specs.declared.pattern.PatternByte.TheVariants.{Exactly, EitherC
 use Rattle.cql2_code.specs.Lowering.{are_wanted, asks_has_name, asks_has_number, asks_like, asks_whether, both, byte_test, chunk_test}
 use Rattle.cql2_code.specs.Lowering.{compares_bytes, compares_number, compares_text, ends_filled, ends_so, exact_bytes, has_bytes, has_each}
 use Rattle.cql2_code.specs.Lowering.{has_few, has_value, holds_of_blanks, holds_of_zero, if_asked, is_blank, is_each_wanted, is_greater}
-use Rattle.cql2_code.specs.Lowering.{is_less, is_like, is_milestone, is_named_from, is_null, is_null_text, is_wanted, lies_from, name_block}
+use Rattle.cql2_code.specs.Lowering.{is_less, is_like, checks_for_end, is_named_from, is_null, is_null_text, is_wanted, lies_from, name_block}
 use Rattle.cql2_code.specs.Lowering.{number_of, offset_of, test, width_of}
 use Rattle.cql2_code.specs.Question.{Question, Decided, Opposite, Joined, IsSound, bytes_value, chunk_length}
 use Rattle.cql2_code.specs.declared.question.Chunk.{Chunk}
@@ -229,7 +229,7 @@ lies_sound house at zero fits few = tt
 lies_sound house at (suc more) fits few = part_sound _ _ _
     (record { subject = tt; operand = count_sound at (omega arith) })
     (record { subject = (omega arith, fits); operand = zero_fits })
-    (lies_sound house (at + 1) more fits (omega arith)) (is_milestone at)
+    (lies_sound house (at + 1) more fits (omega arith)) (checks_for_end at)
 
 if_asked_sound : (question : Question) (asked : Bool) → IsSound question → IsSound (if_asked question asked)
 if_asked_sound question true sound = sound
@@ -245,7 +245,7 @@ named_sound wanted at zero block few = tt
 named_sound wanted at (suc more) block few = part_sound _ _ _
     (record { subject = tt; operand = count_sound at (omega arith) })
     (record { subject = (omega arith, block); operand = zero_fits })
-    (named_sound wanted (at + 1) more block (omega arith)) (is_milestone at)
+    (named_sound wanted (at + 1) more block (omega arith)) (checks_for_end at)
 
 small_each : (bytes : List ℕ) → AreSmall bytes → (i : ℕ) → slice_index bytes i < 2 ^ 8
 small_each [] small i = omega arith

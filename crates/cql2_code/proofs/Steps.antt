@@ -26,7 +26,7 @@ use Rattle.bpf_meaning.specs.declared.effect.Change.TheVariants.{Nothing, SetReg
 use Rattle.bpf_meaning.specs.declared.effect.Effect.TheVariants.{GoOn}
 use Rattle.bpf_meaning.specs.declared.state.State.{State}
 use Rattle.tl_segments.specs.Segment.{Contents}
-use Rattle.cql2_code.specs.Layout.{copy, jump, move, r0, r1, r10, w0, w1, w2, w3}
+use Rattle.cql2_code.specs.Layout.{copy, jump, move, from_result, from_argument_1, from_frame, into_result, into_argument_1, into_argument_2, into_argument_3}
 
 -- these instructions follow one another from a place
 abbrev pub HasAt : List Insn → ℕ → List Insn → Type 0
@@ -146,9 +146,9 @@ unfolding after
 after_at on from insn at = ap (λ (found : Option Insn). next_of on.segment from (effect_of on.code on.segment from found)) at
 
 -- continuing at a place where an instruction begins
-pub goes : (on : Setting) (from : State) (place : ℕ) (change : Change) → Begins on.code place
+pub continues_at : (on : Setting) (from : State) (place : ℕ) (change : Change) → Begins on.code place
     → next_of on.segment from (go_on on.code place change) ≡ Running (record (carry_out on.segment from change) { place = place })
-goes on from place change begins = by_test (is_some (instruction_at on.code place)) begins
+continues_at on from place change begins = by_test (is_some (instruction_at on.code place)) begins
   where
     by_test : (begins : Bool) → begins ≡ true
         → next_of on.segment from
@@ -175,9 +175,9 @@ no_more {on} {scratch} = record {
       subst (λ (p : ℕ). Reaches on (running on scratch place) (running on scratch p)) e (stays on (running on scratch place));
 }
 
-pub goes_on : {on : Setting} {insn : Insn} {rest : List Insn} {from middle to : Scratch} → Does on insn from middle → Runs on rest middle to
+pub one_more : {on : Setting} {insn : Insn} {rest : List Insn} {from middle to : Scratch} → Does on insn from middle → Runs on rest middle to
     → Runs on (insn ∷ rest) from to
-goes_on {on} {insn} {rest} {from} {middle} {to} does more = record {
+one_more {on} {insn} {rest} {from} {middle} {to} does more = record {
   reaches = λ place has end.
       let count = word_count-cons insn rest in
       let e : place + length (spelling insn) + word_count rest ≡ place + word_count (insn ∷ rest) = omega arith in
@@ -215,94 +215,102 @@ changes on insn change from to effect made = record {
       let next = place + length (spelling insn) in
       sym
       (after_at on (state on from place) insn at ∙ ap (next_of on.segment (state on from place)) (effect place)
-      ∙ goes on (state on from place) next change begins ∙ ap (λ (s : State). Running s) (made place next));
+      ∙ continues_at on (state on from place) next change begins ∙ ap (λ (s : State). Running s) (made place next));
 }
 
 -- moves and loads of numbers into registers
 
-pub moves_0 : (on : Setting) (from : Scratch) (number : ℕ) → Does on (move w0 (pos number)) from (with_0 from number)
+pub moves_0 : (on : Setting) (from : Scratch) (number : ℕ) → Does on (move into_result (pos number)) from (with_0 from number)
 moves_0 on from number =
-    changes on (move w0 (pos number)) (SetRegister w0 (value.Number number)) from (with_0 from number) (λ place. refl) (λ place next. refl)
+    changes on (move into_result (pos number)) (SetRegister into_result (value.Number number))
+    from (with_0 from number) (λ place. refl) (λ place next. refl)
 
-pub moves_1 : (on : Setting) (from : Scratch) (number : ℕ) → Does on (move w1 (pos number)) from (with_1 from number)
+pub moves_1 : (on : Setting) (from : Scratch) (number : ℕ) → Does on (move into_argument_1 (pos number)) from (with_1 from number)
 moves_1 on from number =
-    changes on (move w1 (pos number)) (SetRegister w1 (value.Number number)) from (with_1 from number) (λ place. refl) (λ place next. refl)
+    changes on (move into_argument_1 (pos number)) (SetRegister into_argument_1 (value.Number number))
+    from (with_1 from number) (λ place. refl) (λ place next. refl)
 
-pub moves_2 : (on : Setting) (from : Scratch) (number : ℕ) → Does on (move w2 (pos number)) from (with_2 from number)
+pub moves_2 : (on : Setting) (from : Scratch) (number : ℕ) → Does on (move into_argument_2 (pos number)) from (with_2 from number)
 moves_2 on from number =
-    changes on (move w2 (pos number)) (SetRegister w2 (value.Number number)) from (with_2 from number) (λ place. refl) (λ place next. refl)
+    changes on (move into_argument_2 (pos number)) (SetRegister into_argument_2 (value.Number number))
+    from (with_2 from number) (λ place. refl) (λ place next. refl)
 
-pub moves_3 : (on : Setting) (from : Scratch) (number : ℕ) → Does on (move w3 (pos number)) from (with_3 from number)
+pub moves_3 : (on : Setting) (from : Scratch) (number : ℕ) → Does on (move into_argument_3 (pos number)) from (with_3 from number)
 moves_3 on from number =
-    changes on (move w3 (pos number)) (SetRegister w3 (value.Number number)) from (with_3 from number) (λ place. refl) (λ place next. refl)
+    changes on (move into_argument_3 (pos number)) (SetRegister into_argument_3 (value.Number number))
+    from (with_3 from number) (λ place. refl) (λ place next. refl)
 
-pub loads_wide_1 : (on : Setting) (from : Scratch) (low high : ℤ) → Does on (WideLoad w1 low high) from (with_1 from (wide_number low high))
+pub loads_wide_1 : (on : Setting) (from : Scratch) (low high : ℤ) → Does on (WideLoad into_argument_1 low high) from (with_1 from (wide_number low high))
 loads_wide_1 on from low high =
-    changes on (WideLoad w1 low high) (SetRegister w1 (value.Number (wide_number low high))) from (with_1 from (wide_number low high))
+    changes on (WideLoad into_argument_1 low high) (SetRegister into_argument_1 (value.Number (wide_number low high)))
+    from (with_1 from (wide_number low high))
     (λ place. refl) (λ place next. refl)
 
-pub loads_wide_2 : (on : Setting) (from : Scratch) (low high : ℤ) → Does on (WideLoad w2 low high) from (with_2 from (wide_number low high))
+pub loads_wide_2 : (on : Setting) (from : Scratch) (low high : ℤ) → Does on (WideLoad into_argument_2 low high) from (with_2 from (wide_number low high))
 loads_wide_2 on from low high =
-    changes on (WideLoad w2 low high) (SetRegister w2 (value.Number (wide_number low high))) from (with_2 from (wide_number low high))
+    changes on (WideLoad into_argument_2 low high) (SetRegister into_argument_2 (value.Number (wide_number low high)))
+    from (with_2 from (wide_number low high))
     (λ place. refl) (λ place next. refl)
 
 -- copies of registers
 
 pub copies_0_to_1 : (on : Setting) (from : Scratch) (number : ℕ)
-    → Does on (copy w1 r0) (with_0 from number) (with_1 (with_0 from number) number)
+    → Does on (copy into_argument_1 from_result) (with_0 from number) (with_1 (with_0 from number) number)
 copies_0_to_1 on from number =
-    changes on (copy w1 r0) (SetRegister w1 (value.Number number)) (with_0 from number) (with_1 (with_0 from number) number) (λ place. refl)
+    changes on (copy into_argument_1 from_result) (SetRegister into_argument_1 (value.Number number))
+    (with_0 from number) (with_1 (with_0 from number) number) (λ place. refl)
     (λ place next. refl)
 
-pub copies_10_to_2 : (on : Setting) (from : Scratch) → Does on (copy w2 r10) from (record from { v2 = to_frame })
+pub copies_10_to_2 : (on : Setting) (from : Scratch) → Does on (copy into_argument_2 from_frame) from (record from { v2 = to_frame })
 copies_10_to_2 on from =
-    changes on (copy w2 r10) (SetRegister w2 to_frame) from (record from { v2 = to_frame }) (λ place. refl) (λ place next. refl)
+    changes on (copy into_argument_2 from_frame) (SetRegister into_argument_2 to_frame)
+    from (record from { v2 = to_frame }) (λ place. refl) (λ place next. refl)
 
 -- jumps
 
 -- a jump that is always taken
-pub jumps : (on : Setting) (scratch : Scratch) (place beyond : ℕ) → instruction_at on.code place ≡ Some (jump (pos beyond))
-    → Begins on.code (place + 1 + beyond) → running on scratch (place + 1 + beyond) ≡ after on.code on.segment (state on scratch place)
-jumps on scratch place beyond at target =
-    sym (after_at on (state on scratch place) (jump (pos beyond)) at ∙ goes on (state on scratch place) (place + 1 + beyond) Nothing target)
+pub jumps : (on : Setting) (scratch : Scratch) (place skip : ℕ) → instruction_at on.code place ≡ Some (jump (pos skip))
+    → Begins on.code (place + 1 + skip) → running on scratch (place + 1 + skip) ≡ after on.code on.segment (state on scratch place)
+jumps on scratch place skip at target =
+    sym (after_at on (state on scratch place) (jump (pos skip)) at ∙ continues_at on (state on scratch place) (place + 1 + skip) Nothing target)
 
 -- a jump that may be taken
-branches : (on : Setting) (scratch : Scratch) (place beyond : ℕ) (taken : Bool) → Begins on.code (place + 1)
-    → Begins on.code (place + 1 + beyond)
+branches : (on : Setting) (scratch : Scratch) (place skip : ℕ) (taken : Bool) → Begins on.code (place + 1)
+    → Begins on.code (place + 1 + skip)
     → next_of on.segment (state on scratch place)
-    (if taken then go_on on.code (place + 1 + beyond) Nothing else go_on on.code (place + 1) Nothing)
-    ≡ running on scratch (if taken then place + 1 + beyond else place + 1)
-branches on scratch place beyond true next target = goes on (state on scratch place) (place + 1 + beyond) Nothing target
-branches on scratch place beyond false next target = goes on (state on scratch place) (place + 1) Nothing next
+    (if taken then go_on on.code (place + 1 + skip) Nothing else go_on on.code (place + 1) Nothing)
+    ≡ running on scratch (if taken then place + 1 + skip else place + 1)
+branches on scratch place skip true next target = continues_at on (state on scratch place) (place + 1 + skip) Nothing target
+branches on scratch place skip false next target = continues_at on (state on scratch place) (place + 1) Nothing next
 
 abbrev pub conditional_jump : Condition → Source → ℕ → Insn
-conditional_jump condition source beyond = JumpIf condition Bits64 r0 source (pos beyond)
+conditional_jump condition source skip = JumpIf condition Bits64 from_result source (pos skip)
 
 -- a conditional jump at a place, with two targets
-pub record JumpsAt (on : Setting) (place : ℕ) (condition : Condition) (source : Source) (beyond : ℕ) : Type 0 where
-  pub at : instruction_at on.code place ≡ Some (conditional_jump condition source beyond)
+pub record JumpsAt (on : Setting) (place : ℕ) (condition : Condition) (source : Source) (skip : ℕ) : Type 0 where
+  pub at : instruction_at on.code place ≡ Some (conditional_jump condition source skip)
   pub next : Begins on.code (place + 1)
-  pub target : Begins on.code (place + 1 + beyond)
+  pub target : Begins on.code (place + 1 + skip)
 
-pub jumps_by_immediate : (on : Setting) (from : Scratch) (n place beyond : ℕ) (condition : Condition) (number : ℤ)
-    → JumpsAt on place condition (Immediate number) beyond
-    → running on (with_0 from n) (if is_met condition Bits64 n (immediate_operand number) then place + 1 + beyond else place + 1)
+pub jumps_by_immediate : (on : Setting) (from : Scratch) (n place skip : ℕ) (condition : Condition) (number : ℤ)
+    → JumpsAt on place condition (Immediate number) skip
+    → running on (with_0 from n) (if is_met condition Bits64 n (immediate_operand number) then place + 1 + skip else place + 1)
     ≡ after on.code on.segment (state on (with_0 from n) place)
-jumps_by_immediate on from n place beyond condition number jump =
+jumps_by_immediate on from n place skip condition number jump =
     let scratch : Scratch = with_0 from n in
     sym
-    (after_at on (state on scratch place) (conditional_jump condition (Immediate number) beyond) jump.at
-    ∙ branches on scratch place beyond (is_met condition Bits64 n (immediate_operand number)) jump.next jump.target)
+    (after_at on (state on scratch place) (conditional_jump condition (Immediate number) skip) jump.at
+    ∙ branches on scratch place skip (is_met condition Bits64 n (immediate_operand number)) jump.next jump.target)
 
-pub jumps_by_register : (on : Setting) (from : Scratch) (n m place beyond : ℕ) (condition : Condition)
-    → JumpsAt on place condition (Register r1) beyond
-    → running on (with_1 (with_0 from n) m) (if is_met condition Bits64 n m then place + 1 + beyond else place + 1)
+pub jumps_by_register : (on : Setting) (from : Scratch) (n m place skip : ℕ) (condition : Condition)
+    → JumpsAt on place condition (Register from_argument_1) skip
+    → running on (with_1 (with_0 from n) m) (if is_met condition Bits64 n m then place + 1 + skip else place + 1)
     ≡ after on.code on.segment (state on (with_1 (with_0 from n) m) place)
-jumps_by_register on from n m place beyond condition jump =
+jumps_by_register on from n m place skip condition jump =
     let scratch : Scratch = with_1 (with_0 from n) m in
     sym
-    (after_at on (state on scratch place) (conditional_jump condition (Register r1) beyond) jump.at
-    ∙ branches on scratch place beyond (is_met condition Bits64 n m) jump.next jump.target)
+    (after_at on (state on scratch place) (conditional_jump condition (Register from_argument_1) skip) jump.at
+    ∙ branches on scratch place skip (is_met condition Bits64 n m) jump.next jump.target)
 
 -- the end of a program
 pub exits : (on : Setting) (from : Scratch) (n place : ℕ) → instruction_at on.code place ≡ Some Exit

@@ -7,7 +7,7 @@ use Rattle.std.proofs.Math.Seq.{take-add}
 use Rattle.std.proofs.lemmas.List.{append-nil, drop_at, length-append, length-drop, length-map, length-take, map-append, take-append-drop}
 use Rattle.std.proofs.lemmas.List.{take-append-le, take-map, take_at}
 use Rattle.bpf_helpers.specs.Meaning.{is_name, truth}
-use Rattle.bpf_helpers.specs.declared.helper.Helper.TheVariants.{NameIs}
+use Rattle.bpf_helpers.specs.declared.helper.Helper.TheVariants as helper
 use Rattle.bpf_helpers.proofs.WriteLemmas.{length-write}
 use Rattle.bpf_insn.specs.Arithmetic.{immediate_operand}
 use Rattle.bpf_insn.specs.Frame.{Byte, FrameByte, FrameContents}
@@ -24,11 +24,11 @@ use Rattle.bpf_meaning.specs.declared.effect.Change.TheVariants.{CallHelper, Set
 use Rattle.bpf_meaning.proofs.MemoryLemmas.{length-bytes_low_first, store_is_write}
 use Rattle.tl_segments.specs.Range.{AreBytes}
 use Rattle.tl_segments.specs.Segment.{names_of}
-use Rattle.cql2_code.specs.Layout.{call, move_to_name, r10, store_name, store_word, w2}
+use Rattle.cql2_code.specs.Layout.{call, move_to_name, from_frame, store_name, store_word, into_argument_2}
 use Rattle.cql2_code.specs.Question.{bytes_value}
 use Rattle.cql2_code.proofs.Calls.{answered, any_allowed}
 use Rattle.cql2_code.proofs.Operands.{word_bytes}
-use Rattle.cql2_code.proofs.Steps.{Does, Runs, Scratch, Setting, changes, no_more, goes_on, state, to_frame}
+use Rattle.cql2_code.proofs.Steps.{Does, Runs, Scratch, Setting, changes, no_more, one_more, state, to_frame}
 
 -- the frame after a word is stored
 
@@ -47,10 +47,10 @@ stored from at number within = record from {
 -- a store of a word at an offset of the frame
 stores : (on : Setting) (from : Scratch) (offset : ℤ) (at : ℕ) (number : ℤ) → pos FRAME_LENGTH +ℤ offset ≡ pos at
     → (within : at + 4 ≤ FRAME_LENGTH)
-    → Does on (StoreImmediate size.Word r10 offset number) from (stored from at (immediate_operand number) within)
+    → Does on (StoreImmediate size.Word from_frame offset number) from (stored from at (immediate_operand number) within)
 stores on from offset at number is within =
     let lies : lie_within (pos at) 4 FRAME_LENGTH ≡ true = search rules in
-    changes on (StoreImmediate size.Word r10 offset number) (StoreBytes at size.Word (immediate_operand number)) from
+    changes on (StoreImmediate size.Word from_frame offset number) (StoreBytes at size.Word (immediate_operand number)) from
     (stored from at (immediate_operand number) within)
     (λ place. rw (is, lies)) (λ place next. refl)
 
@@ -148,7 +148,7 @@ stores_word on from wanted word rest sound here more =
       frame = after.frame;
       whole = after.whole;
       holds = after.holds;
-      runs = goes_on (stores on from (negsuc (31 - 4 * word)) (480 + 4 * word) _ here.1 within) after.runs;
+      runs = one_more (stores on from (negsuc (31 - 4 * word)) (480 + 4 * word) _ here.1 within) after.runs;
     }
   where
     within : 480 + 4 * word + 4 ≤ FRAME_LENGTH
@@ -160,11 +160,11 @@ stores_word on from wanted word rest sound here more =
     count : 480 + 4 * word ≡ 480 + length (take (4 * word) wanted)
     count = let small = here.0 in let long = sound.length in let part = length-take (4 * word) wanted in omega arith
 
-    one_more : take (4 * word) wanted ++ bytes_low_first 0 4 (word_number word wanted) ≡ take (4 * word + 4) wanted
-    one_more = ap (λ (l : List ℕ). take (4 * word) wanted ++ l) (word_is wanted word sound here.0) ∙ sym (take-add (4 * word) 4 wanted)
+    longer : take (4 * word) wanted ++ bytes_low_first 0 4 (word_number word wanted) ≡ take (4 * word + 4) wanted
+    longer = ap (λ (l : List ℕ). take (4 * word) wanted ++ l) (word_is wanted word sound here.0) ∙ sym (take-add (4 * word) 4 wanted)
 
     holds : Holds next.frame.bytes (take (4 * word + 4) wanted)
-    holds = subst (Holds next.frame.bytes) one_more
+    holds = subst (Holds next.frame.bytes) longer
         (holds_more from.frame.bytes (take (4 * word) wanted) (480 + 4 * word) (word_number word wanted) count here.2)
 
     after : Stores on rest next wanted
@@ -208,16 +208,16 @@ equals on name bytes = truth (is_name bytes (slice_get (names_of on.segment) nam
 
 pub calls_name_is : (on : Setting) (from : Scratch) (name : ℕ) (bytes : List ℕ) → name < 2 ^ 64
     → take 30 (drop 480 from.frame.bytes) ≡ map Byte bytes
-    → Does on (call 7) (name_arguments from name) (answered from (equals on name bytes) 480)
+    → Does on (call helper.NameIs) (name_arguments from name) (answered from (equals on name bytes) 480)
 calls_name_is on from name bytes fits reads =
     let written : all_written (take 30 (drop 480 from.frame.bytes)) ≡ true = ap all_written reads ∙ all_written-bytes bytes in
     let same : written_bytes (take 30 (drop 480 from.frame.bytes)) ≡ bytes = ap written_bytes reads ∙ written_bytes-all bytes in
-    changes on (call 7) (CallHelper NameIs (name ∷ 480 ∷ 30 ∷ [])) (name_arguments from name) (answered from (equals on name bytes) 480)
+    changes on (call helper.NameIs) (CallHelper helper.NameIs (name ∷ 480 ∷ 30 ∷ [])) (name_arguments from name) (answered from (equals on name bytes) 480)
     (λ place. rw (any_allowed name fits, written))
     (λ place next. ap (λ (read : List ℕ). state on (answered from (equals on name read) 480) next) same)
 
 -- from the frame's end back to the name
 pub moves_to_name : (on : Setting) (from : Scratch) → Does on move_to_name (record from { v2 = to_frame }) (record from { v2 = to_name })
 moves_to_name on from =
-    changes on move_to_name (SetRegister w2 to_name) (record from { v2 = to_frame }) (record from { v2 = to_name }) (λ place. refl)
+    changes on move_to_name (SetRegister into_argument_2 to_name) (record from { v2 = to_frame }) (record from { v2 = to_name }) (λ place. refl)
     (λ place next. refl)

@@ -20,7 +20,7 @@ use Rattle.cql2_code.specs.Layout.{opposite}
 use Rattle.cql2_code.specs.Lowering.{compares_bytes, compares_text, holds_of_blanks, is_greater, is_less, is_like, is_null_text}
 use Rattle.cql2_code.specs.Lowering.{offset_of, width_of}
 use Rattle.cql2_code.specs.Question.{Joined, Opposite, answer}
-use Rattle.cql2_code.proofs.ByteLemmas.{AreSmall, blank_found, byte_equals, byte_told, first_of}
+use Rattle.cql2_code.proofs.ByteLemmas.{AreSmall, blank_found, byte_equals, byte_answer, first_of}
 use Rattle.cql2_code.proofs.FieldLemmas.{column_within, field_of, has_text, null_found, value_asked}
 use Rattle.cql2_code.proofs.JoinLemmas.{both_answers, either_answers, is_it, isnt_it, not_not}
 use Rattle.cql2_code.proofs.LikeLemmas.{like_found}
@@ -144,7 +144,7 @@ module _ (segment : Contents) (is : IsSegment segment) where
   less_found at left [] within small = refl
   less_found at zero (byte ∷ text) within small = refl
   less_found at (suc left) (byte ∷ text) within small =
-      either_answers (byte_told segment is at Less byte (omega arith) small.0)
+      either_answers (byte_answer segment is at Less byte (omega arith) small.0)
       (both_answers (byte_equals segment is at byte (omega arith) small.0) (less_found (at + 1) left text (omega arith) small.1))
       ∙ sym (ap (λ (field : List ℕ). is_text_less field (byte ∷ text)) (first_of segment is at left (omega arith)))
 
@@ -158,7 +158,7 @@ module _ (segment : Contents) (is : IsSegment segment) where
       ∙ sym (ap (λ (field : List ℕ). is_text_less [] (trimmed field)) first)
   greater_found at (suc left) (byte ∷ text) within small fine =
       let others = greater_found (at + 1) left text (omega arith) small.1 (fine_rest byte text fine) in
-      either_answers (byte_told segment is at Greater byte (omega arith) small.0)
+      either_answers (byte_answer segment is at Greater byte (omega arith) small.0)
       (both_answers (byte_equals segment is at byte (omega arith) small.0) others)
       ∙ greater_more (get_or segment.bytes at 0) (take left (drop (at + 1) segment.bytes)) byte text (fine_first byte text fine)
       ∙ sym (ap (λ (field : List ℕ). is_text_less (byte ∷ text) (trimmed field)) (first_of segment is at left (omega arith)))
@@ -192,7 +192,7 @@ compares_blank LessOrEqual (byte ∷ text) fails some = fails
 compares_blank Greater (byte ∷ text) fails some = refl
 compares_blank GreaterOrEqual (byte ∷ text) fails some = refl
 
--- a property that the empty text lacks implies that the field isn't blank
+-- a property that the empty text doesn't have implies that the field isn't blank
 unless_blank : (property : List ℕ → Bool) (field : List ℕ) → property [] ≡ false → has_text property field ≡ property (trimmed field)
 unless_blank property field fails = by_blank (are_blank field) refl
   where

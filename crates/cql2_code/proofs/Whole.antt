@@ -2,6 +2,7 @@
 use Rattle.std.proofs.Common.{◌≡◌, ℕ, ◌+◌, ◌<◌, ◌^◌, Bool, true, false, is_some, List, ◌∷◌, ◌++◌, Option, Some, None, if◌then◌else◌, refl}
 use Rattle.std.proofs.Common.{sym, ap, ◌∙◌, subst}
 use Rattle.bpf_helpers.specs.Meaning.{truth}
+use Rattle.bpf_helpers.specs.declared.helper.Helper.TheVariants as helper
 use Rattle.bpf_insn.specs.Code.{word_count}
 use Rattle.bpf_insn.specs.declared.instruction.Insn.{Insn}
 use Rattle.bpf_insn.specs.declared.value.Value.TheVariants as value
@@ -13,17 +14,17 @@ use Rattle.tl_segments.specs.Segment.{Contents, IsSegment}
 use Rattle.cql2.specs.declared.column.NumericColumn.{NumericColumn}
 use Rattle.cql2.specs.declared.column.NumericColumn.TheVariants as column
 use Rattle.cql2_code.specs.Chosen.{score_of}
-use Rattle.cql2_code.specs.Layout.{answer_code, call, chosen_code, copy, program, subject_code, r0, r1, w1, w6}
+use Rattle.cql2_code.specs.Layout.{answer_code, call, chosen_code, copy, program, subject_code, from_result, from_argument_1, into_argument_1, into_record}
 use Rattle.cql2_code.specs.Question.{value as number_in, IsSoundSubject, IsSound, Question, answer}
 use Rattle.cql2_code.specs.declared.question.Subject.{Subject}
 use Rattle.cql2_code.specs.declared.question.Subject.TheVariants as subject
 use Rattle.cql2_code.proofs.Calls.{answered, calls_emit, scored}
 use Rattle.cql2_code.proofs.Columns.{coordinate_fits, field_fits}
-use Rattle.cql2_code.proofs.Program.{has_all, has_chosen, has_other, middle_of, question_stands}
-use Rattle.cql2_code.proofs.Runs.{Arrives, question_leads, way_out}
+use Rattle.cql2_code.proofs.Program.{has_all, has_chosen, has_other, middle_of, question_at}
+use Rattle.cql2_code.proofs.Runs.{Arrives, question_leads, exit_of}
 use Rattle.cql2_code.proofs.Subjects.{takes}
 use Rattle.cql2_code.proofs.Steps.{with_0, with_1, Begins, Reaches, HasAt, Scratch, Setting, after_at, and_on, begins_at, copies_0_to_1}
-use Rattle.cql2_code.proofs.Steps.{exits, goes, has_back, has_front, moves_0, running, stays, steps_on, to_record}
+use Rattle.cql2_code.proofs.Steps.{exits, continues_at, has_back, has_front, moves_0, running, stays, steps_on, to_record}
 
 -- the end of a program, with its answer
 answers : (on : Setting) (from : Scratch) (n place : ℕ) → HasAt on.code place (answer_code n)
@@ -35,7 +36,8 @@ answers on from n place has =
 
 -- the number in register 0 is emitted as the score, and the segment is selected
 emits : (on : Setting) (from : Scratch) (number place : ℕ) → number < 2 ^ 64
-    → HasAt on.code place (copy w1 r0 ∷ call 8 ∷ answer_code 1) → Reaches on (running on (with_0 from number) place) (Exited 1 number)
+    → HasAt on.code place (copy into_argument_1 from_result ∷ call helper.Emit ∷ answer_code 1)
+    → Reaches on (running on (with_0 from number) place) (Exited 1 number)
 emits on from number place fits has =
     let both : Scratch = with_1 (with_0 from number) number in
     let after = answers (scored on number) (answered both 0 0) 1 (place + 1 + 1) has.1.1 in
@@ -46,16 +48,18 @@ emits on from number place fits has =
 
 -- so is a subject's number
 emits_subject : (on : Setting) (from : Scratch) (subject : Subject) (place : ℕ) → IsSoundSubject subject → IsSegment on.segment
-    → number_in subject on.segment < 2 ^ 64 → HasAt on.code place (subject_code subject ++ (copy w1 r0 ∷ call 8 ∷ answer_code 1))
+    → number_in subject on.segment < 2 ^ 64
+    → HasAt on.code place (subject_code subject ++ (copy into_argument_1 from_result ∷ call helper.Emit ∷ answer_code 1))
     → Reaches on (running on from place) (Exited 1 (number_in subject on.segment))
 emits_subject on from subject place sound segment fits has =
     let front = subject_code subject in
     let first = takes on subject from sound segment in
-    let back = has_back on.code place front (copy w1 r0 ∷ call 8 ∷ answer_code 1) has in
+    let back = has_back on.code place front (copy into_argument_1 from_result ∷ call helper.Emit ∷ answer_code 1) has in
     let there = place + word_count front in
     let number = number_in subject on.segment in
     and_on on _ (running on (with_0 first.to number) there) _
-    (first.runs.reaches place (has_front on.code place front (copy w1 r0 ∷ call 8 ∷ answer_code 1) has) (ap is_some back.0))
+    (first.runs.reaches place (has_front on.code place front (copy into_argument_1 from_result ∷ call helper.Emit ∷ answer_code 1) has)
+    (ap is_some back.0))
     (emits on first.to number there fits back)
 
 -- the end of a program if the answer is yes
@@ -72,7 +76,7 @@ chooses on from (Some (column.Coordinate end)) place none segment has =
 abbrev ended : Option NumericColumn → Contents → Bool → Configuration
 ended score segment found = Exited (truth found) (if found then score_of score segment else 0)
 
--- the registers and the frame once the record's pointer is kept
+-- the registers and the frame once register 6 holds the record's pointer
 abbrev at_first : Scratch
 at_first = record {
   v0 = value.Empty;
@@ -97,22 +101,23 @@ program_answers score question sound segment is = record { run = all.run; is_run
     middle : List Insn
     middle = middle_of score question
 
-    beyond : ℕ
-    beyond = word_count (chosen_code score)
+    skip : ℕ
+    skip = word_count (chosen_code score)
 
     begins : Begins on.code 1
-    begins = begins_at on.code 1 middle (question_stands score question).has (question_stands score question).end
+    begins = begins_at on.code 1 middle (question_at score question).has (question_at score question).end
 
     starts : running on at_first 1 ≡ after on.code on.segment start
-    starts = sym (after_at on start (copy w6 r1) (has_all on.code).0 ∙ goes on start 1 (SetRegister w6 to_record) begins)
+    starts = sym (after_at on start (copy into_record from_argument_1) (has_all on.code).0
+        ∙ continues_at on start 1 (SetRegister into_record to_record) begins)
 
-    there : Arrives on (running on at_first 1) (way_out true (answer question segment) (1 + word_count middle) beyond)
-    there = question_leads on question true beyond 1 sound is (question_stands score question) at_first
+    there : Arrives on (running on at_first 1) (exit_of true (answer question segment) (1 + word_count middle) skip)
+    there = question_leads on question true skip 1 sound is (question_at score question) at_first
 
     ends : (found : Bool)
-        → Reaches on (running on there.scratch (way_out true found (1 + word_count middle) beyond)) (ended score segment found)
+        → Reaches on (running on there.scratch (exit_of true found (1 + word_count middle) skip)) (ended score segment found)
     ends true = chooses on there.scratch score (1 + word_count middle) refl is (has_chosen score question)
-    ends false = answers on there.scratch 0 (1 + word_count middle + beyond) (has_other score question)
+    ends false = answers on there.scratch 0 (1 + word_count middle + skip) (has_other score question)
 
     all : Reaches on (Running start) (ended score segment (answer question segment))
     all = steps_on on start (running on at_first 1) _ starts (and_on on _ _ _ there.reaches (ends (answer question segment)))

@@ -4,7 +4,7 @@ use Rattle.std.proofs.Common.{append_assoc, subst}
 use Rattle.bpf_insn.proofs.PlaceLemmas.{word_count-append}
 use Rattle.bpf_insn.specs.Code.{word_count}
 use Rattle.bpf_insn.specs.declared.instruction.Insn.{Insn}
-use Rattle.cql2_code.specs.Layout.{IsBefore, Writes, first_beyond, question_code}
+use Rattle.cql2_code.specs.Layout.{IsBefore, Writes, first_skip, question_code}
 use Rattle.cql2_code.specs.Lowering.{WritesBefore, if_asked}
 use Rattle.cql2_code.specs.Question.{Question, Joined, Opposite}
 use Rattle.cql2_code.specs.declared.question.Exits.{Exits}
@@ -18,24 +18,24 @@ joined {neutral} {first} {second} {exits} {before} {old} {middle} {new} {words} 
     let count : word_count middle - words ≡ word_count code = omega arith in
     record {
       code = front.code
-          ∙ ap (λ (falls : Bool). question_code first falls before.beyond ++ middle) at.falls
-          ∙ ap (λ (beyond : ℕ). question_code first neutral beyond ++ middle)
-          (at.beyond ∙ ap (λ (words : ℕ). first_beyond exits.falls neutral words exits.beyond) count)
-          ∙ ap (λ (rest : List Insn). question_code first neutral (first_beyond exits.falls neutral (word_count code) exits.beyond) ++ rest)
+          ∙ ap (λ (falls : Bool). question_code first falls before.skip ++ middle) at.falls
+          ∙ ap (λ (skip : ℕ). question_code first neutral skip ++ middle)
+          (at.skip ∙ ap (λ (words : ℕ). first_skip exits.falls neutral words exits.skip) count)
+          ∙ ap (λ (rest : List Insn). question_code first neutral (first_skip exits.falls neutral (word_count code) exits.skip) ++ rest)
           last.code
-          ∙ sym (append_assoc (question_code first neutral (first_beyond exits.falls neutral (word_count code) exits.beyond)) code old);
+          ∙ sym (append_assoc (question_code first neutral (first_skip exits.falls neutral (word_count code) exits.skip)) code old);
     }
   where
     code : List Insn
-    code = question_code second exits.falls exits.beyond
+    code = question_code second exits.falls exits.skip
 
 -- an opposite is written as its question, with the other exit falling through
 pub opposite_written : {question : Question} {exits other : Exits} {old new : List Insn}
-    → other.falls ≡ not exits.falls → other.beyond ≡ exits.beyond → Writes question other old new → Writes (Opposite question) exits old new
-opposite_written {question} {exits} {other} {old} {new} falls beyond written = record {
+    → other.falls ≡ not exits.falls → other.skip ≡ exits.skip → Writes question other old new → Writes (Opposite question) exits old new
+opposite_written {question} {exits} {other} {old} {new} falls skip written = record {
   code = written.code
-      ∙ ap (λ (b : Bool). question_code question b other.beyond ++ old) falls
-      ∙ ap (λ (n : ℕ). question_code question (not exits.falls) n ++ old) beyond;
+      ∙ ap (λ (b : Bool). question_code question b other.skip ++ old) falls
+      ∙ ap (λ (n : ℕ). question_code question (not exits.falls) n ++ old) skip;
 }
 
 pub written_as : {question other : Question} {exits : Exits} {old new : List Insn} → question ≡ other
@@ -44,14 +44,14 @@ written_as {question} {other} {exits} {old} {new} same written = subst (λ (q : 
 
 -- a question or its opposite is written as the question, with the exits that follow from it
 pub asked_written : {question : Question} {exits other : Exits} {old new : List Insn} (asked : Bool)
-    → other.falls ≡ (if asked then exits.falls else not exits.falls) → other.beyond ≡ exits.beyond
+    → other.falls ≡ (if asked then exits.falls else not exits.falls) → other.skip ≡ exits.skip
     → Writes question other old new → Writes (if_asked question asked) exits old new
-asked_written {question} {exits} {other} {old} {new} true falls beyond written = record {
+asked_written {question} {exits} {other} {old} {new} true falls skip written = record {
   code = written.code
-      ∙ ap (λ (b : Bool). question_code question b other.beyond ++ old) falls
-      ∙ ap (λ (n : ℕ). question_code question exits.falls n ++ old) beyond;
+      ∙ ap (λ (b : Bool). question_code question b other.skip ++ old) falls
+      ∙ ap (λ (n : ℕ). question_code question exits.falls n ++ old) skip;
 }
-asked_written {question} {exits} {other} {old} {new} false falls beyond written = opposite_written falls beyond written
+asked_written {question} {exits} {other} {old} {new} false falls skip written = opposite_written falls skip written
 
 -- once the second question is written, the first one can be written before it
 pub before_second : {second : Question} {exits first : Exits} {old new : List Insn} {words : ℕ}

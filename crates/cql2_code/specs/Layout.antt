@@ -5,6 +5,9 @@ use Rattle.std.specs.Bool.{beq}
 use Rattle.std.specs.List.{list_any}
 use Rattle.std.specs.Int.{w32, cast_signed}
 use Rattle.std.proofs.Common.{lit≤}
+use Rattle.bpf_helpers.specs.Helper.{signature}
+use Rattle.bpf_helpers.specs.declared.helper.Helper.{Helper}
+use Rattle.bpf_helpers.specs.declared.helper.Helper.TheVariants as helper
 use Rattle.bpf_insn.specs.Arithmetic.{immediate_operand}
 use Rattle.bpf_insn.specs.Code.{word_count}
 use Rattle.bpf_insn.specs.declared.code.TheConstants.{WORD_LIMIT}
@@ -36,32 +39,32 @@ use Rattle.cql2_code.specs.declared.question.Subject.TheVariants.{Number, HasNum
 use Rattle.cql2_code.specs.declared.question.Test.{Test}
 
 -- the registers that the code writes and reads
-abbrev pub w0 : WritableRegister
-w0 = record { number = 0; in_range = lit≤ tt }
+abbrev pub into_result : WritableRegister
+into_result = record { number = 0; in_range = lit≤ tt }
 
-abbrev pub w1 : WritableRegister
-w1 = record { number = 1; in_range = lit≤ tt }
+abbrev pub into_argument_1 : WritableRegister
+into_argument_1 = record { number = 1; in_range = lit≤ tt }
 
-abbrev pub w2 : WritableRegister
-w2 = record { number = 2; in_range = lit≤ tt }
+abbrev pub into_argument_2 : WritableRegister
+into_argument_2 = record { number = 2; in_range = lit≤ tt }
 
-abbrev pub w3 : WritableRegister
-w3 = record { number = 3; in_range = lit≤ tt }
+abbrev pub into_argument_3 : WritableRegister
+into_argument_3 = record { number = 3; in_range = lit≤ tt }
 
-abbrev pub w6 : WritableRegister
-w6 = record { number = 6; in_range = lit≤ tt }
+abbrev pub into_record : WritableRegister
+into_record = record { number = 6; in_range = lit≤ tt }
 
-abbrev pub r0 : RegisterParts
-r0 = record { number = 0; in_range = lit≤ tt }
+abbrev pub from_result : RegisterParts
+from_result = record { number = 0; in_range = lit≤ tt }
 
-abbrev pub r1 : RegisterParts
-r1 = record { number = 1; in_range = lit≤ tt }
+abbrev pub from_argument_1 : RegisterParts
+from_argument_1 = record { number = 1; in_range = lit≤ tt }
 
-abbrev pub r6 : RegisterParts
-r6 = record { number = 6; in_range = lit≤ tt }
+abbrev pub from_record : RegisterParts
+from_record = record { number = 6; in_range = lit≤ tt }
 
-abbrev pub r10 : RegisterParts
-r10 = record { number = 10; in_range = lit≤ tt }
+abbrev pub from_frame : RegisterParts
+from_frame = record { number = 10; in_range = lit≤ tt }
 
 abbrev pub move : WritableRegister → ℤ → Insn
 move register number = Alu Move Bits64 register (Immediate number)
@@ -82,16 +85,16 @@ abbrev pub set_number : WritableRegister → ℕ → Insn
 set_number register number = if nat_le number 2147483647 then move register (pos number) else wide_load register number
 
 -- a call of a helper function
-abbrev pub call : ℕ → Insn
-call helper = Call (pos helper)
+abbrev pub call : Helper → Insn
+call called = Call (pos (signature called).number)
 
 -- the name to compare is written into the frame's last 32 bytes, four at a time; register 2 points to it
 abbrev pub move_to_name : Insn
-move_to_name = Alu Add Bits64 w2 (Immediate (negsuc 31))
+move_to_name = Alu Add Bits64 into_argument_2 (Immediate (negsuc 31))
 
 abbrev pub store_word : ℕ → List ℕ → Insn
 store_word word bytes =
-    StoreImmediate store.Word r10 (negsuc (31 - 4 * word)) (cast_signed w32 (bytes_value (take 4 (drop (4 * word) bytes))))
+    StoreImmediate store.Word from_frame (negsuc (31 - 4 * word)) (cast_signed w32 (bytes_value (take 4 (drop (4 * word) bytes))))
 
 abbrev pub store_name : List ℕ → List Insn
 store_name bytes =
@@ -105,18 +108,19 @@ load_format DoubleWord = format.DoubleWord
 
 -- a load of a chunk of the record into register 0
 abbrev pub load : Chunk → ℕ → Insn
-load chunk at = insn.Load (load_format chunk) w0 r6 (pos at)
+load chunk at = insn.Load (load_format chunk) into_result from_record (pos at)
 
 -- the code that puts the number a test looks at into register 0
 abbrev pub subject_code : Subject → List Insn
-subject_code (Number column) = move w1 (pos (field_id column)) ∷ call 1 ∷ []
-subject_code (HasNumber column) = move w1 (pos (field_id column)) ∷ call 2 ∷ []
-subject_code (Coordinate column) = move w1 (pos (coordinate_id column)) ∷ call 9 ∷ []
-subject_code Names = call 3 ∷ []
-subject_code Ranges = call 4 ∷ []
-subject_code (InRange range house) = move w1 (pos range) ∷ set_number w2 house ∷ call 5 ∷ []
+subject_code (Number column) = move into_argument_1 (pos (field_id column)) ∷ call helper.Field ∷ []
+subject_code (HasNumber column) = move into_argument_1 (pos (field_id column)) ∷ call helper.Has ∷ []
+subject_code (Coordinate column) = move into_argument_1 (pos (coordinate_id column)) ∷ call helper.Coord ∷ []
+subject_code Names = call helper.Names ∷ []
+subject_code Ranges = call helper.Ranges ∷ []
+subject_code (InRange range house) = move into_argument_1 (pos range) ∷ set_number into_argument_2 house ∷ call helper.InRange ∷ []
 subject_code (NameIs name wanted) =
-    move w1 (pos name) ∷ copy w2 r10 ∷ move_to_name ∷ move w3 (pos 30) ∷ (store_name wanted ++ call 7 ∷ [])
+    move into_argument_1 (pos name) ∷ copy into_argument_2 from_frame ∷ move_to_name ∷ move into_argument_3 (pos 30)
+    ∷ (store_name wanted ++ call helper.NameIs ∷ [])
 subject_code (Load chunk at) = load chunk at ∷ []
 
 -- the comparison that holds exactly if this one doesn't
@@ -130,7 +134,7 @@ opposite LessOrEqual = Greater
 
 -- a jump if a comparison of register 0 holds
 abbrev pub jump_if : Comparison → Source → ℤ → Insn
-jump_if comparison operand distance = JumpIf (condition_of comparison) Bits64 r0 operand distance
+jump_if comparison operand distance = JumpIf (condition_of comparison) Bits64 from_result operand distance
 
 abbrev pub jump : ℤ → Insn
 jump distance = Jump (Short distance)
@@ -140,26 +144,26 @@ abbrev pub comparison_code : Comparison → ℤ → ℕ → List Insn
 comparison_code comparison operand distance =
     if is_narrow operand
     then jump_if comparison (Immediate operand) (pos distance) ∷ []
-    else wide_load w1 (immediate_operand operand) ∷ jump_if comparison (Register r1) (pos distance) ∷ []
+    else wide_load into_argument_1 (immediate_operand operand) ∷ jump_if comparison (Register from_argument_1) (pos distance) ∷ []
 
 -- the code of a test, which jumps unless the answer is the one that falls through
 abbrev pub test_code : Test → Bool → ℕ → List Insn
-test_code test falls beyond =
-    subject_code test.subject ++ comparison_code (if falls then opposite test.comparison else test.comparison) test.operand beyond
+test_code test falls skip =
+    subject_code test.subject ++ comparison_code (if falls then opposite test.comparison else test.comparison) test.operand skip
 
 -- the distance that the first of two questions jumps past its end, by the number of words in the second one
-abbrev pub first_beyond : Bool → Bool → ℕ → ℕ → ℕ
-first_beyond falls neutral words beyond = if beq falls neutral then words + beyond else words
+abbrev pub first_skip : Bool → Bool → ℕ → ℕ → ℕ
+first_skip falls neutral words skip = if beq falls neutral then words + skip else words
 
 -- The first of two questions falls through if the second one must be asked. If it decides, it jumps: past the second one if the answer is the one
 -- that falls through, and otherwise to where the second one jumps.
 abbrev pub question_code : Question → Bool → ℕ → List Insn
-question_code (Decided found) falls beyond = if beq found falls then [] else jump (pos beyond) ∷ []
-question_code (Holds test) falls beyond = test_code test falls beyond
-question_code (Opposite question) falls beyond = question_code question (not falls) beyond
-question_code (Joined neutral first second) falls beyond =
-    question_code first neutral (first_beyond falls neutral (word_count (question_code second falls beyond)) beyond)
-    ++ question_code second falls beyond
+question_code (Decided found) falls skip = if beq found falls then [] else jump (pos skip) ∷ []
+question_code (Holds test) falls skip = test_code test falls skip
+question_code (Opposite question) falls skip = question_code question (not falls) skip
+question_code (Joined neutral first second) falls skip =
+    question_code first neutral (first_skip falls neutral (word_count (question_code second falls skip)) skip)
+    ++ question_code second falls skip
 
 -- a jump too far for the 16 bits of its distance
 abbrev pub is_far_jump : Insn → Bool
@@ -177,34 +181,36 @@ pub record MayBeRefused (code : List Insn) (fault : CompileFault) : Type 0 where
   pub too_long : fault ≡ TooLong → IsTooLong code
 
 -- a code is written or refused
-abbrev pub IsPut : {T : Type 0} → Result T CompileFault → List Insn → List Insn → Type 0
-IsPut result code new = MatchResult result (λ _. new ≡ code) (MayBeRefused code)
+abbrev pub IsPrepended : {T : Type 0} → Result T CompileFault → List Insn → List Insn → Type 0
+IsPrepended result code new = MatchResult result (λ _. new ≡ code) (MayBeRefused code)
 
 -- the code of a question is written before another code
 pub record Writes (question : Question) (exits : Exits) (old new : List Insn) : Type 0 where
-  pub code : new ≡ question_code question exits.falls exits.beyond ++ old
+  pub code : new ≡ question_code question exits.falls exits.skip ++ old
 
 -- the code of a question may be refused
 pub record Refuses (question : Question) (exits : Exits) (old : List Insn) (fault : CompileFault) : Type 0 where
-  pub too_long : fault ≡ TooLong → IsTooLong (question_code question exits.falls exits.beyond ++ old)
+  pub too_long : fault ≡ TooLong → IsTooLong (question_code question exits.falls exits.skip ++ old)
 
 -- the code of a question is written before another code, or refused
-abbrev pub Puts : {T : Type 0} → Result T CompileFault → Question → Exits → List Insn → List Insn → Type 0
-Puts result question exits old new = MatchResult result (λ _. Writes question exits old new) (Refuses question exits old)
+abbrev pub Prepends : {T : Type 0} → Result T CompileFault → Question → Exits → List Insn → List Insn → Type 0
+Prepends result question exits old new = MatchResult result (λ _. Writes question exits old new) (Refuses question exits old)
 
 -- the exits of the first of two questions, given those of the second one and its number of words
 pub record IsBefore (neutral : Bool) (exits before : Exits) (words : ℕ) : Type 0 where
   pub falls : before.falls ≡ neutral
-  pub beyond : before.beyond ≡ first_beyond exits.falls neutral words exits.beyond
+  pub skip : before.skip ≡ first_skip exits.falls neutral words exits.skip
 
 -- the code that emits the score column, if there is one: its number or coordinate, or 0 if it has none
 abbrev pub score_code : Option NumericColumn → List Insn
 score_code None = []
-score_code (Some (column.Number field)) = move w1 (pos (field_id field)) ∷ call 1 ∷ copy w1 r0 ∷ call 8 ∷ []
-score_code (Some (column.Coordinate place)) = move w1 (pos (coordinate_id place)) ∷ call 9 ∷ copy w1 r0 ∷ call 8 ∷ []
+score_code (Some (column.Number field)) =
+    move into_argument_1 (pos (field_id field)) ∷ call helper.Field ∷ copy into_argument_1 from_result ∷ call helper.Emit ∷ []
+score_code (Some (column.Coordinate place)) =
+    move into_argument_1 (pos (coordinate_id place)) ∷ call helper.Coord ∷ copy into_argument_1 from_result ∷ call helper.Emit ∷ []
 
 abbrev pub answer_code : ℕ → List Insn
-answer_code number = move w0 (pos number) ∷ Exit ∷ []
+answer_code number = move into_result (pos number) ∷ Exit ∷ []
 
 -- the code for the answer yes
 abbrev pub chosen_code : Option NumericColumn → List Insn
@@ -213,4 +219,4 @@ chosen_code score = score_code score ++ answer_code 1
 -- the whole program, which keeps the record's pointer in register 6
 abbrev pub program : Option NumericColumn → Question → List Insn
 program score question =
-    copy w6 r1 ∷ (question_code question true (word_count (chosen_code score)) ++ (chosen_code score ++ answer_code 0))
+    copy into_record from_argument_1 ∷ (question_code question true (word_count (chosen_code score)) ++ (chosen_code score ++ answer_code 0))

@@ -20,7 +20,7 @@ use Rattle.cql2.specs.declared.pattern.PatternByte.TheVariants.{Exactly, EitherC
 use Rattle.cql2_code.specs.Question.{Question, Decided, Holds, Opposite, Joined, bytes_value}
 use Rattle.bpf_insn.specs.Code.{word_count}
 use Rattle.bpf_insn.specs.declared.instruction.Insn.{Insn}
-use Rattle.cql2_code.specs.Layout.{Puts, Refuses, Writes, opposite, program}
+use Rattle.cql2_code.specs.Layout.{Prepends, Refuses, Writes, opposite, program}
 use Rattle.cql2_code.specs.declared.fault.CompileFault.{CompileFault}
 use Rattle.cql2_code.specs.declared.question.Exits.{Exits}
 use Rattle.cql2_code.specs.declared.question.Chunk.{Chunk}
@@ -161,8 +161,8 @@ WritesBefore second exits first old new = (wanted : Question) (all : List Insn)
     → Writes wanted first new all → Writes (both wanted second) exits old all
 
 -- the code of the second question is written, or refused whatever the first one is
-abbrev pub PutsBefore : Result Exits CompileFault → Option Question → Exits → List Insn → List Insn → Type 0
-PutsBefore result second exits old new = MatchResult result (λ first. WritesBefore second exits first old new)
+abbrev pub PrependsBefore : Result Exits CompileFault → Option Question → Exits → List Insn → List Insn → Type 0
+PrependsBefore result second exits old new = MatchResult result (λ first. WritesBefore second exits first old new)
     (λ fault. (wanted : Question) → Refuses (both wanted second) exits old fault)
 
 -- a column isn't NULL and matches a pattern
@@ -218,22 +218,22 @@ compares_text column comparison text =
 -- Names and ranges
 
 -- the indices at which the code first asks whether there are that many names or ranges: the powers of two
-abbrev pub is_milestone : ℕ → Bool
-is_milestone at = at == 1 || at == 2 || at == 4 || at == 8 || at == 16 || at == 32 || at == 64 || at == 128 || at == 256 || at == 512
+abbrev pub checks_for_end : ℕ → Bool
+checks_for_end at = at == 1 || at == 2 || at == 4 || at == 8 || at == 16 || at == 32 || at == 64 || at == 128 || at == 256 || at == 512
 
 -- a house number lies on a side of one of several ranges, given by the index of the first one and by their count
 unfoldable pub lies_from : ℕ → ℕ → ℕ → Question
 lies_from house at zero = Decided false
 lies_from house at (suc more) =
-    if is_milestone at
+    if checks_for_end at
     then Joined true (test Ranges Greater (pos at))
     (Joined false (test (InRange at house) NotEqual (pos 0)) (lies_from house (at + 1) more))
     else Joined false (test (InRange at house) NotEqual (pos 0)) (lies_from house (at + 1) more)
 
 -- the code that asks about a range is written before the code that asks about later ones, or refused
-abbrev pub PutsRange : Result (Unit {0}) CompileFault → ℕ → ℕ → ℕ → Exits → List Insn → List Insn → Type 0
-PutsRange result house range end exits old new = (more : ℕ) (rest : List Insn) → word_count rest ≡ end
-    → Writes (lies_from house (range + 1) more) exits rest old → Puts result (lies_from house range (suc more)) exits rest new
+abbrev pub PrependsRange : Result (Unit {0}) CompileFault → ℕ → ℕ → ℕ → Exits → List Insn → List Insn → Type 0
+PrependsRange result house range end exits old new = (more : ℕ) (rest : List Insn) → word_count rest ≡ end
+    → Writes (lies_from house (range + 1) more) exits rest old → Prepends result (lies_from house range (suc more)) exits rest new
 
 abbrev pub asks_has_number : ℕ → Bool → Question
 asks_has_number house asked = if_asked (lies_from house 0 (suc RANGE_LIMIT)) asked
@@ -246,14 +246,14 @@ name_block text = text ++ replicate (32 - length text) 32
 unfoldable pub is_named_from : List ℕ → ℕ → ℕ → Question
 is_named_from wanted at zero = Decided false
 is_named_from wanted at (suc more) =
-    if is_milestone at
+    if checks_for_end at
     then Joined true (test Names GreaterOrEqual (pos at))
     (Joined false (test (NameIs at wanted) NotEqual (pos 0)) (is_named_from wanted (at + 1) more))
     else Joined false (test (NameIs at wanted) NotEqual (pos 0)) (is_named_from wanted (at + 1) more)
 
-abbrev pub PutsName : Result (Unit {0}) CompileFault → List ℕ → ℕ → ℕ → Exits → List Insn → List Insn → Type 0
-PutsName result wanted name end exits old new = (more : ℕ) (rest : List Insn) → word_count rest ≡ end
-    → Writes (is_named_from wanted (name + 1) more) exits rest old → Puts result (is_named_from wanted name (suc more)) exits rest new
+abbrev pub PrependsName : Result (Unit {0}) CompileFault → List ℕ → ℕ → ℕ → Exits → List Insn → List Insn → Type 0
+PrependsName result wanted name end exits old new = (more : ℕ) (rest : List Insn) → word_count rest ≡ end
+    → Writes (is_named_from wanted (name + 1) more) exits rest old → Prepends result (is_named_from wanted name (suc more)) exits rest new
 
 abbrev pub is_named : List ℕ → ℕ → Question
 is_named text most = is_named_from (name_block text) 0 (suc most)

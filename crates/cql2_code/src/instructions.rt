@@ -6,70 +6,71 @@ ghost use Rattle.cql2_code.specs.Layout.{call, copy, jump, jump_if, load, move, 
 
 use crate::bytes::signed_word;
 use crate::question::{Chunk, condition_of};
+use bpf_helpers::Helper;
 use bpf_insn::{
     Insn, JumpDistance, LoadFormat, Operation, Register, Source, StoreSize, Width, WritableRegister,
 };
 use cql2::Comparison;
 
 /// Returns the register of the answer, for writing.
-pub(crate) fn w0() -> WritableRegister
-    ensures { result ≡ layout.w0 }
+pub(crate) fn into_result() -> WritableRegister
+    ensures { result ≡ layout.into_result }
 {
     WritableRegister { number: 0 }
 }
 
 /// Returns the register of a call's first argument, for writing.
-pub(crate) fn w1() -> WritableRegister
-    ensures { result ≡ layout.w1 }
+pub(crate) fn into_argument_1() -> WritableRegister
+    ensures { result ≡ layout.into_argument_1 }
 {
     WritableRegister { number: 1 }
 }
 
 /// Returns the register of a call's second argument, for writing.
-pub(crate) fn w2() -> WritableRegister
-    ensures { result ≡ layout.w2 }
+pub(crate) fn into_argument_2() -> WritableRegister
+    ensures { result ≡ layout.into_argument_2 }
 {
     WritableRegister { number: 2 }
 }
 
 /// Returns the register of a call's third argument, for writing.
-pub(crate) fn w3() -> WritableRegister
-    ensures { result ≡ layout.w3 }
+pub(crate) fn into_argument_3() -> WritableRegister
+    ensures { result ≡ layout.into_argument_3 }
 {
     WritableRegister { number: 3 }
 }
 
 /// Returns the register that keeps the record's pointer, for writing.
-pub(crate) fn w6() -> WritableRegister
-    ensures { result ≡ layout.w6 }
+pub(crate) fn into_record() -> WritableRegister
+    ensures { result ≡ layout.into_record }
 {
     WritableRegister { number: 6 }
 }
 
 /// Returns the register of the answer, for reading.
-pub(crate) fn r0() -> Register
-    ensures { result ≡ layout.r0 }
+pub(crate) fn from_result() -> Register
+    ensures { result ≡ layout.from_result }
 {
     Register { number: 0 }
 }
 
 /// Returns the register of a call's first argument, for reading.
-pub(crate) fn r1() -> Register
-    ensures { result ≡ layout.r1 }
+pub(crate) fn from_argument_1() -> Register
+    ensures { result ≡ layout.from_argument_1 }
 {
     Register { number: 1 }
 }
 
 /// Returns the register that keeps the record's pointer, for reading.
-pub(crate) fn r6() -> Register
-    ensures { result ≡ layout.r6 }
+pub(crate) fn from_record() -> Register
+    ensures { result ≡ layout.from_record }
 {
     Register { number: 6 }
 }
 
 /// Returns the register of the frame's pointer.
-pub(crate) fn r10() -> Register
-    ensures { result ≡ layout.r10 }
+pub(crate) fn from_frame() -> Register
+    ensures { result ≡ layout.from_frame }
 {
     Register { number: 10 }
 }
@@ -105,7 +106,7 @@ pub(crate) fn move_to_name() -> Insn
     Insn::Alu {
         operation: Operation::Add,
         width: Width::Bits64,
-        destination: w2(),
+        destination: into_argument_2(),
         source: Source::Immediate(-32),
     }
 }
@@ -123,7 +124,7 @@ pub(crate) fn wide_load(register: WritableRegister, number: u64) -> Insn
     }
 }
 
-/// Puts a number into a register with one instruction, a move or a wide load.
+/// Prepends a number into a register with one instruction, a move or a wide load.
 pub(crate) fn set_number(register: WritableRegister, number: u64) -> Insn
     ensures { result ≡ set_number register number }
 {
@@ -134,11 +135,12 @@ pub(crate) fn set_number(register: WritableRegister, number: u64) -> Insn
 }
 
 /// Calls a helper function.
-pub(crate) fn call(helper: u8) -> Insn
+#[tactic(auto, using(crate::proofs::Casts::number_signed))]
+pub(crate) fn call(helper: Helper) -> Insn
     ensures { result ≡ call helper }
 {
     Insn::Call {
-        immediate: i32::from(helper),
+        immediate: helper.signature().number.cast_signed(),
     }
 }
 
@@ -156,7 +158,7 @@ pub(crate) fn jump_if(comparison: Comparison, operand: Source, distance: i16) ->
     Insn::JumpIf {
         condition: condition_of(comparison),
         width: Width::Bits64,
-        left: r0(),
+        left: from_result(),
         right: operand,
         offset: distance,
     }
@@ -168,8 +170,8 @@ pub(crate) fn load(chunk: Chunk, at: u8) -> Insn
 {
     Insn::Load {
         format: load_format(chunk),
-        destination: w0(),
-        base: r6(),
+        destination: into_result(),
+        base: from_record(),
         offset: i16::from(at),
     }
 }
@@ -192,7 +194,7 @@ pub(crate) fn store_word(word: u8, name: &[u8; 32]) -> Insn
     let from = usize::from(word) * 4;
     Insn::StoreImmediate {
         size: StoreSize::Word,
-        base: r10(),
+        base: from_frame(),
         offset: i16::from(word) * 4 - 32,
         immediate: signed_word(&name[from..from + 4]),
     }

@@ -3,13 +3,13 @@
 
 mod bytes;
 mod compiler;
-mod ending;
 mod fault;
 mod instructions;
 pub mod laws;
 mod names;
 mod numbers;
 mod question;
+mod suffix;
 mod texts;
 
 pub use compiler::compile;

@@ -1,14 +1,14 @@
 //! Questions about numeric columns.
 ghost use Rattle.std.specs.Prelude.{◌≡◌, ◌≤◌};
 ghost use Rattle.bpf_insn.specs.Code.{word_count};
-ghost use Rattle.cql2_code.specs.Layout.{Puts};
+ghost use Rattle.cql2_code.specs.Layout.{Prepends};
 ghost use Rattle.cql2_code.specs.Lowering as lowering;
 ghost use Rattle.cql2_code.specs.Lowering.{compares_number, holds_of_zero};
 ghost use Rattle.cql2_code.specs.Question.{Holds};
 
-use crate::ending::CodeEnd;
 use crate::fault::CompileFault;
 use crate::question::{Exits, Subject, Test};
+use crate::suffix::CodeSuffix;
 use cql2::{Comparison, NumericColumn};
 use std::alloc::Allocator;
 
@@ -37,15 +37,15 @@ pub(crate) fn has_value(column: NumericColumn) -> Test
 }
 
 /// Writes the code that compares a column's number with another.
-pub(crate) fn put_number<A: Allocator + Copy>(
-    code: &mut CodeEnd<A>,
+pub(crate) fn prepend_number<A: Allocator + Copy>(
+    code: &mut CodeSuffix<A>,
     column: NumericColumn,
     comparison: Comparison,
     literal: i64,
     exits: Exits,
 ) -> Result<(), CompileFault>
-    requires { exits.beyond ≤ word_count code.old }
-    ensures { Puts result (compares_number column comparison literal) exits code.old code.new }
+    requires { exits.skip ≤ word_count code.old }
+    ensures { Prepends result (compares_number column comparison literal) exits code.old code.new }
 {
     let test = Test {
         subject: number_of(column),
@@ -53,12 +53,12 @@ pub(crate) fn put_number<A: Allocator + Copy>(
         operand: literal,
     };
     let words = code.words();
-    code.put_test(test, exits)?;
+    code.prepend_test(test, exits)?;
     if !holds_of_zero(comparison, literal) {
         return Ok(());
     }
     let exits = code.exits_before(words, true, exits);
-    code.put_test(has_value(column), exits)
+    code.prepend_test(has_value(column), exits)
 }
 
 /// Returns whether a comparison holds for 0 and a number.

@@ -45,22 +45,22 @@ pub(crate) struct Test {
     pub operand: i64,
 }
 
-/// The two exits of a question's code: it falls through its end if the answer is `falls`, and otherwise jumps `beyond` words past it.
+/// The two exits of a question's code: it falls through its end if the answer is `falls`, and otherwise skips `skip` words after it.
 #[derive(Clone, Copy)]
 pub(crate) struct Exits {
     pub falls: bool,
-    pub beyond: usize,
+    pub skip: usize,
 }
 
 impl Exits {
     /// Returns these exits if the question is asked as it is, or those with `falls` negated if its opposite is asked.
     pub fn asked(self, asked: bool) -> Exits
         ensures falls { result.falls ≡ (if asked then self.falls else not self.falls) }
-        ensures beyond { result.beyond ≡ self.beyond }
+        ensures skip { result.skip ≡ self.skip }
     {
         Exits {
             falls: self.falls == asked,
-            beyond: self.beyond,
+            skip: self.skip,
         }
     }
 }

@@ -3,16 +3,16 @@ ghost use Rattle.std.specs.Prelude.{◌≡◌, ◌≤◌, ◌<◌, ◌+◌, ◌-
 ghost use Rattle.bpf_insn.specs.Code.{word_count};
 ghost use Rattle.cql2.specs.Text.{is_text};
 ghost use Rattle.cql2.specs.declared.pattern.PatternByte.TheVariants.{Exactly};
-ghost use Rattle.cql2_code.specs.Layout.{Puts};
+ghost use Rattle.cql2_code.specs.Layout.{Prepends};
 ghost use Rattle.cql2_code.specs.Lowering as lowering;
-ghost use Rattle.cql2_code.specs.Lowering.{PutsBefore, asks_like, byte_test, compares_text, ends_filled, ends_so, exact_bytes, has_bytes, has_each, has_few, is_blank, is_each_wanted, is_filled, is_greater, is_less, is_like, is_null_text, is_wanted, offset_of, width_of};
+ghost use Rattle.cql2_code.specs.Lowering.{PrependsBefore, asks_like, byte_test, compares_text, ends_filled, ends_so, exact_bytes, has_bytes, has_each, has_few, is_blank, is_each_wanted, is_filled, is_greater, is_less, is_like, is_null_text, is_wanted, offset_of, width_of};
 ghost use Rattle.cql2_code.specs.Question.{Holds};
 ghost use Rattle.tl_segments.specs.declared.segment.TheConstants.{RECORD_LENGTH};
 
 use crate::bytes::{double_word, word};
-use crate::ending::CodeEnd;
 use crate::fault::CompileFault;
 use crate::question::{Chunk, Exits, Subject, Test};
+use crate::suffix::CodeSuffix;
 use arrayvec::ArrayVec;
 use cql2::{Comparison, Pattern, PatternByte, TextColumn};
 use std::alloc::Allocator;
@@ -23,24 +23,24 @@ use tl_segments::NAME_LENGTH;
 const BLANKS: [u8; NAME_LENGTH] = [b' '; NAME_LENGTH];
 
 /// Writes the code that compares a text column with a text.
-pub(crate) fn put_text<A: Allocator + Copy>(
-    code: &mut CodeEnd<A>,
+pub(crate) fn prepend_text<A: Allocator + Copy>(
+    code: &mut CodeSuffix<A>,
     column: TextColumn,
     comparison: Comparison,
     text: &[u8],
     exits: Exits,
 ) -> Result<(), CompileFault>
-    requires inside { exits.beyond ≤ word_count code.old }
+    requires inside { exits.skip ≤ word_count code.old }
     requires text { IsTrue (is_text text.now) }
-    ensures { Puts result (compares_text column comparison text.now) exits code.old code.new }
+    ensures { Prepends result (compares_text column comparison text.now) exits code.old code.new }
 {
     let words = code.words();
-    put_compared(code, column, comparison, text, exits)?;
+    prepend_compared(code, column, comparison, text, exits)?;
     if !holds_of_blanks(comparison) {
         return Ok(());
     }
     let exits = code.exits_before(words, true, exits);
-    put_is_null_text(code, column, exits.asked(false))
+    prepend_is_null_text(code, column, exits.asked(false))
 }
 
 /// Returns whether a comparison with a text holds for a blank field.
@@ -54,71 +54,71 @@ fn holds_of_blanks(comparison: Comparison) -> bool
 }
 
 /// Writes the code that compares a column's bytes.
-fn put_compared<A: Allocator + Copy>(
-    code: &mut CodeEnd<A>,
+fn prepend_compared<A: Allocator + Copy>(
+    code: &mut CodeSuffix<A>,
     column: TextColumn,
     comparison: Comparison,
     text: &[u8],
     exits: Exits,
 ) -> Result<(), CompileFault>
-    requires inside { exits.beyond ≤ word_count code.old }
+    requires inside { exits.skip ≤ word_count code.old }
     requires text { IsTrue (is_text text.now) }
-    ensures { Puts result (lowering.compares_bytes column comparison text.now) exits code.old code.new }
+    ensures { Prepends result (lowering.compares_bytes column comparison text.now) exits code.old code.new }
 {
     let (at, left) = (offset_of(column), width_of(column));
     match comparison {
-        Comparison::Equal => put_like_bytes(code, column, text, false, exits),
-        Comparison::NotEqual => put_like_bytes(code, column, text, false, exits.asked(false)),
-        Comparison::Less => put_less(code, at, left, text, exits),
-        Comparison::GreaterOrEqual => put_less(code, at, left, text, exits.asked(false)),
-        Comparison::Greater => put_greater(code, at, left, text, exits),
-        Comparison::LessOrEqual => put_greater(code, at, left, text, exits.asked(false)),
+        Comparison::Equal => prepend_like_bytes(code, column, text, false, exits),
+        Comparison::NotEqual => prepend_like_bytes(code, column, text, false, exits.asked(false)),
+        Comparison::Less => prepend_less(code, at, left, text, exits),
+        Comparison::GreaterOrEqual => prepend_less(code, at, left, text, exits.asked(false)),
+        Comparison::Greater => prepend_greater(code, at, left, text, exits),
+        Comparison::LessOrEqual => prepend_greater(code, at, left, text, exits.asked(false)),
     }
 }
 
 /// Writes the code that asks whether a text column matches a pattern, or whether it doesn't.
-pub(crate) fn put_like<A: Allocator + Copy>(
-    code: &mut CodeEnd<A>,
+pub(crate) fn prepend_like<A: Allocator + Copy>(
+    code: &mut CodeSuffix<A>,
     column: TextColumn,
     pattern: &Pattern<A>,
     asked: bool,
     exits: Exits,
 ) -> Result<(), CompileFault>
-    requires { exits.beyond ≤ word_count code.old }
-    ensures { Puts result (asks_like column pattern.now.wanted.items pattern.now.is_open asked) exits code.old code.new }
+    requires { exits.skip ≤ word_count code.old }
+    ensures { Prepends result (asks_like column pattern.now.wanted.items pattern.now.is_open asked) exits code.old code.new }
 {
     let words = code.words();
-    put_pattern(code, column, pattern, exits.asked(asked))?;
+    prepend_pattern(code, column, pattern, exits.asked(asked))?;
     if asked {
         return Ok(());
     }
     let exits = code.exits_before(words, true, exits);
-    put_is_null_text(code, column, exits.asked(false))
+    prepend_is_null_text(code, column, exits.asked(false))
 }
 
-fn put_pattern<A: Allocator + Copy>(
-    code: &mut CodeEnd<A>,
+fn prepend_pattern<A: Allocator + Copy>(
+    code: &mut CodeSuffix<A>,
     column: TextColumn,
     pattern: &Pattern<A>,
     exits: Exits,
 ) -> Result<(), CompileFault>
-    requires { exits.beyond ≤ word_count code.old }
-    ensures { Puts result (is_like column pattern.now.wanted.items pattern.now.is_open) exits code.old code.new }
+    requires { exits.skip ≤ word_count code.old }
+    ensures { Prepends result (is_like column pattern.now.wanted.items pattern.now.is_open) exits code.old code.new }
 {
     let wanted = pattern.wanted.as_slice();
     if wanted.len() > usize::from(width_of(column)) {
-        return code.put_decided(false, exits);
+        return code.prepend_constant(false, exits);
     }
     if let Some(bytes) = exact_bytes(wanted) {
-        return put_like_bytes(code, column, bytes.as_slice(), pattern.is_open, exits);
+        return prepend_like_bytes(code, column, bytes.as_slice(), pattern.is_open, exits);
     }
     let ends = Ending {
         count: wanted.len() as u8,
         is_open: pattern.is_open,
         is_filled: ends_filled(wanted),
     };
-    let exits = put_ending(code, column, ends, exits)?;
-    put_each_wanted(code, offset_of(column), wanted, exits)
+    let exits = prepend_ending(code, column, ends, exits)?;
+    prepend_each_wanted(code, offset_of(column), wanted, exits)
 }
 
 /// Returns the bytes of a pattern that wants each of them exactly.
@@ -150,26 +150,26 @@ fn ends_filled(wanted: &[PatternByte]) -> bool
 }
 
 /// Writes the code that asks whether a column matches a pattern of exact bytes.
-fn put_like_bytes<A: Allocator + Copy>(
-    code: &mut CodeEnd<A>,
+fn prepend_like_bytes<A: Allocator + Copy>(
+    code: &mut CodeSuffix<A>,
     column: TextColumn,
     bytes: &[u8],
     is_open: bool,
     exits: Exits,
 ) -> Result<(), CompileFault>
-    requires { exits.beyond ≤ word_count code.old }
-    ensures { Puts result (is_like column (map Exactly bytes.now) is_open) exits code.old code.new }
+    requires { exits.skip ≤ word_count code.old }
+    ensures { Prepends result (is_like column (map Exactly bytes.now) is_open) exits code.old code.new }
 {
     if bytes.len() > usize::from(width_of(column)) {
-        return code.put_decided(false, exits);
+        return code.prepend_constant(false, exits);
     }
     let ends = Ending {
         count: bytes.len() as u8,
         is_open,
         is_filled: is_filled(bytes),
     };
-    let exits = put_ending(code, column, ends, exits)?;
-    put_bytes(code, offset_of(column), bytes, exits)
+    let exits = prepend_ending(code, column, ends, exits)?;
+    prepend_bytes(code, offset_of(column), bytes, exits)
 }
 
 /// Returns whether the last byte is not a blank.
@@ -193,82 +193,82 @@ struct Ending {
 }
 
 /// Writes the code that checks the bytes after the wanted ones, and returns the exits for the code that checks the wanted ones.
-fn put_ending<A: Allocator + Copy>(
-    code: &mut CodeEnd<A>,
+fn prepend_ending<A: Allocator + Copy>(
+    code: &mut CodeSuffix<A>,
     column: TextColumn,
     ends: Ending,
     exits: Exits,
 ) -> Result<Exits, CompileFault>
-    requires inside { exits.beyond ≤ word_count code.old }
+    requires inside { exits.skip ≤ word_count code.old }
     requires fits { ends.count ≤ width_of column }
-    ensures before { PutsBefore result (ends_so ends.is_open ends.is_filled column ends.count) exits code.old code.new }
-    ensures inside { IfOk result (λ first. first.beyond ≤ word_count code.new) }
+    ensures before { PrependsBefore result (ends_so ends.is_open ends.is_filled column ends.count) exits code.old code.new }
+    ensures inside { IfOk result (λ first. first.skip ≤ word_count code.new) }
 {
     let words = code.words();
     match (ends.is_open, ends.is_filled) {
         (true, true) => Ok(exits),
         (true, false) => {
             let from = ends.count.saturating_sub(1);
-            put_blank(code, column, from, exits.asked(false))?;
+            prepend_blank(code, column, from, exits.asked(false))?;
             Ok(code.exits_before(words, true, exits))
         }
         (false, true) => {
             if ends.count == width_of(column) {
                 return Ok(exits);
             }
-            put_blank(code, column, ends.count, exits)?;
+            prepend_blank(code, column, ends.count, exits)?;
             Ok(code.exits_before(words, true, exits))
         }
         (false, false) => {
             let from = ends.count.saturating_sub(1);
-            put_blank(code, column, from, exits.asked(false))?;
+            prepend_blank(code, column, from, exits.asked(false))?;
             let inner = code.exits_before(words, true, exits);
-            put_blank(code, column, ends.count, inner)?;
+            prepend_blank(code, column, ends.count, inner)?;
             Ok(code.exits_before(words, true, exits))
         }
     }
 }
 
 /// Writes the code that asks whether a text column is NULL: its field is blank.
-pub(crate) fn put_is_null_text<A: Allocator + Copy>(
-    code: &mut CodeEnd<A>,
+pub(crate) fn prepend_is_null_text<A: Allocator + Copy>(
+    code: &mut CodeSuffix<A>,
     column: TextColumn,
     exits: Exits,
 ) -> Result<(), CompileFault>
-    requires { exits.beyond ≤ word_count code.old }
-    ensures { Puts result (is_null_text column) exits code.old code.new }
+    requires { exits.skip ≤ word_count code.old }
+    ensures { Prepends result (is_null_text column) exits code.old code.new }
 {
-    put_blank(code, column, 0, exits)
+    prepend_blank(code, column, 0, exits)
 }
 
 /// Writes the code that asks whether a field is blank from a byte, counted from 0, to its end.
-fn put_blank<A: Allocator + Copy>(
-    code: &mut CodeEnd<A>,
+fn prepend_blank<A: Allocator + Copy>(
+    code: &mut CodeSuffix<A>,
     column: TextColumn,
     from: u8,
     exits: Exits,
 ) -> Result<(), CompileFault>
-    requires inside { exits.beyond ≤ word_count code.old }
+    requires inside { exits.skip ≤ word_count code.old }
     requires fits { from ≤ width_of column }
-    ensures { Puts result (is_blank (offset_of column + from) (width_of column - from)) exits code.old code.new }
+    ensures { Prepends result (is_blank (offset_of column + from) (width_of column - from)) exits code.old code.new }
 {
     let left = usize::from(width_of(column) - from);
-    put_bytes(code, offset_of(column) + from, &BLANKS[..left], exits)
+    prepend_bytes(code, offset_of(column) + from, &BLANKS[..left], exits)
 }
 
 /// Writes the code that asks whether the record has these bytes at an offset.
-fn put_bytes<A: Allocator + Copy>(
-    code: &mut CodeEnd<A>,
+fn prepend_bytes<A: Allocator + Copy>(
+    code: &mut CodeSuffix<A>,
     at: u8,
     bytes: &[u8],
     exits: Exits,
 ) -> Result<(), CompileFault>
-    requires inside { exits.beyond ≤ word_count code.old }
+    requires inside { exits.skip ≤ word_count code.old }
     requires fits { at + length bytes.now ≤ RECORD_LENGTH }
-    ensures { Puts result (has_bytes at bytes.now) exits code.old code.new }
+    ensures { Prepends result (has_bytes at bytes.now) exits code.old code.new }
 {
     let Some((first, rest)) = bytes.split_at_checked(8) else {
-        return put_few(code, at, bytes, exits);
+        return prepend_few(code, at, bytes, exits);
     };
     let test = Test {
         subject: Subject::Load(Chunk::DoubleWord, at),
@@ -276,27 +276,27 @@ fn put_bytes<A: Allocator + Copy>(
         operand: double_word(first),
     };
     if rest.is_empty() {
-        return code.put_test(test, exits);
+        return code.prepend_test(test, exits);
     }
     let words = code.words();
-    put_bytes(code, at + 8, rest, exits)?;
+    prepend_bytes(code, at + 8, rest, exits)?;
     let exits = code.exits_before(words, true, exits);
-    code.put_test(test, exits)
+    code.prepend_test(test, exits)
 }
 
 /// Writes the code that asks whether the record has these bytes, fewer than eight, at an offset.
-fn put_few<A: Allocator + Copy>(
-    code: &mut CodeEnd<A>,
+fn prepend_few<A: Allocator + Copy>(
+    code: &mut CodeSuffix<A>,
     at: u8,
     bytes: &[u8],
     exits: Exits,
 ) -> Result<(), CompileFault>
-    requires inside { exits.beyond ≤ word_count code.old }
+    requires inside { exits.skip ≤ word_count code.old }
     requires fits { at + length bytes.now ≤ RECORD_LENGTH }
-    ensures { Puts result (has_few at bytes.now) exits code.old code.new }
+    ensures { Prepends result (has_few at bytes.now) exits code.old code.new }
 {
     let Some((first, rest)) = bytes.split_at_checked(4) else {
-        return put_each(code, at, bytes, exits);
+        return prepend_each(code, at, bytes, exits);
     };
     let test = Test {
         subject: Subject::Load(Chunk::Word, at),
@@ -304,134 +304,137 @@ fn put_few<A: Allocator + Copy>(
         operand: word(first),
     };
     if rest.is_empty() {
-        return code.put_test(test, exits);
+        return code.prepend_test(test, exits);
     }
     let words = code.words();
-    put_each(code, at + 4, rest, exits)?;
+    prepend_each(code, at + 4, rest, exits)?;
     let exits = code.exits_before(words, true, exits);
-    code.put_test(test, exits)
+    code.prepend_test(test, exits)
 }
 
 /// Writes the code that asks whether the record has these bytes at an offset, one by one.
-fn put_each<A: Allocator + Copy>(
-    code: &mut CodeEnd<A>,
+fn prepend_each<A: Allocator + Copy>(
+    code: &mut CodeSuffix<A>,
     at: u8,
     bytes: &[u8],
     exits: Exits,
 ) -> Result<(), CompileFault>
-    requires inside { exits.beyond ≤ word_count code.old }
+    requires inside { exits.skip ≤ word_count code.old }
     requires fits { at + length bytes.now ≤ RECORD_LENGTH }
-    ensures { Puts result (has_each at bytes.now) exits code.old code.new }
+    ensures { Prepends result (has_each at bytes.now) exits code.old code.new }
 {
     let Some((byte, rest)) = bytes.split_first() else {
-        return code.put_decided(true, exits);
+        return code.prepend_constant(true, exits);
     };
     let test = byte_test(at, Comparison::Equal, *byte);
     if rest.is_empty() {
-        return code.put_test(test, exits);
+        return code.prepend_test(test, exits);
     }
     let words = code.words();
-    put_each(code, at + 1, rest, exits)?;
+    prepend_each(code, at + 1, rest, exits)?;
     let exits = code.exits_before(words, true, exits);
-    code.put_test(test, exits)
+    code.prepend_test(test, exits)
 }
 
 /// Writes the code that asks whether the bytes at an offset match a pattern.
-fn put_each_wanted<A: Allocator + Copy>(
-    code: &mut CodeEnd<A>,
+fn prepend_each_wanted<A: Allocator + Copy>(
+    code: &mut CodeSuffix<A>,
     at: u8,
     wanted: &[PatternByte],
     exits: Exits,
 ) -> Result<(), CompileFault>
-    requires inside { exits.beyond ≤ word_count code.old }
+    requires inside { exits.skip ≤ word_count code.old }
     requires fits { at + length wanted.now ≤ RECORD_LENGTH }
-    ensures { Puts result (is_each_wanted at wanted.now) exits code.old code.new }
+    ensures { Prepends result (is_each_wanted at wanted.now) exits code.old code.new }
 {
     let Some((first, rest)) = wanted.split_first() else {
-        return code.put_decided(true, exits);
+        return code.prepend_constant(true, exits);
     };
     if rest.is_empty() {
-        return put_wanted(code, at, *first, exits);
+        return prepend_wanted(code, at, *first, exits);
     }
     let words = code.words();
-    put_each_wanted(code, at + 1, rest, exits)?;
+    prepend_each_wanted(code, at + 1, rest, exits)?;
     let exits = code.exits_before(words, true, exits);
-    put_wanted(code, at, *first, exits)
+    prepend_wanted(code, at, *first, exits)
 }
 
-fn put_wanted<A: Allocator + Copy>(
-    code: &mut CodeEnd<A>,
+fn prepend_wanted<A: Allocator + Copy>(
+    code: &mut CodeSuffix<A>,
     at: u8,
     wanted: PatternByte,
     exits: Exits,
 ) -> Result<(), CompileFault>
-    requires { exits.beyond ≤ word_count code.old }
-    ensures { Puts result (is_wanted at wanted) exits code.old code.new }
+    requires { exits.skip ≤ word_count code.old }
+    ensures { Prepends result (is_wanted at wanted) exits code.old code.new }
 {
     match wanted {
-        PatternByte::Exactly(byte) => code.put_test(byte_test(at, Comparison::Equal, byte), exits),
+        PatternByte::Exactly(byte) => code.prepend_test(
+            byte_test(at, Comparison::Equal, byte),
+            exits,
+        ),
         PatternByte::EitherCase(letter) => {
             let words = code.words();
             let capital = letter.saturating_sub(32);
-            code.put_test(byte_test(at, Comparison::Equal, capital), exits)?;
+            code.prepend_test(byte_test(at, Comparison::Equal, capital), exits)?;
             let exits = code.exits_before(words, false, exits);
-            code.put_test(byte_test(at, Comparison::Equal, letter), exits)
+            code.prepend_test(byte_test(at, Comparison::Equal, letter), exits)
         }
-        PatternByte::Any => code.put_decided(true, exits),
+        PatternByte::Any => code.prepend_constant(true, exits),
     }
 }
 
 /// Writes the code that asks whether the rest of a field is less than a text.
-fn put_less<A: Allocator + Copy>(
-    code: &mut CodeEnd<A>,
+fn prepend_less<A: Allocator + Copy>(
+    code: &mut CodeSuffix<A>,
     at: u8,
     left: u8,
     text: &[u8],
     exits: Exits,
 ) -> Result<(), CompileFault>
-    requires inside { exits.beyond ≤ word_count code.old }
+    requires inside { exits.skip ≤ word_count code.old }
     requires fits { at + left ≤ RECORD_LENGTH }
-    ensures { Puts result (is_less at left text.now) exits code.old code.new }
+    ensures { Prepends result (is_less at left text.now) exits code.old code.new }
 {
     let Some((byte, rest)) = text.split_first() else {
-        return code.put_decided(false, exits);
+        return code.prepend_constant(false, exits);
     };
     if left == 0 {
-        return code.put_decided(true, exits);
+        return code.prepend_constant(true, exits);
     }
     let words = code.words();
-    put_less(code, at + 1, left - 1, rest, exits)?;
+    prepend_less(code, at + 1, left - 1, rest, exits)?;
     let same = code.exits_before(words, true, exits);
-    code.put_test(byte_test(at, Comparison::Equal, *byte), same)?;
+    code.prepend_test(byte_test(at, Comparison::Equal, *byte), same)?;
     let less = code.exits_before(words, false, exits);
-    code.put_test(byte_test(at, Comparison::Less, *byte), less)
+    code.prepend_test(byte_test(at, Comparison::Less, *byte), less)
 }
 
 /// Writes the code that asks whether the rest of a field is greater than a text.
-fn put_greater<A: Allocator + Copy>(
-    code: &mut CodeEnd<A>,
+fn prepend_greater<A: Allocator + Copy>(
+    code: &mut CodeSuffix<A>,
     at: u8,
     left: u8,
     text: &[u8],
     exits: Exits,
 ) -> Result<(), CompileFault>
-    requires inside { exits.beyond ≤ word_count code.old }
+    requires inside { exits.skip ≤ word_count code.old }
     requires fits { at + left ≤ RECORD_LENGTH }
     requires short { left ≤ NAME_LENGTH }
-    ensures { Puts result (is_greater at left text.now) exits code.old code.new }
+    ensures { Prepends result (is_greater at left text.now) exits code.old code.new }
 {
     if left == 0 {
-        return code.put_decided(false, exits);
+        return code.prepend_constant(false, exits);
     }
     let Some((byte, rest)) = text.split_first() else {
-        return put_bytes(code, at, &BLANKS[..usize::from(left)], exits.asked(false));
+        return prepend_bytes(code, at, &BLANKS[..usize::from(left)], exits.asked(false));
     };
     let words = code.words();
-    put_greater(code, at + 1, left - 1, rest, exits)?;
+    prepend_greater(code, at + 1, left - 1, rest, exits)?;
     let same = code.exits_before(words, true, exits);
-    code.put_test(byte_test(at, Comparison::Equal, *byte), same)?;
+    code.prepend_test(byte_test(at, Comparison::Equal, *byte), same)?;
     let greater = code.exits_before(words, false, exits);
-    code.put_test(byte_test(at, Comparison::Greater, *byte), greater)
+    code.prepend_test(byte_test(at, Comparison::Greater, *byte), greater)
 }
 
 /// Returns the test that compares a byte of the record.

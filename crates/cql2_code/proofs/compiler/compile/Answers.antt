@@ -8,66 +8,66 @@ use Rattle.bpf_insn.specs.declared.register.WritableRegister.{WritableRegister}
 use Rattle.bpf_verify.specs.Annotation.{HasGoodAnnotation}
 use Rattle.cql2_code.specs.Chosen.{Chooses}
 use Rattle.cql2_code.specs.declared.fault.CompileFault.TheVariants.{Memory, TooLong}
-use Rattle.cql2_code.specs.Layout.{IsTooLong, MayBeRefused, answer_code, chosen_code, copy, program, r1, score_code, w6}
+use Rattle.cql2_code.specs.Layout.{IsTooLong, MayBeRefused, answer_code, chosen_code, copy, program, from_argument_1, score_code, into_record}
 use Rattle.cql2_code.specs.Lowering.{asks_whether}
 use Rattle.cql2_code.proofs.Compiled.{accepted, chooses, chosen_words, end_refused, end_written, forward, if_ok, program_written, question_refused}
 use Rattle.cql2_code.proofs.Refused.{refused_by}
 use Rattle.cql2_code.proofs.compiler.compile.Goals as goal
 
-pub returns-in_err-put_answer-clause-err : goal.returns-in_err-put_answer-clause-err
-returns-in_err-put_answer-clause-err g c =
+pub returns-in_err-prepend_answer-clause-err : goal.returns-in_err-prepend_answer-clause-err
+returns-in_err-prepend_answer-clause-err g c =
     let score = c.args.score in
     let last = ap (λ (rest : List Insn). chosen_code score ++ (answer_code 0 ++ rest)) (sym c.new-code.ensures) in
     refused_by c.from_residual.result c.from_residual.ensures.1
-    (end_refused score (asks_whether c.args.filter.now true) (chosen_code score) last c.in_err-put_answer.ensures)
+    (end_refused score (asks_whether c.args.filter.now true) (chosen_code score) last c.in_err-prepend_answer.ensures)
 
-pub returns-in_err-put_answer-2-clause-err : goal.returns-in_err-put_answer-2-clause-err
-returns-in_err-put_answer-2-clause-err g c =
+pub returns-in_err-prepend_answer-2-clause-err : goal.returns-in_err-prepend_answer-2-clause-err
+returns-in_err-prepend_answer-2-clause-err g c =
     let score = c.args.score in
-    let first : c.put_answer.new.code ≡ answer_code 0 =
-    c.in_ok-put_answer.ensures ∙ ap (λ (rest : List Insn). answer_code 0 ++ rest) c.new-code.ensures in
-    refused_by c.from_residual-in_err-put_answer-2.result c.from_residual-in_err-put_answer-2.ensures.1
+    let first : c.prepend_answer.new.code ≡ answer_code 0 =
+    c.in_ok-prepend_answer.ensures ∙ ap (λ (rest : List Insn). answer_code 0 ++ rest) c.new-code.ensures in
+    refused_by c.from_residual-in_err-prepend_answer-2.result c.from_residual-in_err-prepend_answer-2.ensures.1
     (end_refused score (asks_whether c.args.filter.now true) (score_code score) (sym (end_written score first refl refl))
-    c.in_err-put_answer-2.ensures)
+    c.in_err-prepend_answer-2.ensures)
 
-pub returns-in_err-put_score-clause-err : goal.returns-in_err-put_score-clause-err
-returns-in_err-put_score-clause-err g c =
+pub returns-in_err-prepend_score-clause-err : goal.returns-in_err-prepend_score-clause-err
+returns-in_err-prepend_score-clause-err g c =
     let score = c.args.score in
-    let first : c.put_answer.new.code ≡ answer_code 0 =
-    c.in_ok-put_answer.ensures ∙ ap (λ (rest : List Insn). answer_code 0 ++ rest) c.new-code.ensures in
-    refused_by c.from_residual-in_err-put_score.result c.from_residual-in_err-put_score.ensures.1
-    (end_refused score (asks_whether c.args.filter.now true) [] (sym (end_written score first c.in_ok-put_answer-2.ensures refl))
-    c.in_err-put_score.ensures)
+    let first : c.prepend_answer.new.code ≡ answer_code 0 =
+    c.in_ok-prepend_answer.ensures ∙ ap (λ (rest : List Insn). answer_code 0 ++ rest) c.new-code.ensures in
+    refused_by c.from_residual-in_err-prepend_score.result c.from_residual-in_err-prepend_score.ensures.1
+    (end_refused score (asks_whether c.args.filter.now true) [] (sym (end_written score first c.in_ok-prepend_answer-2.ensures refl))
+    c.in_err-prepend_score.ensures)
 
-pub returns-in_err-put-clause-err : goal.returns-in_err-put-clause-err
-returns-in_err-put-clause-err g c =
+pub returns-in_err-prepend_filter-clause-err : goal.returns-in_err-prepend_filter-clause-err
+returns-in_err-prepend_filter-clause-err g c =
     let score = c.args.score in
-    let first : c.put_answer.new.code ≡ answer_code 0 =
-    c.in_ok-put_answer.ensures ∙ ap (λ (rest : List Insn). answer_code 0 ++ rest) c.new-code.ensures in
-    let end = end_written score first c.in_ok-put_answer-2.ensures c.in_ok-put_score.ensures in
-    let beyond : c.words.result - c.words-words.result ≡ word_count (chosen_code score) =
+    let first : c.prepend_answer.new.code ≡ answer_code 0 =
+    c.in_ok-prepend_answer.ensures ∙ ap (λ (rest : List Insn). answer_code 0 ++ rest) c.new-code.ensures in
+    let end = end_written score first c.in_ok-prepend_answer-2.ensures c.in_ok-prepend_score.ensures in
+    let skip : c.words.result - c.words-words.result ≡ word_count (chosen_code score) =
     ap (λ (n : ℕ). n - c.words-words.result) c.words.ensures.value
-    ∙ ap (λ (n : ℕ). word_count c.put_score.new.code - n) c.words-words.ensures.value
+    ∙ ap (λ (n : ℕ). word_count c.prepend_score.new.code - n) c.words-words.ensures.value
     ∙ chosen_words score first end in
-    refused_by c.from_residual-in_err-put.result c.from_residual-in_err-put.ensures.1
-    (question_refused score end refl beyond c.in_err-put.ensures)
+    refused_by c.from_residual-in_err-prepend_filter.result c.from_residual-in_err-prepend_filter.ensures.1
+    (question_refused score end refl skip c.in_err-prepend_filter.ensures)
 
 pub returns-in_err-prepend-clause-err : goal.returns-in_err-prepend-clause-err
 returns-in_err-prepend-clause-err g c =
     let filter = c.args.filter.now in
     let score = c.args.score in
-    let first : c.put_answer.new.code ≡ answer_code 0 =
-    c.in_ok-put_answer.ensures ∙ ap (λ (rest : List Insn). answer_code 0 ++ rest) c.new-code.ensures in
-    let end = end_written score first c.in_ok-put_answer-2.ensures c.in_ok-put_score.ensures in
-    let beyond : c.words.result - c.words-words.result ≡ word_count (chosen_code score) =
+    let first : c.prepend_answer.new.code ≡ answer_code 0 =
+    c.in_ok-prepend_answer.ensures ∙ ap (λ (rest : List Insn). answer_code 0 ++ rest) c.new-code.ensures in
+    let end = end_written score first c.in_ok-prepend_answer-2.ensures c.in_ok-prepend_score.ensures in
+    let skip : c.words.result - c.words-words.result ≡ word_count (chosen_code score) =
     ap (λ (n : ℕ). n - c.words-words.result) c.words.ensures.value
-    ∙ ap (λ (n : ℕ). word_count c.put_score.new.code - n) c.words-words.ensures.value
+    ∙ ap (λ (n : ℕ). word_count c.prepend_score.new.code - n) c.words-words.ensures.value
     ∙ chosen_words score first end in
-    let keep : c.copy.result ≡ copy w6 r1 =
-    c.copy.ensures ∙ ap (λ (register : WritableRegister). copy register c.r1.result) c.w6.ensures
-    ∙ ap (λ (source : Register). copy w6 source) c.r1.ensures in
-    let whole : c.copy.result ∷ c.put.new.code ≡ program score (asks_whether filter true) =
-    ap (λ (insn : Insn). insn ∷ c.put.new.code) keep ∙ program_written score end refl beyond c.in_ok-put.ensures in
+    let keep : c.copy.result ≡ copy into_record from_argument_1 =
+    c.copy.ensures ∙ ap (λ (register : WritableRegister). copy register c.from_argument_1.result) c.into_record.ensures
+    ∙ ap (λ (source : Register). copy into_record source) c.from_argument_1.ensures in
+    let whole : c.copy.result ∷ c.prepend_filter.new.code ≡ program score (asks_whether filter true) =
+    ap (λ (insn : Insn). insn ∷ c.prepend_filter.new.code) keep ∙ program_written score end refl skip c.in_ok-prepend_filter.ensures in
     refused_by c.from_residual-in_err-prepend.result c.from_residual-in_err-prepend.ensures.1
     (subst (λ (code : List Insn). MayBeRefused code c.in_err-prepend.field-0.0) whole c.in_err-prepend.ensures)
 
@@ -75,19 +75,19 @@ pub returns : goal.returns
 returns g c =
     let filter = c.args.filter.now in
     let score = c.args.score in
-    let first : c.put_answer.new.code ≡ answer_code 0 =
-    c.in_ok-put_answer.ensures ∙ ap (λ (rest : List Insn). answer_code 0 ++ rest) c.new-code.ensures in
-    let end = end_written score first c.in_ok-put_answer-2.ensures c.in_ok-put_score.ensures in
-    let beyond : c.words.result - c.words-words.result ≡ word_count (chosen_code score) =
+    let first : c.prepend_answer.new.code ≡ answer_code 0 =
+    c.in_ok-prepend_answer.ensures ∙ ap (λ (rest : List Insn). answer_code 0 ++ rest) c.new-code.ensures in
+    let end = end_written score first c.in_ok-prepend_answer-2.ensures c.in_ok-prepend_score.ensures in
+    let skip : c.words.result - c.words-words.result ≡ word_count (chosen_code score) =
     ap (λ (n : ℕ). n - c.words-words.result) c.words.ensures.value
-    ∙ ap (λ (n : ℕ). word_count c.put_score.new.code - n) c.words-words.ensures.value
+    ∙ ap (λ (n : ℕ). word_count c.prepend_score.new.code - n) c.words-words.ensures.value
     ∙ chosen_words score first end in
-    let keep : c.copy.result ≡ copy w6 r1 =
-    c.copy.ensures ∙ ap (λ (register : WritableRegister). copy register c.r1.result) c.w6.ensures
-    ∙ ap (λ (source : Register). copy w6 source) c.r1.ensures in
+    let keep : c.copy.result ≡ copy into_record from_argument_1 =
+    c.copy.ensures ∙ ap (λ (register : WritableRegister). copy register c.from_argument_1.result) c.into_record.ensures
+    ∙ ap (λ (source : Register). copy into_record source) c.from_argument_1.ensures in
     let whole : c.prepend.new.self ≡ program score (asks_whether filter true) =
-    c.in_ok-prepend.ensures ∙ ap (λ (insn : Insn). insn ∷ c.put.new.code) keep
-    ∙ program_written score end refl beyond c.in_ok-put.ensures in
+    c.in_ok-prepend.ensures ∙ ap (λ (insn : Insn). insn ∷ c.prepend_filter.new.code) keep
+    ∙ program_written score end refl skip c.in_ok-prepend_filter.ensures in
     record {
       chooses = if_ok (λ code. Chooses code filter score) c.into_code.result c.into_code.ensures.ok (chooses _ filter score whole);
       forward = if_ok IsForward c.into_code.result c.into_code.ensures.ok (forward _ filter score whole);

@@ -4,7 +4,7 @@ use Rattle.std.specs.Prelude.{FitsSigned}
 use Rattle.bpf_insn.specs.declared.instruction.Insn.TheVariants.{StoreImmediate}
 use Rattle.bpf_insn.specs.declared.instruction.StoreSize.TheVariants as store
 use Rattle.bpf_insn.specs.declared.register.Register.{Register}
-use Rattle.cql2_code.specs.Layout.{r10}
+use Rattle.cql2_code.specs.Layout.{from_frame}
 use Rattle.cql2_code.specs.Question.{bytes_value}
 use Rattle.cql2_code.proofs.instructions.store_word.Goals as goal
 
@@ -24,6 +24,6 @@ returns c =
     to_z-of_z w32 c.signed_word.result fits ∙ c.signed_word.ensures
     ∙ ap (λ (n : ℕ). to_z w32 (bytes_value (take n (drop (c.from-from.result * 4) name)))) count
     ∙ ap (λ (n : ℕ). to_z w32 (bytes_value (take 4 (drop n name)))) at in
-    ap (λ (base : Register). StoreImmediate store.Word base difference stored) c.r10.ensures
-    ∙ ap (λ (z : ℤ). StoreImmediate store.Word r10 z stored) offset
-    ∙ ap (λ (z : ℤ). StoreImmediate store.Word r10 (negsuc (31 - 4 * word)) z) number
+    ap (λ (base : Register). StoreImmediate store.Word base difference stored) c.from_frame.ensures
+    ∙ ap (λ (z : ℤ). StoreImmediate store.Word from_frame z stored) offset
+    ∙ ap (λ (z : ℤ). StoreImmediate store.Word from_frame (negsuc (31 - 4 * word)) z) number

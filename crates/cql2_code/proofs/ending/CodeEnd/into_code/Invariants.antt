@@ -1,5 +1,0 @@
-use Rattle.std.proofs.Common.{◌≡◌, map}
-use Rattle.cql2_code.proofs.ending.CodeEnd.into_code.Given as goal
-
-abbrev pub invariant-loop-insn : goal.invariant-loop-insn
-invariant-loop-insn g l = l.builder ≡ map (λ insn. insn.now) l.yielded

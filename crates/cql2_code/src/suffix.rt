@@ -1,0 +1,227 @@
+//! Code written back to front, so that each jump's distance is known when it is written.
+ghost use Rattle.std.specs.Prelude.{◌≡◌, ◌≤◌, ◌<◌, ◌-◌, ◌∷◌, ◌++◌, [], pos, IfErr, IfOk, MatchResult};
+ghost use Rattle.bpf_insn.specs.Code.{word_count};
+ghost use Rattle.bpf_insn.specs.declared.code.TheConstants.{WORD_LIMIT};
+ghost use Rattle.cql2_code.specs.Layout.{IsBefore, IsPrepended, IsTooLong, Prepends, call, comparison_code, move, store_name, subject_code, into_argument_1};
+ghost use Rattle.cql2_code.specs.Question.{Decided, Holds};
+ghost use Rattle.cql2_code.specs.declared.fault.CompileFault.TheVariants.{Memory, TooLong};
+ghost use Rattle.cql2_code.specs.declared.question.Subject.TheVariants.{InRange, NameIs};
+
+use crate::fault::CompileFault;
+use crate::instructions::{
+    call, copy, from_argument_1, from_frame, into_argument_1, into_argument_2, into_argument_3,
+    jump, jump_if, load, move_number, move_to_name, set_number, store_word, wide_load,
+};
+use crate::question::{Exits, Subject, Test, coordinate_id, field_id, opposite};
+use bpf_helpers::Helper;
+use bpf_insn::{Code, CodeBuilder, Insn, Source, WORD_LIMIT};
+use cql2::Comparison;
+use std::alloc::Allocator;
+use std::marker::Model;
+
+/// The last instructions of a code. Contracts see them as a list.
+#[derive(Drop)]
+pub(crate) struct CodeSuffix<A: Allocator> {
+    reversed: Vec<Insn, A>,
+    words: usize,
+}
+
+impl<A: Allocator> Model for CodeSuffix<A> {
+    ghost use Rattle.std.specs.Prelude.{◌≡◌, ◌≤◌, IsFalse, List, reverse};
+    ghost use Rattle.std.specs.List.{list_any};
+    ghost use Rattle.cql2_code.specs.Layout.{is_far_jump};
+    ghost use Rattle.bpf_insn.specs.Code.{word_count};
+    ghost use Rattle.bpf_insn.specs.declared.code.TheConstants.{WORD_LIMIT};
+    ghost use Rattle.bpf_insn.specs.declared.instruction.Insn.{Insn};
+
+    ghost Value = { List Insn };
+
+    ghost view = { λ suffix. reverse suffix.reversed.items };
+
+    ghost invariant = { λ suffix. (suffix.words ≡ word_count (reverse suffix.reversed.items)) × (suffix.words ≤ WORD_LIMIT)
+        × IsFalse (list_any is_far_jump (reverse suffix.reversed.items)) };
+}
+
+impl<A: Allocator + Copy> CodeSuffix<A> {
+    /// Returns a suffix with no instructions.
+    pub fn new(alloc: A) -> Self
+        ensures { result ≡ [] }
+    {
+        CodeSuffix {
+            reversed: Vec::new(alloc),
+            words: 0,
+        }
+    }
+
+    /// Returns the number of words in the instructions.
+    pub fn words(&self) -> usize
+        ensures value { result ≡ word_count self.now }
+        ensures few { result ≤ WORD_LIMIT }
+    {
+        self.words
+    }
+
+    /// Adds an instruction before the others.
+    pub fn prepend(&mut self, insn: Insn) -> Result<(), CompileFault>
+        ensures { IsPrepended result (insn ∷ self.old) self.new }
+    {
+        let words = self.words + insn.words();
+        if words > WORD_LIMIT {
+            return Err(CompileFault::TooLong);
+        }
+        self.reversed.reserve(1)?;
+        self.reversed.push_reserved(insn);
+        self.words = words;
+        Ok(())
+    }
+
+    /// Returns the completed code.
+    pub fn into_code(self, alloc: A) -> Result<Code<A>, CompileFault>
+        ensures ok { IfOk result (λ code. code ≡ self) }
+        ensures err { IfErr result (λ fault. fault ≡ Memory) }
+        ensures fits { ¬ IsTooLong self }
+    {
+        let mut builder = CodeBuilder::new(alloc);
+        for insn in self.reversed.iter().rev() {
+            let Ok(()) = builder.push(*insn) else {
+                return Err(CompileFault::Memory);
+            };
+        }
+        let Ok(code) = builder.finish() else {
+            return Err(CompileFault::Memory);
+        };
+        Ok(code)
+    }
+
+    /// Returns the exits of the first of two questions. The code had `words` words before the second question was written.
+    pub fn exits_before(&self, words: usize, neutral: bool, exits: Exits) -> Exits
+        requires written { words ≤ word_count self.now }
+        requires inside { exits.skip ≤ words }
+        ensures before { IsBefore neutral exits result (word_count self.now - words) }
+        ensures inside { result.skip ≤ word_count self.now }
+    {
+        let second = self.words() - words;
+        let skip = if exits.falls == neutral {
+            second + exits.skip
+        } else {
+            second
+        };
+        Exits {
+            falls: neutral,
+            skip,
+        }
+    }
+
+    /// Writes the code of a question whose answer is known.
+    pub fn prepend_constant(&mut self, found: bool, exits: Exits) -> Result<(), CompileFault>
+        ensures { Prepends result (Decided found) exits self.old self.new }
+    {
+        if found == exits.falls {
+            return Ok(());
+        }
+        let distance = distance_of(exits)?;
+        self.prepend(jump(distance))
+    }
+
+    /// Writes the code of a test.
+    pub fn prepend_test(&mut self, test: Test, exits: Exits) -> Result<(), CompileFault>
+        ensures { Prepends result (Holds test) exits self.old self.new }
+    {
+        let comparison = if exits.falls {
+            opposite(test.comparison)
+        } else {
+            test.comparison
+        };
+        self.prepend_comparison(comparison, test.operand, exits)?;
+        self.prepend_subject(test.subject)?;
+        Ok(())
+    }
+
+    /// Writes a jump that is taken if a comparison of register 0 holds.
+    fn prepend_comparison(
+        &mut self,
+        comparison: Comparison,
+        operand: i64,
+        exits: Exits,
+    ) -> Result<(), CompileFault>
+        ensures { IsPrepended result (comparison_code comparison operand exits.skip ++ self.old) self.new }
+    {
+        let distance = distance_of(exits)?;
+        match i32::try_from(operand) {
+            Ok(operand) => self.prepend(jump_if(comparison, Source::Immediate(operand), distance)),
+            Err(_) => {
+                self.prepend(jump_if(comparison, Source::Register(from_argument_1()), distance))?;
+                self.prepend(wide_load(into_argument_1(), operand.cast_unsigned()))
+            }
+        }
+    }
+
+    /// Writes the code that puts a number into register 0.
+    pub fn prepend_subject(&mut self, subject: Subject) -> Result<(), CompileFault>
+        ensures { IsPrepended result (subject_code subject ++ self.old) self.new }
+    {
+        match subject {
+            Subject::Number(column) => self.prepend_call(Helper::Field, field_id(column)),
+            Subject::HasNumber(column) => self.prepend_call(Helper::Has, field_id(column)),
+            Subject::Coordinate(column) => self.prepend_call(Helper::Coord, coordinate_id(column)),
+            Subject::Names => self.prepend(call(Helper::Names)),
+            Subject::Ranges => self.prepend(call(Helper::Ranges)),
+            Subject::InRange(range, house) => self.prepend_in_range(range, house),
+            Subject::NameIs(name, wanted) => self.prepend_name_is(name, &wanted),
+            Subject::Load(chunk, at) => self.prepend(load(chunk, at)),
+        }
+    }
+
+    /// Writes a call of a helper function with one argument.
+    fn prepend_call(&mut self, helper: Helper, argument: u8) -> Result<(), CompileFault>
+        ensures { IsPrepended result (move into_argument_1 (pos argument) ∷ call helper ∷ self.old) self.new }
+    {
+        self.prepend(call(helper))?;
+        self.prepend(move_number(into_argument_1(), i32::from(argument)))
+    }
+
+    /// Writes the call that returns the sides of a range on which a house number lies.
+    fn prepend_in_range(&mut self, range: u16, house: u64) -> Result<(), CompileFault>
+        ensures { IsPrepended result (subject_code (InRange range house) ++ self.old) self.new }
+    {
+        self.prepend(call(Helper::InRange))?;
+        self.prepend(set_number(into_argument_2(), house))?;
+        self.prepend(move_number(into_argument_1(), i32::from(range)))
+    }
+
+    /// Writes the call that compares a name with bytes, preceded by the stores of those bytes in the frame.
+    fn prepend_name_is(&mut self, name: u16, wanted: &[u8; 32]) -> Result<(), CompileFault>
+        ensures { IsPrepended result (subject_code (NameIs name wanted.now) ++ self.old) self.new }
+    {
+        self.prepend(call(Helper::NameIs))?;
+        self.prepend_name(wanted)?;
+        self.prepend(move_number(into_argument_3(), 30))?;
+        self.prepend(move_to_name())?;
+        self.prepend(copy(into_argument_2(), from_frame()))?;
+        self.prepend(move_number(into_argument_1(), i32::from(name)))
+    }
+
+    /// Writes the stores of a name.
+    fn prepend_name(&mut self, wanted: &[u8; 32]) -> Result<(), CompileFault>
+        ensures { IsPrepended result (store_name wanted.now ++ self.old) self.new }
+    {
+        self.prepend(store_word(7, wanted))?;
+        self.prepend(store_word(6, wanted))?;
+        self.prepend(store_word(5, wanted))?;
+        self.prepend(store_word(4, wanted))?;
+        self.prepend(store_word(3, wanted))?;
+        self.prepend(store_word(2, wanted))?;
+        self.prepend(store_word(1, wanted))?;
+        self.prepend(store_word(0, wanted))
+    }
+}
+
+/// Returns the distance that a question's code jumps past its end, in the type of a jump's field.
+fn distance_of(exits: Exits) -> Result<i16, CompileFault>
+    ensures { MatchResult result (λ distance. distance ≡ pos exits.skip) (λ fault. (fault ≡ TooLong) × (32767 < exits.skip)) }
+{
+    match i16::try_from(exits.skip) {
+        Ok(distance) => Ok(distance),
+        Err(_) => Err(CompileFault::TooLong),
+    }
+}
