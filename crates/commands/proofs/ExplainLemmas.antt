@@ -1,16 +1,14 @@
 -- How `explain` is carried out.
-use Rattle.std.proofs.Common.{◌≡◌, ℕ, List, [], Option, Some, Result, Ok, Err, Bor, refl, ap, sym, subst, inl, inr, arith, ◌∙◌}
+use Rattle.std.proofs.Common.{◌≡◌, ℕ, List, Option, Some, Result, Ok, Err, Bor, refl, ap, subst, inl, inr, arith}
 use Rattle.std.proofs.Math.Path.{fun_ext}
 use Rattle.std.specs.Io.KnownBytes.{Keeps}
 use Rattle.bpf_explain.specs.Explanation.{IsExplained}
 use Rattle.bpf_explain.specs.LinesFault as lines_fault
 use Rattle.bpf_explain.specs.SourceLines.{SourceLine, lines_in}
 use Rattle.bpf_explain.specs.declared.source_lines.LinesFault.{LinesFault}
-use Rattle.bpf_insn.specs.Code.{IsCodeOf}
 use Rattle.bpf_insn.specs.declared.instruction.Insn.{Insn}
 use Rattle.bpf_program.specs.ProgramFault as program_fault
 use Rattle.bpf_program.specs.declared.program.ProgramFault.{ProgramFault}
-use Rattle.bpf_program.specs.declared.program.ProgramFault.TheVariants as program
 use Rattle.bpf_meaning.specs.declared.cause.Cause.{Cause}
 use Rattle.refusals.specs.Refusal.{RefusalParts, memory}
 use Rattle.bpf_verify.specs.VerifyFault as verify_fault
@@ -20,7 +18,7 @@ use Rattle.counted_io.specs.Device.{WriteCounts, Writer}
 use Rattle.counted_io.specs.Writing.{WritesText}
 use Rattle.commands.specs.Command.{CarriesOut}
 use Rattle.commands.specs.Explain.{HoldsLines, Inputs, IsFlowFault, WritesExplained, of_lines, of_memory, of_program, of_verdict}
-use Rattle.commands.specs.Failure.{NamesFile, TellsCounts, refusal_status}
+use Rattle.commands.specs.Failure.{refusal_status}
 use Rattle.named_files.specs.Files.{Disk, IsUnfailed}
 use Rattle.commands.specs.declared.explain.Explain.{Explain}
 use Rattle.commands.specs.declared.failure.Failure.{Failure}

@@ -1,5 +1,5 @@
 -- How `run` is carried out, by the outcome of its extract.
-use Rattle.std.proofs.Common.{◌≡◌, ◌⊎◌, ℕ, List, Option, Err, inl, inr, refl, ap, sym, subst, arith, ◌∙◌}
+use Rattle.std.proofs.Common.{◌≡◌, ℕ, List, Option, Err, inl, inr, refl, ap, sym, subst, arith, ◌∙◌}
 use Rattle.bpf_insn.specs.declared.instruction.Insn.{Insn}
 use Rattle.extract.specs.ExtractFault as extract_fault
 use Rattle.extract.specs.Extracting as extracting

@@ -23,7 +23,6 @@ use Rattle.refusals.specs.Refusal.{RefusalParts, memory}
 use Rattle.counted_io.specs.Device.{Writer}
 use Rattle.counted_io.specs.Writing.{WritesText}
 use Rattle.counted_io.specs.declared.writing.WriteFault.{WriteFault}
-use Rattle.commands.specs.Failure.{NamesFile}
 use Rattle.named_files.specs.Files.{Disk, IsFailed}
 use Rattle.commands.specs.declared.explain.Explain.{Explain}
 use Rattle.commands.specs.declared.failure.Failure.{Failure}
