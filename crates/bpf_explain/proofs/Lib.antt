@@ -1,8 +1,2 @@
-pub mod LoopLemmas
-pub mod SplitLemmas
-pub mod TextLemmas
-pub mod SourceLemmas
 pub mod ListingLemmas
-pub mod SlotLemmas
-pub mod NoteLemmas
 pub mod PrefixLemmas

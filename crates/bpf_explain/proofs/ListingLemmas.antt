@@ -20,12 +20,12 @@ use Rattle.bpf_verify.specs.Annotation.{Annotation, IsLeastUpTo, IsRefusedAt}
 use Rattle.bpf_verify.specs.Transfer.{transfer}
 use Rattle.bpf_verify.specs.Visit.{Visit, IsShownUpTo, visit_at, visited_all, visits_from}
 use Rattle.bpf_verify.specs.declared.known.Known.{Known}
-use Rattle.bpf_explain.specs.Facts.{note_text, noted, prefix_text}
+use Rattle.bpf_notes.specs.Facts.{note_text, noted, prefix_text}
 use Rattle.bpf_explain.specs.Explanation.{ExplainsRefusal}
 use Rattle.bpf_explain.specs.Listing.{ListingParts, empty, known_after, lines_after, lines_until, listing, refusal_line, refused_text, source_text}
 use Rattle.bpf_explain.specs.Listing.{sources_text, visit_text, visited}
-use Rattle.bpf_explain.specs.SourceLines.{SourceLine, line_of}
-use Rattle.bpf_explain.specs.declared.source_lines.PlacedLine.{PlacedLine}
+use Rattle.bpf_source_lines.specs.SourceLines.{SourceLine, line_of}
+use Rattle.bpf_source_lines.specs.declared.source_lines.PlacedLine.{PlacedLine}
 
 -- the number of lines up to a place, if none is after it
 pub count-missing : {X : Type 0} (p : X → Bool) (xs : List X) → None ≡ position p xs → length xs ≡ position_or_len p xs

@@ -10,7 +10,7 @@ use Rattle.bpf_verify.specs.Visit.{visits_from}
 use Rattle.bpf_verify.specs.declared.fault.VerifyFault.{VerifyFault}
 use Rattle.bpf_verify.specs.declared.fault.VerifyFault.TheVariants.{Refused, Memory}
 use Rattle.bpf_verify.specs.declared.known.Known.{Known}
-use Rattle.bpf_explain.specs.SourceLines.{SourceLine}
+use Rattle.bpf_source_lines.specs.SourceLines.{SourceLine}
 use Rattle.bpf_explain.specs.Listing.{accepted_text, listing, refusal_line}
 use Rattle.bpf_verify.specs.Annotation.{HasGoodAnnotation, IsRefusedAt}
 

@@ -11,10 +11,10 @@ use Rattle.bpf_insn.specs.declared.instruction.Insn.TheVariants.{Call}
 use Rattle.bpf_meaning.specs.declared.cause.Cause.{Cause}
 use Rattle.bpf_meaning.specs.declared.cause.Cause.TheVariants as cause
 use Rattle.bpf_verify.specs.declared.known.Known.{Known}
-use Rattle.bpf_explain.specs.Facts.{facts_text}
-use Rattle.bpf_explain.specs.Notation.{fact_text}
-use Rattle.bpf_explain.specs.Reads.{helper_of, registers_read, slots_read}
-use Rattle.bpf_explain.specs.declared.notation.Part.{Part}
+use Rattle.bpf_notes.specs.Facts.{facts_text}
+use Rattle.bpf_notes.specs.Notation.{fact_text}
+use Rattle.bpf_notes.specs.Reads.{helper_of, registers_read, slots_read}
+use Rattle.bpf_notes.specs.declared.notation.Part.{Part}
 use Rattle.bpf_explain.specs.Access.{access_text, base_text, offset_if, register_fact}
 use Rattle.bpf_explain.specs.Reach.{outside, unwritten}
 

@@ -1,10 +1,5 @@
-pub mod Notation
-pub mod Reads
-pub mod Facts
 pub mod Access
 pub mod Reach
 pub mod Failure
-pub mod SourceLines
-pub mod LinesFault
 pub mod Listing
 pub mod Explanation

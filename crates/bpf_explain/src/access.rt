@@ -6,9 +6,9 @@ ghost use Rattle.bpf_insn.specs.Memory.{store_length};
 ghost use Rattle.bpf_verify.specs.AbstractState.{IsProperKnown, kind_of};
 ghost use Rattle.bpf_explain.specs.Access.{access_facts, access_of, access_text, base_text, offset_if, offset_text, register_fact};
 
-use crate::notation::push_kind;
 use bpf_insn::{Insn, Register, StoreSize, load_length, store_length};
 use bpf_kinds::Kind;
+use bpf_notes::push_kind;
 use bpf_verify::Known;
 use itoa::Buffer;
 use std::alloc::{AllocError, Allocator};

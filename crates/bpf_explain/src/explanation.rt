@@ -1,12 +1,12 @@
 //! The verifier's verdict on a program, with a listing that explains it.
 ghost use Rattle.std.specs.Prelude.{IfErr, IfOk};
 ghost use Rattle.bpf_explain.specs.Explanation.{IsExplained};
-ghost use Rattle.bpf_explain.specs.SourceLines.{parts_of};
+ghost use Rattle.bpf_source_lines.specs.SourceLines.{parts_of};
 ghost use Rattle.bpf_verify.specs.Annotation.{HasGoodAnnotation};
 
 use crate::listing::Listing;
-use crate::source_lines::SourceLines;
 use bpf_flow::Flow;
+use bpf_source_lines::SourceLines;
 use bpf_verify::{VerifyFault, verify_with};
 use std::alloc::{AllocError, Allocator};
 

@@ -5,16 +5,14 @@ ghost use Rattle.std.specs.String.{string_bytes};
 ghost use Rattle.bpf_verify.specs.AbstractState.{IsProperKnown};
 ghost use Rattle.bpf_explain.specs.Failure.{argument_text, called_number, failure_facts, failure_text, failure_words, more_facts, registers_text, slots_text};
 ghost use Rattle.bpf_explain.specs.Failure.{requirement, requirement_of, requirement_text};
-ghost use Rattle.bpf_explain.specs.Notation.{IsPart};
+ghost use Rattle.bpf_notes.specs.Notation.{IsPart};
 
 use crate::access::{push_access_if, push_base, push_number, push_offset_if, push_register};
-use crate::facts::push_facts;
-use crate::notation::{Part, push_fact};
 use crate::reach::{push_outside, push_unwritten};
-use crate::reads::{helper_of, registers_read, slots_read};
 use bpf_helpers::{Argument, Helper};
 use bpf_insn::Insn;
 use bpf_meaning::Cause;
+use bpf_notes::{Part, helper_of, push_fact, push_facts, registers_read, slots_read};
 use bpf_verify::Known;
 use std::alloc::{AllocError, Allocator};
 

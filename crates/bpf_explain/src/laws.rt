@@ -1,47 +1,17 @@
 //! Laws over the definitions, as contracts of functions that do nothing.
-ghost use Rattle.std.specs.Prelude.{◌≡◌, ◌↔◌, ◌≤◌, ℕ, IsTrue, length};
+ghost use Rattle.std.specs.Prelude.{◌≤◌, ℕ, length};
 ghost use Rattle.bpf_insn.specs.declared.instruction.Insn.{Insn};
+ghost use Rattle.bpf_notes.specs.Facts.{prefix_text};
+ghost use Rattle.bpf_source_lines.specs.declared.source_lines.TheConstants.{GREATEST_PLACE};
 ghost use Rattle.bpf_text.specs.CodeText.{NumbersFit};
-ghost use Rattle.bpf_verify.specs.AbstractState.{AbstractState, IsProper, IsProperKnown};
-ghost use Rattle.bpf_verify.specs.declared.known.Known.{Known};
-ghost use Rattle.bpf_explain.specs.Facts.{note_text, prefix_text};
-ghost use Rattle.bpf_explain.specs.Notation.{IsPart, part_name, part_text};
-ghost use Rattle.bpf_explain.specs.Reads.{HasOneOf, has_one_of};
-ghost use Rattle.bpf_explain.specs.declared.facts.TheConstants.{NOTE_COLUMN};
-ghost use Rattle.bpf_explain.specs.declared.notation.Part.{Part};
-ghost use Rattle.bpf_explain.specs.declared.reads.Bytes.{Bytes};
-ghost use Rattle.bpf_explain.specs.declared.source_lines.TheConstants.{GREATEST_PLACE, PLACE_DIGITS};
 
-/// Two states are equal if each of their parts has the same text in both: the texts show all that is known.
-pub fn texts_determine_states()
-    ensures { (known other : Known) → IsProperKnown known → IsProperKnown other
-        → ((part : Part) → IsPart part → part_text known part ≡ part_text other part) → known ≡ other }
-{}
-
-/// No two parts have the same name.
-pub fn names_determine_parts()
-    ensures { (part other : Part) → IsPart part → IsPart other → part_name part ≡ part_name other → part ≡ other }
-{}
-
-/// Two states are equal if they have the same note for an instruction, given the same last state: a part that isn't shown is unchanged.
-pub fn notes_determine_states()
-    ensures { (last : Known) (insn : Insn) (state other : AbstractState) → IsProper state → IsProper other
-        → note_text last state insn ≡ note_text last other insn → state ≡ other }
-{}
-
-/// An instruction may read a slot if one of the bytes that it may read is in the slot.
-pub fn slots_with_bytes()
-    ensures { (bytes : Bytes) (slot : ℕ) → IsTrue (has_one_of bytes slot) ↔ HasOneOf bytes slot }
-{}
+pub use bpf_notes::laws::{
+    names_determine_parts, note_column, notes_determine_states, slots_with_bytes,
+    texts_determine_states,
+};
+pub use bpf_source_lines::laws::place_limits;
 
 /// A place and its instruction have at most 38 columns, so a note always begins at its column.
 pub fn prefixes_are_short()
     ensures { (place : ℕ) (insn : Insn) → place ≤ GREATEST_PLACE → NumbersFit insn → length (prefix_text place insn) ≤ 38 }
-{}
-
-/// Notes begin at column 40, and places have up to five digits and go up to 65535.
-pub fn limits()
-    ensures note_column { NOTE_COLUMN ≡ 40 }
-    ensures greatest_place { GREATEST_PLACE ≡ 65535 }
-    ensures place_digits { PLACE_DIGITS ≡ 5 }
 {}

@@ -3,15 +3,11 @@
 
 mod access;
 mod explanation;
-mod facts;
 mod failure;
 pub mod laws;
 mod listing;
-mod notation;
 mod reach;
-mod reads;
-mod source_lines;
 
+pub use bpf_notes::Part;
+pub use bpf_source_lines::{LineFlaw, LinesFault, SourceLines};
 pub use explanation::{Explanation, explain};
-pub use notation::Part;
-pub use source_lines::{LineFlaw, LinesFault, SourceLines};

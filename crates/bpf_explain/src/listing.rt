@@ -4,15 +4,15 @@ ghost use Rattle.std.specs.List.{position, position_or_len};
 ghost use Rattle.std.specs.String.{string_bytes};
 ghost use Rattle.bpf_explain.specs.Listing.{accepted_text, empty, lines_after, lines_until, refusal_line, refused_text, source_text, sources_text};
 ghost use Rattle.bpf_verify.specs.AbstractState.{IsProperKnown};
-ghost use Rattle.bpf_explain.specs.Facts.{noted, prefix_text};
+ghost use Rattle.bpf_notes.specs.Facts.{noted, prefix_text};
 ghost use Rattle.std.specs.Prelude.{codes, map};
-ghost use Rattle.bpf_explain.specs.SourceLines.{line_of};
+ghost use Rattle.bpf_source_lines.specs.SourceLines.{line_of};
 
-use crate::facts::{note, push_instruction_line};
 use crate::failure::push_failure;
-use crate::source_lines::PlacedLine;
 use bpf_insn::Insn;
 use bpf_meaning::Cause;
+use bpf_notes::{note, push_instruction_line};
+use bpf_source_lines::PlacedLine;
 use bpf_verify::{Known, Visitor};
 use std::alloc::{AllocError, Allocator};
 use std::marker::Model;
@@ -35,7 +35,7 @@ impl<'a, A: Allocator> Model for Listing<'a, A> {
     ghost use Rattle.bpf_verify.specs.AbstractState.{IsProperKnown};
     ghost use Rattle.std.specs.Prelude.{map};
     ghost use Rattle.bpf_explain.specs.Listing.{ListingParts};
-    ghost use Rattle.bpf_explain.specs.SourceLines.{line_of};
+    ghost use Rattle.bpf_source_lines.specs.SourceLines.{line_of};
 
     ghost Value = { ListingParts };
 

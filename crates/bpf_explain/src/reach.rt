@@ -7,10 +7,10 @@ ghost use Rattle.bpf_explain.specs.Reach.{lent_facts, lent_outside, lent_unwritt
 ghost use Rattle.bpf_explain.specs.Reach.{unwritten_text, verb, writes_frame};
 
 use crate::access::{Access, access_of, push_access, push_number, push_register, push_signed};
-use crate::reads::{Bytes, bytes_from, helper_of, lent_bytes};
 use bpf_helpers::{FrameUse, Helper};
 use bpf_insn::{Area, FRAME_LENGTH, Insn};
 use bpf_kinds::{Kind, Offsets};
+use bpf_notes::{Bytes, bytes_from, helper_of, lent_bytes};
 use bpf_verify::Known;
 use std::alloc::{AllocError, Allocator};
 use tl_segments::RECORD_LENGTH;

@@ -3,9 +3,9 @@ use Rattle.std.specs.Prelude.{◌≡◌, ◌≢◌, ◌⊎◌, ℕ, List, [], Op
 use Rattle.std.specs.Borrow.{Bor}
 use Rattle.std.specs.Io.KnownBytes.{Keeps}
 use Rattle.bpf_explain.specs.Explanation.{IsExplained}
-use Rattle.bpf_explain.specs.LinesFault as lines_fault
-use Rattle.bpf_explain.specs.SourceLines.{SourceLine, lines_in}
-use Rattle.bpf_explain.specs.declared.source_lines.LinesFault.{LinesFault}
+use Rattle.bpf_source_lines.specs.LinesFault as lines_fault
+use Rattle.bpf_source_lines.specs.SourceLines.{SourceLine, lines_in}
+use Rattle.bpf_source_lines.specs.declared.source_lines.LinesFault.{LinesFault}
 use Rattle.bpf_flow.specs.Flow as flow
 use Rattle.bpf_flow.specs.Flow.{IsForward}
 use Rattle.bpf_insn.specs.Code as code

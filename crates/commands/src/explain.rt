@@ -1,7 +1,7 @@
 //! `explain`: lists a program with what the verifier knows before each instruction.
 ghost use Rattle.std.specs.Prelude.{◌≢◌, IfOk, IfErr};
 ghost use Rattle.bpf_insn.specs.Code.{IsCodeOf};
-ghost use Rattle.bpf_explain.specs.SourceLines.{parts_of};
+ghost use Rattle.bpf_source_lines.specs.SourceLines.{parts_of};
 ghost use Rattle.counted_io.specs.Device.{writer};
 ghost use Rattle.commands.specs.Command.{CarriesOut};
 ghost use Rattle.commands.specs.Explain.{HoldsLines, IsFlowFault, TellsLines, WritesExplained};

@@ -1,8 +1,8 @@
 use Rattle.std.proofs.Common.{◌≡◌, ◌∙◌, ap, map, subst, List}
 use Rattle.bpf_verify.specs.Visit.{IsShownUpTo}
 use Rattle.bpf_explain.specs.Listing.{ListingParts, empty, visited}
-use Rattle.bpf_explain.specs.SourceLines.{line_of, parts_of}
-use Rattle.bpf_explain.specs.declared.source_lines.PlacedLine.{PlacedLine}
+use Rattle.bpf_source_lines.specs.SourceLines.{line_of, parts_of}
+use Rattle.bpf_source_lines.specs.declared.source_lines.PlacedLine.{PlacedLine}
 use Rattle.bpf_explain.proofs.ListingLemmas.{refuses}
 use Rattle.bpf_explain.proofs.explanation.explain.Goals as goal
 

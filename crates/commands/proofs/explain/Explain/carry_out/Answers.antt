@@ -1,5 +1,5 @@
 use Rattle.std.proofs.Common.{refl, inl, subst, ℕ, List, Ok, Err, ◌≡◌}
-use Rattle.bpf_explain.specs.SourceLines.{lines_in, parts_of}
+use Rattle.bpf_source_lines.specs.SourceLines.{lines_in, parts_of}
 use Rattle.bpf_program.specs.declared.program.ProgramFault.TheVariants as program
 use Rattle.commands.specs.Explain.{of_program}
 use Rattle.commands.proofs.CarriedLemmas.{program_carried}

@@ -1,0 +1,5 @@
+pub mod LoopLemmas
+pub mod SplitLemmas
+pub mod TextLemmas
+pub mod NoteLemmas
+pub mod SlotLemmas

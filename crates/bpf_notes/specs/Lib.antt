@@ -1,0 +1,3 @@
+pub mod Notation
+pub mod Reads
+pub mod Facts

@@ -1,0 +1,2 @@
+pub mod SourceLines
+pub mod LinesFault

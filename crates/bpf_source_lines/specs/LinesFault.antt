@@ -1,0 +1,14 @@
+-- The refusal for a fault in a file of source lines.
+use Rattle.std.specs.Prelude.{codes}
+use Rattle.refusals.specs.Refusal.{RefusalParts, at_line, refused}
+use Rattle.bpf_source_lines.specs.declared.source_lines.LinesFault.{LinesFault}
+use Rattle.bpf_source_lines.specs.declared.source_lines.LineFlaw.{LineFlaw}
+use Rattle.bpf_source_lines.specs.declared.source_lines.LineFlaw.TheVariants.{NotText, WithoutPlace, OutOfOrder}
+
+abbrev pub flaw_refusal : LineFlaw → RefusalParts
+flaw_refusal NotText = refused 110 (codes "LineNotText")
+flaw_refusal WithoutPlace = refused 111 (codes "LineWithoutPlace")
+flaw_refusal OutOfOrder = refused 112 (codes "LineOutOfOrder")
+
+abbrev pub refusal : LinesFault → RefusalParts
+refusal fault = at_line fault.line (flaw_refusal fault.flaw)

@@ -1,0 +1,7 @@
+//! Lines of source code, each with the place in the program that it belongs to.
+#![tactic(auto)]
+
+pub mod laws;
+mod source_lines;
+
+pub use source_lines::{GREATEST_PLACE, LineFlaw, LinesFault, PlacedLine, SourceLines};
