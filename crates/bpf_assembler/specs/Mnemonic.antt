@@ -20,7 +20,8 @@ use Rattle.bpf_insn.specs.declared.instruction.LoadFormat.TheVariants as load
 use Rattle.bpf_insn.specs.declared.instruction.StoreSize.{StoreSize}
 use Rattle.bpf_insn.specs.declared.instruction.StoreSize.TheVariants as store
 use Rattle.bpf_assembler.specs.declared.mnemonic_form.MnemonicForm.{MnemonicForm}
-use Rattle.bpf_assembler.specs.declared.mnemonic_form.MnemonicForm.TheVariants.{Alu, MoveSignExtended, Negate, ByteSwap, JumpIf, Jump, LongJump, Call, Exit, Load}
+use Rattle.bpf_assembler.specs.declared.mnemonic_form.MnemonicForm.TheVariants.{Alu, MoveSignExtended, Negate, ByteSwap, JumpIf, Jump, LongJump, Call, Exit}
+use Rattle.bpf_assembler.specs.declared.mnemonic_form.MnemonicForm.TheVariants.{Load}
 use Rattle.bpf_assembler.specs.declared.mnemonic_form.MnemonicForm.TheVariants.{StoreImmediate, Store, WideLoad}
 use Rattle.bpf_assembler.specs.declared.mnemonic_form.TheConstants.{FORMS}
 

@@ -2,7 +2,8 @@
 ghost use Rattle.std.specs.Prelude.{◌≡◌, ◌<◌, IfSome, length};
 ghost use Rattle.std.specs.List.{position};
 ghost use Rattle.std.specs.Str.{bytes_eq};
-ghost use Rattle.bpf_assembler.specs.Operand.{both, form_first, register_name, register_number, register_named, register_in, destination_of, source_in, offset_in};
+ghost use Rattle.bpf_assembler.specs.Operand.{both, form_first, register_name, register_number, register_named, register_in, destination_of, source_in};
+ghost use Rattle.bpf_assembler.specs.Operand.{offset_in};
 ghost use Rattle.bpf_assembler.specs.Operand.{address_in, memory_in, target_in};
 ghost use Rattle.bpf_assembler.specs.Number.{limit_of_16_bits, limit_of_32_bits};
 ghost use Rattle.bpf_assembler.specs.View.{target_view};

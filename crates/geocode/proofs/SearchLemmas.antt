@@ -48,7 +48,7 @@ find-not street (affix ∷ affixes) (name ∷ names) others =
     (find-not street affixes names parts.1)
 
 -- a segment without the name isn't on the street
-name_on-not : (street : StreetParts) (segment : Contents) → has_name street.name segment ≡ false → name_on street segment ≡ None
+pub name_on-not : (street : StreetParts) (segment : Contents) → has_name street.name segment ≡ false → name_on street segment ≡ None
 name_on-not street segment others =
     let own = own_full_name segment.bytes in
     let parts = or-false (name_equals own.fename street.name) (list_any (λ named. name_equals named street.name) segment.names) others in

@@ -1,14 +1,16 @@
 //! Streets, as a search names them.
-ghost use Rattle.std.specs.Prelude.{◌≡◌, option_map};
+ghost use Rattle.std.specs.Prelude.{◌≡◌, ◌≤◌, length, option_map};
+ghost use Rattle.geocode.specs.Hits.{has_name};
 ghost use Rattle.geocode.specs.Matches.{IsOnByName};
 ghost use Rattle.geocode.specs.Street.{agrees, fits, name_on, parts_of};
 ghost use Rattle.tl_segments.specs.FullName.{HasNameLengths, full_name_of};
 ghost use Rattle.tl_segments.specs.Name.{name_equals};
+ghost use Rattle.tl_segments.specs.declared.name.TheConstants.{NAME_LENGTH};
 
 use crate::street_name::StreetName;
 use std::alloc::Allocator;
 use tl_fields::blank;
-use tl_segments::{FullName, Segment, name_equals};
+use tl_segments::{FullName, NAME_LENGTH, Segment, name_equals};
 
 /// The street searched for: its name, and the directions and type that the matching name must have. An empty or blank direction or type matches any.
 #[derive(Clone, Copy)]
@@ -25,6 +27,18 @@ pub struct Street<'a> {
 impl Street<'_> {
     /// Returns the first full name of the segment that is the street's.
     pub(crate) fn name_on<'s, A: Allocator>(self, segment: &'s Segment<A>) -> Option<FullName<'s>>
+        ensures value { option_map full_name_of result ≡ name_on (parts_of self.entry) segment.now }
+        ensures by_name { IsOnByName (parts_of self.entry) segment.now }
+    {
+        // Most segments don't have the name. Comparing names alone is faster than making full names.
+        if has_name(self.name.text, segment) {
+            return self.first_fitting(segment);
+        }
+        None
+    }
+
+    /// Returns the first full name of the segment that fits.
+    fn first_fitting<'s, A: Allocator>(self, segment: &'s Segment<A>) -> Option<FullName<'s>>
         ensures value { option_map full_name_of result ≡ name_on (parts_of self.entry) segment.now }
         ensures by_name { IsOnByName (parts_of self.entry) segment.now }
     {
@@ -48,6 +62,22 @@ impl Street<'_> {
             && agrees(self.kind, name.fetype)
             && agrees(self.sufdir, name.fedirs)
     }
+}
+
+/// Returns whether some name of the segment equals this one.
+fn has_name<A: Allocator>(name: &[u8], segment: &Segment<A>) -> bool
+    requires some { 1 ≤ length name.now }
+    requires few { length name.now ≤ NAME_LENGTH }
+    ensures { result ≡ has_name name.now segment.now }
+{
+    for n in 0..=segment.names() {
+        if let Some(named) = segment.name(n) {
+            if name_equals(named, name) {
+                return true;
+            }
+        }
+    }
+    false
 }
 
 /// Returns whether a field equals the wanted text, or none is wanted.
