@@ -5,6 +5,7 @@
     python3 tools/mutants.py NAME..         those of these crates
     python3 tools/mutants.py NAME/MUTANT..  single mutants, by the name of the file without `.edit`
     --jobs N                                how many run at once; 1 to 2 GB of memory each
+    --applies                               tries none, and only reports those that can't be applied to the sources any more
 
 The gate tries those in must-fail/, which are few. This script also tries the others, before a release or after a change of contracts.
 
@@ -139,12 +140,29 @@ def fault_of(mutant: Mutant) -> Optional[str]:
     return None if status == 0 else said.strip()
 
 
+def applies(mutant: Mutant) -> bool:
+    """Returns whether each text that a mutant replaces stands once in its file."""
+    paths = [(TOP / "crates" / mutant.crate / file, old) for file, old, _ in mutant.replacements()]
+    return bool(paths) and all(path.is_file() and path.read_text(encoding="utf-8").count(old) == 1 for path, old in paths)
+
+
+def report_stale(mutants: List[Mutant]) -> int:
+    stale = [mutant.name for mutant in mutants if not applies(mutant)]
+    for name in stale:
+        print(f"FAILED: {name}: it can't be applied")
+    print(f"{len(mutants) - len(stale)} passed, {len(stale)} failed")
+    return 1 if stale else 0
+
+
 def main() -> int:
     parser = argparse.ArgumentParser(description="Tries every mutant: the prover has to refuse each.")
     parser.add_argument("--jobs", type=int, default=os.cpu_count(), help="how many run at once")
+    parser.add_argument("--applies", action="store_true", help="report only those that can't be applied")
     parser.add_argument("names", nargs="*", metavar="NAME", help="a crate, or CRATE/MUTANT; none: all")
     given = parser.parse_args()
     mutants = chosen(given.names)
+    if given.applies:
+        return report_stale(mutants)
     for crate in dict.fromkeys(mutant.crate for mutant in mutants):
         status, said = run(["rt", "check"], TOP / "crates" / crate)
         if status:

@@ -34,6 +34,8 @@ check() {
     case $unit in
     # The table of verdicts on generated programs, and the made-up town, must be the outputs of their scripts.
     tests/annotations.py) said=$(python3 -B "$top/$unit" | diff - "$top/tests/verdicts/generated.txt") ;;
+    # Those that the gate doesn't try must at least fit the sources.
+    tools/mutants.py) said=$(python3 -B "$top/$unit" --applies) ;;
     tools/make_town.py) said=$(python3 -B "$top/$unit" town && diff -r town "$top/examples/town") ;;
     *) said=$(python3 -B "$top/$unit" 2>&1) ;;
     esac || { fail "$unit" "$(head -n 30 <<< "$said")"; return; }
