@@ -163,7 +163,7 @@ fn program_command<'a>(alloc: Global) -> Result<Command<'a>, AllocError> {
 
 /// Returns the arguments of a command for the argument parser.
 fn arguments_of<'a>(alloc: Global, subcommand: Subcommand) -> Result<Command<'a>, AllocError> {
-    let name = subcommand.name();
+    let name: &'a str = subcommand.name();
     match subcommand {
         Subcommand::Select => select::command(alloc, name),
         Subcommand::Compile => compile::command(alloc, name),
