@@ -1,10 +1,9 @@
 -- Listings, visit by visit.
-use Rattle.std.proofs.Common.{◌≡◌, ◌⊎◌, inl, inr, ℕ, suc, ◌+◌, ◌-◌, ◌<◌, ◌≤◌, Bool, true, false, List, [], ◌∷◌, ◌++◌, length, get_or, take, drop, refl, sym, ap}
-use Rattle.std.proofs.Common.{◌∙◌, append_assoc, arith, rules, drop-cons, length-drop}
+use Rattle.std.proofs.Common.{◌≡◌, ◌⊎◌, inl, inr, ℕ, suc, ◌+◌, ◌-◌, ◌<◌, ◌≤◌, Bool, List, [], ◌∷◌, ◌++◌, length, get_or, take, drop, refl, sym, ap}
+use Rattle.std.proofs.Common.{◌∙◌, arith, rules, drop-cons, length-drop}
 use Rattle.std.specs.Prelude.{Option, Some, None, is_some, nat_lt, not, cond, unwrap_or, codes, Err}
 use Rattle.std.specs.List.{position, position_or_len}
-use Rattle.std.proofs.lemmas.Bool.{cases_lt, true≢false}
-use Rattle.std.proofs.lemmas.Bool.Decides.{nat_tests}
+use Rattle.std.proofs.lemmas.Bool.{cases_lt}
 use Rattle.std.proofs.lemmas.List.{take_all, take-map, take_more, take-append-drop}
 use Rattle.std.proofs.Common.{map, zero}
 use Rattle.std.specs.List.{flat_map}

@@ -3,7 +3,7 @@ use Rattle.std.proofs.Common.{◌≡◌, ℕ, ◌+◌, ◌<◌, Bool, true, fals
 use Rattle.std.proofs.Common.{arith, rules}
 use Rattle.std.proofs.lemmas.List.{append-nil}
 use Rattle.std.proofs.lemmas.List.Elements.{All-append}
-use Rattle.std.specs.List.{range_with_len, filter, flat_map, All}
+use Rattle.std.specs.List.{filter, flat_map, All}
 use Rattle.std.specs.Prelude.{cond, codes, OnOk, Result, Ok, Err, is_ok, if◌then◌else◌}
 use Rattle.std.proofs.Common.{add-one}
 use Rattle.std.proofs.lemmas.List.{map-append}

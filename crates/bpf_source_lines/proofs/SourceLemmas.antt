@@ -1,7 +1,7 @@
 -- Source lines are read one by one.
-use Rattle.std.proofs.Common.{◌≡◌, ℕ, ◌+◌, ◌<◌, ◌≤◌, true, false, List, [], ◌∷◌, ◌++◌, length, get_or, drop, map, refl, sym, ap, subst, ◌∙◌, append_assoc}
+use Rattle.std.proofs.Common.{◌≡◌, ℕ, ◌+◌, ◌<◌, ◌≤◌, true, false, List, [], ◌∷◌, ◌++◌, length, map, refl, sym, ap, subst, ◌∙◌, append_assoc}
 use Rattle.std.proofs.Common.{arith}
-use Rattle.std.specs.Prelude.{Option, Some, None, option_and_then, Result, Ok, Err, nat_lt}
+use Rattle.std.specs.Prelude.{Option, Some, None, Result, Ok, Err, nat_lt}
 use Rattle.std.specs.Str.{IsUtf8, is_utf8}
 use Rattle.std.specs.Str.Lines.{lines}
 use Rattle.std.proofs.lemmas.Str.{IsUtf8-from_is_utf8, is_utf8-from_IsUtf8}
@@ -10,7 +10,7 @@ use Rattle.std.proofs.lemmas.Bool.{false_from_ne_true}
 use Rattle.std.proofs.lemmas.Bool.Decides.{nat_tests}
 use Rattle.bpf_source_lines.specs.SourceLines.{SourceLine, IsChecked, checked, fault_at, followed, in_order, line_in, line_of, lines_from, lines_in}
 use Rattle.bpf_source_lines.specs.SourceLines.{lines_or_none}
-use Rattle.bpf_source_lines.specs.SourceLines.{next_place, place_from, preceded}
+use Rattle.bpf_source_lines.specs.SourceLines.{preceded}
 use Rattle.bpf_source_lines.specs.declared.source_lines.LinesFault.{LinesFault}
 use Rattle.bpf_source_lines.specs.declared.source_lines.LineFlaw.{LineFlaw}
 use Rattle.bpf_source_lines.specs.declared.source_lines.LineFlaw.TheVariants.{NotText, WithoutPlace, OutOfOrder}

@@ -1,4 +1,4 @@
-use Rattle.std.proofs.Common.{arith, length, take}
+use Rattle.std.proofs.Common.{arith}
 use Rattle.std.proofs.lemmas.List.{length-take-le}
 use Rattle.cql2_text.specs.declared.reader.TheConstants.{TEXT_LIMIT}
 use Rattle.cql2_text.proofs.reader.read.Goals as goal
