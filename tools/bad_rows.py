@@ -7,8 +7,8 @@
     --jobs N                                   how many run at once; 1 to 2 GB of memory each
 
 A table is a constant of the type `Table`. Its last row is put in once more, without its last cell, with a further cell, or with a misspelt word or
-number, and the table says that it has one row more. `rt try --test` compiles and runs the tests, without a proof. Tables that have no test in
-common are tried at once.
+number, and the table says that it has one row more. `rt try --test` compiles and runs the table's tests, without a proof. Tables that have no test
+in common are tried at once.
 
 Prints the tables that pass with such a row. The last line is `N passed, N failed`, where a table has passed if each bad row made the tests fail.
 """
@@ -113,6 +113,25 @@ def tests_of(chosen: List[Table]) -> Dict[Table, Set[str]]:
     return tests
 
 
+def with_tests_only(source: str, module: str, kept: Set[str]) -> str:
+    """Returns a module's source without the tests that aren't among these. Each ends at the first line that is a brace."""
+
+    def cut(found: "re.Match[str]") -> str:
+        return found[0] if f"{module}::{found['name']}" in kept else ""
+
+    return re.sub(r"^(?:///[^\n]*\n)*#\[test\]\nfn (?P<name>\w+).*?^\}\n", cut, source, flags=re.DOTALL | re.MULTILINE)
+
+
+def keep_tests(folder: Path, kept: Set[str]) -> None:
+    """Leaves these tests alone in a crate. Without any, all stay: they find the table by another way than its name."""
+    for path in folder.rglob("*.rt") if kept else ():
+        source = path.read_text(encoding="utf-8")
+        changed = with_tests_only(source, "::".join(path.relative_to(folder).with_suffix("").parts), kept)
+        if changed != source:
+            path.unlink()  # it may be a link
+            path.write_text(changed, encoding="utf-8")
+
+
 def rounds(chosen: List[Table], tests: Dict[Table, Set[str]]) -> Iterator[List[Table]]:
     """Yields groups of a crate's tables that have no test in common. A failed test then shows which of them it refuses."""
     groups: List[List[Table]] = []
@@ -126,8 +145,8 @@ def rounds(chosen: List[Table], tests: Dict[Table, Set[str]]) -> Iterator[List[T
     yield from groups
 
 
-def run_tests(group: List[Table], kind: str) -> Tuple[List[Table], str]:
-    """Runs the tests of a crate with a bad row in each of these tables that have one. Returns these tables, and the output."""
+def run_tests(group: List[Table], kind: str, tests: Dict[Table, Set[str]]) -> Tuple[List[Table], str]:
+    """Runs the tests of these tables with a bad row in each that has one. Returns those, and the output."""
     crate = group[0].crate
     bad: List[Table] = []
     with tempfile.TemporaryDirectory(prefix="bad-row-") as room:
@@ -140,6 +159,7 @@ def run_tests(group: List[Table], kind: str) -> Tuple[List[Table], str]:
                 bad.append(table)
         if not bad:
             return bad, ""
+        keep_tests(folder / "src", set().union(*(tests[table] for table in bad)))
         done = subprocess.run(
             ["rt", "try", "--test", "--seconds", SECONDS],
             cwd=folder,
@@ -153,7 +173,7 @@ def run_tests(group: List[Table], kind: str) -> Tuple[List[Table], str]:
 
 def outcomes(group: List[Table], kind: str, tests: Dict[Table, Set[str]]) -> Dict[Table, str]:
     """Returns `fails` for each table whose tests fail with a bad row, as they must; `none` if it has no such row; else what happened."""
-    bad, output = run_tests(group, kind)
+    bad, output = run_tests(group, kind, tests)
     found = {table: "none" for table in group}
     if not bad:
         return found

@@ -10,7 +10,7 @@ use Rattle.bpf_insn.specs.declared.instruction.Width.TheVariants.{Bits64}
 use Rattle.tl_segments.specs.Range.{lies_on}
 use Rattle.tl_segments.specs.Segment.{Contents, IsSegment, ranges_of}
 use Rattle.tl_segments.specs.declared.range.RangeFields.{RangeFields}
-use Rattle.tl_segments.specs.declared.segment.TheConstants.{RANGE_LIMIT}
+use Rattle.tl_segments.specs.declared.limits.TheConstants.{RANGE_LIMIT}
 use Rattle.cql2.specs.Truth.{has_number, is as is_truth}
 use Rattle.cql2.specs.declared.filter.Comparison.TheVariants.{Greater, NotEqual}
 use Rattle.cql2_code.specs.Lowering.{asks_has_number, checks_for_end, lies_from, test}

@@ -21,7 +21,7 @@ use Rattle.geocode.specs.Street.{StreetParts, WantsNameAlone, agrees, fits, is_o
 use Rattle.geocode.specs.declared.hit.Hit.{Hit}
 use Rattle.geocode.specs.declared.hit.Side.{Side}
 use Rattle.geocode.specs.declared.hit.Side.TheVariants.{Left, Right}
-use Rattle.geocode.specs.declared.hits.House.{House}
+use Rattle.geocode.specs.declared.house.House.{House}
 
 -- the results for the elements that pass a test
 pub flat_map-filter : {X Y : Type 0} (test : X → Bool) (f : X → List Y) (xs : List X)

@@ -8,7 +8,7 @@ use Rattle.tl_segments.specs.County.{CountyParts}
 use Rattle.geocode.specs.Hits.{find, hits_in_county}
 use Rattle.geocode.specs.Matches.{HitsAgree, HitsAgreeInCounty, MatchParts, matches_from, matches_in_county}
 use Rattle.geocode.specs.Street.{StreetParts}
-use Rattle.geocode.specs.declared.hits.House.{House}
+use Rattle.geocode.specs.declared.house.House.{House}
 
 -- the matches in counties, with one more county
 matches_from-push : (street : StreetParts) (house : House) (place : ℕ) (counties : List CountyParts) (county : CountyParts)

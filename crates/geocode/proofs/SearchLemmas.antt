@@ -17,7 +17,7 @@ use Rattle.geocode.specs.Span.{IncludesHits, covers}
 use Rattle.geocode.specs.Street.{StreetParts, WantsNameAlone, fits, is_on_street, name_on}
 use Rattle.geocode.specs.declared.candidates.Candidate.{Candidate}
 use Rattle.geocode.specs.declared.hit.Hit.{Hit}
-use Rattle.geocode.specs.declared.hits.House.{House}
+use Rattle.geocode.specs.declared.house.House.{House}
 use Rattle.geocode.proofs.CandidateLemmas.{IsWalked, Returns, walked-end, walked-next, walked-start}
 use Rattle.geocode.proofs.MatchHitLemmas.{flat_map-filter, hits-segment, none-of-map}
 

@@ -6,7 +6,7 @@ use Rattle.geocode.specs.Hits.{hits_on_range}
 use Rattle.geocode.specs.Sides.{side_of}
 use Rattle.geocode.specs.declared.hit.Side.{Side}
 use Rattle.geocode.specs.declared.hit.Side.TheVariants.{Left, Right}
-use Rattle.geocode.specs.declared.hits.House.{House}
+use Rattle.geocode.specs.declared.house.House.{House}
 
 -- a house whose number is on neither side has no hit on the range
 pub hits-on_no_side : (house : House) (bytes : List ℕ) (range : RangeFields)

@@ -15,7 +15,7 @@ use Rattle.geocode.specs.Sides.{SideParts, side_of}
 use Rattle.geocode.specs.declared.hit.Hit.{Hit}
 use Rattle.geocode.specs.declared.hit.Side.{Side}
 use Rattle.geocode.specs.declared.hit.Side.TheVariants.{Left, Right}
-use Rattle.geocode.specs.declared.hits.House.{House}
+use Rattle.geocode.specs.declared.house.House.{House}
 
 -- some name of the segment equals this one
 abbrev pub has_name : List ℕ → Contents → Bool

@@ -13,9 +13,9 @@ use Rattle.geocode.specs.Street.{StreetParts, WantsNameAlone, is_on_street, name
 use Rattle.geocode.specs.declared.hit.Hit.{Hit}
 use Rattle.geocode.specs.declared.hit.Side.{Side}
 use Rattle.geocode.specs.declared.hit.Side.TheVariants.{Left, Right}
-use Rattle.geocode.specs.declared.hits.House.{House}
+use Rattle.geocode.specs.declared.house.House.{House}
 use Rattle.geocode.specs.declared.matching.Match.{Match}
-use Rattle.geocode.specs.declared.matching.MatchingSegment.{MatchingSegment}
+use Rattle.geocode.specs.declared.matching_segment.MatchingSegment.{MatchingSegment}
 
 -- a hit, with the index of its county in the list, the name that matched and the fields of its side
 pub record MatchParts : Type 0 where

@@ -5,7 +5,7 @@ use Rattle.tl_segments.specs.County.{CountyParts}
 use Rattle.geocode.specs.Hits.{find}
 use Rattle.geocode.specs.NameText.{name_text}
 use Rattle.geocode.specs.declared.hit.Hit.{Hit}
-use Rattle.geocode.specs.declared.hits.House.{House}
+use Rattle.geocode.specs.declared.house.House.{House}
 use Rattle.geocode.specs.declared.query.Query.{Query}
 use Rattle.geocode.specs.declared.query.QueryFault.{QueryFault}
 use Rattle.geocode.specs.declared.query.QueryFault.TheVariants.{Number, Name, Zip}

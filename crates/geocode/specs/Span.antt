@@ -6,7 +6,7 @@ use Rattle.tl_segments.specs.declared.range.RangeFields.{RangeFields}
 use Rattle.geocode.specs.Hits.{hits_on_segment}
 use Rattle.geocode.specs.Sides.{SideParts, side_of}
 use Rattle.geocode.specs.declared.hit.Side.{Side}
-use Rattle.geocode.specs.declared.hits.House.{House}
+use Rattle.geocode.specs.declared.house.House.{House}
 use Rattle.geocode.specs.declared.span.Span.{Span}
 
 -- half a house number, at most the greatest 16-bit number

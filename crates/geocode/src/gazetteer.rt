@@ -8,7 +8,7 @@ ghost use Rattle.tl_segments.specs.declared.name.TheConstants.{NAME_LENGTH};
 
 use crate::findings::Findings;
 use crate::hit::Hit;
-use crate::hits::House;
+use crate::house::House;
 use crate::matching::Match;
 use crate::name_hash::hash_of;
 use crate::name_index::NameIndex;

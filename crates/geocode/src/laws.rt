@@ -5,7 +5,7 @@ ghost use Rattle.tl_segments.specs.Segment.{IsSegment};
 ghost use Rattle.geocode.specs.Hits.{find};
 ghost use Rattle.geocode.specs.Matches.{hits_on_street, matches};
 ghost use Rattle.geocode.specs.Street.{StreetParts, WantsNameAlone};
-ghost use Rattle.geocode.specs.declared.hits.House.{House};
+ghost use Rattle.geocode.specs.declared.house.House.{House};
 
 /// States that the hits of matches are those on the segments that are on the street. With a direction or a type they are some of the hits of its
 /// name.

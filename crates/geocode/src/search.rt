@@ -9,8 +9,8 @@ ghost use Rattle.tl_segments.specs.declared.name.TheConstants.{NAME_LENGTH};
 
 use crate::candidates::Candidates;
 use crate::findings::Findings;
-use crate::hits::House;
-use crate::matching::MatchingSegment;
+use crate::house::House;
+use crate::matching_segment::MatchingSegment;
 use crate::street::Street;
 use crate::street_name::StreetName;
 use std::alloc::{AllocError, Allocator};

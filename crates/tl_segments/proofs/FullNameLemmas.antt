@@ -12,7 +12,7 @@ use Rattle.tl_segments.specs.Range.{AreBytes}
 use Rattle.tl_segments.specs.Segment.{Contents, IsSegment, names_of}
 use Rattle.tl_segments.specs.declared.name.TheConstants.{NAME_LENGTH}
 use Rattle.tl_segments.specs.declared.range.RangeFields.{RangeFields}
-use Rattle.tl_segments.specs.declared.segment.TheConstants.{NAME_LIMIT}
+use Rattle.tl_segments.specs.declared.limits.TheConstants.{NAME_LIMIT}
 
 -- full names taken apart and put back together
 pub all_with_affixes-of : (names : List FullNameFields)

@@ -20,7 +20,7 @@ use Rattle.tl_segments.specs.declared.fault.CountyFile.{CountyFile}
 use Rattle.tl_segments.specs.declared.fault.CountyFile.TheVariants.{Rt4, Rt5, Rt6}
 use Rattle.tl_segments.specs.declared.feature_names.FeatureNames.{FeatureNames}
 use Rattle.tl_segments.specs.declared.grouped.Grouped.{Grouped}
-use Rattle.tl_segments.specs.declared.segment.TheConstants.{LINE_LIMIT}
+use Rattle.tl_segments.specs.declared.limits.TheConstants.{LINE_LIMIT}
 
 -- whether a line has a given number, decided by the number that it has
 has_number_by : (file : CountyFile) (line : List ℕ) (number q : ℕ) → number_in file line ≡ Some number

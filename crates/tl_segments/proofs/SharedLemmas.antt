@@ -15,8 +15,8 @@ use Rattle.tl_segments.specs.Joined.{MayJoin, contents_with, shared_names, share
 use Rattle.tl_segments.specs.declared.fault.CountyFile.TheVariants.{Rt1}
 use Rattle.tl_segments.specs.declared.index.Index.{Index}
 use Rattle.tl_segments.specs.declared.range.RangeFields.{RangeFields}
-use Rattle.tl_segments.specs.declared.segment.TheConstants.{RANGE_LIMIT}
-use Rattle.tl_segments.specs.declared.shared_lists.Joined.{Joined}
+use Rattle.tl_segments.specs.declared.limits.TheConstants.{RANGE_LIMIT}
+use Rattle.tl_segments.specs.declared.joined.Joined.{Joined}
 use Rattle.tl_segments.specs.declared.shared_lists.SharedLists.{SharedLists}
 use Rattle.tl_segments.proofs.FullNameLemmas.{contents-more}
 

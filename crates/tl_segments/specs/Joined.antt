@@ -5,8 +5,8 @@ use Rattle.tl_segments.specs.FullName.{FullNameFields, contents}
 use Rattle.tl_segments.specs.Range.{AreBytes}
 use Rattle.tl_segments.specs.Segment.{Contents, IsSegment}
 use Rattle.tl_segments.specs.declared.range.RangeFields.{RangeFields}
-use Rattle.tl_segments.specs.declared.segment.TheConstants.{RECORD_LENGTH}
-use Rattle.tl_segments.specs.declared.shared_lists.Joined.{Joined}
+use Rattle.tl_segments.specs.declared.limits.TheConstants.{RECORD_LENGTH}
+use Rattle.tl_segments.specs.declared.joined.Joined.{Joined}
 
 -- the shared names, if there are any
 abbrev pub shared_names : {A : Type 0} → Option (Rc (Joined A) A) → List FullNameFields

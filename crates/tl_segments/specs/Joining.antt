@@ -14,7 +14,7 @@ use Rattle.tl_segments.specs.Segment.{Contents}
 use Rattle.tl_segments.specs.declared.fault.CountyFile.{CountyFile}
 use Rattle.tl_segments.specs.declared.fault.CountyFile.TheVariants.{Rt1, Rt4, Rt5, Rt6}
 use Rattle.tl_segments.specs.declared.range.RangeFields.{RangeFields}
-use Rattle.tl_segments.specs.declared.segment.TheConstants.{LINE_LIMIT}
+use Rattle.tl_segments.specs.declared.limits.TheConstants.{LINE_LIMIT}
 
 -- the lines of types 4, 5 and 6, which are joined to those of type 1
 pub record JoinedLines : Type 0 where

@@ -7,7 +7,7 @@ use Rattle.tl_segments.specs.Joined.{MayJoin}
 use Rattle.tl_segments.specs.Joining.{JoinedLines, number_in, segment_of}
 use Rattle.tl_segments.specs.declared.fault.CountyFile.TheVariants.{Rt1}
 use Rattle.tl_segments.specs.declared.index.Index.{Index}
-use Rattle.tl_segments.specs.declared.shared_lists.Joined.{Joined}
+use Rattle.tl_segments.specs.declared.joined.Joined.{Joined}
 use Rattle.tl_segments.specs.declared.shared_lists.SharedLists.{SharedLists}
 
 -- these are the names and ranges that the index joins to each type 1 line with this TLID

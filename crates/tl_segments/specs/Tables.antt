@@ -15,7 +15,7 @@ use Rattle.tl_segments.specs.declared.fault.CountyFile.TheVariants.{Rt4, Rt5, Rt
 use Rattle.tl_segments.specs.declared.feature_names.FeatureNames.{FeatureNames}
 use Rattle.tl_segments.specs.declared.grouped.Grouped.{Grouped}
 use Rattle.tl_segments.specs.declared.range.RangeFields.{RangeFields}
-use Rattle.tl_segments.specs.declared.segment.TheConstants.{LINE_LIMIT}
+use Rattle.tl_segments.specs.declared.limits.TheConstants.{LINE_LIMIT}
 
 -- the values for a number
 abbrev pub list_at : {V A : Type 0} → Grouped V A → ℕ → List V

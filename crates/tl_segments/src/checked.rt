@@ -3,8 +3,8 @@ ghost use Rattle.std.specs.Prelude.{◌≡◌, ◌≤◌, ℕ, IfOk, MatchBool};
 ghost use Rattle.tl_segments.specs.Tables.{CountsAt, KeepsCounts, count_at};
 
 use crate::county_file::{Limited, Table};
+use crate::limits::LINE_LIMIT;
 use crate::near_hash::NearHasher;
-use crate::segment::LINE_LIMIT;
 use std::alloc::{AllocError, Allocator};
 use std::collections::HashMap;
 use std::hash::BuildHasherDefault;

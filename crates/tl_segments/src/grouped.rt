@@ -2,8 +2,8 @@
 ghost use Rattle.std.specs.Prelude.{◌≡◌, ◌≤◌, ℕ, [], length, IfOk, IsTrue, MatchBool};
 ghost use Rattle.tl_segments.specs.Tables.{AddsAt, list_at};
 
+use crate::limits::LINE_LIMIT;
 use crate::near_hash::NearHasher;
-use crate::segment::LINE_LIMIT;
 use std::alloc::{AllocError, Allocator};
 use std::collections::HashMap;
 use std::hash::BuildHasherDefault;

@@ -8,7 +8,7 @@ ghost use Rattle.tl_segments.specs.Segment.{HasJoined, blank_segment, line_of};
 ghost use Rattle.tl_segments.specs.Tables.{HasShortLists, list_at, names_among};
 ghost use Rattle.tl_segments.specs.declared.fault.CountyFile.TheVariants as county_file;
 ghost use Rattle.tl_segments.specs.declared.fault.LoadFault.TheVariants as load_fault;
-ghost use Rattle.tl_segments.specs.declared.segment.TheConstants.{NAME_LIMIT};
+ghost use Rattle.tl_segments.specs.declared.limits.TheConstants.{NAME_LIMIT};
 
 use crate::checked::{Counts, NoNames};
 use crate::county_file::read_file;

@@ -3,7 +3,7 @@ ghost use Rattle.std.specs.Prelude.{◌≡◌, length};
 ghost use Rattle.tl_segments.specs.Range.{AreBytes, HasFieldLengths, IsRange, fields_of, lies_on, own_range};
 ghost use Rattle.tl_segments.specs.declared.range.RangeFields.{RangeFields};
 
-use crate::segment::RECORD_LENGTH;
+use crate::limits::RECORD_LENGTH;
 use tl_fields::number;
 use tl_records::Type1;
 

@@ -14,9 +14,10 @@ ghost use Rattle.tl_segments.specs.declared.fault.CountyFile.TheVariants.{Rt1};
 ghost use Rattle.tl_segments.specs.declared.range.RangeFields.{RangeFields};
 
 use crate::full_name::{DIRECTION_LENGTH, FullName, FullNameFields, TYPE_LENGTH, own_full_name};
+use crate::joined::Joined;
+use crate::limits::RECORD_LENGTH;
 use crate::name::NAME_LENGTH;
 use crate::range::{Range, RangeFields, own_range};
-use crate::shared_lists::Joined;
 use arrayvec::ArrayVec;
 use counted_io::{CountedRead, LONGEST_CONTENT};
 use std::alloc::{AllocError, Allocator};
@@ -24,18 +25,6 @@ use std::marker::Model;
 use std::rc::Rc;
 use tl_fields::number;
 use tl_records::{LineFault, Rt1, Type1, read_line_into};
-
-/// The length of a type 1 record in bytes, without its line terminator (TIGER/Line 2006, record type 1).
-pub const RECORD_LENGTH: usize = 228;
-
-/// The maximum number of type 4 lines, and of type 6 lines, with the same TLID.
-pub const LINE_LIMIT: usize = 1000;
-
-/// The maximum number of a segment's alternate names: five for each type 4 line.
-pub const NAME_LIMIT: usize = 5000;
-
-/// The maximum number of a segment's further ranges: one for each type 6 line.
-pub const RANGE_LIMIT: usize = 1000;
 
 /// A street segment: its type 1 record, its alternate names and its further address ranges. Contracts see it as a record with the fields `bytes`,
 /// `names`, `affixes` (one for each name) and `ranges`. It keeps the allocator that it was made with; a segment without alternate names and further

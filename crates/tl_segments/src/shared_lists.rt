@@ -5,23 +5,15 @@ ghost use Rattle.tl_segments.specs.Indexing.{IsIndexOf};
 ghost use Rattle.tl_segments.specs.Joining.{JoinedLines, segment_of};
 ghost use Rattle.tl_segments.specs.SharedLists.{KeepsShared, IsJoinedTo};
 
-use crate::full_name::FullNameFields;
 use crate::index::Index;
+use crate::joined::Joined;
 use crate::near_hash::NearHasher;
-use crate::range::RangeFields;
 use crate::segment::Segment;
 use std::alloc::{AllocError, Allocator};
 use std::collections::HashMap;
 use std::hash::BuildHasherDefault;
 use std::rc::Rc;
 use tl_records::Rt1;
-
-/// The alternate names and further ranges of a TLID.
-#[derive(Drop)]
-pub(crate) struct Joined<A: Allocator> {
-    pub(crate) names: Vec<FullNameFields, A>,
-    pub(crate) ranges: Vec<RangeFields, A>,
-}
 
 /// The lists of each TLID whose first segment has been created, if an alternate name or a further range is joined to it.
 #[derive(Drop)]

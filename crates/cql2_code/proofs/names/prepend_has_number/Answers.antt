@@ -1,5 +1,5 @@
 use Rattle.std.proofs.Common.{◌≡◌, ℕ, suc, ◌+◌, ◌-◌, refl, sym, ap, ◌∙◌, arith}
-use Rattle.tl_segments.specs.declared.segment.TheConstants.{RANGE_LIMIT}
+use Rattle.tl_segments.specs.declared.limits.TheConstants.{RANGE_LIMIT}
 use Rattle.cql2_code.proofs.PartsWritten.{lies_from-none, lies_from-refused}
 use Rattle.cql2_code.proofs.Refused.{prepends_refused, refuses_as}
 use Rattle.cql2_code.proofs.Written.{asked_written, written_as}

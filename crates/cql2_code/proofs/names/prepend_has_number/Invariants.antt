@@ -1,6 +1,6 @@
 use Rattle.std.proofs.Common.{◌≡◌, ◌+◌, ◌-◌}
 use Rattle.bpf_insn.specs.Code.{word_count}
-use Rattle.tl_segments.specs.declared.segment.TheConstants.{RANGE_LIMIT}
+use Rattle.tl_segments.specs.declared.limits.TheConstants.{RANGE_LIMIT}
 use Rattle.cql2_code.specs.Layout.{Writes}
 use Rattle.cql2_code.specs.Lowering.{lies_from}
 use Rattle.cql2_code.proofs.names.prepend_has_number.Given as goal

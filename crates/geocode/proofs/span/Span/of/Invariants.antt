@@ -3,7 +3,7 @@ use Rattle.std.specs.List.{flat_map}
 use Rattle.tl_segments.specs.Segment.{ranges_of}
 use Rattle.geocode.specs.Hits.{hits_on_range}
 use Rattle.geocode.specs.Span.{covers}
-use Rattle.geocode.specs.declared.hits.House.{House}
+use Rattle.geocode.specs.declared.house.House.{House}
 use Rattle.geocode.proofs.span.Span.of.Given as goal
 
 -- a house that the span doesn't cover has no hit on the ranges so far

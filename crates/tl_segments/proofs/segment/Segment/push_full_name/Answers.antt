@@ -1,7 +1,7 @@
 use Rattle.std.proofs.Common.{◌<◌, [], ◌∷◌, length, subst, sym}
 use Rattle.tl_segments.specs.Segment.{Contents}
 use Rattle.tl_segments.specs.Joined.{contents_with}
-use Rattle.tl_segments.specs.declared.segment.TheConstants.{NAME_LIMIT}
+use Rattle.tl_segments.specs.declared.limits.TheConstants.{NAME_LIMIT}
 use Rattle.tl_segments.proofs.FullNameLemmas.{with_name-is}
 use Rattle.tl_segments.proofs.SharedLemmas.{names_pushed}
 use Rattle.tl_segments.proofs.segment.Segment.push_full_name.Goals as goal

@@ -1,7 +1,7 @@
 use Rattle.std.proofs.Common.{◌<◌, [], ◌∷◌, length, subst, sym}
 use Rattle.tl_segments.specs.Segment.{Contents}
 use Rattle.tl_segments.specs.Joined.{contents_with}
-use Rattle.tl_segments.specs.declared.segment.TheConstants.{RANGE_LIMIT}
+use Rattle.tl_segments.specs.declared.limits.TheConstants.{RANGE_LIMIT}
 use Rattle.tl_segments.proofs.SharedLemmas.{ranges_pushed, with_range-is}
 use Rattle.tl_segments.proofs.segment.Segment.push_range.Goals as goal
 

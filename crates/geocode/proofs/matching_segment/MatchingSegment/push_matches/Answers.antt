@@ -6,8 +6,8 @@ use Rattle.tl_segments.specs.Range.{fields_of, own_range}
 use Rattle.tl_segments.specs.Segment.{ranges_of}
 use Rattle.geocode.specs.Matches.{matches_on_range, matching_of}
 use Rattle.geocode.proofs.HitLemmas.{flat_map-at, read-within}
-use Rattle.geocode.proofs.matching.MatchingSegment.push_matches.Goals as goal
-use Rattle.geocode.proofs.matching.MatchingSegment.push_matches.Goals.{in-Some+in_ok-push_on_range, in_default}
+use Rattle.geocode.proofs.matching_segment.MatchingSegment.push_matches.Goals as goal
+use Rattle.geocode.proofs.matching_segment.MatchingSegment.push_matches.Goals.{in-Some+in_ok-push_on_range, in_default}
 
 pub loop-n-init : goal.loop-n-init
 loop-n-init g c = λ matches has. subst (g.F.Findings.has c.args.found.now) (sym (append-nil matches)) has

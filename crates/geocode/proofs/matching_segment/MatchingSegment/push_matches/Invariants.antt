@@ -2,7 +2,7 @@ use Rattle.std.proofs.Common.{List, ◌++◌, take}
 use Rattle.std.specs.List.{flat_map}
 use Rattle.tl_segments.specs.Segment.{ranges_of}
 use Rattle.geocode.specs.Matches.{MatchParts, matches_on_range, matching_of}
-use Rattle.geocode.proofs.matching.MatchingSegment.push_matches.Given as goal
+use Rattle.geocode.proofs.matching_segment.MatchingSegment.push_matches.Given as goal
 
 -- the matches on the ranges so far were appended
 abbrev pub invariant-loop-n : goal.invariant-loop-n
