@@ -1,24 +1,28 @@
 #!/usr/bin/env python3
-"""Checks that crates.txt says which libraries a crate's code uses, and which only its definitions and proofs do.
+"""Checks that crates.txt says which libraries a crate's code uses, and which only its definitions and proofs do, and that no modules of a crate
+use each other.
 
-    python3 tools/edges.py          prints each line of crates.txt that is wrong; exits with 1 if there is one
+    python3 tools/edges.py          prints each wrong line of crates.txt and a circle of each crate that has one; exits with 1 if there is any
     python3 tools/edges.py --fix    writes the comments that are missing or wrong
 
 A crate's code uses a library if a source file names it in an ordinary path. Libraries that are named only in `ghost use`, in tactics, in
 definitions or in proofs stand in a comment above the crate's line, `# proofs alone: NAME..`. A library that is named nowhere has no place in the line.
 """
-# Needs only Python 3.8 or later.
+# Needs only Python 3.9 or later.
 
 import re
 import sys
+from graphlib import CycleError, TopologicalSorter
 from pathlib import Path
-from typing import Iterator, List, NamedTuple
+from typing import Dict, Iterator, List, NamedTuple, Optional, Set
 
 TOP = Path(__file__).resolve().parent.parent
 TABLE = TOP / "crates.txt"
 MARK = "# proofs alone: "
 # Lines of a source file that aren't code: comments, imports of definitions, and hints for the prover.
 NOT_CODE = re.compile(r"^\s*(//|ghost use\b|#\[tactic\()")
+# A path to an item of the same crate, or to several in braces.
+OWN_PATH = re.compile(r"\bcrate::((?:\w+::)*)(\w+|\{[^}]*\})")
 
 
 class Crate(NamedTuple):
@@ -46,9 +50,12 @@ def texts(crate: str, *folders: str) -> Iterator[str]:
                 yield path.read_text(encoding="utf-8")
 
 
+def without_ghosts(text: str) -> str:
+    return "\n".join(line for line in text.splitlines() if not NOT_CODE.match(line))
+
+
 def code_of(crate: str) -> str:
-    lines = (line for text in texts(crate, "src") for line in text.splitlines())
-    return "\n".join(line for line in lines if not NOT_CODE.match(line))
+    return "\n".join(without_ghosts(text) for text in texts(crate, "src"))
 
 
 def proofs_alone(crate: Crate) -> List[str]:
@@ -68,6 +75,35 @@ def faults(crate: Crate) -> Iterator[str]:
             yield f"{crate.name}: {library} is used by nothing"
 
 
+def own_paths(text: str) -> Iterator[str]:
+    for found in OWN_PATH.finditer(without_ghosts(text)):
+        for name in found[2].strip("{}").split(","):
+            yield found[1] + name.strip()
+
+
+def module_uses(crate: str) -> Dict[str, Set[str]]:
+    """Returns the modules of a crate, each with those that its code names."""
+    folder = TOP / "crates" / crate / "src"
+    sources = {"::".join(path.relative_to(folder).with_suffix("").parts): path for path in sorted(folder.rglob("*.rt"))}
+
+    def module_of(path: str) -> Optional[str]:
+        return max((it for it in sources if path == it or path.startswith(f"{it}::")), key=len, default=None)
+
+    uses: Dict[str, Set[str]] = {}
+    for module, source in sources.items():
+        named = (module_of(path) for path in own_paths(source.read_text(encoding="utf-8")))
+        uses[module] = {it for it in named if it is not None and it != module}
+    return uses
+
+
+def circles(crate: str) -> Iterator[str]:
+    try:
+        TopologicalSorter(module_uses(crate)).prepare()
+    except CycleError as error:
+        # A module is listed before those that use it.
+        yield f"{crate}: {' -> '.join(reversed(error.args[1]))}"
+
+
 def fix() -> None:
     marks = {crate.name: proofs_alone(crate) for crate in crates()}
     lines = []
@@ -84,7 +120,7 @@ def fix() -> None:
 def main() -> int:
     if sys.argv[1:] == ["--fix"]:
         fix()
-    found = [fault for crate in crates() for fault in faults(crate)]
+    found = [fault for crate in crates() for fault in (*faults(crate), *circles(crate.name))]
     for fault in found:
         print(fault)
     return 1 if found else 0

@@ -1,7 +1,6 @@
 //! Counties, indexes and segments made from four files, worked out by hand.
 use crate::plain;
 use crate::seen::Seen;
-use crate::sweep::growths;
 use counted_io::{Buffered, CountedRead};
 use fixtures::{FileTexts, Files, Table, TableFault, cells, is_refusal};
 use refusals::Fault;
@@ -9,7 +8,7 @@ use std::alloc::{Allocator, Global};
 use tl_segments::{County, Index, LoadFault};
 
 // The files of types 1, 4, 5 and 6, and what is seen of the segments.
-const SEGMENTS: Table = Table {
+pub const SEGMENTS: Table = Table {
     rows: 21,
     text: r"
 {rt1}\n;;;; 123456789
@@ -46,7 +45,7 @@ const SEGMENTS: Table = Table {
 };
 
 // The same four files, and their first fault.
-const REFUSALS: Table = Table {
+pub const REFUSALS: Table = Table {
     rows: 44,
     text: r"
 {rt1}\n{rt1 ..227}\n;;;; refused 1 rt1 line 2 WrongLength
@@ -96,13 +95,13 @@ const REFUSALS: Table = Table {
 };
 
 // Four empty files.
-const NOTHING: Table = Table {
+pub const NOTHING: Table = Table {
     rows: 1,
     text: ";;;;",
 };
 
 // A segment that nothing is joined to, which doesn't allocate by itself.
-const ALONE: Table = Table {
+pub const ALONE: Table = Table {
     rows: 1,
     text: r"{rt1}\n;;;; 123456789",
 };
@@ -261,22 +260,6 @@ fn load_files<A: Allocator + Copy>(
         &mut Buffered::new(files.rt6.as_slice()),
         seen,
     )
-}
-
-#[test]
-fn segments(rt: HostRuntime) {
-    assert!(rt; growths(&rt, rt.alloc(), SEGMENTS, "county index check plain") > 0);
-}
-
-#[test]
-fn faults(rt: HostRuntime) {
-    assert!(rt; growths(&rt, rt.alloc(), REFUSALS, "county index check") > 0);
-}
-
-#[test]
-fn no_memory(rt: HostRuntime) {
-    assert!(rt; growths(&rt, rt.alloc(), NOTHING, "county") == 0);
-    assert!(rt; growths(&rt, rt.alloc(), ALONE, "index check plain") == 0);
 }
 
 /// Returns whether a row is right in each of its ways.

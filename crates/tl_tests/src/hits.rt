@@ -1,5 +1,4 @@
 //! Hits of house numbers on streets, worked out by hand.
-use crate::sweep::growths;
 use fixtures::{Files, Table, TableFault, bytes, cells, county};
 use geocode::{Gazetteer, Hit, Query, QueryFault, hit_lines};
 use std::alloc::{AllocError, Allocator, Global};
@@ -7,7 +6,7 @@ use tl_segments::{County, LoadFault};
 
 // The house number, the name, and the ZIP code or `-` for none; the lines of the hits, or which of these texts is invalid; and the lines of all files
 // of one county, or of two, separated by `/`.
-const HITS: Table = Table {
+pub const HITS: Table = Table {
     rows: 83,
     text: r"
 151; main; 36067; 123456789\tL\t-86494898\t32405102\n; {rt1}\n
@@ -229,9 +228,4 @@ fn has_hits<A: Allocator + Copy>(
 fn has_lines<A: Allocator>(heap: A, hits: &[Hit], lines: &[u8]) -> Result<bool, AllocError> {
     let text = hit_lines(heap, hits)?;
     Ok(text.as_slice() == lines)
-}
-
-#[test]
-fn hits(rt: HostRuntime) {
-    assert!(rt; growths(&rt, rt.alloc(), HITS, "hits") > 0);
 }

@@ -1,6 +1,5 @@
 //! Matches of house numbers on streets, worked out by hand.
 use crate::hits::{TwoCounties, text};
-use crate::sweep::growths;
 use fixtures::{Table, TableFault, bytes, cells};
 use geocode::{Gazetteer, Match, Query, Street, StreetName, hit_lines};
 use std::alloc::{AllocError, Allocator, Global};
@@ -9,7 +8,7 @@ use tl_segments::{County, LoadFault};
 // The house number and the street's name; the direction before the name, the type, and the direction after the name, each `-` if it may be any;
 // whether there is such a street; for each match the county's index, the fields of the name that matched, the side's FR and TO addresses and ZIP
 // code, and the line of its hit; and the lines of all files of one county, or of two, separated by `/`.
-const MATCHES: Table = Table {
+pub const MATCHES: Table = Table {
     rows: 16,
     text: r"
 151; main; -; -; -; yes; 0,,Main,,,101,199,36067,123456789\tL\t-86494898\t32405102\n; {rt1}\n
@@ -162,9 +161,4 @@ fn push_word<A: Allocator>(text: &mut Vec<u8, A>, field: &[u8]) -> Result<(), Al
         }
     }
     Ok(())
-}
-
-#[test]
-fn matches_of_streets(rt: HostRuntime) {
-    assert!(rt; growths(&rt, rt.alloc(), MATCHES, "matches") > 0);
 }

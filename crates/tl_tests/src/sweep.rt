@@ -1,7 +1,7 @@
 //! Refusing each allocation of a call, one at a time.
-use crate::counties::{Loading, Way};
-use crate::hits::Search;
-use crate::matching::StreetSearch;
+use crate::counties::{ALONE, Loading, NOTHING, REFUSALS, SEGMENTS, Way};
+use crate::hits::{HITS, Search};
+use crate::matching::{MATCHES, StreetSearch};
 use fixtures::{Refusing, Table, TableFault, cells};
 use std::alloc::Global;
 use std::process::Abort;
@@ -61,7 +61,7 @@ fn refusals(alloc: Global, call: &Call<'_>) -> Option<u64> {
 }
 
 /// Counts the allocations that are refused, for each of these calls and each row of a table.
-pub fn growths(rt: &impl Abort, alloc: Global, table: Table, calls: &str) -> u64 {
+fn growths(rt: &impl Abort, alloc: Global, table: Table, calls: &str) -> u64 {
     let rows = table.joined(alloc).expect(rt, "rows");
     let mut count: u64 = 0;
     for row in rows.lines() {
@@ -72,4 +72,30 @@ pub fn growths(rt: &impl Abort, alloc: Global, table: Table, calls: &str) -> u64
         }
     }
     count
+}
+
+#[test]
+fn segments(rt: HostRuntime) {
+    assert!(rt; growths(&rt, rt.alloc(), SEGMENTS, "county index check plain") > 0);
+}
+
+#[test]
+fn faults(rt: HostRuntime) {
+    assert!(rt; growths(&rt, rt.alloc(), REFUSALS, "county index check") > 0);
+}
+
+#[test]
+fn no_memory(rt: HostRuntime) {
+    assert!(rt; growths(&rt, rt.alloc(), NOTHING, "county") == 0);
+    assert!(rt; growths(&rt, rt.alloc(), ALONE, "index check plain") == 0);
+}
+
+#[test]
+fn hits(rt: HostRuntime) {
+    assert!(rt; growths(&rt, rt.alloc(), HITS, "hits") > 0);
+}
+
+#[test]
+fn matches_of_streets(rt: HostRuntime) {
+    assert!(rt; growths(&rt, rt.alloc(), MATCHES, "matches") > 0);
 }
