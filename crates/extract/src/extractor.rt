@@ -7,8 +7,8 @@ ghost use Rattle.extract.specs.Extracting.{IsOutcome, IsOutcomeOfCode, ServesCod
 ghost use Rattle.bpf_program.specs.declared.program.ProgramFault.{ProgramFault};
 
 use crate::fault::ExtractFault;
+use crate::row_buffer::RowBuffer;
 use crate::rows::write_row_if_chosen;
-use arrayvec::ArrayVec;
 use bpf_machine::Bare;
 use bpf_program::accept;
 use bpf_verify::Verified;
@@ -123,10 +123,10 @@ fn write_rows<A: Allocator + Copy, B: Allocator, R: CountedRead, W: CountedWrite
     let mut number = 0;
     let mut segment = index.blank_segment();
     let mut bare = Bare::start();
-    let mut text = ArrayVec::new();
+    let mut row = RowBuffer::new();
     let mut rows = 0;
     while let Some(()) = index.next_segment(rt1, &mut number, &mut segment)? {
-        rows += write_row_if_chosen(verified, &segment, &mut bare, &mut text, out)?;
+        rows += write_row_if_chosen(verified, &segment, &mut bare, &mut row, out)?;
     }
     Ok(rows)
 }

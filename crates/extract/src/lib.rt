@@ -3,9 +3,11 @@
 
 mod extractor;
 mod fault;
+mod row_buffer;
 mod rows;
 
 pub use bpf_program::{ProgramFault, accept};
 pub use extractor::{extract, extract_verified};
 pub use fault::ExtractFault;
-pub use rows::{LONGEST_ROW, push_row_if_chosen, row, row_text, score_if_chosen};
+pub use row_buffer::LONGEST_ROW;
+pub use rows::{push_row_if_chosen, row, row_text, score_if_chosen};

@@ -1,10 +1,10 @@
 use Rattle.std.proofs.Common.{ℕ, List, ◌∷◌, ◌++◌, [], ◌+◌, ◌-◌, length, ap, refl, ◌∙◌, arith}
 use Rattle.extract.proofs.RowLemmas.{row_put}
-use Rattle.extract.proofs.rows.put_digits.Goals as goal
+use Rattle.extract.proofs.row_buffer.RowBuffer.set_digits.Goals as goal
 
 pub returns : goal.returns
 returns g c =
-    let old = c.args.text.now.items in
+    let old = c.args.self.now.text.items in
     let digits = c.args.digits.now in
     let bytes = c.bytes-record.result.now in
     let start = length digits + 1 in
