@@ -2,7 +2,7 @@
 ghost use Rattle.std.specs.Prelude.{◌≡◌, ◌<◌, ◌^◌, IfSome};
 ghost use Rattle.bpf_helpers.specs.Meaning.{bytes_at, coordinate, field_number};
 ghost use Rattle.tl_records.specs.Layout.{IsWithin};
-ghost use Rattle.tl_segments.specs.declared.limits.TheConstants.{RECORD_LENGTH};
+ghost use Rattle.tl_records.specs.declared.layout.TheConstants.{RECORD_LENGTH};
 
 use std::alloc::Allocator;
 use tl_fields::number;

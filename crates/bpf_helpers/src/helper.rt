@@ -5,6 +5,7 @@ ghost use Rattle.bpf_kinds.specs.Interval.{between};
 
 use crate::signature::{Argument, Shape, Signature};
 use bpf_kinds::Interval;
+use tl_segments::{NAME_LIMIT, RANGE_LIMIT};
 
 /// A helper function.
 #[derive(Clone, Copy, PartialEq, Eq)]
@@ -106,8 +107,8 @@ impl Helper {
         match self {
             Helper::Field => row(1, one(IDS), Shape::TellsRecord, 0, 99_999_999_999),
             Helper::Has => row(2, one(IDS), Shape::TellsRecord, 0, 1),
-            Helper::Names => row(3, NONE, Shape::TellsSegment, 0, 5000),
-            Helper::Ranges => row(4, NONE, Shape::TellsSegment, 1, 1001),
+            Helper::Names => row(3, NONE, Shape::TellsSegment, 0, NAME_LIMIT as u64),
+            Helper::Ranges => row(4, NONE, Shape::TellsSegment, 1, RANGE_LIMIT as u64 + 1),
             Helper::InRange => row(5, two(ANY, ANY), Shape::TellsSegment, 0, 3),
             Helper::NameCopy => row(6, NAME_AND_BYTES, Shape::CopiesIntoFrame, 0, 1),
             Helper::NameIs => row(7, NAME_AND_BYTES, Shape::ComparesFrame, 0, 1),

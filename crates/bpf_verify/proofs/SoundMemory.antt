@@ -36,7 +36,7 @@ use Rattle.bpf_meaning.specs.declared.effect.Change.{Change}
 use Rattle.bpf_meaning.specs.declared.effect.Change.TheVariants.{StoreBytes, StorePointer}
 use Rattle.bpf_insn.specs.Memory.{load_length, store_length}
 use Rattle.bpf_insn.specs.declared.memory.TheConstants.{FRAME_LENGTH, SLOT_LENGTH, SLOTS}
-use Rattle.tl_segments.specs.declared.limits.TheConstants.{RECORD_LENGTH}
+use Rattle.tl_records.specs.declared.layout.TheConstants.{RECORD_LENGTH}
 use Rattle.bpf_meaning.specs.declared.state.State.{State}
 use Rattle.bpf_meaning.proofs.FrameLemmas.{HoldBytes, HaveNumber, bytes-map, part_has_number, stored_stays, is_written-store_inside}
 use Rattle.bpf_insn.proofs.SlotLemmas.{slot_at-is}

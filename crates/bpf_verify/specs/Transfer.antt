@@ -41,7 +41,7 @@ use Rattle.bpf_meaning.specs.Walk.{Registers, Domain, compared_operand, walk}
 use Rattle.bpf_meaning.specs.declared.cause.Cause.{Cause}
 use Rattle.bpf_meaning.specs.declared.cause.Cause.TheVariants.{ReadsNothing, PointerArithmetic, LeavesArea, NotPointer, OutOfBounds, UnwrittenFrame, WritesRecord, StoresPointer, ComparesPointer, UnknownHelper, BadArgument}
 use Rattle.bpf_insn.specs.declared.memory.TheConstants.{FRAME_LENGTH}
-use Rattle.tl_segments.specs.declared.limits.TheConstants.{RECORD_LENGTH}
+use Rattle.tl_records.specs.declared.layout.TheConstants.{RECORD_LENGTH}
 use Rattle.bpf_verify.specs.AbstractState.{AbstractState, Unreached, Reached, Edges, kind_of, with_kind}
 use Rattle.bpf_verify.specs.declared.known.Known.{Known}
 use Rattle.bpf_verify.specs.declared.calls.LentBytes.{LentBytes}

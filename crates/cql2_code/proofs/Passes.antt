@@ -19,7 +19,7 @@ use Rattle.bpf_kinds.specs.declared.kind.Kind.TheVariants.{Number}
 use Rattle.bpf_verify.proofs.StateLaws.{reflexive}
 use Rattle.bpf_verify.specs.AbstractState.{AbstractState, Unreached, IsWithin}
 use Rattle.bpf_verify.specs.Transfer.{lie_within, transfer}
-use Rattle.tl_segments.specs.declared.limits.TheConstants.{RECORD_LENGTH}
+use Rattle.tl_records.specs.declared.layout.TheConstants.{RECORD_LENGTH}
 use Rattle.cql2.specs.declared.column.NumericColumn.{NumericColumn}
 use Rattle.cql2.specs.declared.column.NumericColumn.TheVariants as column
 use Rattle.cql2_code.specs.Layout.{answer_code, call, chosen_code, copy, load, move, move_to_name, from_result, from_argument_1, from_frame, set_number, store_name}

@@ -17,7 +17,7 @@ use Rattle.cql2.specs.declared.filter.Comparison.TheVariants.{Equal, NotEqual, L
 use Rattle.tl_segments.specs.Range.{AreBytes}
 use Rattle.tl_segments.specs.Segment.{Contents, names_of, ranges_of}
 use Rattle.tl_segments.specs.declared.name.TheConstants.{NAME_LENGTH}
-use Rattle.tl_segments.specs.declared.limits.TheConstants.{RECORD_LENGTH}
+use Rattle.tl_records.specs.declared.layout.TheConstants.{RECORD_LENGTH}
 use Rattle.cql2_code.specs.declared.question.Chunk.{Chunk}
 use Rattle.cql2_code.specs.declared.question.Chunk.TheVariants.{Byte, Word, DoubleWord}
 use Rattle.cql2_code.specs.declared.question.Subject.{Subject}

@@ -7,7 +7,7 @@ ghost use Rattle.cql2_code.specs.Layout.{Prepends};
 ghost use Rattle.cql2_code.specs.Lowering as lowering;
 ghost use Rattle.cql2_code.specs.Lowering.{PrependsBefore, asks_like, byte_test, compares_text, ends_filled, ends_so, exact_bytes, has_bytes, has_each, has_few, is_blank, is_each_wanted, is_filled, is_greater, is_less, is_like, is_null_text, is_wanted, offset_of, width_of};
 ghost use Rattle.cql2_code.specs.Question.{Holds};
-ghost use Rattle.tl_segments.specs.declared.limits.TheConstants.{RECORD_LENGTH};
+ghost use Rattle.tl_records.specs.declared.layout.TheConstants.{RECORD_LENGTH};
 
 use crate::bytes::{double_word, word};
 use crate::fault::CompileFault;

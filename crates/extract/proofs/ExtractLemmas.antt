@@ -116,7 +116,7 @@ pub record ReadsNext {A : Type 0} (index : Index A) (line : LineParts) (now : Re
   pub number : ℕ
   pub segment : Contents
   pub after : Reader
-  pub is : IsSegmentRead index line number segment now after result
+  pub is : IsSegmentRead index line (record { number = number; segment = segment }) now after result
 
 module _ {A : Type 0} {index : Index A} {code : List Insn} {rows : ℕ} {line : LineParts} {rt1 now : Reader} {out between : Writer}
     (so_far : IsExtractedSoFar index code rows line rt1 now out between) where

@@ -17,9 +17,9 @@ use tl_segments::Segment;
 pub fn row_text<A: Allocator>(score: u64, segment: &Segment<A>) -> ArrayVec<u8, LONGEST_ROW>
     ensures { result.items ≡ row_of score segment.now }
 {
-    let mut row = RowBuffer::new();
-    row.set(score, segment);
-    row.into_text()
+    let mut buffer = RowBuffer::new();
+    buffer.set(score, segment);
+    buffer.into_text()
 }
 
 /// Writes the row of a segment with a score. Nothing is retried, and nothing is flushed.

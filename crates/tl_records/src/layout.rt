@@ -57,6 +57,9 @@ pub trait RecordType {
     const LAYOUT: Layout;
 }
 
+/// The length of a type 1 record in bytes, without its line terminator (TIGER/Line 2006, record type 1).
+pub const RECORD_LENGTH: usize = 228;
+
 /// Record type 1: a street segment's own record.
 pub struct Type1;
 
@@ -66,7 +69,7 @@ impl RecordType for Type1 {
     ghost number_is_within = { (lit≤ tt, lit≤ tt, lit≤ tt) };
 
     const LAYOUT: Layout = Layout {
-        length: 228,
+        length: RECORD_LENGTH,
         tag: b'1',
         number: Type1::TLID,
         without_number: LineFlaw::BadTlid,

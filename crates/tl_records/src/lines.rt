@@ -43,7 +43,7 @@ impl Line {
     #[inline]
     pub fn bytes(&self) -> &[u8]
         ensures value { result.now ≡ self.now.bytes }
-        ensures short { length result.now ≤ 230 }
+        ensures short { length result.now ≤ LONGEST_CONTENT }
     {
         self.content.as_slice()
     }

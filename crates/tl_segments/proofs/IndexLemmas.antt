@@ -123,7 +123,8 @@ pub record HasLine (line : LineParts) (number tlid : ℕ) (old new : Reader) (se
 
 -- this also holds for any segment with the bytes that the line was read into
 pub has_line : {segment : Contents} (line : LineParts) (number tlid : ℕ) (read : Contents) (old new : Reader)
-    → IsRecordRead line number read old new (Ok (Some tt)) → number_in Rt1 read.bytes ≡ Some tlid → segment.bytes ≡ read.bytes
+    → IsRecordRead line (record { number = number; segment = read }) old new (Ok (Some tt)) → number_in Rt1 read.bytes ≡ Some tlid
+    → segment.bytes ≡ read.bytes
     → HasLine line number tlid old new segment
 has_line line number tlid read old new is numbered same = record {
   good = subst (λ bytes. ReadsGoodLine line (record { number = number; bytes = bytes }) old new) (sym same) is.0;
@@ -147,15 +148,15 @@ module _ {A : Type 0} (index : Index A) {line : LineParts} {number tlid : ℕ} {
     (has : HasLine line number tlid old new segment) where
   -- it has what the index has for its TLID
   pub segment_read : segment ≡ contents segment.bytes (names_in index tlid) (list_at index.ranges tlid)
-      → IsSegmentRead index line number segment old new (Ok (Some tt))
+      → IsSegmentRead index line (record { number = number; segment = segment }) old new (Ok (Some tt))
   segment_read made =
       (has.good, λ lines of_lines. segment_from_index index lines segment.bytes tlid segment of_lines has.numbered made)
 
   -- out of memory for a name or a range
-  pub wants_names : 1 ≤ length (names_in index tlid) → IsSegmentRead index line number segment old new (Err Memory)
+  pub wants_names : 1 ≤ length (names_in index tlid) → IsSegmentRead index line (record { number = number; segment = segment }) old new (Err Memory)
   wants_names some = (has.good, λ lines of_lines. names_joined index lines segment.bytes tlid of_lines has.numbered some)
 
-  pub wants_ranges : 1 ≤ length (list_at index.ranges tlid) → IsSegmentRead index line number segment old new (Err Memory)
+  pub wants_ranges : 1 ≤ length (list_at index.ranges tlid) → IsSegmentRead index line (record { number = number; segment = segment }) old new (Err Memory)
   wants_ranges some = (has.good, λ lines of_lines. ranges_joined index lines segment.bytes tlid of_lines has.numbered some)
 
 -- segments whose TLIDs have these numbers have numeric TLIDs

@@ -47,25 +47,31 @@ IsRt1Read line line' old new (Ok (Some done)) = ReadsGoodLine line line' old new
 IsRt1Read line line' old new (Ok None) = IsLineRead line line' old new (Ok None)
 IsRt1Read line line' old new (Err fault) = IsNextFault fault line line' old new
 
--- The same for a segment that the line is read into, and for the line's number. At the end of the input and after a fault the segment is blank,
--- whatever bytes the line had.
-abbrev pub IsRecordRead : LineParts → ℕ → Contents → Reader → Reader → Result (Option (Unit {0})) LineFault → Type 0
-IsRecordRead line number segment old new (Ok (Some done)) =
-    IsRt1Read line (line_of number segment) old new (Ok (Some done)) × (segment ≡ record
-    { bytes = segment.bytes; names = []; affixes = []; ranges = [] })
-IsRecordRead line number segment old new result =
-    ((bytes : List ℕ) × IsRt1Read line (record { number = number; bytes = bytes }) old new result) × (segment ≡ blank_segment)
+-- a segment, and the number of the line that was read into it
+pub record NumberedSegment : Type 0 where
+  pub number : ℕ
+  pub segment : Contents
 
--- The effect of reading the next segment on the line number, the segment and the reader. Either the line was read and is good, and the segment has
--- what the index's lines give it; or, at the end of the input or after a fault, the segment is blank. Memory runs out only if something is joined to
--- the line.
-abbrev pub IsSegmentRead : {A : Type 0} → Index A → LineParts → ℕ → Contents → Reader → Reader → Result (Option (Unit {0})) LoadFault → Type 0
-IsSegmentRead index line number segment old new (Ok (Some done)) =
-    ReadsGoodLine line (line_of number segment) old new × ((lines : JoinedLines) → IsIndexOf index lines → segment ≡ segment_of lines segment.bytes)
-IsSegmentRead index line number segment old new (Ok None) =
-    ((bytes : List ℕ) × IsLineRead line (record { number = number; bytes = bytes }) old new (Ok None)) × (segment ≡ blank_segment)
-IsSegmentRead index line number segment old new (Err (Line file fault)) =
-    (file ≡ Rt1) × ((bytes : List ℕ) × IsNextFault fault line (record { number = number; bytes = bytes }) old new) × (segment ≡ blank_segment)
-IsSegmentRead index line number segment old new (Err Memory) =
-    ReadsGoodLine line (line_of number segment) old new × ((lines : JoinedLines) → IsIndexOf index lines → HasJoined (segment_of lines segment.bytes))
-IsSegmentRead index line number segment old new (Err fault) = ⊥
+-- The same for a segment that the line is read into. At the end of the input and after a fault the segment is blank, whatever bytes the line had.
+abbrev pub IsRecordRead : LineParts → NumberedSegment → Reader → Reader → Result (Option (Unit {0})) LineFault → Type 0
+IsRecordRead line read old new (Ok (Some done)) =
+    IsRt1Read line (line_of read.number read.segment) old new (Ok (Some done)) × (read.segment ≡ record
+    { bytes = read.segment.bytes; names = []; affixes = []; ranges = [] })
+IsRecordRead line read old new result =
+    ((bytes : List ℕ) × IsRt1Read line (record { number = read.number; bytes = bytes }) old new result) × (read.segment ≡ blank_segment)
+
+-- The effect of reading the next segment. Either the line was read and is good, and the segment has what the index's lines give it; or, at the end
+-- of the input or after a fault, the segment is blank. Memory runs out only if something is joined to the line.
+abbrev pub IsSegmentRead : {A : Type 0} → Index A → LineParts → NumberedSegment → Reader → Reader → Result (Option (Unit {0})) LoadFault → Type 0
+IsSegmentRead index line read old new (Ok (Some done)) =
+    ReadsGoodLine line (line_of read.number read.segment) old new
+    × ((lines : JoinedLines) → IsIndexOf index lines → read.segment ≡ segment_of lines read.segment.bytes)
+IsSegmentRead index line read old new (Ok None) =
+    ((bytes : List ℕ) × IsLineRead line (record { number = read.number; bytes = bytes }) old new (Ok None)) × (read.segment ≡ blank_segment)
+IsSegmentRead index line read old new (Err (Line file fault)) =
+    (file ≡ Rt1) × ((bytes : List ℕ) × IsNextFault fault line (record { number = read.number; bytes = bytes }) old new)
+    × (read.segment ≡ blank_segment)
+IsSegmentRead index line read old new (Err Memory) =
+    ReadsGoodLine line (line_of read.number read.segment) old new
+    × ((lines : JoinedLines) → IsIndexOf index lines → HasJoined (segment_of lines read.segment.bytes))
+IsSegmentRead index line read old new (Err fault) = ⊥

@@ -5,7 +5,7 @@ use Rattle.tl_segments.specs.FullName.{FullNameFields, contents}
 use Rattle.tl_segments.specs.Range.{AreBytes}
 use Rattle.tl_segments.specs.Segment.{Contents, IsSegment}
 use Rattle.tl_segments.specs.declared.range.RangeFields.{RangeFields}
-use Rattle.tl_segments.specs.declared.limits.TheConstants.{RECORD_LENGTH}
+use Rattle.tl_records.specs.declared.layout.TheConstants.{RECORD_LENGTH}
 use Rattle.tl_segments.specs.declared.joined.Joined.{Joined}
 
 -- the shared names, if there are any

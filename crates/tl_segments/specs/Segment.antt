@@ -7,7 +7,8 @@ use Rattle.tl_segments.specs.Affixes.{Affixes, AreAffixes}
 use Rattle.tl_segments.specs.Range.{AreBytes, IsRange, own_range}
 use Rattle.tl_segments.specs.declared.name.TheConstants.{NAME_LENGTH}
 use Rattle.tl_segments.specs.declared.range.RangeFields.{RangeFields}
-use Rattle.tl_segments.specs.declared.limits.TheConstants.{NAME_LIMIT, RANGE_LIMIT, RECORD_LENGTH}
+use Rattle.tl_segments.specs.declared.limits.TheConstants.{NAME_LIMIT, RANGE_LIMIT}
+use Rattle.tl_records.specs.declared.layout.TheConstants.{RECORD_LENGTH}
 
 -- the contents of a segment: the bytes of its type 1 record, its alternate names, the affixes of each of them, and its further ranges
 pub record Contents : Type 0 where

@@ -10,8 +10,8 @@ ghost use Rattle.tl_segments.specs.Taking.{IsTaken, KeepsFile};
 ghost use Rattle.tl_segments.specs.declared.fault.CountyFile.TheVariants.{Rt1};
 
 use crate::county_file::record_in;
-use crate::fault::LoadFault;
-use crate::index::{Index, rt1_fault};
+use crate::fault::{CountyFile, LoadFault};
+use crate::index::Index;
 use crate::segment::Segment;
 use crate::shared_lists::SharedLists;
 use counted_io::CountedRead;
@@ -98,7 +98,7 @@ fn read_segments<A: Allocator + Copy, R: CountedRead>(
         match read_line(input, &mut line) {
             Ok(Some(())) => push_segment(index, &line, &mut shared, &mut segments, &mut tlids)?,
             Ok(None) => return Ok(County { segments, tlids }),
-            Err(fault) => return Err(rt1_fault(fault)),
+            Err(fault) => return Err(LoadFault::in_line(CountyFile::Rt1, fault)),
         }
     }
 }

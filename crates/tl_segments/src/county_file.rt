@@ -101,12 +101,7 @@ pub(crate) fn read_file<T: Table, R: CountedRead>(
         match read_line(input, &mut line) {
             Ok(Some(())) => take(table, &line)?,
             Ok(None) => return Ok(()),
-            Err(fault) => {
-                return Err(LoadFault::Line {
-                    file: T::Lines::FILE,
-                    fault,
-                });
-            }
+            Err(fault) => return Err(LoadFault::in_line(T::Lines::FILE, fault)),
         }
     }
 }
@@ -136,9 +131,6 @@ pub(crate) fn record_in<T: FileType>(line: &Line) -> Result<Record<'_, T>, LoadF
 {
     match Record::of(line.number(), line.bytes()) {
         Ok(record) => Ok(record),
-        Err(fault) => Err(LoadFault::Line {
-            file: T::FILE,
-            fault,
-        }),
+        Err(fault) => Err(LoadFault::in_line(T::FILE, fault)),
     }
 }

@@ -2,10 +2,9 @@
 ghost use Rattle.std.specs.Prelude.{◌≡◌, length};
 ghost use Rattle.tl_segments.specs.FullName.{HasNameLengths, IsFullName, full_name_of, own_full_name};
 
-use crate::limits::RECORD_LENGTH;
 use crate::name::NAME_LENGTH;
 use crate::range::copy_of;
-use tl_records::Type1;
+use tl_records::{RECORD_LENGTH, Type1};
 
 /// The length of FEDIRP and of FEDIRS, including trailing blanks.
 pub const DIRECTION_LENGTH: usize = 2;

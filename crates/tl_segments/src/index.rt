@@ -6,8 +6,6 @@ ghost use Rattle.tl_segments.specs.Joining.{JoinedLines, no_lines, segment_of};
 ghost use Rattle.tl_segments.specs.Loading.{AreFaultless, IsJoinedFault, readers};
 ghost use Rattle.tl_segments.specs.Segment.{HasJoined, blank_segment, line_of};
 ghost use Rattle.tl_segments.specs.Tables.{HasShortLists, list_at, names_among};
-ghost use Rattle.tl_segments.specs.declared.fault.CountyFile.TheVariants as county_file;
-ghost use Rattle.tl_segments.specs.declared.fault.LoadFault.TheVariants as load_fault;
 ghost use Rattle.tl_segments.specs.declared.limits.TheConstants.{NAME_LIMIT};
 
 use crate::checked::{Counts, NoNames};
@@ -20,7 +18,7 @@ use crate::segment::Segment;
 use crate::tables::Features;
 use counted_io::CountedRead;
 use std::alloc::{AllocError, Allocator};
-use tl_records::{LineFault, Rt1, Type4, Type6};
+use tl_records::{Rt1, Type4, Type6};
 
 /// The alternate names and further ranges of a county's segments, by TLID: the contents of its files of types 4, 5 and 6.
 #[derive(Drop)]
@@ -125,13 +123,13 @@ impl<A: Allocator + Copy> Index<A> {
         number: &mut u32,
         segment: &mut Segment<A>,
     ) -> Result<Option<()>, LoadFault>
-        ensures { IsSegmentRead self.now (line_of number.old segment.old) number.new segment.new
+        ensures { IsSegmentRead self.now (line_of number.old segment.old) (record { number = number.new; segment = segment.new })
             (reader R.remaining R.failed_reads input.old) (reader R.remaining R.failed_reads input.new) result }
     {
         match segment.read_record(input, number) {
             Ok(Some(())) => {}
             Ok(None) => return Ok(None),
-            Err(fault) => return Err(rt1_fault(fault)),
+            Err(fault) => return Err(LoadFault::in_line(CountyFile::Rt1, fault)),
         }
         if self.joins_nothing() {
             return Ok(Some(()));
@@ -202,13 +200,4 @@ impl<A: Allocator + Copy> Index<A> {
         }
         Ok(())
     }
-}
-
-/// Returns the fault of a type 1 line as a fault of its file.
-#[cold]
-pub(crate) fn rt1_fault(fault: LineFault) -> LoadFault
-    ensures { result ≡ load_fault.Line county_file.Rt1 fault }
-{
-    let file = CountyFile::Rt1;
-    LoadFault::Line { file, fault }
 }

@@ -1,9 +1,10 @@
 //! Laws about the definitions, stated as contracts of functions that do nothing.
 ghost use Rattle.std.specs.Prelude.{◌≡◌};
 
+use crate::limits::{LINE_LIMIT, NAME_LIMIT, RANGE_LIMIT};
 use crate::name::NAME_LENGTH;
 use crate::range::{ADDRESS_LENGTH, ZIP_LENGTH};
-use crate::segment::{LINE_LIMIT, NAME_LIMIT, RANGE_LIMIT, RECORD_LENGTH};
+use tl_records::RECORD_LENGTH;
 
 /// States the lengths of the record layouts.
 pub fn lengths()

@@ -3,9 +3,8 @@ ghost use Rattle.std.specs.Prelude.{◌≡◌, length};
 ghost use Rattle.tl_segments.specs.Range.{AreBytes, HasFieldLengths, IsRange, fields_of, lies_on, own_range};
 ghost use Rattle.tl_segments.specs.declared.range.RangeFields.{RangeFields};
 
-use crate::limits::RECORD_LENGTH;
 use tl_fields::number;
-use tl_records::Type1;
+use tl_records::{RECORD_LENGTH, Type1};
 
 /// The length of an address in bytes, including blanks.
 pub const ADDRESS_LENGTH: usize = 11;

@@ -11,11 +11,11 @@ ghost use Rattle.tl_segments.specs.Range.{AreBytes, HasFieldLengths, IsRange, fi
 ghost use Rattle.tl_segments.specs.Segment.{IsSegment, blank_segment, line_of, names_of, ranges_of};
 ghost use Rattle.tl_segments.specs.Joined.{MayJoin, shared_names, shared_ranges};
 ghost use Rattle.tl_segments.specs.declared.fault.CountyFile.TheVariants.{Rt1};
+ghost use Rattle.tl_segments.specs.declared.limits.TheConstants.{NAME_LIMIT, RANGE_LIMIT};
 ghost use Rattle.tl_segments.specs.declared.range.RangeFields.{RangeFields};
 
 use crate::full_name::{DIRECTION_LENGTH, FullName, FullNameFields, TYPE_LENGTH, own_full_name};
 use crate::joined::Joined;
-use crate::limits::RECORD_LENGTH;
 use crate::name::NAME_LENGTH;
 use crate::range::{Range, RangeFields, own_range};
 use arrayvec::ArrayVec;
@@ -24,7 +24,7 @@ use std::alloc::{AllocError, Allocator};
 use std::marker::Model;
 use std::rc::Rc;
 use tl_fields::number;
-use tl_records::{LineFault, Rt1, Type1, read_line_into};
+use tl_records::{LineFault, RECORD_LENGTH, Rt1, Type1, read_line_into};
 
 /// A street segment: its type 1 record, its alternate names and its further address ranges. Contracts see it as a record with the fields `bytes`,
 /// `names`, `affixes` (one for each name) and `ranges`. It keeps the allocator that it was made with; a segment without alternate names and further
@@ -116,15 +116,15 @@ impl<A: Allocator + Copy> Segment<A> {
 }
 
 impl<A: Allocator> Segment<A> {
-    /// Reads the next line of a type 1 file, replacing the segment's contents, or returns `None` at the end of the input. `number` is the previous line's number and becomes this line's. At the end and after a fault the segment is blank. The room for names and
-    /// ranges is kept.
+    /// Reads the next line of a type 1 file, replacing the segment's contents, or returns `None` at the end of the input. `number` is the previous
+    /// line's number and becomes this line's. At the end and after a fault the segment is blank. The lists keep their room.
     #[inline(always)]
     pub(crate) fn read_record<R: CountedRead>(
         &mut self,
         input: &mut R,
         number: &mut u32,
     ) -> Result<Option<()>, LineFault>
-        ensures { IsRecordRead (line_of number.old self.old) number.new self.new
+        ensures { IsRecordRead (line_of number.old self.old) (record { number = number.new; segment = self.new })
             (reader R.remaining R.failed_reads input.old) (reader R.remaining R.failed_reads input.new) result }
     {
         self.shared = None;

@@ -44,4 +44,4 @@ returns-in_err-push_segment-in-Ok-Some-clause-err g c =
 pub returns-in-Err-clause-err : goal.returns-in-Err-clause-err
 returns-in-Err-clause-err g c =
     let so_far = c.loop-line.invariant.so_far in
-    rw c.rt1_fault.ensures (refl, so_far.lines, at_fault so_far.read c.read_line.new.line _ _ c.in-Err.ensures)
+    rw c.in_line.ensures (refl, so_far.lines, at_fault so_far.read c.read_line.new.line _ _ c.in-Err.ensures)

@@ -28,4 +28,4 @@ returns-in_err-take-in-Ok-Some-clause-err g c =
 pub returns-in-Err-clause-err : goal.returns-in-Err-clause-err
 returns-in-Err-clause-err g c =
     let so_far = c.loop-table.invariant in
-    (c.FILE.ensures, so_far.lines, at_fault so_far.read c.read_line.new.line _ _ c.in-Err.ensures)
+    rw c.in_line.ensures (c.FILE.ensures, so_far.lines, at_fault so_far.read c.read_line.new.line _ _ c.in-Err.ensures)
