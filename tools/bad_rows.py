@@ -95,21 +95,53 @@ def functions_of(source: str) -> Iterator[Tuple[str, str, bool]]:
         yield found["name"], source[found.end() : end], found["test"] is not None
 
 
+class Function(NamedTuple):
+    module: str
+    name: str
+    text: str
+    is_test: bool
+
+    @property
+    def path(self) -> str:
+        return f"{self.module}::{self.name}"
+
+
+def functions_in(crate: str) -> List[Function]:
+    folder = TOP / "crates" / crate / "src"
+    return [
+        Function("::".join(path.relative_to(folder).with_suffix("").parts), name, text, is_test)
+        for path in sorted(folder.rglob("*.rt"))
+        for name, text, is_test in functions_of(path.read_text(encoding="utf-8"))
+    ]
+
+
+def callers(functions: List[Function], called: Function) -> Iterator[Function]:
+    """Yields the functions that may call another: those that have a call of its name, and none of that name in their own module."""
+    calls_it = re.compile(rf"\b{called.name}\(")
+    named_alike = {it.module for it in functions if it.name == called.name}
+    for function in functions:
+        if (function.module == called.module or function.module not in named_alike) and calls_it.search(function.text):
+            yield function
+
+
 def tests_of(chosen: List[Table]) -> Dict[Table, Set[str]]:
-    """Returns the tests of each table, by module and name: those that name it, or that call a function which does. Equal names aren't told apart."""
+    """Returns the tests of each table, by module and name: those that name it or call a function which does, also through others."""
     tests: Dict[Table, Set[str]] = {}
-    for crate in {table.crate for table in chosen}:
-        folder = TOP / "crates" / crate / "src"
-        functions = [
-            ("::".join([*path.relative_to(folder).with_suffix("").parts, name]), text, is_test)
-            for path in sorted(folder.rglob("*.rt"))
-            for name, text, is_test in functions_of(path.read_text(encoding="utf-8"))
-        ]
-        for table in (it for it in chosen if it.crate == crate):
-            names_it = re.compile(rf"\b{table.name}\b")
-            naming = {name for name, text, _ in functions if names_it.search(text)}
-            calls_one = re.compile(r"\b(?:" + "|".join(sorted({name.split("::")[-1] for name in naming} | {"-"})) + r")\(")
-            tests[table] = {name for name, text, is_test in functions if is_test and (name in naming or calls_one.search(text))}
+    functions = {crate: functions_in(crate) for crate in {table.crate for table in chosen}}
+    for table in chosen:
+        folder = TOP / "crates" / table.crate / "src"
+        own = "::".join(table.path.relative_to(folder).with_suffix("").parts)
+        names_it = re.compile(rf"\b{table.name}\b")
+        # A table of this name in another module is another table, which that module's functions mean.
+        others = {"::".join(it.path.relative_to(folder).with_suffix("").parts) for it in tables() if it.crate == table.crate and it.name == table.name} - {own}
+        waiting = [it for it in functions[table.crate] if it.module not in others and names_it.search(it.text)]
+        reaching: Set[Function] = set()
+        while waiting:
+            function = waiting.pop()
+            if function not in reaching:
+                reaching.add(function)
+                waiting.extend(callers(functions[table.crate], function))
+        tests[table] = {it.path for it in reaching if it.is_test}
     return tests
 
 
