@@ -6,7 +6,7 @@ ghost use Rattle.bpf_helpers.specs.Shape.{frame_use};
 ghost use Rattle.bpf_insn.specs.Frame.{Unwritten, number_of, overwrite_slots, slot_value};
 ghost use Rattle.bpf_meaning.specs.Memory.{all_written, keep_pointer, store_number, write_bytes, written_bytes};
 
-use crate::memory::little_endian;
+use crate::bytes::little_endian;
 use bpf_helpers::{FrameUse, Helper, call};
 use bpf_insn::{FRAME_LENGTH, Pointer, SLOT_LENGTH, SLOTS, Value};
 use std::alloc::Allocator;

@@ -1,6 +1,7 @@
 //! The meaning of BPF code on a street segment (RFC 9669): configurations, steps, runs and answers.
 #![tactic(auto)]
 
+mod bytes;
 mod calls;
 mod cause;
 mod effect;

@@ -1,8 +1,9 @@
 //! Loads and stores.
-ghost use Rattle.std.specs.Prelude.{◌≡◌, ◌+◌, ◌+ℤ◌, ◌^◌, ◌<◌, ◌≤◌, IsTrue, map, length, unsigned_abs, Some, MatchOption, false};
-ghost use Rattle.bpf_insn.specs.Frame.{Byte, number_of};
+ghost use Rattle.std.specs.Prelude.{◌≡◌, ◌+◌, ◌+ℤ◌, ◌≤◌, IsTrue, map, unsigned_abs, MatchOption, false};
+ghost use Rattle.bpf_insn.specs.Frame.{Byte};
 ghost use Rattle.bpf_meaning.specs.Effect.{lie_within, load_bytes, load_frame, load_slot, load_value, pointer_in, store_at, store_change, store_number, store_pointer};
 
+use crate::bytes::little_endian;
 use crate::cause::Cause;
 use crate::effect::Change;
 use crate::frame::Frame;
@@ -29,30 +30,6 @@ fn offset_within(offset: i32, count: usize, bytes: usize) -> Option<usize>
         return None;
     }
     Some(at)
-}
-
-/// Returns the little-endian number in at most eight bytes. The case of one byte, which most loads read, is tested first.
-#[inline(always)]
-pub(crate) fn little_endian(bytes: &[u8]) -> u64
-    requires { length bytes.now ≤ 8 }
-    ensures { Some result ≡ number_of (map Byte bytes.now) }
-{
-    match bytes {
-        [byte] => u64::from(*byte),
-        _ => lowest_first(bytes),
-    }
-}
-
-/// Returns the number in bytes, lowest first.
-fn lowest_first(bytes: &[u8]) -> u64
-    requires { length bytes.now ≤ 8 }
-    ensures value { Some result ≡ number_of (map Byte bytes.now) }
-    ensures fits { result < 256 ^ length bytes.now }
-{
-    match bytes {
-        [] => 0,
-        [first, rest @ ..] => u64::from(*first) + 256 * lowest_first(rest),
-    }
 }
 
 /// Loads a number from the record, from an offset on.

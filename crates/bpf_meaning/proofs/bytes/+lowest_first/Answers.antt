@@ -1,7 +1,7 @@
 use Rattle.std.proofs.Common.{arith, length, drop, take, ◌≤◌, ◌-◌}
 use Rattle.std.proofs.lemmas.List.{length-take, length-drop}
 use Rattle.bpf_meaning.proofs.MemoryLemmas.{low_fits}
-use Rattle.bpf_meaning.proofs.memory.+lowest_first.Goals as goal
+use Rattle.bpf_meaning.proofs.bytes.+lowest_first.Goals as goal
 
 pub overflow_mul-result : goal.overflow_mul-result
 overflow_mul-result t c =

@@ -1,5 +1,5 @@
 use Rattle.std.proofs.Common.{length}
-use Rattle.bpf_meaning.proofs.memory.+lowest_first.Given as goal
+use Rattle.bpf_meaning.proofs.bytes.+lowest_first.Given as goal
 
 abbrev pub decreases-lowest_first : goal.decreases-lowest_first
 decreases-lowest_first l = length l.bytes.now
