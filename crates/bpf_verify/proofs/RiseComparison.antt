@@ -15,7 +15,7 @@ use Rattle.bpf_verify.specs.AbstractState.{IsBelow, Edges, AreEdgesWithin, IsWit
 use Rattle.bpf_verify.specs.Transfer.{is_register, with_narrowed, narrowed, branch, on_edge, compare}
 use Rattle.bpf_verify.specs.declared.comparison.Comparison.{Comparison}
 use Rattle.bpf_verify.specs.declared.known.Known.{Known}
-use Rattle.bpf_verify.specs.declared.successors.Edge.TheVariants.{Unchanged}
+use Rattle.bpf_verify.specs.declared.comparison.Edge.TheVariants.{Unchanged}
 use Rattle.bpf_verify.proofs.RiseChecks.{IsLower, lower_cases, IsLowerInterval}
 use Rattle.bpf_verify.proofs.RiseMemory.{with_kind_lower}
 

@@ -26,7 +26,7 @@ use Rattle.bpf_verify.specs.AbstractState as known_state
 use Rattle.bpf_verify.specs.declared.known.Known.{Known}
 use Rattle.bpf_verify.specs.declared.comparison.Comparison.{Comparison}
 use Rattle.bpf_verify.specs.AbstractState.{Edges}
-use Rattle.bpf_verify.specs.declared.successors.Edge.TheVariants.{Unchanged}
+use Rattle.bpf_verify.specs.declared.comparison.Edge.TheVariants.{Unchanged}
 use Rattle.bpf_verify.specs.declared.successors.Successors.TheVariants.{Branch}
 use Rattle.bpf_verify.proofs.SoundArithmetic.{low_twice}
 use Rattle.bpf_meaning.specs.Checks.{Sound}

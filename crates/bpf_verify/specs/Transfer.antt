@@ -46,9 +46,9 @@ use Rattle.bpf_verify.specs.AbstractState.{AbstractState, Unreached, Reached, Ed
 use Rattle.bpf_verify.specs.declared.known.Known.{Known}
 use Rattle.bpf_verify.specs.declared.calls.LentBytes.{LentBytes}
 use Rattle.bpf_verify.specs.declared.comparison.Comparison.{Comparison}
-use Rattle.bpf_verify.specs.declared.successors.Edge.{Edge}
-use Rattle.bpf_verify.specs.declared.successors.Edge.TheVariants as edge
-use Rattle.bpf_verify.specs.declared.successors.Edge.TheVariants.{Unchanged, Narrows}
+use Rattle.bpf_verify.specs.declared.comparison.Edge.{Edge}
+use Rattle.bpf_verify.specs.declared.comparison.Edge.TheVariants as edge
+use Rattle.bpf_verify.specs.declared.comparison.Edge.TheVariants.{Unchanged, Narrows}
 use Rattle.bpf_verify.specs.declared.successors.Successors.{Successors}
 use Rattle.bpf_verify.specs.declared.successors.Successors.TheVariants as successors
 use Rattle.bpf_verify.specs.declared.successors.Successors.TheVariants.{Next, Target, Branch}

@@ -10,11 +10,11 @@ ghost use Rattle.bpf_verify.specs.Visit.{IsShown, IsShownRefusal};
 ghost use Rattle.bpf_verify.specs.declared.fault.VerifyFault.TheVariants.{Memory};
 
 use crate::ahead::{KnownEdges, StatesAhead};
-use crate::comparison::Comparison;
+use crate::comparison::{Comparison, Edge};
 use crate::fault::VerifyFault;
 use crate::known::Known;
 use crate::memory::area_of;
-use crate::successors::{Edge, Successors};
+use crate::successors::Successors;
 use crate::table::transfer;
 use crate::verified::Verified;
 use crate::visitor::Visitor;
