@@ -10,8 +10,10 @@ mod instruction;
 pub mod laws;
 mod memory;
 mod opcode_form;
+mod reading;
 mod register;
 mod row;
+mod spelling;
 mod value;
 mod word;
 
