@@ -20,7 +20,7 @@ use Rattle.bpf_insn.specs.declared.instruction.LoadFormat.TheVariants as load
 use Rattle.bpf_insn.specs.declared.instruction.StoreSize.{StoreSize}
 use Rattle.bpf_insn.specs.declared.instruction.StoreSize.TheVariants as store
 use Rattle.bpf_assembler.specs.declared.mnemonic_form.MnemonicForm.{MnemonicForm}
-use Rattle.bpf_assembler.specs.declared.mnemonic_form.MnemonicForm.TheVariants.{Alu, MoveSignExtended, Negate, ByteSwap, JumpIf, Jump, LongJump, Call, Exit}
+use Rattle.bpf_assembler.specs.declared.mnemonic_form.MnemonicForm.TheVariants.{Alu, MoveSignExtended, Negate, ByteSwap, JumpIf, ShortJump, LongJump, Call, Exit}
 use Rattle.bpf_assembler.specs.declared.mnemonic_form.MnemonicForm.TheVariants.{Load}
 use Rattle.bpf_assembler.specs.declared.mnemonic_form.MnemonicForm.TheVariants.{StoreImmediate, Store, WideLoad}
 use Rattle.bpf_assembler.specs.declared.mnemonic_form.TheConstants.{FORMS}
@@ -104,7 +104,7 @@ name_of (MoveSignExtended extension) = extension_name extension
 name_of (Negate width) = codes "neg" ++ width_name width
 name_of (ByteSwap order width) = order_name order ++ swap_name width
 name_of (JumpIf condition width) = condition_name condition ++ width_name width
-name_of Jump = codes "ja"
+name_of ShortJump = codes "ja"
 name_of LongJump = codes "ja32"
 name_of Call = codes "call"
 name_of Exit = codes "exit"

@@ -9,7 +9,7 @@ use Rattle.bpf_insn.specs.declared.instruction.Insn.{Insn}
 use Rattle.bpf_insn.specs.declared.instruction.Insn.TheVariants as insn
 use Rattle.bpf_insn.specs.declared.instruction.JumpDistance.TheVariants as distance
 use Rattle.bpf_assembler.specs.declared.mnemonic_form.MnemonicForm.{MnemonicForm}
-use Rattle.bpf_assembler.specs.declared.mnemonic_form.MnemonicForm.TheVariants.{Alu, MoveSignExtended, Negate, ByteSwap, JumpIf, Jump, LongJump, Call, Exit}
+use Rattle.bpf_assembler.specs.declared.mnemonic_form.MnemonicForm.TheVariants.{Alu, MoveSignExtended, Negate, ByteSwap, JumpIf, ShortJump, LongJump, Call, Exit}
 use Rattle.bpf_assembler.specs.declared.mnemonic_form.MnemonicForm.TheVariants.{Load}
 use Rattle.bpf_assembler.specs.declared.mnemonic_form.MnemonicForm.TheVariants.{StoreImmediate, Store, WideLoad}
 use Rattle.bpf_assembler.specs.declared.fault.TextFlaw.{TextFlaw}
@@ -68,7 +68,7 @@ instruction_in (ByteSwap order width) operands =
 instruction_in (JumpIf condition width) operands =
     and_then (comparands_and_target operands)
     (λ read. Ok (Instruction (insn.JumpIf condition width read.0 read.1.0 read.1.1.0) read.1.1.1))
-instruction_in Jump operands =
+instruction_in ShortJump operands =
     and_then (target_in limit_of_16_bits operands) (λ target. Ok (Instruction (insn.Jump (distance.Short target.0)) target.1))
 instruction_in LongJump operands =
     and_then (target_in limit_of_32_bits operands) (λ target. Ok (Instruction (insn.Jump (distance.Long target.0)) target.1))

@@ -4,6 +4,7 @@ ghost use Rattle.bpf_assembler.specs.Mnemonic.{name_of, form_named};
 
 use bpf_insn::{
     ByteOrder, Condition, LoadFormat, Operation, SignExtension, StoreSize, SwapWidth, Width,
+    instruction_rows,
 };
 
 /// What a mnemonic says about an instruction: everything except the operands.
@@ -15,7 +16,7 @@ pub enum MnemonicForm {
     ByteSwap(ByteOrder, SwapWidth),
     JumpIf(Condition, Width),
     /// A jump with a distance of 16 bits.
-    Jump,
+    ShortJump,
     /// A jump with a distance of 32 bits.
     LongJump,
     Call,
@@ -27,96 +28,16 @@ pub enum MnemonicForm {
 }
 
 /// Passes the given tokens and each form with its mnemonic to a macro.
-macro_rules! mnemonics {
-    ($write:ident!($($given:tt)*)) => {
-        each_form! {
-            $write ($($given)*)
-            // On 64 bits and on 32.
-            alu {
-                Add: "add" "add32";
-                Subtract: "sub" "sub32";
-                Multiply: "mul" "mul32";
-                Divide: "div" "div32";
-                SignedDivide: "sdiv" "sdiv32";
-                Or: "or" "or32";
-                And: "and" "and32";
-                ShiftLeft: "lsh" "lsh32";
-                ShiftRight: "rsh" "rsh32";
-                Modulo: "mod" "mod32";
-                SignedModulo: "smod" "smod32";
-                ExclusiveOr: "xor" "xor32";
-                Move: "mov" "mov32";
-                ArithmeticShiftRight: "arsh" "arsh32";
-            }
-            extend {
-                Bits8To64: "movsx8";
-                Bits16To64: "movsx16";
-                Bits32To64: "movsx32";
-                Bits8To32: "movsx8_32";
-                Bits16To32: "movsx16_32";
-            }
-            negate {
-                Bits64: "neg";
-                Bits32: "neg32";
-            }
-            // On 16, 32 and 64 bits.
-            swap {
-                LittleEndian: "le16" "le32" "le64";
-                BigEndian: "be16" "be32" "be64";
-                Swapped: "swap16" "swap32" "swap64";
-            }
-            // On 64 bits and on 32.
-            jump {
-                Equal: "jeq" "jeq32";
-                Greater: "jgt" "jgt32";
-                GreaterOrEqual: "jge" "jge32";
-                SharesBit: "jset" "jset32";
-                NotEqual: "jne" "jne32";
-                SignedGreater: "jsgt" "jsgt32";
-                SignedGreaterOrEqual: "jsge" "jsge32";
-                Less: "jlt" "jlt32";
-                LessOrEqual: "jle" "jle32";
-                SignedLess: "jslt" "jslt32";
-                SignedLessOrEqual: "jsle" "jsle32";
-            }
-            load {
-                Byte: "ldxb";
-                HalfWord: "ldxh";
-                Word: "ldxw";
-                DoubleWord: "ldxdw";
-                SignedByte: "ldxsb";
-                SignedHalfWord: "ldxsh";
-                SignedWord: "ldxsw";
-            }
-            // Stores of an immediate and of a register.
-            store {
-                Byte: "stb" "stxb";
-                HalfWord: "sth" "stxh";
-                Word: "stw" "stxw";
-                DoubleWord: "stdw" "stxdw";
-            }
-            single {
-                Jump: "ja";
-                LongJump: "ja32";
-                Call: "call";
-                Exit: "exit";
-                WideLoad: "lddw";
-            }
-        }
-    };
-}
-
-/// Expands the rows of the table. A row names what its forms share, then their mnemonics.
 macro_rules! each_form {
     (
-        $write:ident $given:tt
-        alu { $($operation:ident: $wide:literal $narrow:literal;)* }
-        extend { $($extension:ident: $extend:literal;)* }
-        negate { $($width:ident: $negate:literal;)* }
-        swap { $($order:ident: $s16:literal $s32:literal $s64:literal;)* }
-        jump { $($condition:ident: $jump:literal $jump32:literal;)* }
-        load { $($format:ident: $load:literal;)* }
-        store { $($size:ident: $immediate:literal $register:literal;)* }
+        ($write:ident $given:tt)
+        alu { $($operation:ident: $wide:literal $narrow:literal $($flat_alu:ident)*;)* }
+        extend { $($extension:ident: $extend:literal $flat_extend:ident;)* }
+        negate { $($width:ident: $negate:literal $flat_negate:ident;)* }
+        swap { $($order:ident: $s16:literal $s32:literal $s64:literal $($flat_swap:ident)*;)* }
+        jump { $($condition:ident: $jump:literal $jump32:literal $($flat_jump:ident)*;)* }
+        load { $($format:ident: $load:literal $($flat_load:ident)*;)* }
+        store { $($size:ident: $immediate:literal $register:literal $($flat_store:ident)*;)* }
         single { $($single:ident: $name:literal;)* }
     ) => {
         $write! {
@@ -150,8 +71,18 @@ macro_rules! name {
     (($of:expr) $($form:tt $name:literal;)*) => { match $of { $($form => $name,)* } };
 }
 
+macro_rules! count {
+    (() $($form:tt $name:literal;)*) => { 0 $(+ unit!($name))* };
+}
+
+macro_rules! unit {
+    ($name:literal) => { 1 };
+}
+
+const FORM_COUNT: usize = instruction_rows!(each_form!(count()));
+
 /// Each form, once.
-pub const FORMS: [MnemonicForm; 86] = mnemonics!(forms!());
+pub const FORMS: [MnemonicForm; FORM_COUNT] = instruction_rows!(each_form!(forms()));
 
 impl MnemonicForm {
     /// Returns the form that a mnemonic names.
@@ -168,6 +99,6 @@ impl MnemonicForm {
     pub fn name(self) -> &'static str
         ensures { result.now ≡ name_of self }
     {
-        mnemonics!(name!(self))
+        instruction_rows!(each_form!(name(self)))
     }
 }

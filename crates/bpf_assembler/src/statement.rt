@@ -78,7 +78,7 @@ fn instruction_in(form: MnemonicForm, operands: &[u8]) -> Result<Statement<'_>, 
         MnemonicForm::Negate(width) => negate(width, operands),
         MnemonicForm::ByteSwap(order, width) => byte_swap(order, width, operands),
         MnemonicForm::JumpIf(condition, width) => jump_if(condition, width, operands),
-        MnemonicForm::Jump => jump(operands),
+        MnemonicForm::ShortJump => jump(operands),
         MnemonicForm::LongJump => long_jump(operands),
         MnemonicForm::Call => call(operands),
         MnemonicForm::Exit => exit(operands),
@@ -191,7 +191,7 @@ fn jump_if(condition: Condition, width: Width, operands: &[u8]) -> Result<Statem
 }
 
 fn jump(operands: &[u8]) -> Result<Statement<'_>, TextFlaw>
-    ensures { statement_view result ≡ instruction_in MnemonicForm.Jump operands.now }
+    ensures { statement_view result ≡ instruction_in MnemonicForm.ShortJump operands.now }
 {
     let (distance, target) = target_16(operands)?;
     let insn = Insn::Jump(JumpDistance::Short(distance));

@@ -5,7 +5,6 @@
 mod flat;
 mod forms;
 mod operands;
-mod rows;
 mod table;
 
 pub use flat::FlatInsn;

@@ -4,27 +4,27 @@ ghost use Rattle.bpf_insn.specs.Immediates.{HasImmediates};
 ghost use Rattle.bpf_flat.specs.Flat.{Keeps, insn_of, without_distance};
 
 use crate::flat::FlatInsn;
-use crate::flat_rows;
 use crate::operands::{
     JumpWithImmediate, JumpWithRegister, LoadOperands, StoreImmediateOperands,
     StoreRegisterOperands, WithImmediate, WithRegister,
 };
 use bpf_insn::{
     Area, ByteOrder, Condition, Insn, LoadFormat, Operation, SignExtension, Source, StoreSize,
-    SwapWidth, Width,
+    SwapWidth, Width, instruction_rows,
 };
 
 /// Generates the match over the instructions.
 macro_rules! flat_form {
     (
         ($insn:expr, $area:expr, $target:expr)
-        alu { $($operation:ident: $ai32:ident $ar32:ident $ai64:ident $ar64:ident;)* }
-        extend { $($extension:ident: $extend:ident;)* }
-        negate { $($width:ident: $negate:ident;)* }
-        swap { $($order:ident: $s16:ident $s32:ident $s64:ident;)* }
-        jump { $($condition:ident: $ji32:ident $jr32:ident $ji64:ident $jr64:ident;)* }
-        load { $($format:ident: $record:ident $frame:ident;)* }
-        store { $($size:ident: $si:ident $sr:ident;)* }
+        alu { $($operation:ident: $($alu_name:literal)* $ai32:ident $ar32:ident $ai64:ident $ar64:ident;)* }
+        extend { $($extension:ident: $extend_name:literal $extend:ident;)* }
+        negate { $($width:ident: $negate_name:literal $negate:ident;)* }
+        swap { $($order:ident: $($swap_name:literal)* $s16:ident $s32:ident $s64:ident;)* }
+        jump { $($condition:ident: $($jump_name:literal)* $ji32:ident $jr32:ident $ji64:ident $jr64:ident;)* }
+        load { $($format:ident: $load_name:literal $record:ident $frame:ident;)* }
+        store { $($size:ident: $($store_name:literal)* $si:ident $sr:ident;)* }
+        single $single:tt
     ) => {
         match $insn {
             Insn::Alu { operation, width, destination, source: Source::Immediate(immediate) } => match (operation, width) {
@@ -92,5 +92,5 @@ pub fn flatten(insn: Insn, area: Option<Area>, target: u32) -> FlatInsn
     ensures kept { Keeps insn area target result }
     ensures immediates { HasImmediates insn }
 {
-    flat_rows!(flat_form!(insn, area, target))
+    instruction_rows!(flat_form!(insn, area, target))
 }

@@ -13,6 +13,7 @@ mod opcode_form;
 mod reading;
 mod register;
 mod row;
+mod rows;
 mod spelling;
 mod value;
 mod word;

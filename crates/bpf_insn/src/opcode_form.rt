@@ -4,6 +4,7 @@ ghost use Rattle.bpf_insn.specs.Form.{bit, condition_code, form_opcode, opcode_o
 ghost use Rattle.bpf_insn.specs.Opcode.{form_of, immediate_use, offset_use, operand_form, row};
 
 use crate::instruction::{ByteOrder, Condition, LoadFormat, Operation, StoreSize, Width};
+use crate::instruction_rows;
 use crate::row::Destination::{Nothing, Read, Written};
 use crate::row::Use::{Any, MoveBits, SwapBits, Unused, ZeroOrOne};
 use crate::row::{Row, Use, uses};
@@ -28,26 +29,43 @@ pub(crate) enum OpcodeForm {
     WideLoad,
 }
 
-/// Passes the given tokens to a macro, together with the operations or conditions that have a code of their own, or with the forms without a second
-/// operand. Signed operations have no code of their own: the offset distinguishes them.
+/// Passes the given tokens to a macro, together with the operations, the conditions, or the forms without a second operand. A signed operation is
+/// never found by its code, which is that of the unsigned one before it: the offset distinguishes them.
 macro_rules! each {
-    (operation $write:ident $given:tt) => {
-        each!($write $given Operation: Add Subtract Multiply Divide Or And ShiftLeft ShiftRight Modulo ExclusiveOr Move ArithmeticShiftRight;)
+    (
+        (operation $write:ident $given:tt)
+        alu { $($operation:ident: $($name:literal)* $($flat:ident)*;)* }
+        $($others:tt)*
+    ) => {
+        $write!($given $(Operation::$operation,)*)
     };
-    (condition $write:ident $given:tt) => {
-        each!($write $given Condition: Equal Greater GreaterOrEqual SharesBit NotEqual SignedGreater SignedGreaterOrEqual
-            Less LessOrEqual SignedLess SignedLessOrEqual;)
+    (
+        (condition $write:ident $given:tt)
+        alu $alu:tt extend $extend:tt negate $negate:tt swap $swap:tt
+        jump { $($condition:ident: $($name:literal)* $($flat:ident)*;)* }
+        $($others:tt)*
+    ) => {
+        $write!($given $(Condition::$condition,)*)
     };
-    (form $write:ident $given:tt) => {
-        each!($write $given OpcodeForm: Exit Call ShortJump LongJump WideLoad;
-            Load(LoadFormat: Byte HalfWord Word DoubleWord SignedByte SignedHalfWord SignedWord)
-            Store(StoreSize: Byte HalfWord Word DoubleWord)
-            StoreImmediate(StoreSize: Byte HalfWord Word DoubleWord)
-            Negate(Width: Bits32 Bits64)
-            ByteSwap(ByteOrder: LittleEndian BigEndian Swapped))
-    };
-    ($write:ident $given:tt $of:ident: $($one:ident)*; $($made:ident($part:ident: $($variant:ident)*))*) => {
-        $write!($given $($of::$one,)* $($($of::$made($part::$variant),)*)*)
+    (
+        (form $write:ident $given:tt)
+        alu $alu:tt extend $extend:tt
+        negate { $($width:ident: $negate:literal $flat_negate:ident;)* }
+        swap { $($order:ident: $($swap:literal)* $($flat_swap:ident)*;)* }
+        jump $jump:tt
+        load { $($format:ident: $load:literal $($flat_load:ident)*;)* }
+        store { $($size:ident: $($store:literal)* $($flat_store:ident)*;)* }
+        single { $($single:ident: $name:literal;)* }
+    ) => {
+        $write!(
+            $given
+            $(OpcodeForm::$single,)*
+            $(OpcodeForm::Load(LoadFormat::$format),)*
+            $(OpcodeForm::Store(StoreSize::$size),)*
+            $(OpcodeForm::StoreImmediate(StoreSize::$size),)*
+            $(OpcodeForm::Negate(Width::$width),)*
+            $(OpcodeForm::ByteSwap(ByteOrder::$order),)*
+        )
     };
 }
 
@@ -55,16 +73,34 @@ macro_rules! list {
     (() $($one:expr,)*) => { [$($one),*] };
 }
 
+macro_rules! count {
+    (() $($one:expr,)*) => { 0 $(+ unit!($one))* };
+}
+
+macro_rules! unit {
+    ($one:expr) => { 1 };
+}
+
 /// Expands to a match, which compiles to one jump, unlike a search that tests one by one.
 macro_rules! first_with {
     (($number:expr, $of:ident) $($one:expr,)*) => { match $number { $(n if n == $one.$of() => Some($one),)* _ => None } };
 }
 
-pub(crate) const OPERATIONS: [Operation; 12] = each!(operation list ());
+const OPERATION_COUNT: usize = instruction_rows!(each!(operation count ()));
 
-pub(crate) const CONDITIONS: [Condition; 11] = each!(condition list ());
+const CONDITION_COUNT: usize = instruction_rows!(each!(condition count ()));
 
-pub(crate) const FORMS: [OpcodeForm; 25] = each!(form list ());
+const FORM_COUNT: usize = instruction_rows!(each!(form count ()));
+
+pub(crate) const OPERATIONS: [Operation; OPERATION_COUNT] = instruction_rows!(
+    each!(operation list ())
+);
+
+pub(crate) const CONDITIONS: [Condition; CONDITION_COUNT] = instruction_rows!(
+    each!(condition list ())
+);
+
+pub(crate) const FORMS: [OpcodeForm; FORM_COUNT] = instruction_rows!(each!(form list ()));
 
 impl OpcodeForm {
     /// Returns the form of an opcode, or `None` if no instruction has it.
@@ -178,21 +214,21 @@ fn operation(code: u8) -> Option<Operation>
     ensures value { result ≡ find (λ operation. operation_code operation == code) OPERATIONS }
     ensures code { IfSome result (λ operation. operation_code operation ≡ code) }
 {
-    each!(operation first_with (code, code))
+    instruction_rows!(each!(operation first_with (code, code)))
 }
 
 fn condition(code: u8) -> Option<Condition>
     ensures value { result ≡ find (λ condition. condition_code condition == code) CONDITIONS }
     ensures code { IfSome result (λ condition. condition_code condition ≡ code) }
 {
-    each!(condition first_with (code, code))
+    instruction_rows!(each!(condition first_with (code, code)))
 }
 
 fn other_form(opcode: u8) -> Option<OpcodeForm>
     ensures value { result ≡ find (λ form. form_opcode form == opcode) FORMS }
     ensures opcode { IfSome result (λ form. form_opcode form ≡ opcode) }
 {
-    each!(form first_with (opcode, opcode))
+    instruction_rows!(each!(form first_with (opcode, opcode)))
 }
 
 /// Returns how an operation uses the offset.

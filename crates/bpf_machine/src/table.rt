@@ -4,9 +4,12 @@ ghost use Rattle.bpf_flat.specs.Flat.{area_of, insn_of, target_of};
 ghost use Rattle.bpf_machine.specs.Words.{MeetsCall, next_of, next_words, words_of};
 
 use crate::bare::Bare;
-use bpf_flat::{FlatInsn, flat_rows};
+use bpf_flat::FlatInsn;
 use bpf_insn::Width::{Bits32, Bits64};
-use bpf_insn::{ByteOrder, Condition, LoadFormat, Operation, SignExtension, StoreSize, SwapWidth};
+use bpf_insn::{
+    ByteOrder, Condition, LoadFormat, Operation, SignExtension, StoreSize, SwapWidth,
+    instruction_rows,
+};
 use std::alloc::Allocator;
 use tl_segments::Segment;
 
@@ -14,13 +17,14 @@ use tl_segments::Segment;
 macro_rules! dispatch {
     (
         ($flat:expr, $bare:ident, $segment:ident, $next:ident)
-        alu { $($operation:ident: $ai32:ident $ar32:ident $ai64:ident $ar64:ident;)* }
-        extend { $($extension:ident: $extend:ident;)* }
-        negate { $($width:ident: $negate:ident;)* }
-        swap { $($order:ident: $s16:ident $s32:ident $s64:ident;)* }
-        jump { $($condition:ident: $ji32:ident $jr32:ident $ji64:ident $jr64:ident;)* }
-        load { $($format:ident: $record:ident $frame:ident;)* }
-        store { $($size:ident: $si:ident $sr:ident;)* }
+        alu { $($operation:ident: $($alu_name:literal)* $ai32:ident $ar32:ident $ai64:ident $ar64:ident;)* }
+        extend { $($extension:ident: $extend_name:literal $extend:ident;)* }
+        negate { $($width:ident: $negate_name:literal $negate:ident;)* }
+        swap { $($order:ident: $($swap_name:literal)* $s16:ident $s32:ident $s64:ident;)* }
+        jump { $($condition:ident: $($jump_name:literal)* $ji32:ident $jr32:ident $ji64:ident $jr64:ident;)* }
+        load { $($format:ident: $load_name:literal $record:ident $frame:ident;)* }
+        store { $($size:ident: $($store_name:literal)* $si:ident $sr:ident;)* }
+        single $single:tt
     ) => {
         match $flat {
             $(
@@ -76,5 +80,5 @@ pub(crate) fn execute<A: Allocator>(
         ≡ Ok (next_of result (words_of bare.new)) }
     ensures kept { result ≡ None → bare.new ≡ bare.old }
 {
-    flat_rows!(dispatch!(flat, bare, segment, next))
+    instruction_rows!(dispatch!(flat, bare, segment, next))
 }

@@ -11,7 +11,7 @@ use Rattle.bpf_insn.specs.declared.instruction.Insn.{Insn}
 use Rattle.bpf_insn.specs.declared.instruction.Insn.TheVariants as insn
 use Rattle.bpf_insn.specs.declared.instruction.JumpDistance.TheVariants as distance
 use Rattle.bpf_assembler.specs.declared.mnemonic_form.MnemonicForm.{MnemonicForm}
-use Rattle.bpf_assembler.specs.declared.mnemonic_form.MnemonicForm.TheVariants.{Alu, MoveSignExtended, Negate, ByteSwap, JumpIf, Jump, LongJump, Call, Exit}
+use Rattle.bpf_assembler.specs.declared.mnemonic_form.MnemonicForm.TheVariants.{Alu, MoveSignExtended, Negate, ByteSwap, JumpIf, ShortJump, LongJump, Call, Exit}
 use Rattle.bpf_assembler.specs.declared.mnemonic_form.MnemonicForm.TheVariants.{Load}
 use Rattle.bpf_assembler.specs.declared.mnemonic_form.MnemonicForm.TheVariants.{StoreImmediate, Store, WideLoad}
 use Rattle.bpf_assembler.specs.Statement.{Instruction, statement_in}
@@ -47,7 +47,7 @@ form_of (insn.MoveSignExtended extension destination source) = MoveSignExtended 
 form_of (insn.Negate width destination) = Negate width
 form_of (insn.ByteSwap order width destination) = ByteSwap order width
 form_of (insn.JumpIf condition width left right offset) = JumpIf condition width
-form_of (insn.Jump (distance.Short offset)) = Jump
+form_of (insn.Jump (distance.Short offset)) = ShortJump
 form_of (insn.Jump (distance.Long offset)) = LongJump
 form_of (insn.Call helper) = Call
 form_of insn.Exit = Exit

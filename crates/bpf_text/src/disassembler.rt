@@ -66,7 +66,7 @@ fn form_of(insn: Insn) -> MnemonicForm
             width,
             ..
         } => MnemonicForm::JumpIf(condition, width),
-        Insn::Jump(JumpDistance::Short(_)) => MnemonicForm::Jump,
+        Insn::Jump(JumpDistance::Short(_)) => MnemonicForm::ShortJump,
         Insn::Jump(JumpDistance::Long(_)) => MnemonicForm::LongJump,
         Insn::Call { .. } => MnemonicForm::Call,
         Insn::Exit => MnemonicForm::Exit,
