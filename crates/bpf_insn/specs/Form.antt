@@ -159,6 +159,22 @@ abbrev pub source_immediate : Source → ℤ
 source_immediate (Immediate value) = value
 source_immediate (Register register) = pos 0
 
+-- the form of an instruction
+abbrev pub opcode_form : Insn → OpcodeForm
+opcode_form (Alu operation width destination source) = form.Alu operation width (is_register source)
+opcode_form (MoveSignExtended extension destination source) = form.Alu Move (extension_width extension) true
+opcode_form (Negate width destination) = form.Negate width
+opcode_form (ByteSwap order width destination) = form.ByteSwap order
+opcode_form (JumpIf condition width left right offset) = form.JumpIf condition width (is_register right)
+opcode_form (Jump (Short distance)) = form.ShortJump
+opcode_form (Jump (Long distance)) = form.LongJump
+opcode_form (Call immediate) = form.Call
+opcode_form Exit = form.Exit
+opcode_form (Load format destination base offset) = form.Load format
+opcode_form (StoreImmediate size base offset immediate) = form.StoreImmediate size
+opcode_form (Store size base offset source) = form.Store size
+opcode_form (WideLoad destination immediate next_immediate) = form.WideLoad
+
 -- The first word of an instruction: its opcode, the fields that it uses, and zero in all others (section 3.1: unused fields are zero). One line for
 -- each row of the instruction table.
 abbrev pub first_word : Insn → Word

@@ -1,6 +1,6 @@
 -- The instruction table by opcodes (RFC 9669, sections 3 to 5): the form of an opcode, and the fields that the form uses.
-use Rattle.std.specs.Prelude.{ℕ, ◌/◌, ◌%◌, ◌==◌, Bool, true, find, List, [], ◌∷◌, Option, Some, None, option_map, if◌then◌else◌, false}
-use Rattle.bpf_insn.specs.Form.{operation_code, condition_code, form_opcode}
+use Rattle.std.specs.Prelude.{ℕ, ◌/◌, ◌%◌, ◌==◌, ◌&&◌, ◌||◌, Bool, true, find, List, [], ◌∷◌, Option, Some, None, option_map, if◌then◌else◌, false}
+use Rattle.bpf_insn.specs.Form.{operation_code, condition_code, form_opcode, opcode_form, first_word}
 use Rattle.bpf_insn.specs.Row.{uses}
 use Rattle.bpf_insn.specs.declared.opcode_form.OpcodeForm.{OpcodeForm}
 use Rattle.bpf_insn.specs.declared.opcode_form.OpcodeForm.TheVariants.{Alu, Negate, ByteSwap, JumpIf, ShortJump, LongJump, Call, Exit, Load, StoreImmediate, Store, WideLoad}
@@ -9,6 +9,7 @@ use Rattle.bpf_insn.specs.declared.row.Row.{Row}
 use Rattle.bpf_insn.specs.declared.row.Destination.TheVariants.{Nothing, Read, Written}
 use Rattle.bpf_insn.specs.declared.row.Use.{Use}
 use Rattle.bpf_insn.specs.declared.row.Use.TheVariants.{Unused, Any, ZeroOrOne, MoveBits, SwapBits}
+use Rattle.bpf_insn.specs.declared.instruction.Insn.{Insn}
 use Rattle.bpf_insn.specs.declared.instruction.Operation.{Operation}
 use Rattle.bpf_insn.specs.declared.instruction.Operation.TheVariants.{Divide, SignedDivide, Modulo, SignedModulo, Move}
 use Rattle.bpf_insn.specs.declared.instruction.Width.{Width}
@@ -77,3 +78,20 @@ row (Load format) = uses Written true Any Unused
 row (StoreImmediate size) = uses Read false Any Any
 row (Store size) = uses Read true Any Unused
 row WideLoad = uses Written false Unused Any
+
+-- a form whose instructions read the register in the destination field; a move only writes it
+abbrev pub reads_destination : OpcodeForm → Bool
+reads_destination (Alu Move width from_register) = false
+reads_destination (Alu operation width from_register) = true
+reads_destination (Negate width) = true
+reads_destination (ByteSwap order) = true
+reads_destination (JumpIf condition width from_register) = true
+reads_destination (StoreImmediate size) = true
+reads_destination (Store size) = true
+reads_destination form = false
+
+-- an instruction reads a register that its fields name
+abbrev pub reads_named : Insn → ℕ → Bool
+reads_named insn register =
+    (reads_destination (opcode_form insn) && register == (first_word insn).destination)
+    || ((row (opcode_form insn)).uses_source && register == (first_word insn).source)

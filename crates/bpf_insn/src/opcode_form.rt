@@ -1,7 +1,7 @@
 //! The instruction table, by opcodes: the form of an instruction, and the fields that it uses.
 ghost use Rattle.std.specs.Prelude.{◌≡◌, ◌==◌, ◌<◌, find, IfSome};
 ghost use Rattle.bpf_insn.specs.Form.{bit, condition_code, form_opcode, opcode_of, operation_code};
-ghost use Rattle.bpf_insn.specs.Opcode.{form_of, immediate_use, offset_use, operand_form, row};
+ghost use Rattle.bpf_insn.specs.Opcode.{form_of, immediate_use, offset_use, operand_form, reads_destination, row};
 
 use crate::instruction::{ByteOrder, Condition, LoadFormat, Operation, StoreSize, Width};
 use crate::instruction_rows;
@@ -165,11 +165,25 @@ impl OpcodeForm {
             OpcodeForm::WideLoad => uses(Written, false, Unused, Any),
         }
     }
+    /// Returns whether the instruction reads the register that the destination field names. A move only writes it.
+    pub(crate) fn reads_destination(self) -> bool
+        ensures { result ≡ reads_destination self }
+    {
+        match self {
+            OpcodeForm::Alu(operation, _, _) => operation != Operation::Move,
+            OpcodeForm::Negate(_)
+            | OpcodeForm::ByteSwap(_)
+            | OpcodeForm::JumpIf(_, _, _)
+            | OpcodeForm::StoreImmediate(_)
+            | OpcodeForm::Store(_) => true,
+            _ => false,
+        }
+    }
 }
 
 /// Returns the opcode of arithmetic or of a jump.
 #[inline(always)]
-pub(crate) fn opcode(code: u8, from_register: bool, class: u8) -> u8
+fn opcode(code: u8, from_register: bool, class: u8) -> u8
     requires { (code < 16) × (class < 8) }
     ensures { result ≡ opcode_of code (bit from_register) class }
 {

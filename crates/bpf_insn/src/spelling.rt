@@ -1,9 +1,10 @@
-//! The words that spell an instruction.
+//! The words that spell an instruction, and the registers that they name.
 ghost use Rattle.std.specs.Prelude.{◌≡◌, ◌≤◌, option_to_list};
-ghost use Rattle.bpf_insn.specs.Form.{first_word, further_words, is_register, source_field, source_immediate};
+ghost use Rattle.bpf_insn.specs.Form.{extension_width, first_word, further_words, is_register, opcode_form, source_field, source_immediate};
+ghost use Rattle.bpf_insn.specs.Opcode.{reads_named};
 
-use crate::instruction::{Insn, JumpDistance, Operation, Source};
-use crate::opcode_form::{OpcodeForm, opcode};
+use crate::instruction::{Insn, JumpDistance, Operation, SignExtension, Source, Width};
+use crate::opcode_form::OpcodeForm;
 use crate::word::Word;
 
 impl Insn {
@@ -29,8 +30,25 @@ impl Insn {
         (first, second)
     }
 
+    /// Returns whether the instruction reads a register that its fields name.
+    pub fn reads_named(&self, register: u8) -> bool
+        ensures { result ≡ reads_named self.now register }
+    {
+        let form = self.form();
+        (form.reads_destination() && register == self.first_register())
+            || (form.row().uses_source && register == self.second_register())
+    }
+
+    #[tactic(auto, using(crate::proofs::FormLemmas::has_opcode))]
     fn opcode(&self) -> u8
         ensures { result ≡ (first_word self.now).opcode }
+    {
+        self.form().opcode()
+    }
+
+    #[inline(always)]
+    fn form(&self) -> OpcodeForm
+        ensures { result ≡ opcode_form self.now }
     {
         match *self {
             Insn::Alu {
@@ -38,26 +56,26 @@ impl Insn {
                 width,
                 source,
                 ..
-            } => OpcodeForm::Alu(operation, width, source.fields().0).opcode(),
+            } => OpcodeForm::Alu(operation, width, source.fields().0),
             Insn::MoveSignExtended { extension, .. } => {
-                opcode(Operation::Move as u8, true, (extension as u16 % 256) as u8)
+                OpcodeForm::Alu(Operation::Move, extension.width(), true)
             }
-            Insn::Negate { width, .. } => OpcodeForm::Negate(width).opcode(),
-            Insn::ByteSwap { order, .. } => OpcodeForm::ByteSwap(order).opcode(),
+            Insn::Negate { width, .. } => OpcodeForm::Negate(width),
+            Insn::ByteSwap { order, .. } => OpcodeForm::ByteSwap(order),
             Insn::JumpIf {
                 condition,
                 width,
                 right,
                 ..
-            } => OpcodeForm::JumpIf(condition, width, right.fields().0).opcode(),
-            Insn::Jump(JumpDistance::Short(_)) => OpcodeForm::ShortJump.opcode(),
-            Insn::Jump(JumpDistance::Long(_)) => OpcodeForm::LongJump.opcode(),
-            Insn::Call { .. } => OpcodeForm::Call.opcode(),
-            Insn::Exit => OpcodeForm::Exit.opcode(),
-            Insn::Load { format, .. } => OpcodeForm::Load(format).opcode(),
-            Insn::StoreImmediate { size, .. } => OpcodeForm::StoreImmediate(size).opcode(),
-            Insn::Store { size, .. } => OpcodeForm::Store(size).opcode(),
-            Insn::WideLoad { .. } => OpcodeForm::WideLoad.opcode(),
+            } => OpcodeForm::JumpIf(condition, width, right.fields().0),
+            Insn::Jump(JumpDistance::Short(_)) => OpcodeForm::ShortJump,
+            Insn::Jump(JumpDistance::Long(_)) => OpcodeForm::LongJump,
+            Insn::Call { .. } => OpcodeForm::Call,
+            Insn::Exit => OpcodeForm::Exit,
+            Insn::Load { format, .. } => OpcodeForm::Load(format),
+            Insn::StoreImmediate { size, .. } => OpcodeForm::StoreImmediate(size),
+            Insn::Store { size, .. } => OpcodeForm::Store(size),
+            Insn::WideLoad { .. } => OpcodeForm::WideLoad,
         }
     }
 
@@ -132,6 +150,21 @@ impl Source {
         match self {
             Source::Immediate(immediate) => (false, 0, immediate),
             Source::Register(register) => (true, register.number, 0),
+        }
+    }
+}
+
+impl SignExtension {
+    /// Returns the width that the move writes.
+    #[inline(always)]
+    fn width(self) -> Width
+        ensures { result ≡ extension_width self }
+    {
+        match self {
+            SignExtension::Bits8To32 | SignExtension::Bits16To32 => Width::Bits32,
+            SignExtension::Bits8To64 | SignExtension::Bits16To64 | SignExtension::Bits32To64 => {
+                Width::Bits64
+            }
         }
     }
 }

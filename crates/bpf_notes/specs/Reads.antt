@@ -11,18 +11,15 @@ use Rattle.bpf_helpers.specs.declared.signature.Argument.TheVariants as argument
 use Rattle.bpf_helpers.specs.declared.signature.FrameUse.{FrameUse}
 use Rattle.bpf_helpers.specs.declared.signature.FrameUse.TheVariants as frame_use
 use Rattle.bpf_insn.specs.Memory.{load_length}
+use Rattle.bpf_insn.specs.Opcode.{reads_named}
 use Rattle.bpf_insn.specs.declared.instruction.Insn.{Insn}
-use Rattle.bpf_insn.specs.declared.instruction.Insn.TheVariants.{Alu, MoveSignExtended, Negate, ByteSwap, JumpIf, Jump, Call, Exit, Load, StoreImmediate, Store}
-use Rattle.bpf_insn.specs.declared.instruction.Insn.TheVariants.{WideLoad}
-use Rattle.bpf_insn.specs.declared.instruction.Operation.{Operation}
-use Rattle.bpf_insn.specs.declared.instruction.Operation.TheVariants.{Move}
+use Rattle.bpf_insn.specs.declared.instruction.Insn.TheVariants.{Call, Exit, Load}
 use Rattle.bpf_insn.specs.declared.memory.TheConstants.{SLOTS, SLOT_LENGTH}
 use Rattle.bpf_kinds.specs.declared.kind.Kind.{Kind}
 use Rattle.bpf_kinds.specs.declared.kind.Kind.TheVariants.{Number, Frame}
 use Rattle.bpf_kinds.specs.declared.offsets.Offsets.{Offsets}
 use Rattle.bpf_meaning.specs.declared.state.TheConstants.{REGISTERS}
 use Rattle.bpf_verify.specs.AbstractState.{kind_of}
-use Rattle.bpf_verify.specs.Transfer.{is_register}
 use Rattle.bpf_verify.specs.declared.known.Known.{Known}
 use Rattle.bpf_notes.specs.declared.notation.Part.{Part}
 use Rattle.bpf_notes.specs.declared.notation.Part.TheVariants.{Register, Slot}
@@ -43,26 +40,15 @@ uses_register (Some helper) register = is_used (get_or (argument.Unused ∷ (sig
 abbrev pub helper_of : ℤ → Option Helper
 helper_of immediate = by_number (cast_unsigned w32 immediate)
 
--- a move doesn't read its destination
-abbrev pub is_move : Operation → Bool
-is_move Move = true
-is_move operation = false
+-- the registers that an instruction reads and that none of its fields names: a call's arguments, and the answer
+abbrev pub reads_unnamed : Insn → ℕ → Bool
+reads_unnamed (Call immediate) register = uses_register (helper_of immediate) register
+reads_unnamed Exit register = register == 0
+reads_unnamed insn register = false
 
 -- the registers that an instruction reads
 abbrev pub reads_register : Insn → ℕ → Bool
-reads_register (Alu operation width destination source) register =
-    (if is_move operation then false else register == destination.number) || is_register register source
-reads_register (MoveSignExtended extension destination source) register = register == source.number
-reads_register (Negate width destination) register = register == destination.number
-reads_register (ByteSwap order width destination) register = register == destination.number
-reads_register (JumpIf condition width left right offset) register = (register == left.number) || is_register register right
-reads_register (Jump distance) register = false
-reads_register (Call immediate) register = uses_register (helper_of immediate) register
-reads_register Exit register = register == 0
-reads_register (Load format destination base offset) register = register == base.number
-reads_register (StoreImmediate size base offset immediate) register = register == base.number
-reads_register (Store size base offset source) register = (register == base.number) || (register == source.number)
-reads_register (WideLoad destination immediate next_immediate) register = false
+reads_register insn register = reads_named insn register || reads_unnamed insn register
 
 -- `count` bytes from each of the offsets, plus another offset: from the first byte at the least one to the last byte at the greatest
 abbrev pub bytes_from : Offsets → ℤ → ℕ → Bytes

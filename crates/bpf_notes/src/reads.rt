@@ -2,17 +2,16 @@
 ghost use Rattle.std.specs.Prelude.{◌≡◌, ◌≤◌, ◌<◌, ◌+◌, pos, ◌+ℤ◌, ◌-ℤ◌, ◌++◌, ◌∷◌, [], cond, filter, IfOk, OnOk};
 ghost use Rattle.std.specs.List.{All};
 ghost use Rattle.bpf_verify.specs.AbstractState.{IsProperKnown, kind_of};
-ghost use Rattle.bpf_verify.specs.Transfer.{is_register};
 ghost use Rattle.bpf_notes.specs.declared.reads.TheConstants.{PARTS};
 ghost use Rattle.bpf_insn.specs.declared.memory.TheConstants.{SLOTS};
 ghost use Rattle.bpf_meaning.specs.declared.state.TheConstants.{REGISTERS};
 ghost use Rattle.bpf_notes.specs.Notation.{IsPart};
-ghost use Rattle.bpf_notes.specs.Reads.{bytes_from, called_bytes, has_one_if, has_one_of, helper_of, is_move, is_used, lent_bytes, loaded_bytes, part_at};
-ghost use Rattle.bpf_notes.specs.Reads.{read_bytes, read_if, reads, reads_register, parts_from, registers_read, slots_read, uses_register};
+ghost use Rattle.bpf_notes.specs.Reads.{bytes_from, called_bytes, has_one_if, has_one_of, helper_of, is_used, lent_bytes, loaded_bytes, part_at};
+ghost use Rattle.bpf_notes.specs.Reads.{read_bytes, read_if, reads, reads_register, reads_unnamed, parts_from, registers_read, slots_read, uses_register};
 
 use crate::notation::Part;
 use bpf_helpers::{Argument, FrameUse, Helper};
-use bpf_insn::{Insn, Operation, Register, SLOT_LENGTH, SLOTS, Source, load_length};
+use bpf_insn::{Insn, SLOT_LENGTH, SLOTS, load_length};
 use bpf_kinds::{Kind, Offsets};
 use bpf_meaning::REGISTERS;
 use bpf_verify::Known;
@@ -46,37 +45,17 @@ pub(crate) fn reads(known: &Known, insn: Insn, part: Part) -> bool
 fn reads_register(insn: Insn, register: u8) -> bool
     ensures { result ≡ reads_register insn register }
 {
-    match insn {
-        Insn::Alu {
-            operation,
-            destination,
-            source,
-            ..
-        } => {
-            (operation != Operation::Move && register == destination.number)
-                || is_register(register, source)
-        }
-        Insn::MoveSignExtended { source, .. } => register == source.number,
-        Insn::Negate { destination, .. } | Insn::ByteSwap { destination, .. } => {
-            register == destination.number
-        }
-        Insn::JumpIf { left, right, .. } => {
-            register == left.number || is_register(register, right)
-        }
-        Insn::Jump(_) | Insn::WideLoad { .. } => false,
-        Insn::Call { immediate } => uses_register(helper_of(immediate), register),
-        Insn::Exit => register == 0,
-        Insn::Load { base, .. } | Insn::StoreImmediate { base, .. } => register == base.number,
-        Insn::Store { base, source, .. } => register == base.number || register == source.number,
-    }
+    insn.reads_named(register) || reads_unnamed(insn, register)
 }
 
-fn is_register(register: u8, source: Source) -> bool
-    ensures { result ≡ is_register register source }
+/// Returns whether an instruction reads a register that none of its fields names.
+fn reads_unnamed(insn: Insn, register: u8) -> bool
+    ensures { result ≡ reads_unnamed insn register }
 {
-    match source {
-        Source::Immediate(_) => false,
-        Source::Register(other) => register == other.number,
+    match insn {
+        Insn::Call { immediate } => uses_register(helper_of(immediate), register),
+        Insn::Exit => register == 0,
+        _ => false,
     }
 }
 
