@@ -48,9 +48,13 @@ found p q (first ∷ xs) x all is =
     let parts = and_parts (q first) (list_all q xs) all in
     found-by q first x (find p xs) (p first) parts.0 (found p q xs x parts.1) is
 
+-- a property of all forms in the list holds for each form
+pub each-form : (q : MnemonicForm → Bool) → list_all q FORMS ≡ true → (form : MnemonicForm) → q form ≡ true
+each-form q all form = found (λ other. bytes_eq (name_of other) (name_of form)) q FORMS form all (named form)
+
 abbrev pub is_mnemonic : MnemonicForm → Bool
 is_mnemonic form = nat_le 1 (length (name_of form)) && list_all is_mnemonic_byte (name_of form)
 
 -- a name is a word of at least one byte
 pub mnemonic : (form : MnemonicForm) → is_mnemonic form ≡ true
-mnemonic form = found (λ other. bytes_eq (name_of other) (name_of form)) is_mnemonic FORMS form refl (named form)
+mnemonic form = each-form is_mnemonic refl form
