@@ -76,18 +76,30 @@ pub gives_the_code : (bytes : List ℕ) (result : Result (List Insn) CodeFault) 
 gives_the_code bytes (Ok decoded) ok err code is = one_code decoded code (sym ok.words ∙ is.words)
 gives_the_code bytes (Err fault) ok err code is = memory_alone bytes code fault is err
 
+-- words that begin with a fault
+record Faulty : Type 0 where
+  word : Word
+  rest : List Word
+  fault : WordFault
+  is : first_fault word rest ≡ Some fault
+
 -- two sequences of instructions from the same words, each followed by a fault, are equal
-same_front : (a b : List Insn) (f g : Word) {r s : List Word} {x y : WordFault} → code_words a ++ f ∷ r ≡ code_words b ++ g ∷ s
-    → first_fault f r ≡ Some x → first_fault g s ≡ Some y → (a ≡ b) × ((f ≡ g) × (r ≡ s))
-same_front [] [] f g {r} {s} e h k = (refl, (same_first f g r s e, same_others f g r s e))
-same_front [] (insn ∷ b) f g {r} {s} {x} e h k =
-    absurd (has_no_fault insn (code_words b ++ g ∷ s) r f x (sym (e ∙ append_assoc (spelling insn) (code_words b) (g ∷ s))) h)
-same_front (insn ∷ a) [] f g {r} {s} {y} e h k =
-    absurd (has_no_fault insn (code_words a ++ f ∷ r) s g y (sym (append_assoc (spelling insn) (code_words a) (f ∷ r)) ∙ e) k)
-same_front (insn ∷ a) (other ∷ b) f g {r} {s} e h k =
-    let joined = sym (append_assoc (spelling insn) (code_words a) (f ∷ r)) ∙ e ∙ append_assoc (spelling other) (code_words b) (g ∷ s) in
-    let first = one_instruction insn other (code_words a ++ f ∷ r) (code_words b ++ g ∷ s) joined in
-    let rest = same_front a b f g (same_rest insn other (code_words a ++ f ∷ r) (code_words b ++ g ∷ s) joined) h k in
+same_front : (a b : List Insn) (f g : Faulty) → code_words a ++ f.word ∷ f.rest ≡ code_words b ++ g.word ∷ g.rest
+    → (a ≡ b) × ((f.word ≡ g.word) × (f.rest ≡ g.rest))
+same_front [] [] f g e = (refl, (same_first f.word g.word f.rest g.rest e, same_others f.word g.word f.rest g.rest e))
+same_front [] (insn ∷ b) f g e =
+    absurd (has_no_fault insn (code_words b ++ g.word ∷ g.rest) f.rest f.word f.fault
+    (sym (e ∙ append_assoc (spelling insn) (code_words b) (g.word ∷ g.rest))) f.is)
+same_front (insn ∷ a) [] f g e =
+    absurd (has_no_fault insn (code_words a ++ f.word ∷ f.rest) g.rest g.word g.fault
+    (sym (append_assoc (spelling insn) (code_words a) (f.word ∷ f.rest)) ∙ e) g.is)
+same_front (insn ∷ a) (other ∷ b) f g e =
+    let one = code_words a ++ f.word ∷ f.rest in
+    let two = code_words b ++ g.word ∷ g.rest in
+    let joined = sym (append_assoc (spelling insn) (code_words a) (f.word ∷ f.rest)) ∙ e
+    ∙ append_assoc (spelling other) (code_words b) (g.word ∷ g.rest) in
+    let first = one_instruction insn other one two joined in
+    let rest = same_front a b f g (same_rest insn other one two joined) in
     (let front = rest.0 in cc, rest.1)
 
 same_fault : {x y : WordFault} {f g : Word} {r s : List Word} → f ≡ g → r ≡ s → first_fault f r ≡ Some x → first_fault g s ≡ Some y → x ≡ y
@@ -103,7 +115,8 @@ has_words bytes p x h none =
 same_place : (bytes : List ℕ) (p q : ℕ) (x y : WordFault) → HasFaultAt bytes p x → HasFaultAt bytes q y
     → code_fault.InWord p x ≡ code_fault.InWord q y
 same_place bytes p q x y one other =
-    let front = same_front one.0 other.0 one.1 other.1 (sym one.3 ∙ other.3) one.5 other.5 in
+    let front = same_front one.0 other.0 (record { word = one.1; rest = one.2; fault = x; is = one.5 })
+    (record { word = other.1; rest = other.2; fault = y; is = other.5 }) (sym one.3 ∙ other.3) in
     let fault = same_fault front.1.0 front.1.1 one.5 other.5 in
     let place : p ≡ q = one.4 ∙ ap word_count front.0 ∙ sym other.4 in
     cc

@@ -1,6 +1,6 @@
 -- From words to bytes, and back.
 use Rattle.std.proofs.Common.{◌≡◌, ℕ, zero, suc, ◌+◌, ◌*◌, ◌/◌, ◌%◌, ◌<◌, ◌≤◌, ◌^◌, List, [], ◌∷◌, ◌++◌, length, take, drop, get_or, All}
-use Rattle.std.proofs.Common.{Option, None, refl, sym, ap, ◌∙◌, subst, arith, option_to_list}
+use Rattle.std.proofs.Common.{refl, sym, ap, ◌∙◌, subst, arith}
 use Rattle.std.specs.Int.{cast_signed, cast_unsigned, w16, w32, Width}
 use mir.Val.{bits}
 use Rattle.std.proofs.lemmas.Int.{of_z-to_z}
@@ -63,39 +63,42 @@ words_more words more bytes others are also =
       small = All-append (λ byte. byte < 256) bytes others are.small also.small;
     }
 
--- an instruction's words after others
-pub writes_one : (insn : Insn) {first : Word} {second : Option Word} {new eight : List ℕ} (old : List ℕ) → first ≡ first_word insn
-    → option_to_list second ≡ further_words insn → second ≡ None → IsWritten first eight → new ≡ old ++ eight
-    → AppendsWords (spelling insn) old new
-writes_one insn {first} {eight} old is further none written grown =
-    let alone : further_words insn ≡ [] = sym further ∙ ap option_to_list none in (
-      eight,
-      subst (λ (ws : List Word). AreWords ws eight)
-          (ap (λ (w : Word). w ∷ []) is ∙ ap (λ (ws : List Word). first_word insn ∷ ws) (sym alone)) (one_word first eight written),
-      grown,
-    )
+-- a word is appended
+pub appends_one : (word : Word) {eight new : List ℕ} (old : List ℕ) → IsWritten word eight → new ≡ old ++ eight
+    → AppendsWords (word ∷ []) old new
+appends_one word {eight} old written grown = (eight, one_word word eight written, grown)
 
-pub writes_two : (insn : Insn) {first word : Word} {middle new eight more : List ℕ} (old : List ℕ) → first ≡ first_word insn
-    → word ∷ [] ≡ further_words insn → IsWritten first eight → IsWritten word more → middle ≡ old ++ eight → new ≡ middle ++ more
-    → AppendsWords (spelling insn) old new
-writes_two insn {first} {word} {eight} {more} old is two written also grown again = (
-  eight ++ more,
-  subst (λ (ws : List Word). AreWords ws (eight ++ more))
-      (ap (λ (w : Word). w ∷ word ∷ []) is ∙ ap (λ (ws : List Word). first_word insn ∷ ws) two)
-      (words_more (first ∷ []) (word ∷ []) eight more (one_word first eight written) (one_word word more also)),
-  again ∙ ap (λ (bs : List ℕ). bs ++ more) grown ∙ append_assoc old eight more,
+-- words are appended, and then others
+appends_both : (words others : List Word) (old middle new : List ℕ) → AppendsWords words old middle → AppendsWords others middle new
+    → AppendsWords (words ++ others) old new
+appends_both words others old middle new (more, are, grown) (rest, also, again) = (
+  more ++ rest,
+  words_more words others more rest are also,
+  again ∙ ap (λ (bytes : List ℕ). bytes ++ rest) grown ∙ append_assoc old more rest,
 )
+
+-- an instruction's words are appended
+pub writes_one : (insn : Insn) (old new : List ℕ) → [] ≡ further_words insn → AppendsWords (first_word insn ∷ []) old new
+    → AppendsWords (spelling insn) old new
+writes_one insn old new alone appends =
+    subst (λ (words : List Word). AppendsWords (first_word insn ∷ words) old new) alone appends
+
+pub writes_two : (insn : Insn) (word : Word) (old middle new : List ℕ) → word ∷ [] ≡ further_words insn
+    → AppendsWords (first_word insn ∷ []) old middle → AppendsWords (word ∷ []) middle new → AppendsWords (spelling insn) old new
+writes_two insn word old middle new two appends also =
+    subst (λ (words : List Word). AppendsWords (first_word insn ∷ words) old new) two
+    (appends_both (first_word insn ∷ []) (word ∷ []) old middle new appends also)
 
 -- the words of a code so far, with one more instruction
 pub code_more : (code : List Insn) (i : ℕ) {insn : Insn} {old : List ℕ} (new : List ℕ) → i < length code → insn ≡ get_or code i insn
     → AreWords (code_words (take i code)) old → AppendsWords (spelling insn) old new → AreWords (code_words (take (i + 1) code)) new
-code_more code i {insn} {old} new within is are (more, also, grown) =
+code_more code i {insn} new within is are (more, also, grown) =
     let next : code_words (take (i + 1) code) ≡ code_words (take i code) ++ spelling insn =
     ap code_words (take_more code i insn within ∙ ap (λ (x : Insn). take i code ++ x ∷ []) (sym is))
     ∙ sym (flat_map_more spelling [] (take i code) insn) in
     subst (λ (ws : List Word). AreWords ws new) (sym next)
     (subst (AreWords (code_words (take i code) ++ spelling insn)) (sym grown)
-    (words_more (code_words (take i code)) (spelling insn) old more are also))
+    (words_more (code_words (take i code)) (spelling insn) _ more are also))
 
 -- bytes that are the words of a code
 pub are_code : (words : List Word) (bytes : List ℕ) → AreWords words bytes → (length bytes % 8 ≡ 0) × (words_of bytes ≡ words)
@@ -112,13 +115,11 @@ abbrev pub AreBytes : List ℕ → Type 0
 AreBytes [] = Unit {0}
 AreBytes (x ∷ xs) = (x < 256) × AreBytes xs
 
--- one word has only one spelling in bytes
-same_eight : {a b c d e f g h a' b' c' d' e' f' g' h' : ℕ} {r r' : List ℕ} → AreBytes (a ∷ b ∷ c ∷ d ∷ e ∷ f ∷ g ∷ h ∷ [])
-    → AreBytes (a' ∷ b' ∷ c' ∷ d' ∷ e' ∷ f' ∷ g' ∷ h' ∷ [])
-    → word_of (a ∷ b ∷ c ∷ d ∷ e ∷ f ∷ g ∷ h ∷ r) ≡ word_of (a' ∷ b' ∷ c' ∷ d' ∷ e' ∷ f' ∷ g' ∷ h' ∷ r') → r ≡ r'
-    → a ∷ b ∷ c ∷ d ∷ e ∷ f ∷ g ∷ h ∷ r ≡ a' ∷ b' ∷ c' ∷ d' ∷ e' ∷ f' ∷ g' ∷ h' ∷ r'
-same_eight {a} {b} {c} {d} {e} {f} {g} {h} {a'} {b'} {c'} {d'} {e'} {f'} {g'} {h'} (ha, (hb, (hc, (hd, (he, (hf, (hg, (hh, _))))))))
-    (ha', (hb', (hc', (hd', (he', (hf', (hg', (hh', _)))))))) w rest =
+-- the bytes of a word, and those after them, have only one spelling
+same_eight : (xs ys : List ℕ) → 8 ≤ length xs → 8 ≤ length ys → AreBytes xs → AreBytes ys → word_of xs ≡ word_of ys
+    → drop 8 xs ≡ drop 8 ys → xs ≡ ys
+same_eight (a ∷ b ∷ c ∷ d ∷ e ∷ f ∷ g ∷ h ∷ r) (a' ∷ b' ∷ c' ∷ d' ∷ e' ∷ f' ∷ g' ∷ h' ∷ r') long also
+    (ha, (hb, (hc, (hd, (he, (hf, (hg, (hh, _)))))))) (ha', (hb', (hc', (hd', (he', (hf', (hg', (hh', _)))))))) w rest =
     let low : b % 16 ≡ b' % 16 = ap (λ (x : Word). x.destination) w in
     let high : b / 16 ≡ b' / 16 = ap (λ (x : Word). x.source) w in
     let opcode : a ≡ a' = ap (λ (x : Word). x.opcode) w in
@@ -135,6 +136,7 @@ same_eight {a} {b} {c} {d} {e} {f} {g} {h} {a'} {b'} {c'} {d'} {e'} {f'} {g'} {h
     let g_same : g ≡ g' = omega arith in
     let h_same : h ≡ h' = omega arith in
     rw (opcode, registers, c_same, d_same, e_same, f_same, g_same, h_same, rest) refl
+same_eight xs ys long also bx by w rest = absurd (omega arith)
 
 -- so bytes with the same words are equal
 pub same_bytes : (n : ℕ) (xs ys : List ℕ) → AreBytes xs → AreBytes ys → length xs ≡ n * 8 → length ys ≡ n * 8
@@ -149,7 +151,8 @@ same_bytes (suc n) (a ∷ b ∷ c ∷ d ∷ e ∷ f ∷ g ∷ h ∷ r) (a' ∷ b
     (a' ∷ b' ∷ c' ∷ d' ∷ e' ∷ f' ∷ g' ∷ h' ∷ r') ∷ first_words n r' = w in
     let first : word_of (a ∷ b ∷ c ∷ d ∷ e ∷ f ∷ g ∷ h ∷ r) ≡ word_of (a' ∷ b' ∷ c' ∷ d' ∷ e' ∷ f' ∷ g' ∷ h' ∷ r') = cc in
     let others : first_words n r ≡ first_words n r' = cc in
-    same_eight (ha, (hb, (hc, (hd, (he, (hf, (hg, (hh, tt)))))))) (ha', (hb', (hc', (hd', (he', (hf', (hg', (hh', tt)))))))) first
+    same_eight (a ∷ b ∷ c ∷ d ∷ e ∷ f ∷ g ∷ h ∷ r) (a' ∷ b' ∷ c' ∷ d' ∷ e' ∷ f' ∷ g' ∷ h' ∷ r') (omega arith) (omega arith)
+    (ha, (hb, (hc, (hd, (he, (hf, (hg, (hh, br)))))))) (ha', (hb', (hc', (hd', (he', (hf', (hg', (hh', br')))))))) first
     (same_bytes n r r' br br' (omega arith) (omega arith) others)
 same_bytes (suc n) xs ys bx by ex ey w = absurd (omega arith)
 

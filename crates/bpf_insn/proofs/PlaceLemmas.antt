@@ -276,25 +276,33 @@ indexes_grow indexes indexes' more code insn are here grown =
 abbrev pub Grows : {X : Type 0} → List X → List X → List X → List X → Type 0
 Grows old kept more new = (kept ≡ old) × (new ≡ kept ++ more)
 
-grown : {X : Type 0} {old kept new : List X} (more : List X) → Grows old kept more new → new ≡ old ++ more
+pub grown : {X : Type 0} {old kept new : List X} (more : List X) → Grows old kept more new → new ≡ old ++ more
 grown more (stayed, put) = put ∙ ap (λ xs. xs ++ more) stayed
 
 -- what is kept in addition to a code
 abbrev pub AreBeside : List Insn → List ℕ → List (Option ℕ) → Type 0
 AreBeside code places indexes = (places ≡ places_from 0 code) × (indexes ≡ indexes_from 0 code) × (word_count code ≤ WORD_LIMIT)
 
--- what is kept in addition to a code with one more instruction, if each list grew by the instruction's part
-pub all_grow : {code code' middle : List Insn} {places places' room : List ℕ} {indexes indexes' space : List (Option ℕ)} (insn : Insn)
-    {place index : ℕ} → AreBeside code places indexes → place ≡ word_count code → index ≡ length code
-    → Grows places room (place ∷ []) places' → Grows indexes space (indexes_in index (spelling insn)) indexes'
-    → Grows code middle (insn ∷ []) code' → word_count code + length (spelling insn) ≤ WORD_LIMIT → AreBeside code' places' indexes'
-all_grow {code} {code'} {places} {places'} {indexes} {indexes'} insn {place} are at counted put noted more fits =
-    let is : code' ≡ code ++ insn ∷ [] = grown _ more in
-    let sum = word_count-append code (insn ∷ []) in
+-- a code and what is kept in addition to it
+pub record KeptParts : Type 0 where
+  pub code : List Insn
+  pub places : List ℕ
+  pub indexes : List (Option ℕ)
+
+-- each list grew by an instruction's part
+pub record GrowBy (old : KeptParts) (insn : Insn) (new : KeptParts) : Type 0 where
+  pub code : new.code ≡ old.code ++ insn ∷ []
+  pub places : new.places ≡ old.places ++ word_count old.code ∷ []
+  pub indexes : new.indexes ≡ old.indexes ++ indexes_in (length old.code) (spelling insn)
+
+pub all_grow : {old new : KeptParts} (insn : Insn) → AreBeside old.code old.places old.indexes → GrowBy old insn new
+    → word_count old.code + length (spelling insn) ≤ WORD_LIMIT → AreBeside new.code new.places new.indexes
+all_grow {old} {new} insn are grow fits =
+    let sum = word_count-append old.code (insn ∷ []) in
     let one = word_count-one insn in
-    let whole : word_count (code ++ insn ∷ []) ≤ WORD_LIMIT = omega arith in (
-      places_grow places places' code place insn are.0 at (grown _ put) ∙ ap (places_from 0) (sym is),
-      indexes_grow indexes indexes' (indexes_in (length code) (spelling insn)) code insn are.1 refl
-          (grown _ noted ∙ ap (λ (i : ℕ). indexes ++ indexes_in i (spelling insn)) counted) ∙ ap (indexes_from 0) (sym is),
-      subst (λ (c : List Insn). word_count c ≤ WORD_LIMIT) (sym is) whole,
+    let whole : word_count (old.code ++ insn ∷ []) ≤ WORD_LIMIT = omega arith in (
+      places_grow old.places new.places old.code (word_count old.code) insn are.0 refl grow.places ∙ ap (places_from 0) (sym grow.code),
+      indexes_grow old.indexes new.indexes (indexes_in (length old.code) (spelling insn)) old.code insn are.1 refl grow.indexes
+          ∙ ap (indexes_from 0) (sym grow.code),
+      subst (λ (c : List Insn). word_count c ≤ WORD_LIMIT) (sym grow.code) whole,
     )

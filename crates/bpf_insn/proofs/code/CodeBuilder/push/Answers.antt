@@ -1,8 +1,9 @@
-use Rattle.std.proofs.Common.{◌≡◌, ◌≤◌, ◌+◌, arith, ◌∙◌, refl, sym, ap, length}
+use Rattle.std.proofs.Common.{◌≡◌, ◌≤◌, ◌+◌, ◌++◌, ◌∷◌, [], ℕ, arith, ◌∙◌, sym, ap, length}
 use Rattle.bpf_insn.specs.Code.{word_count}
 use Rattle.bpf_insn.specs.Form.{spelling}
+use Rattle.bpf_insn.specs.Table.{indexes_in}
 use Rattle.bpf_insn.specs.declared.code.TheConstants.{WORD_LIMIT}
-use Rattle.bpf_insn.proofs.PlaceLemmas.{all_grow, few_instructions}
+use Rattle.bpf_insn.proofs.PlaceLemmas.{all_grow, few_instructions, grown}
 use Rattle.bpf_insn.proofs.code.CodeBuilder.push.Goals as goal
 
 pub overflow_cast-len : goal.overflow_cast-len
@@ -17,5 +18,12 @@ invariant_of-self-2 g c =
     let counted : c.len.result ≡ length c.self.inside.instructions.items = omega (arith, c.len.ensures) in
     let fits : word_count c.self.inside.instructions.items + length (spelling c.args.insn) ≤ WORD_LIMIT =
     omega (arith, at, c.words.ensures, c.if-place-words.false, c.self.invariant.2) in
-    all_grow c.args.insn c.self.invariant at counted (c.reserve-2.ensures.items, c.push_reserved.ensures.items)
-    (refl, c.in_ok-push_indexes.ensures.ok) (c.reserve.ensures.items, c.push_reserved-2.ensures.items) fits
+    all_grow c.args.insn c.self.invariant
+    (record {
+      code = grown _ (c.reserve.ensures.items, c.push_reserved-2.ensures.items);
+      places = grown _ (c.reserve-2.ensures.items, c.push_reserved.ensures.items)
+          ∙ ap (λ (place : ℕ). c.self.inside.places.items ++ place ∷ []) at;
+      indexes = c.in_ok-push_indexes.ensures.ok
+          ∙ ap (λ (index : ℕ). c.self.inside.indexes.items ++ indexes_in index (spelling c.args.insn)) counted;
+    })
+    fits
