@@ -73,7 +73,7 @@ impl<A: Allocator> CodeBuilder<A> {
         self.indexes.len()
     }
 
-    /// Returns a register as the destination of the next instruction, if it may be written.
+    /// Checks that a register is writable, for the destination of the next instruction.
     pub fn destination(&self, register: Register) -> Result<WritableRegister, CodeFault>
         ensures ok { IfOk result (λ destination. destination.number ≡ register.number) }
         ensures err { IfErr result (λ fault. (register.number ≡ 10)
@@ -156,7 +156,7 @@ impl<A: Allocator> Model for Code<A> {
 }
 
 impl<A: Allocator> Code<A> {
-    /// Returns the instructions in order. Their index isn't a place.
+    /// Returns the instructions in order, by index. A wide load is one instruction but two words.
     pub fn instructions(&self) -> &[Insn]
         ensures value { result.now ≡ self.now }
         ensures sized { HasProgramSize (word_count self.now) }

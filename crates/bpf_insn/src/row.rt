@@ -9,7 +9,7 @@ use crate::word::Word;
 /// What an instruction does with the register in the destination field.
 #[derive(Clone, Copy)]
 pub(crate) enum Destination {
-    /// There is none: the field is zero.
+    /// No destination; the field is zero.
     Nothing,
     Read,
     Written,
@@ -22,7 +22,7 @@ pub(crate) enum Use {
     Unused,
     Any,
     ZeroOrOne,
-    /// The number of bits that a move of this width takes of a register; 0 stands for all of them.
+    /// Source width of a sign-extending move to this width; 0 means the whole register.
     MoveBits(Width),
     /// The number of bits that a byte swap keeps.
     SwapBits,
@@ -57,7 +57,7 @@ impl Use {
         }
     }
 
-    /// Returns whether a number isn't one of the few that the row allows.
+    /// Returns whether a number is outside the row's allowed values.
     fn is_out_of_use(self, number: i32) -> bool
         ensures { result ≡ is_out_of_use self number }
     {
