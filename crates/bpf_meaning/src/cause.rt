@@ -7,7 +7,7 @@ use refusals::Refusal;
 /// The reason why a program is stuck. A register is given by its number.
 #[derive(Clone, Copy, Debug, PartialEq, Eq)]
 pub enum Cause {
-    /// The program goes on where it has no instruction.
+    /// Control leaves the program.
     OutOfProgram,
     /// The program goes on at the second word of a wide load.
     IntoWide,

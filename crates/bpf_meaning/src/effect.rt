@@ -6,7 +6,7 @@ use bpf_insn::{Pointer, StoreSize, Value, WritableRegister};
 /// The effect of an instruction on a state.
 #[derive(Clone, Copy, PartialEq, Eq)]
 pub enum Effect {
-    /// The program goes on at a place, with a change.
+    /// The program continues at a place, with a change.
     GoOn { change: Change, place: usize },
     /// The program ends with an answer.
     End { answer: u64 },

@@ -138,7 +138,7 @@ impl Frame {
     {
         let answer = call(helper, arguments, segment, &mut self.bytes, score);
         if let FrameUse::Writes = helper.signature().shape.frame_use() {
-            // Never read: the call only shows that the segment's names are whole, which tells how many bytes were written.
+            // For the proof only: `bytes` states that the segment's names have their full length, which determines the count of written bytes.
             let _bytes = segment.bytes();
             let [_, at, count] = arguments;
             self.marks[at as usize..at as usize + count as usize].fill(true);

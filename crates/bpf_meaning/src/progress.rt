@@ -1,4 +1,4 @@
-//! Where a program goes on.
+//! The next place of a program.
 ghost use Rattle.std.specs.Prelude.{◌≡◌, ◌<◌};
 ghost use Rattle.bpf_insn.specs.declared.code.TheConstants.{WORD_LIMIT};
 ghost use Rattle.bpf_meaning.specs.Effect.{go_on, jump, set_register};
@@ -8,7 +8,7 @@ use crate::effect::{Change, Effect};
 use bpf_insn::{Code, Value, WritableRegister};
 use std::alloc::Allocator;
 
-/// Goes on at a place, with a change, if an instruction begins there.
+/// Continues at a place, with a change, if an instruction begins there.
 #[inline(always)]
 pub(crate) fn go_on<A: Allocator>(
     code: &Code<A>,
@@ -26,7 +26,7 @@ pub(crate) fn go_on<A: Allocator>(
     Err(Cause::OutOfProgram)
 }
 
-/// Goes on at a place with a register set.
+/// Continues at a place with a register set.
 #[inline(always)]
 pub(crate) fn set_register<A: Allocator>(
     code: &Code<A>,

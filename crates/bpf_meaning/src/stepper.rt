@@ -29,8 +29,8 @@ pub fn trace<A: Allocator, B: Allocator>(
     Outcome::Running
 }
 
-/// Executes the instruction at the state's place, after checking what it reads and where it goes on. Afterwards the state is where the program goes
-/// on. If the program has ended, the state is unchanged, so another step ends in the same way. Any state is accepted, even one that no run reaches.
+/// Executes the instruction at the state's place, after its checks. The state moves to the next instruction, or is unchanged if the program has
+/// ended, so another step ends in the same way. Any state is accepted, even one that no run reaches.
 #[inline(always)]
 #[tactic(auto, unfolding(crate::specs::Step::after))]
 pub fn step<A: Allocator, B: Allocator>(
