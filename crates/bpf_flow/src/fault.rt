@@ -2,7 +2,7 @@
 use refusals::{Fault, Refusal};
 use thiserror::Error;
 
-/// The reason why the flow of a code is refused. Places count words from 0. The derived text is for people.
+/// The reason why the flow of a code is refused. Places count words from 0.
 #[derive(Clone, Copy, Debug, PartialEq, Eq, Error)]
 pub enum FlowFault {
     #[error("the jump at place {place} goes backwards")]

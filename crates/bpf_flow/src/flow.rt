@@ -30,8 +30,7 @@ impl<A: Allocator> Model for Flow<A> {
 }
 
 impl<A: Allocator> Flow<A> {
-    /// Returns the flow of a code, or its first fault: the fault of the first jump that doesn't lead on, or else that the last instruction isn't
-    /// EXIT. Allocates nothing; the time grows with the number of instructions.
+    /// Checks a code's jumps in order, then that its last instruction is EXIT, and returns the first fault. Allocates nothing; the time grows with the number of instructions.
     pub fn of(code: Code<A>) -> Result<Self, FlowFault>
         ensures ok { IfOk result (λ flow. (flow.code ≡ code) × IsForward code) }
         ensures err { IfErr result (IsFirstFault code) }
@@ -84,7 +83,7 @@ impl<A: Allocator> Flow<A> {
     }
 }
 
-/// Checks that each jump leads on, in order.
+/// Checks that each jump goes forward to an instruction, in order.
 fn check_jumps<A: Allocator>(code: &Code<A>) -> Result<(), FlowFault>
     ensures ok { OnOk result (JumpsLeadOn code.now) }
     ensures err { IfErr result (IsFirstFault code.now) }
@@ -100,7 +99,7 @@ fn check_jumps<A: Allocator>(code: &Code<A>) -> Result<(), FlowFault>
     Ok(())
 }
 
-/// Checks that a jump leads on, given that those before it do.
+/// Checks that a jump goes forward to an instruction, given that those before it do.
 fn check_jump<A: Allocator>(code: &Code<A>, place: usize, distance: i32) -> Result<(), FlowFault>
     requires before { LeadOnBefore code.now place }
     requires jump { JumpsBy code.now place distance }
@@ -130,7 +129,7 @@ fn target_of(place: usize, distance: i32) -> usize
     place + 1 + distance as usize
 }
 
-/// Checks that the last instruction is EXIT, given that each jump leads on.
+/// Checks that the last instruction is EXIT, after all jumps were checked.
 fn check_last<A: Allocator>(code: &Code<A>) -> Result<(), FlowFault>
     requires { JumpsLeadOn code.now }
     ensures ok { OnOk result (EndsInExit code.now) }
