@@ -56,7 +56,7 @@ pub fn verify_with<A: Allocator + Copy, V: Visitor>(
     Ok(Verified::of(alloc, flow, &areas)?)
 }
 
-/// Returns the verdict of [`verify`] without keeping anything of the code, for a caller that doesn't run it.
+/// Returns the verdict of [`verify`] only.
 pub fn check<A: Allocator + Copy>(alloc: A, flow: &Flow<A>) -> Result<(), VerifyFault>
     ensures ok { OnOk result (HasGoodAnnotation flow.now.code) }
     ensures safe { OnOk result (IsSafe flow.now.code) }

@@ -17,7 +17,7 @@ use bpf_kinds::{Kind, byte_swap, extend, negate, wide_number};
 use bpf_meaning::Cause;
 
 /// Applies the transfer function: updates `known` to the state after the instruction, and returns where control goes next. Returns the first check
-/// that fails for some of the possible values; `known` is of no further use then.
+/// that fails for some of the possible values; `known` is then meaningless.
 pub(crate) fn transfer(known: &mut Known, insn: Insn) -> Result<Successors, Cause>
     requires { IsProperKnown known.old }
     ensures ok { IfOk result (λ successors. walk (known_kinds known.old) insn ≡ Ok (edges_to known.new successors)) }

@@ -12,7 +12,7 @@ pub trait Visitor {
     // The visitor after a visit.
     ghost visited: { Self → Visit → Self };
 
-    /// Visits an instruction that is reached. The pass doesn't keep the state before it.
+    /// Visits an instruction that is reached. The state is only valid during the call.
     fn reached(&mut self, place: usize, insn: Insn, known: &Known) -> Result<(), AllocError>
         requires { IsProperKnown known.now }
         ensures { OnOk result (self.new ≡ visited self.old (record { place = place; insn = insn; state = Reached known.now })) };
