@@ -73,7 +73,7 @@ impl Bare {
         bare
     }
 
-    /// Resets the machine to the start of a program, whatever it held.
+    /// Resets the machine to the start of a program.
     pub(crate) fn restart(&mut self)
         ensures entry { self.new.at ≡ 0 }
         ensures words { Holds start (words_of self.new) }

@@ -35,7 +35,7 @@ pub fn step<A: Allocator, B: Allocator>(
     }
 }
 
-/// Executes the instruction at an entry, and returns the entry that it leads to, or `None` if the program ends there. The machine's own entry is
+/// Executes the instruction at an entry, and returns the next entry, or `None` if the program ends there. The machine's own entry is
 /// neither read nor written, so that a run can keep it in a register.
 #[inline(always)]
 fn step_from<A: Allocator, B: Allocator>(
@@ -54,7 +54,7 @@ fn step_from<A: Allocator, B: Allocator>(
     ensures { (state : State) → IsReached verified.now.code segment.now state → HoldsState verified.now.code state (record bare.old { at = at })
         → StepsTo verified.now.code (after verified.now.code segment.now state) result bare.old bare.new }
 {
-    // Never read: the call only shows that the segment is whole, which a safe code requires.
+    // For the proof only: `bytes` states that the segment has its full length, which safe code requires.
     let _bytes = segment.bytes();
     execute(bare, segment, &flat_forms[at], at + 1)
 }
@@ -66,7 +66,7 @@ pub fn run<A: Allocator, B: Allocator>(verified: &Verified<A>, segment: &Segment
     run_in(&mut Bare::start(), verified, segment)
 }
 
-/// Returns the answer of [`run`], reusing a machine whatever it holds. Clears only what a program may read before writing it.
+/// Returns the answer of [`run`]. Reuses a machine; its previous contents don't matter. Clears only what a program may read before writing it.
 pub fn run_in<A: Allocator, B: Allocator>(
     bare: &mut Bare,
     verified: &Verified<A>,
