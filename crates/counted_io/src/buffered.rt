@@ -56,8 +56,8 @@ impl<B: BufRead> Buffered<B> {
         self.failed_reads
     }
 
-    // Takes the part of a line that the buffer shows, and returns why the line stops there, or `None` if it goes on. The first `kept` bytes of the
-    // content belong to this line; the rest is left from an earlier one.
+    // Consumes the buffered part of a line, and returns why the line stops there, or `None` if it continues. The first `kept` bytes of the content
+    // belong to this line; the others are left from an earlier one.
     #[inline(always)]
     fn read_front(
         &mut self,
@@ -199,8 +199,8 @@ fn first_line_feed(bytes: &[u8]) -> Option<usize>
     memchr(LINE_FEED, bytes)
 }
 
-/// Replaces the content with the line at the front of a buffer, if its record has the content's length and the buffer shows all of it, as it does for
-/// most records. Otherwise returns false, with any bytes after the kept ones. A CR before the line feed isn't counted.
+/// Replaces the content with the first line of the buffer, if the buffer has all of it and it is as long as the content, as most records are. A CR
+/// before the line feed isn't part of this length. Otherwise returns false, and the content from byte `kept` on is then unspecified.
 #[inline(always)]
 fn copy_like_last(front: &[u8], content: &mut ArrayVec<u8, LONGEST_CONTENT>, kept: usize) -> bool
     requires { kept ≤ length content.old.items }
@@ -226,7 +226,7 @@ fn copy_like_last(front: &[u8], content: &mut ArrayVec<u8, LONGEST_CONTENT>, kep
     copied
 }
 
-/// Replaces everything after the kept bytes. If the new line has the length of the old one, as records do, nothing is cleared.
+/// Replaces everything after the first `kept` bytes. If the length stays the same, as it does for records, nothing is cleared.
 #[inline(never)]
 fn put_after(content: &mut ArrayVec<u8, LONGEST_CONTENT>, kept: usize, bytes: &[u8])
     requires within { kept ≤ length content.old.items }

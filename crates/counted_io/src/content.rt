@@ -10,11 +10,12 @@ pub(crate) const CARRIAGE_RETURN: u8 = b'\r';
 /// Why reading a line's bytes stopped.
 #[derive(Clone, Copy, PartialEq, Eq)]
 pub enum Stop {
-    /// A line feed, which was taken.
+    /// A line feed; it was consumed.
     LineFeed,
     /// The end of the input.
     EndOfInput,
-    /// A byte beyond the maximum length of a line's content, which was taken.
+    /// A byte past the maximum length of a line's content; it was consumed.
     TooLong,
+    /// A read failed; nothing is read after it.
     ReadFailed,
 }

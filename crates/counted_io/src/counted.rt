@@ -26,7 +26,7 @@ pub trait CountedRead: Read {
         ensures bytes { ReadConsumes (Self.remaining self.old) (Self.remaining self.new) result buf.new }
         ensures failures { CountsFailure result (failed_reads self.old) (failed_reads self.new) };
 
-    /// Reads a line's bytes up to its LF into `content`, replacing its previous contents, as if byte by byte. The LF is taken but left out of the
+    /// Reads a line's bytes up to its LF into `content`, replacing its previous contents, as if byte by byte. The LF is consumed but left out of the
     /// content. Nothing is read after a failure, and a line of more than 230 bytes is abandoned after its 231st.
     ///
     /// There is no default body: a wrapper forwards the call, so that a buffered reader can search its buffer.
@@ -35,11 +35,11 @@ pub trait CountedRead: Read {
             (reader Self.remaining failed_reads self.old) (reader Self.remaining failed_reads self.new) result };
 }
 
-/// A writer that counts its failures, its flushes, and the writes that were given bytes and took none.
+/// A writer that counts its failures, its flushes, and its nonempty writes that wrote 0 bytes.
 ///
 /// It is the counterpart of [`CountedRead`] for writing.
 pub trait CountedWrite: Write {
-    // The numbers of failed writes and flushes, of writes that took none of their bytes, and of flushes, each modulo 2^64.
+    // The numbers of failed writes and flushes, of nonempty writes that wrote 0 bytes, and of flushes, each modulo 2^64.
     ghost counts: { Self → WriteCounts };
 
     /// Writes once. Treats the bytes as [`Write`]'s `write` does.
@@ -123,7 +123,7 @@ impl<T> Counting<T> {
         self.failed_writes
     }
 
-    /// Returns the number of writes that were given bytes and took none, modulo 2^64.
+    /// Returns the number of nonempty writes that wrote 0 bytes, modulo 2^64.
     pub fn empty_writes(&self) -> u64
         ensures { result ≡ self.now.counts.empty }
     {

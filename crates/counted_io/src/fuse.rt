@@ -13,20 +13,19 @@ use std::io::{ErrorKind, Read, Write};
 pub enum Burst {
     /// The call returns an error.
     Fails(ErrorKind),
-    /// The write takes none of its bytes. A read or a flush returns a `WriteZero` error instead.
+    /// The write returns 0. A read or a flush returns a `WriteZero` error instead.
     TakesNothing,
 }
 
-/// A reader or writer that passes a number of calls, or takes a number of bytes, then fails one call and passes every call after it.
+/// A reader or writer that forwards a number of calls, or writes a number of bytes, then fails one call and forwards every call after it.
 ///
-/// A call that passes is one call of the inner reader or writer, and that one's counts show what it did. A call that fails never reaches the inner
-/// reader or writer. The fuse counts its calls, which exposes a caller that retries a failed one.
+/// The failing call doesn't reach the inner reader or writer. The fuse counts all calls, which exposes a caller that retries a failed one.
 #[derive(Drop)]
 pub struct Fuse<T> {
     pub inner: T,
-    /// The number of calls that still pass.
+    /// Calls left before one fails.
     pub calls_left: u64,
-    /// The number of bytes that writes still take.
+    /// Bytes left to write before a call fails.
     pub bytes_left: usize,
     pub burst: Burst,
     pub is_blown: bool,
@@ -37,7 +36,7 @@ pub struct Fuse<T> {
 impl<T> Fuse<T> {
     ghost use Rattle.counted_io.specs.Fuse.{after_call, is_due, room};
 
-    /// Creates a fuse that passes `calls` calls and then fails one.
+    /// Creates a fuse that forwards `calls` calls and then fails one.
     pub fn after_calls(inner: T, calls: u64, burst: Burst) -> Self
         ensures { result ≡ record { inner = inner; calls_left = calls; bytes_left = usize.MAX; burst = burst; is_blown = false; calls = 0 } }
     {
@@ -51,7 +50,7 @@ impl<T> Fuse<T> {
         }
     }
 
-    /// Creates a fuse that takes `bytes` bytes and then fails a call.
+    /// Creates a fuse that writes `bytes` bytes and then fails a call.
     pub fn after_bytes(inner: T, bytes: usize, burst: Burst) -> Self
         ensures { result ≡ record { inner = inner; calls_left = u64.MAX; bytes_left = bytes; burst = burst; is_blown = false; calls = 0 } }
     {
@@ -78,7 +77,7 @@ impl<T> Fuse<T> {
         is_due
     }
 
-    /// Returns how many of these bytes a write forwards.
+    /// Returns how many of `bytes` bytes the next write forwards.
     fn room(&self, bytes: usize) -> usize
         ensures { result ≡ room self.now bytes }
     {

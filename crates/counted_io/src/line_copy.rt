@@ -9,7 +9,8 @@ use std::simd::prelude::*;
 // The bytes of one vector.
 pub(crate) const LANES: usize = 32;
 
-/// Copies bytes over as many others, and returns true if none of them is a line feed. Otherwise it stops, with any bytes in `to`.
+/// Copies `from` into `to`, which has the same length, and returns true if there is no line feed. At a line feed it returns false, and `to` is then
+/// unspecified.
 #[inline(always)]
 pub(crate) fn copy_if_no_line_feed(from: &[u8], to: &mut [u8]) -> bool
     requires long { LANES ≤ length from.now }
@@ -30,7 +31,7 @@ pub(crate) fn copy_if_no_line_feed(from: &[u8], to: &mut [u8]) -> bool
     copy_lanes(from, to, last)
 }
 
-/// Copies the bytes of one vector, and returns whether none of them is a line feed.
+/// Copies one vector, and returns whether it has no line feed.
 #[inline(always)]
 fn copy_lanes(from: &[u8], to: &mut [u8], at: usize) -> bool
     requires within { at + LANES ≤ length from.now }
@@ -44,7 +45,7 @@ fn copy_lanes(from: &[u8], to: &mut [u8], at: usize) -> bool
     line_feeds(lanes) == 0
 }
 
-/// Returns the mask of the line feeds.
+/// Bit k of the mask is set if lane k is a line feed.
 #[inline(always)]
 fn line_feeds(lanes: u8x32) -> u64
     ensures { result ≡ mask_l (map (λ b. b == 10) lanes) }

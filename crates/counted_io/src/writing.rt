@@ -1,4 +1,4 @@
-//! Writing a text completely or up to the first fault.
+//! Texts written completely, or up to the first failed write.
 ghost use Rattle.counted_io.specs.Device.{writer};
 ghost use Rattle.counted_io.specs.Writing.{WritesText};
 
@@ -28,7 +28,7 @@ impl Fault for WriteFault {
     }
 }
 
-/// Writes the text, in as many writes as it takes. Nothing is retried, not even after `Interrupted`, and nothing is flushed.
+/// Writes the text with as many writes as it needs. A failed write isn't retried, not even after `Interrupted`, and nothing is flushed.
 pub fn write_whole<W: CountedWrite>(out: &mut W, text: &[u8]) -> Result<(), WriteFault>
     ensures { WritesText text.now result (writer W.contents W.counts out.old) (writer W.contents W.counts out.new) }
 {

@@ -23,7 +23,7 @@ pub enum LineFlaw {
 }
 
 impl LineFlaw {
-    /// Returns the flaw as a refusal, without its file and its line.
+    /// The refusal has no file and no line yet; the fault of a file adds them.
     pub fn refusal(self) -> Refusal
         ensures { result ≡ line_flaw.refusal self }
     {

@@ -39,7 +39,7 @@ impl Line {
         }
     }
 
-    /// Returns the bytes of the line, without its terminator.
+    /// Returns the line without its terminator.
     #[inline]
     pub fn bytes(&self) -> &[u8]
         ensures value { result.now ≡ self.now.bytes }
@@ -48,7 +48,7 @@ impl Line {
         self.content.as_slice()
     }
 
-    /// Returns the number of the line, counted from 1.
+    /// Counts from 1; 0 before the first line.
     #[inline]
     pub fn number(&self) -> u32
         ensures { result ≡ self.now.number }
@@ -59,7 +59,7 @@ impl Line {
 
 /// Reads the next line, without its terminator, as if byte by byte.
 ///
-/// A line ends with CR LF or LF, and the last one may lack its terminator. No read is retried. After `None`, which marks the end of the input, and
+/// A line ends with CR LF or LF; the last one may end without a terminator. No read is retried. After `None`, which marks the end of the input, and
 /// after a fault, the line is empty, its number is unchanged, and the input is left where reading stopped. A line of more than 230 bytes is abandoned
 /// after its 231st byte.
 #[inline(always)]
@@ -135,7 +135,7 @@ fn expect_end<R: CountedRead>(input: &mut R) -> Result<Option<()>, LineFault>
     }
 }
 
-// Removes the CR before an LF.
+// The LF was already left out.
 #[inline]
 fn take_off_return(content: &mut ArrayVec<u8, LONGEST_CONTENT>)
     ensures { IsWithoutReturn content.old.items content.new.items }

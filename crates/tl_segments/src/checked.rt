@@ -1,4 +1,4 @@
-//! What is kept of the lines of a file that is only checked.
+//! Tables for validating a file without storing it.
 ghost use Rattle.std.specs.Prelude.{◌≡◌, ◌≤◌, ℕ, IfOk, MatchBool};
 ghost use Rattle.tl_segments.specs.Tables.{CountsAt, KeepsCounts, count_at};
 
@@ -28,7 +28,7 @@ impl<T, A: Allocator + Copy> Counts<T, A> {
         }
     }
 
-    /// Counts one more line with a number, and returns whether there was room for it.
+    /// Counts one more line with this number. Returns false if the number already has [`LINE_LIMIT`] lines.
     fn count(&mut self, number: u64) -> Result<bool, AllocError>
         ensures { IfOk result (λ counted.
             MatchBool counted (CountsAt self.old self.new number) (LINE_LIMIT ≤ count_at self.old number)) }
@@ -52,7 +52,7 @@ impl<T: Limited, A: Allocator + Copy> Table for Counts<T, A> {
     }
 }
 
-/// A table that keeps nothing of type 5 lines, which have no limit.
+/// The table for type 5 lines, which have no limit: it stores nothing.
 #[derive(Drop)]
 pub(crate) struct NoNames;
 

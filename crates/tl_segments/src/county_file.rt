@@ -76,10 +76,10 @@ pub(crate) trait Table {
     // The record type of the file's lines.
     type Lines: FileType;
 
-    // The table keeps these lines.
+    // `keeps table lines`: the table holds what these lines say.
     ghost keeps: { Self → List (List ℕ) → Type 0 };
 
-    /// Keeps one more line after the previous ones, and returns whether there was room for it.
+    /// Adds one more line. Returns false if its TLID already has the maximum number of lines.
     fn add(&mut self, rt: &Record<'_, Self::Lines>) -> Result<bool, AllocError>
         ensures { (lines : List (List ℕ)) → keeps self.old lines → IsWithinLimits Self.Lines.FILE lines
             → IfOk result (IsAdded Self.Lines.FILE lines rt.now.bytes (keeps self.new)) };
@@ -106,7 +106,7 @@ pub(crate) fn read_file<T: Table, R: CountedRead>(
     }
 }
 
-/// Keeps one more line after those in the table, or returns its fault.
+/// Adds one more line to the table, or returns its fault.
 fn take<T: Table>(table: &mut T, line: &Line) -> Result<(), LoadFault>
     ensures { (lines : List (List ℕ)) → T.keeps table.old lines → IsWithinLimits T.Lines.FILE lines
         → IsTaken T.Lines.FILE lines line.now result (T.keeps table.new) }

@@ -13,7 +13,7 @@ pub const DIRECTION_LENGTH: usize = 2;
 pub const TYPE_LENGTH: usize = 4;
 
 /// A borrowed complete street name: the fields of record type 1 or 5, under their names there. FEDIRP is the prefix direction (`N`, `SE`), FETYPE the
-/// feature type (`St`, `Ave`) and FEDIRS the suffix direction. A field that the name lacks is blank.
+/// feature type (`St`, `Ave`) and FEDIRS the suffix direction. A field that the name doesn't have is blank.
 #[derive(Clone, Copy)]
 pub struct FullName<'a> {
     pub fedirp: &'a [u8],

@@ -23,7 +23,7 @@ impl<V: Drop, A: Allocator + Copy> Grouped<V, A> {
         }
     }
 
-    /// Appends a value to those with this number, and returns whether there was room for it.
+    /// Appends a value to those with this number. Returns false if there are already [`LINE_LIMIT`] of them.
     pub(crate) fn push(&mut self, number: u64, value: V) -> Result<bool, AllocError>
         ensures { IfOk result (λ added.
             MatchBool added (AddsAt self.old self.new number value) (LINE_LIMIT ≤ length (list_at self.old number))) }

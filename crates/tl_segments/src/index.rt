@@ -73,7 +73,7 @@ impl<A: Allocator + Copy> Index<A> {
         })
     }
 
-    /// Reads and checks the files as [`load`](Self::load) does, with the same first fault, but keeps none of their contents. While it reads, it holds
+    /// Reads and checks the files as [`load`](Self::load) does, with the same first fault, but stores none of their contents. While it reads, it holds
     /// only the number of lines of each TLID.
     pub fn check<R: CountedRead>(
         alloc: A,
@@ -148,7 +148,7 @@ impl<A: Allocator + Copy> Index<A> {
         self.features.is_empty() && self.ranges.is_empty()
     }
 
-    /// Returns whether nothing is joined to a TLID. It may return false if its FEATs have no names.
+    /// Returns whether nothing is joined to a TLID. May be false although nothing joins, if the TLID's FEATs have no names.
     #[inline]
     pub(crate) fn joins_nothing_to(&self, tlid: u64) -> bool
         ensures { IsTrue result → (list_at self.now.features tlid ≡ []) × (list_at self.now.ranges tlid ≡ []) }

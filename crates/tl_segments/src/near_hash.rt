@@ -1,4 +1,4 @@
-//! A hash that keeps neighbours together.
+//! A hash that keeps successive numbers close together.
 ghost use Rattle.tl_segments.specs.NearHash.{near_hash, near_hash_write};
 
 use crate::range::copy_of;
@@ -7,13 +7,13 @@ use std::hash::Hasher;
 // Odd and close to 2^64 divided by the golden ratio: the high bits of a product with it depend on all bits of the number.
 const TAG_SPREAD: u64 = 0x9e37_79b9_7f4a_7c15;
 
-/// A hasher of 64-bit numbers that lets a map find neighbours near each other.
+/// A hasher of 64-bit numbers that puts successive numbers into the same or the next bucket.
 ///
-/// std's map derives the place to look in from a hash's low bits, and compares the highest 8 of its 32 bits there. The TLIDs of a county's lines are
-/// mostly ascending, so their places are too, and are in the cache when they are looked up. Four neighbours share a place, which has room for twelve.
+/// `HashMap` picks the bucket from the low bits of a hash and compares its highest 8 of 32 bits there. The TLIDs of a county's lines mostly ascend, so
+/// their buckets do too and are in the cache at a lookup. Four successive numbers share a bucket, which has room for twelve.
 ///
-/// A write of 8 bytes sets the number, any other write is ignored, and only the last number is hashed. Anyone who chooses the numbers can make them
-/// collide.
+/// A write of 8 bytes sets the number, any other write is ignored, and only the last number is hashed. Not resistant to chosen
+/// keys.
 #[derive(Clone, Copy, Default)]
 pub(crate) struct NearHasher {
     number: u64,

@@ -31,7 +31,7 @@ use tl_records::{LineFault, RECORD_LENGTH, Rt1, Type1, read_line_into};
 /// ranges doesn't allocate. The segments of a TLID in a county share one copy of both lists.
 #[derive(Drop)]
 pub struct Segment<A: Allocator> {
-    // Lines are read into it, so it has room for the longest one.
+    // `LONGEST_CONTENT`, because a whole line is read here before its length is checked.
     record: ArrayVec<u8, LONGEST_CONTENT>,
     // Shared with the other segments of the TLID. Items pushed to this segment alone go to its own lists, which follow the shared ones.
     shared: Option<Rc<Joined<A>, A>>,
@@ -51,8 +51,8 @@ impl<A: Allocator> Model for Segment<A> {
 }
 
 impl<A: Allocator + Copy> Segment<A> {
-    /// Creates the segment of a type 1 record without its line terminator, with no alternate names and no further ranges. The bytes are copied and
-    /// may be any: no field is inspected.
+    /// Creates the segment of a type 1 record without its line terminator, with no alternate names and no further ranges. Copies
+    /// the bytes; doesn't check them.
     pub fn of(alloc: A, bytes: &[u8]) -> Self
         requires { length bytes.now ≡ RECORD_LENGTH }
         ensures { result ≡ record { bytes = bytes.now; names = []; affixes = []; ranges = [] } }
@@ -117,7 +117,7 @@ impl<A: Allocator + Copy> Segment<A> {
 
 impl<A: Allocator> Segment<A> {
     /// Reads the next line of a type 1 file, replacing the segment's contents, or returns `None` at the end of the input. `number` is the previous
-    /// line's number and becomes this line's. At the end and after a fault the segment is blank. The lists keep their room.
+    /// line's number and becomes this line's. At the end and after a fault the segment is blank. The allocations for names and ranges are reused.
     #[inline(always)]
     pub(crate) fn read_record<R: CountedRead>(
         &mut self,

@@ -1,4 +1,4 @@
-//! What an index keeps of the lines of each file.
+//! The index's table for each file.
 ghost use Rattle.std.specs.Prelude.{◌≡◌, length};
 ghost use Rattle.tl_fields.specs.Number.{number_of};
 ghost use Rattle.tl_segments.specs.FullName.{HasNameLengths, full_name_of};
