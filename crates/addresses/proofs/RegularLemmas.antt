@@ -30,7 +30,7 @@ state_of Plain = st.InField
 state_of Quoted = st.InQuoted
 state_of Closed = st.AfterQuote
 
--- the machine goes from part to part, without ending the record
+-- the machine moves from part to part, without ending the record
 abbrev Steps : State × Action → Part → Type 0
 Steps stepped next = (stepped.0 ≡ state_of next) × (is_end stepped.1 ≡ false)
 
@@ -74,7 +74,7 @@ steps Closed next byte is = elim (cases_Bool (byte == 34)) [
   ]
 ]
 
--- the machine has read bytes on the way to a state, whatever follows them
+-- reading these bytes leads the machine to a state, whatever follows them
 record Reads (state : State) (fields : Fields) (field bytes : List ℕ) (after : State) : Type 0 where
   now : Fields
   cell : List ℕ

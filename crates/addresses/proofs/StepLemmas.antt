@@ -64,7 +64,7 @@ reads-whole : (file text rest : List ℕ) (reader : Reader Marked) → (before :
 reads-whole file text rest reader before =
     before.in_step.next ∙ ap (next_record default_config StartRecord [] []) before.split ∙ before.whole.reads rest
 
--- the read took the text, and what is left of it is skipped
+-- the read consumed the text, and what is left of it is skipped
 record IsTaken (file text rest : List ℕ) (reader : Reader Marked) (before : IsBefore file text rest reader) (after : Reader Marked)
     (left : Option (List ℕ)) (found : Bool) (fields : Fields) : Type 0 where
   pub is_found : found ≡ true

@@ -1,4 +1,4 @@
--- A reader of the crate csv that is kept over a file.
+-- One reader of the crate csv for a whole file.
 use Rattle.std.specs.Prelude.{◌≡◌, ℕ, List, [], Some}
 use Rattle.csv.specs.Machine.{next_record}
 use Rattle.csv.specs.Reading.{Ready, default_config, reader_config, reader_state, reader_trim, source_of}

@@ -69,7 +69,7 @@ none_cells id reason = id ∷ status_text NoMatch ∷ reason_text reason ∷ rep
 abbrev pub line : List (List ℕ) → List ℕ
 line cells = row_text default_writer cells
 
--- the cells kept for a line
+-- the cells of a line so far
 abbrev pub cells_of : Cells → List (List ℕ)
 cells_of cells = fields_of cells.cells
 

@@ -80,7 +80,7 @@ FENAME = 'Main'; 25",
 // The number of times a filter is repeated, that filter, and the last terms after it, all joined by OR; then the number of words in the program:
 // 5 plus those of the terms.
 // - HAS_NUMBER(1) takes 4 words for each of 1,001 ranges and 2 for each of 10 powers of two: 4,024. As the last term, or before AND FALSE, it
-//   takes one more, and none of its jumps goes past its end. Otherwise its first jump skips everything after its 4th word.
+//   takes one more, and none of its jumps leads past its end. Otherwise its first jump skips everything after its 4th word.
 // - HAS_NAME takes 14 words per name and 2 per power of two: with 39 alternate names, 40 * 14 + 6 * 2 = 572. Before AND FALSE it takes one more:
 //   with 14, 15 * 14 + 4 * 2 + 1 = 219, and with the default of 63, 64 * 14 + 6 * 2 + 1 = 909.
 // - Each number of a ZIPL takes 3 words, and TRUE takes 1.

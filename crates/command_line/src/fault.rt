@@ -17,7 +17,7 @@ use std::io::ErrorKind;
 use std::{fmt, io};
 use tl_segments::NAME_LENGTH;
 
-/// The greatest number of counties that a command takes.
+/// The maximum number of counties in a command line.
 pub(crate) const CODE_LIMIT: usize = 100_000;
 
 /// Why the arguments don't form a request.
@@ -51,7 +51,7 @@ pub enum ArgumentsFault<'a> {
 }
 
 impl ArgumentsFault<'_> {
-    /// Returns the exit status.
+    /// Returns 4 for a failed allocation, and 2 otherwise.
     pub fn status(&self) -> u8
         ensures usage { self.now ≢ ArgumentsFault.Memory → result ≡ 2 }
         ensures memory { self.now ≡ ArgumentsFault.Memory → result ≡ 4 }
@@ -63,7 +63,7 @@ impl ArgumentsFault<'_> {
         }
     }
 
-    /// Reports the fault on `errors`. A write that fails or takes no byte isn't retried.
+    /// Reports the fault on `errors`, up to the first write that fails or writes 0 bytes.
     pub fn report<E: CountedWrite>(&self, errors: &mut E)
         ensures memory { self.now ≡ ArgumentsFault.Memory
             → SaysMemory (writer E.contents E.counts errors.old) (writer E.contents E.counts errors.new) }

@@ -71,7 +71,7 @@ impl<'a> Reading<'a> {
         })
     }
 
-    /// Returns the outcome of reading the file from this device: `kept` if all of its bytes were kept, and otherwise the reason.
+    /// Returns the outcome of reading the file with these failures: `kept` if all of its bytes were read, and otherwise the reason.
     fn outcome(&self, heap: &Refusing<Global>, device: Device) -> &'static str {
         let mut input = reader(self.bytes, device);
         let read = if self.is_program {

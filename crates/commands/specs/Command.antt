@@ -183,7 +183,7 @@ pub data IsOutOfMemory (request : Request) (known : List ℕ → Option (List �
 
 -- Why a request fails with status 3. An open or a read failed, so one of the request's files can't be used, and nothing was written. Or a
 -- county's file can't be opened, and only the extracts of the counties before it were written. Or a read of a county's file failed, and a library
--- refused the request. Or a source isn't UTF-8, and nothing was written. Or a write failed or took no byte: a prefix was written, and a flush was
+-- refused the request. Or a source isn't UTF-8, and nothing was written. Or a write failed or wrote 0 bytes: a prefix was written, and a flush was
 -- attempted. Or everything was written, but the flush failed. Each of these was reported.
 pub data IsUnusable (request : Request) (disk disk' : Disk) (out out' errors errors' : Writer) : Type 0 where
   of_file : (name : List ℕ) → IsFileOf request name → IsFailed disk disk' → Keeps out.held out'.held → SaysFile name errors errors'

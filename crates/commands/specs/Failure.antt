@@ -108,7 +108,7 @@ abbrev pub of_opening : Bor (List ℕ) → Bor (List ℕ) → county_file.County
 of_opening folder code file (fault.Unusable error) = CountyFile folder code file error
 of_opening folder code file fault.Memory = County code memory
 
--- the text was written, unless a write failed or took no byte
+-- the text was written, unless a write failed or wrote 0 bytes
 abbrev pub SaysText : List ℕ → Writer → Writer → Type 0
 SaysText text errors errors' = (written : Result (Unit {0}) WriteFault) × WritesText text written errors errors'
 

@@ -13,7 +13,7 @@ use cql2_text::TEXT_LIMIT;
 use named_files::{Files, read_file_front};
 use std::alloc::Allocator;
 
-// One byte more than the limit shows that a filter's text is too long.
+// The limit plus one byte, which shows that a filter's text is too long.
 const MOST_READ: usize = TEXT_LIMIT + 1;
 
 /// The arguments of `compile`.

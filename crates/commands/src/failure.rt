@@ -201,7 +201,7 @@ impl<'a> Failure<'a> {
         }
     }
 
-    /// Returns the exit status.
+    /// Returns the exit status, 1 to 4.
     pub fn status(&self) -> u8
         ensures { result ≡ status self.now }
     {
@@ -215,7 +215,7 @@ impl<'a> Failure<'a> {
         }
     }
 
-    /// Reports the failure on `errors`. A write that fails or takes no byte isn't retried.
+    /// Reports the failure on `errors`, up to the first write that fails or writes 0 bytes.
     pub fn report<E: CountedWrite>(&self, errors: &mut E)
         ensures { Says self.now (writer E.contents E.counts errors.old) (writer E.contents E.counts errors.new) }
     {
@@ -412,7 +412,7 @@ fn say_of_county_file<'p, E: CountedWrite>(
     );
 }
 
-/// Returns the note for people about a text that isn't a filter.
+/// Says what is wrong with a filter's text, and which column's name is nearest to an unknown one.
 fn filter_note(text: &[u8], fault: FilterFault) -> ArrayString<128> {
     let mut note = ArrayString::new();
     if let FilterFault::At { flaw, .. } = fault {
@@ -424,7 +424,7 @@ fn filter_note(text: &[u8], fault: FilterFault) -> ArrayString<128> {
     note
 }
 
-/// Returns the note for people about a file of addresses that can't be read.
+/// Says what is wrong with a file of addresses.
 fn addresses_note(fault: AddressFault) -> ArrayString<128> {
     let mut note = ArrayString::new();
     let _ = match fault {
@@ -434,14 +434,14 @@ fn addresses_note(fault: AddressFault) -> ArrayString<128> {
     note
 }
 
-/// Returns the note for people about a filter that can't be compiled.
+/// Says why a filter can't be compiled.
 fn compile_note(fault: CompileFault) -> ArrayString<128> {
     let mut note = ArrayString::new();
     let _ = write!(note, "{fault}");
     note
 }
 
-/// Returns a short name for a system error.
+/// Returns a short phrase for a common system error, and the system's text for any other.
 fn reason(error: io::Error) -> ArrayString<320> {
     let mut text = ArrayString::new();
     let name = match error.kind() {

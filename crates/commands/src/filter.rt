@@ -51,7 +51,7 @@ impl Compiling {
         };
         match accept_code(self.filters, code) {
             Ok(verified) => Ok(verified),
-            // The compiler's code is safe, so only memory can be lacking.
+            // The verifier accepts the compiler's code, so only an allocation can fail.
             Err(_fault) => Err(Failure::Memory),
         }
     }

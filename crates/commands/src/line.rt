@@ -1,4 +1,4 @@
-//! Lines for people.
+//! One diagnostic line, which stops at the first failed write.
 ghost use Rattle.std.specs.Prelude.{◌≡◌, IfOk};
 ghost use Rattle.std.specs.Io.KnownBytes.{Appends};
 ghost use Rattle.commands.specs.Escape.{escaped};
@@ -7,8 +7,8 @@ use crate::escape::write_escaped;
 use counted_io::{CountedWrite, write_whole};
 use std::fmt;
 
-/// A line for people, written piece by piece. A write that fails or takes no byte isn't retried, not even after `Interrupted`, unlike `write!` on
-/// a writer, and nothing is written after it.
+/// A diagnostic line, written piece by piece. Unlike `write!` on a writer, it doesn't retry a write that fails or writes 0 bytes, not even after
+/// `Interrupted`, and writes nothing more.
 #[derive(Drop)]
 pub struct Line<'a, W> {
     out: &'a mut W,
@@ -22,7 +22,7 @@ impl<'a, W> Line<'a, W> {
 }
 
 impl<W: CountedWrite> Line<'_, W> {
-    /// Echoes what a user gave, with control characters escaped.
+    /// Writes a value from the user with its control characters escaped.
     pub fn echo(&mut self, text: &str) -> fmt::Result
         ensures { IfOk result (λ _. Appends (W.contents self.old.out.now) (W.contents self.new.out.now) (escaped text.now)) }
     {

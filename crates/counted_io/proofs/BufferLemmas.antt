@@ -52,7 +52,7 @@ pub whole_taken : (old new : Option (List ℕ)) (front : List ℕ) (count : ℕ)
 whole_taken old new front count within taken =
     subst (λ n. Consumes old new (take n front)) (length-take-le count front within) taken
 
--- content plus a new part is short if the kept length and the part's length together are
+-- content plus a new part is short if the length so far and the part's length together are
 pub grown_short : (kept : ℕ) (content part new : List ℕ) → kept ≤ length content → kept + length part ≤ 230
     → new ≡ take kept content ++ part → length new ≤ 230
 grown_short kept content part new within room is =

@@ -31,7 +31,7 @@ Consumes-append (Some us) (Some vs) None xs ys first second = absurd second
 Consumes-append (Some us) (Some vs) (Some ws) xs ys first second =
     first ∙ ap (λ rest. xs ++ rest) second ∙ sym (append_assoc xs ys ws)
 
--- a failed read took no byte
+-- a failed read consumed no byte
 pub Consumes-from_keeps : (a b : Option (List ℕ)) → Keeps a b → Consumes a b []
 Consumes-from_keeps None b kept = tt
 Consumes-from_keeps (Some us) None kept = absurd kept

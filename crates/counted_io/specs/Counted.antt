@@ -14,7 +14,7 @@ abbrev pub CountsFault : WriteFault → WriteCounts → WriteCounts → Type 0
 CountsFault Write old new = (new.failed ≢ old.failed) × (new.empty ≡ old.empty) × (new.flushes ≡ old.flushes)
 CountsFault WriteZero old new = (new.failed ≡ old.failed) × (new.empty ≢ old.empty) × (new.flushes ≡ old.flushes)
 
--- a failed write counts as fault Write, a write that is given bytes and takes none counts as WriteZero, and any other write is not counted
+-- a failed write counts as fault Write, a nonempty write that writes 0 bytes counts as WriteZero, and any other write is not counted
 abbrev pub CountsWrite : {E : Type 0} → Result ℕ E → List ℕ → WriteCounts → WriteCounts → Type 0
 CountsWrite (Ok taken) bytes old new =
     (0 < taken → new ≡ old) × (length bytes ≡ 0 → new ≡ old) × (taken ≡ 0 → 0 < length bytes → CountsFault WriteZero old new)

@@ -1,7 +1,7 @@
 -- Readers and writers as contracts see them: a value before each call and a value after it.
 use Rattle.std.specs.Prelude.{ℕ, List, Option}
 
--- a writer's counts: failed calls, writes that were given bytes and took none, and flushes, including failed ones
+-- a writer's counts: failed calls, nonempty writes that wrote 0 bytes, and flushes, including failed ones
 pub record WriteCounts : Type 0 where
   pub failed : ℕ
   pub empty : ℕ

@@ -19,8 +19,8 @@ use tl_segments::{CountyFiles, Index, LoadFault};
 /// Writes the rows of a county's segments that a program selects, in the order of the type 1 file, and returns their number.
 ///
 /// The program is accepted first. Then the files of types 4, 5 and 6 are read, in this order, each to its end; only what the program's segments need
-/// is kept. Finally the type 1 file is read line by line: a line's row is passed to the writer before the next line is read, and nothing of a line is
-/// kept after its row. The first fault is therefore reported from the program, then the files of types 4, 5 and 6, then the type 1 file. After a
+/// is stored. Finally the type 1 file is read line by line: a line's row is passed to the writer before the next line is read, and nothing of a line is
+/// stored after its row. The first fault is therefore reported from the program, then the files of types 4, 5 and 6, then the type 1 file. After a
 /// fault in line n of type 1, the rows of all earlier lines have been written; after any earlier fault, nothing has. Nothing is flushed, and no read
 /// or write is retried, not even after `Interrupted`.
 pub fn extract<A: Allocator + Copy, R: CountedRead, W: CountedWrite>(

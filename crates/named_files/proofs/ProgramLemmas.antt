@@ -1,4 +1,4 @@
--- Reading a program to its end: the bytes that are kept, and why it is too long.
+-- Reading a program to its end: the bytes that are stored, and why it is too long.
 use Rattle.std.proofs.Common.{◌≡◌, ◌≢◌, ◌⊎◌, ℕ, ◌+◌, ◌*◌, ◌%◌, ◌<◌, ◌≤◌, List, [], ◌++◌, length, take, ◌-◌, Option, Some, None, Result, Ok}
 use Rattle.std.proofs.Common.{Err, IfOk, is_ok, min, if◌then◌else◌, inl, inr, refl, ap, sym, ◌∙◌, arith}
 use Rattle.std.specs.Io.KnownBytes.{Consumes, IsAtEnd, Keeps}
@@ -11,7 +11,7 @@ use Rattle.bpf_insn.specs.declared.fault.CodeFault.TheVariants as code
 use Rattle.named_files.specs.Files.{IsFront, IsTooLong}
 use Rattle.named_files.proofs.FileLemmas.{keeps_both}
 
--- the kept prefix of what was read, extended by the bytes that are kept from the next read
+-- the stored prefix of what was read, extended by the bytes that are stored from the next read
 kept_more : (most : ℕ) (before read kept : List ℕ) → kept ≡ take most before
     → kept ++ take (most - length kept) read ≡ take most (before ++ read)
 kept_more most before read kept is = by_length (cases_lt most (length before))
@@ -37,7 +37,7 @@ module _ (most count : ℕ) (before read kept kept' : List ℕ) where
       ∙ kept_more most before read kept is
   kept_read (Err error) is_count added is = tt
 
--- the kept bytes are the front of what the reader has, whether it was read to its end or the limit of kept bytes was reached
+-- the stored bytes are a prefix of what the reader has, whether it was read to its end or the limit was reached
 module _ (most : ℕ) (taken kept : List ℕ) (is : kept ≡ take most taken) where
   pub front_whole : (old : Option (List ℕ)) → Keeps old (Some taken) → IsFront most old kept
   front_whole old whole = record { whole = taken; is_whole = whole; is_front = is }
@@ -49,7 +49,7 @@ module _ (most : ℕ) (taken kept : List ℕ) (is : kept ≡ take most taken) wh
       let many : most ≤ length taken = omega (arith, full, ap length is, length-take most taken) in
       record { whole = xs; is_whole = refl; is_front = is ∙ sym (ap (take most) read ∙ take-append-le most taken ys many) }
 
--- if no more than the limit is kept, the kept bytes are the whole program; if more is kept, the program is longer than the limit
+-- if no more bytes than the limit are stored, they are the whole program; if more are stored, the program is longer than the limit
 module _ (program kept : List ℕ) (is : kept ≡ take (8 * (WORD_LIMIT + 1)) program) where
   kept_length : length kept ≡ min (8 * (WORD_LIMIT + 1)) (length program)
   kept_length = ap length is ∙ length-take (8 * (WORD_LIMIT + 1)) program

@@ -27,7 +27,7 @@ CountsOpen (Err error) failed failed' =
 abbrev pub CountsClose : ℕ → ℕ → ℕ → Type 0
 CountsClose reads failed failed' = (reads ≡ 0 → failed' ≡ failed) × (reads ≢ 0 → failed' ≢ failed)
 
--- an open that fails because the file doesn't exist yields nothing; any other error is kept
+-- an open that fails because the file doesn't exist yields nothing; any other error is passed on
 abbrev pub IsIfThere : {T : Type 0} → Result T Error → Result (Option T) Error → Type 0
 IsIfThere (Ok value) opened = opened ≡ Ok (Some value)
 IsIfThere (Err error) opened = (error_kind error ≡ NotFound → opened ≡ Ok None) × (error_kind error ≢ NotFound → opened ≡ Err error)

@@ -239,7 +239,7 @@ pub fn read_to_end<A: Allocator, R: CountedRead>(
             Err(error) => return Err(FileFault::Unusable(error)),
         }
     }
-    // No memory holds this many bytes.
+    // Unreachable in practice: 2^64 reads.
     Err(FileFault::Memory)
 }
 
@@ -264,7 +264,7 @@ pub fn read_file<A: Allocator, F: Files>(
     }
 }
 
-/// Appends what was read, as long as no more than `most` bytes are kept in all.
+/// Appends what was read, up to a total of `most` bytes.
 fn keep<A: Allocator>(kept: &mut Vec<u8, A>, read: &[u8], most: usize) -> Result<(), AllocError>
     ensures { (before : List ℕ) → kept.old.items ≡ take most before
         → IfOk result (λ _. kept.new.items ≡ take most (before ++ read.now)) }
@@ -273,8 +273,8 @@ fn keep<A: Allocator>(kept: &mut Vec<u8, A>, read: &[u8], most: usize) -> Result
     kept.extend_from_slice(&read[..room.min(read.len())])
 }
 
-/// Reads the reader's next `most` bytes, or all that it has if these are fewer. Doesn't retry a failed read, keeps no further byte, and stops reading
-/// once it has these bytes.
+/// Reads the reader's next `most` bytes, or all of them if there are fewer. Stops reading once it has these bytes, and stores no further ones. A failed
+/// read isn't retried.
 pub fn read_front<A: Allocator, R: CountedRead>(
     alloc: A,
     reader: &mut R,
@@ -297,7 +297,7 @@ pub fn read_front<A: Allocator, R: CountedRead>(
             Err(error) => return Err(FileFault::Unusable(error)),
         }
     }
-    // More bytes than there is memory.
+    // Unreachable in practice: 2^64 reads.
     Err(FileFault::Memory)
 }
 
@@ -323,10 +323,10 @@ pub fn read_file_front<A: Allocator, F: Files>(
     }
 }
 
-// The largest number of bytes of a program that are kept: one word past the limit shows that the program is too long.
+// The maximum number of bytes stored of a program: one word past the limit shows that the program is too long.
 pub const MOST_KEPT: usize = 8 * (WORD_LIMIT + 1);
 
-/// Returns the kept bytes of a program, or its first fault if it is too long. `remainder` is the program's length modulo 8.
+/// Returns a program of which at most [`MOST_KEPT`] bytes are stored, or its first fault if it is too long. `remainder` is its length modulo 8.
 fn complete<A: Allocator>(kept: Vec<u8, A>, remainder: usize) -> Result<Vec<u8, A>, CodeFault>
     ensures ok { (program : List ℕ) → kept.items ≡ take MOST_KEPT program
         → IfOk result (λ whole. (whole.items ≡ program) × (length whole.items ≤ 8 * WORD_LIMIT)) }
@@ -344,8 +344,8 @@ fn complete<A: Allocator>(kept: Vec<u8, A>, remainder: usize) -> Result<Vec<u8, 
 
 /// Reads a program from the reader's position to its end. No read is retried.
 ///
-/// A program that is too long is refused for its length. Its bytes past the limit are read but not kept, so a file of any length takes no more
-/// memory than one word over the limit.
+/// A program that is too long is refused for its length. Bytes past the limit are read but not stored, so memory use is bounded for a file of any
+/// length.
 pub fn read_program<A: Allocator, R: CountedRead>(
     alloc: A,
     input: &mut R,
@@ -374,7 +374,7 @@ pub fn read_program<A: Allocator, R: CountedRead>(
             Err(error) => return Err(ProgramInputFault::File(FileFault::Unusable(error))),
         }
     }
-    // No file has this many bytes.
+    // Unreachable in practice: 2^64 reads.
     Err(ProgramInputFault::File(FileFault::Memory))
 }
 

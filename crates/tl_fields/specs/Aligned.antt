@@ -1,4 +1,4 @@
--- Masks of vectors: bit k stands for lane k.
+-- Masks of vectors: bit k is that of lane k.
 use Rattle.std.specs.Prelude.{ℕ, ◌==◌, if◌then◌else◌}
 use Rattle.std.specs.Int.{w64, trailing_zeros}
 

@@ -90,7 +90,7 @@ with_name-is segment name is full room = record {
   few_ranges = is.few_ranges;
 }
 
--- the contents of a segment with more names kept
+-- the contents of a segment with more names
 pub contents-more : (bytes : List ℕ) (names more : List FullNameFields) (ranges : List RangeFields)
     → contents bytes (names ++ more) ranges ≡ with_names (contents bytes names ranges) more
 contents-more bytes names more ranges =

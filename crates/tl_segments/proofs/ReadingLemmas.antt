@@ -126,7 +126,7 @@ pub record IsReadSoFar (file : CountyFile) (lines : List (List ℕ)) (line : Lin
   pub counted : line.number ≡ length lines
   pub small : line.number < 2 ^ 32
 
--- the same for lines that are kept
+-- the same for lines that a table holds
 pub record KeepsSoFar (file : CountyFile) (keeps : List (List ℕ) → Type 0) (line : LineParts) (old new : Reader) : Type 0 where
   pub lines : List (List ℕ)
   pub kept : keeps lines
@@ -245,7 +245,7 @@ module _ {file : CountyFile} {lines : List (List ℕ)} {line : LineParts} {old n
     reads = next.0 ∙ read.reads.reads;
   }
 
-  -- a line that is not kept
+  -- a line that is refused
   pub not_taken : (keeps : List (List ℕ) → Type 0) (fault : LoadFault) → IsLineRead line new_line now new (Ok (Some tt))
       → IsTaken file lines new_line (Err fault) keeps → IsFileFault file fault old new
   not_taken keeps (Line of_file fault) next taken = (taken.0, lines, at_flaw fault next taken.1)

@@ -74,7 +74,7 @@ lists_made lines names ranges {first} {bytes} has made is =
       ranges = option_map_or (further_ranges lines) found [];
     }) (has ∙ sym is)
 
--- lists kept along with those of other TLIDs
+-- lists stored along with those of other TLIDs
 pub keeps_one_more : {A : Type 0} (index : Index A) (old new : SharedLists A) (tlid : ℕ) (joined : Rc (Joined A) A) → KeepsShared index old
     → IsJoinedTo index tlid joined.value
     → ((q : ℕ) → get nat_eq new.lists q ≡ (if nat_eq tlid q then Some joined else get nat_eq old.lists q)) → KeepsShared index new

@@ -16,6 +16,6 @@ pub record IsJoinedTo {A : Type 0} (index : Index A) (tlid : ℕ) (joined : Join
   pub made : (lines : JoinedLines) → IsIndexOf index lines → (bytes : List ℕ) → number_in Rt1 bytes ≡ Some tlid
       → contents bytes joined.names.items joined.ranges.items ≡ segment_of lines bytes
 
--- the lists kept for each TLID are those that the index joins to its type 1 lines
+-- the lists stored for each TLID are those that the index joins to its type 1 lines
 abbrev pub KeepsShared : {A : Type 0} → Index A → SharedLists A → Type 0
 KeepsShared index shared = (tlid : ℕ) → IfSome (get nat_eq shared.lists tlid) (λ joined. IsJoinedTo index tlid joined.value)

@@ -1,4 +1,4 @@
--- How a table takes the lines of a county's file.
+-- How the lines of a county's file are added to a table.
 use Rattle.std.specs.Prelude.{◌≡◌, ℕ, Bool, true, false, List, [], ◌∷◌, ◌++◌, Result, Ok, Err}
 use Rattle.counted_io.specs.Device.{Reader}
 use Rattle.tl_records.specs.Lines.{LineParts}
@@ -21,12 +21,12 @@ pub record IsNextOf (file : CountyFile) (lines : List (List ℕ)) (line : LinePa
   pub good : IsGoodLine (layout file) line.bytes
   pub within : IsWithinLimits file (lines ++ line.bytes ∷ [])
 
--- the line is kept after these, or with it they exceed the limits
+-- the line is added after these, or with it they exceed the limits
 abbrev pub IsAdded : CountyFile → List (List ℕ) → List ℕ → (List (List ℕ) → Type 0) → Bool → Type 0
 IsAdded file lines line keeps true = IsWithinLimits file (lines ++ line ∷ []) × keeps (lines ++ line ∷ [])
 IsAdded file lines line keeps false = ¬ IsWithinLimits file (lines ++ line ∷ [])
 
--- the line after these is kept along with them, or refused because of its fault
+-- the line after these is added, or refused because of its fault
 abbrev pub IsTaken : CountyFile → List (List ℕ) → LineParts → Result (Unit {0}) LoadFault → (List (List ℕ) → Type 0) → Type 0
 IsTaken file lines line (Ok done) keeps = IsNextOf file lines line × keeps (lines ++ line.bytes ∷ [])
 IsTaken file lines line (Err (Line of_file fault)) keeps = (of_file ≡ file) × IsLineFault (layout file) line fault
@@ -34,6 +34,6 @@ IsTaken file lines line (Err (TooManyNames number)) keeps = (file ≡ Rt4) × (n
 IsTaken file lines line (Err (TooManyRanges number)) keeps = (file ≡ Rt6) × (number ≡ line.number) × IsBeyond file lines line
 IsTaken file lines line (Err Memory) keeps = Unit {0}
 
--- a file was read to its end without a fault, and its lines are kept
+-- a file was read to its end without a fault, and the table holds its lines
 abbrev pub KeepsFile : CountyFile → (List (List ℕ) → Type 0) → Reader → Reader → Type 0
 KeepsFile file keeps old new = (lines : List (List ℕ)) × keeps lines × ReadsFile file lines old new

@@ -122,7 +122,7 @@ const OTHERS: Table = Table {
 {rt1\n#1..55000}; {rt4\n#1..25000}; {rt5}\n; {rt6\n#30001..55000}; counts 55000 25000 80000; county index check",
 };
 
-/// A way to load a county: whole, line by line through an index, or line by line without the joined files, which are only checked.
+/// How a county is loaded: whole, line by line through an index, or line by line without the joined files, which are only checked.
 #[derive(Clone, Copy)]
 pub enum Way {
     County,
@@ -131,7 +131,7 @@ pub enum Way {
 }
 
 impl Way {
-    /// Returns the way with this name.
+    /// Parses a name.
     pub fn named(name: &str) -> Result<Self, TableFault> {
         match name {
             "county" => Ok(Way::County),
@@ -141,7 +141,7 @@ impl Way {
         }
     }
 
-    /// Returns the way with this name, or `None` for `plain`, the filters that load nothing.
+    /// Parses a name, or returns `None` for `plain`, the filters that load nothing.
     pub fn or_plain(name: &str) -> Result<Option<Self>, TableFault> {
         match name {
             "plain" => Ok(None),
@@ -212,7 +212,7 @@ pub struct Loading<'a> {
 }
 
 impl<'a> Loading<'a> {
-    /// Reads the cells of the files and of what is said about them.
+    /// Reads the cells of the files and of what is expected of them.
     pub fn new(alloc: Global, texts: FileTexts<'_>, said: &'a str) -> Result<Self, TableFault> {
         let seen = Seen::new(said)?;
         Ok(Loading {

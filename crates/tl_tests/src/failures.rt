@@ -27,7 +27,7 @@ rt1; 230; 458; 389; refused 5 rt1 line 2 Read
 rt1; 459; 459; 389; refused 5 rt1 line 3 Read",
 };
 
-// A way of loading, and how a read fails.
+// How a county is loaded, and how a read fails.
 const WAYS: Table = Table {
     rows: 6,
     text: "\

@@ -31,7 +31,7 @@ pub const MATCHES: Table = Table {
 151; main; E; -; -; yes; 1,E,Main,,,101,199,36067,7\tL\t-86494898\t32405102\n; {rt1}\n / {rt1 TLID=7 FEDIRP=E}\n",
 };
 
-/// The texts of a query, what else is asked of the street, the answers, and the counties.
+/// The texts of a query, the street's directions and type, the answers, and the counties.
 #[derive(Drop)]
 pub struct StreetSearch<'a> {
     number: Vec<u8>,

@@ -43,7 +43,7 @@ read; 6; pipe; 0 1 2 3
 read; 300; by 2 interrupted; 0 0 1 1 2 3",
 };
 
-/// A way to read a line: three calls that read it whole, and two that read it byte by byte.
+/// How a line is read: three calls that read it whole, and two that read it byte by byte.
 #[derive(Clone, Copy)]
 enum Way {
     Content,

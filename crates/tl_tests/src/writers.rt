@@ -5,7 +5,7 @@ use std::alloc::Global;
 use std::io::Write;
 
 // How a writer fails, and a sequence of calls and checks: a write of a text, with the number of bytes that it takes, or `-` if the call fails; a
-// flush; the counts of failed calls, of writes that took nothing and of flushes; the number of calls that its fuse counted; and everything that it
+// flush; the counts of failed calls, of writes that wrote 0 bytes and of flushes; the number of calls that its fuse counted; and everything that it
 // has taken.
 const WRITES: Table = Table {
     rows: 19,
@@ -66,7 +66,7 @@ fn flushed<W: CountedWrite>(writer: &mut W, call: &str) -> Result<Option<usize>,
     Ok(flushed.ok().and(Some(0)))
 }
 
-/// Returns one of a writer's counts: of failed calls, of writes that took nothing, of flushes, or of the calls to its fuse.
+/// Returns one of a writer's counts: of failed calls, of writes that wrote 0 bytes, of flushes, or of the calls to its fuse.
 fn count(writer: &Writer, name: &str) -> Option<u64> {
     match name {
         "failed" => Some(writer.failed_writes()),

@@ -197,7 +197,7 @@ impl<'a> Line<'a> {
     }
 }
 
-/// Appends the rows that a line stands for. `jobs => 64` stands for the submissions of the first 64 jobs, and `job => 2` for that of the second.
+/// Appends the rows of a line. `jobs => 64` is the submissions of the first 64 jobs, and `job => 2` that of the second.
 pub fn push_rows<'a>(
     alloc: Global,
     rows: &mut Vec<Row<'a>>,

@@ -2,6 +2,6 @@ use Rattle.std.proofs.Common.{◌≡◌}
 use Rattle.std.specs.Prelude.{vec_len}
 use Rattle.command_line.proofs.options.codes.Given as goal
 
--- one code was kept for each argument so far
+-- there is one code for each argument so far
 abbrev pub invariant-loop-code : goal.invariant-loop-code
 invariant-loop-code l = vec_len l.codes ≡ l.code-index

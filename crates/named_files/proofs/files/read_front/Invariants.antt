@@ -2,7 +2,7 @@ use Rattle.std.proofs.Common.{◌≡◌, ℕ, List, take}
 use Rattle.std.specs.Io.KnownBytes.{Consumes}
 use Rattle.named_files.proofs.files.read_front.Given as goal
 
--- so much was read, of which a front is kept, and no read has failed
+-- a prefix of what was read is stored, and no read has failed
 abbrev pub invariant-loop : goal.invariant-loop
 invariant-loop g l =
     (taken : List ℕ) × Consumes (g.R.Read.remaining l.initial.reader) (g.R.Read.remaining l.reader) taken

@@ -3,7 +3,7 @@ use Rattle.std.specs.Io.KnownBytes.{Consumes}
 use Rattle.named_files.specs.declared.files.TheConstants.{MOST_KEPT}
 use Rattle.named_files.proofs.files.read_program.Given as goal
 
--- the kept bytes are a prefix of what was read, and no read failed
+-- the stored bytes are a prefix of what was read, and no read failed
 abbrev pub invariant-loop : goal.invariant-loop
 invariant-loop g l =
     (taken : List ℕ) × Consumes (g.R.Read.remaining l.initial.input) (g.R.Read.remaining l.input) taken

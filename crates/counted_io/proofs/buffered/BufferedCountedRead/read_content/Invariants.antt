@@ -2,7 +2,7 @@ use Rattle.std.proofs.Common.{◌-◌, ◌≤◌, length, take}
 use Rattle.counted_io.proofs.ContentLemmas.{IsSoFar}
 use Rattle.counted_io.proofs.buffered.BufferedCountedRead.read_content.Given as goal
 
--- the kept bytes are the line so far
+-- the first `kept` bytes are the line so far
 abbrev pub invariant-loop-stop : goal.invariant-loop-stop
 invariant-loop-stop g l = record {
   within : l.kept ≤ length l.content.items;
