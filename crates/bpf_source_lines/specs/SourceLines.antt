@@ -1,10 +1,10 @@
 -- Lines of source code, each with the place in the program that it belongs to.
-use Rattle.std.specs.Prelude.{◌≡◌, ℕ, ◌+◌, ◌-◌, ◌*◌, Bool, ◌&&◌, ◌==◌, nat_lt, nat_le, if◌then◌else◌, List, [], ◌∷◌, ◌++◌, length, Option, Some, None}
+use Rattle.std.specs.Prelude.{◌≡◌, ℕ, ◌+◌, Bool, ◌==◌, nat_lt, nat_le, if◌then◌else◌, List, [], ◌∷◌, ◌++◌, length, Option, Some, None}
 use Rattle.std.specs.Prelude.{option_map, option_and_then, Result, Ok, Err}
-use Rattle.std.specs.Char.{is_ascii_digit}
 use Rattle.std.specs.List.{after_first, before_first, position_or_len}
 use Rattle.std.specs.Str.{is_utf8}
 use Rattle.std.specs.Str.Lines.{lines}
+use Rattle.decimal.specs.Numeral.{decimal_in}
 use Rattle.bpf_source_lines.specs.declared.source_lines.LinesFault.{LinesFault}
 use Rattle.bpf_source_lines.specs.declared.source_lines.LineFlaw.{LineFlaw}
 use Rattle.bpf_source_lines.specs.declared.source_lines.LineFlaw.TheVariants.{NotText, WithoutPlace, OutOfOrder}
@@ -20,18 +20,9 @@ pub record SourceLine : Type 0 where
 abbrev pub line_of : PlacedLine → SourceLine
 line_of line = record { place = line.place; text = line.text.now }
 
--- a place with one more decimal digit, up to the greatest place
-unfoldable pub next_place : ℕ → ℕ → Option ℕ
-next_place place digit =
-    if is_ascii_digit digit && nat_le (10 * place + (digit - 48)) GREATEST_PLACE then Some (10 * place + (digit - 48)) else None
-
-abbrev pub place_from : ℕ → List ℕ → Option ℕ
-place_from place [] = Some place
-place_from place (digit ∷ digits) = option_and_then (λ next. place_from next digits) (next_place place digit)
-
--- the place written in one to five decimal digits
+-- the place written in one to five decimal digits, if a program can have it
 unfoldable pub place_in : List ℕ → Option ℕ
-place_in digits = if nat_lt 0 (length digits) && nat_le (length digits) PLACE_DIGITS then place_from 0 digits else None
+place_in digits = option_and_then (λ place. if nat_le place GREATEST_PLACE then Some place else None) (decimal_in PLACE_DIGITS digits)
 
 abbrev pub is_tab : ℕ → Bool
 is_tab byte = byte == 9

@@ -1,9 +1,10 @@
 //! Source lines and their faults.
 ghost use Rattle.std.specs.Prelude.{◌≡◌, ◌≤◌, ◌+◌, ◌∷◌, ◌++◌, [], IfOk, IfSome, OnOk, MatchResult, Ok, Err, map, option_map};
 ghost use Rattle.bpf_source_lines.specs.LinesFault as line_fault;
-ghost use Rattle.bpf_source_lines.specs.SourceLines.{IsChecked, checked, line_in, line_of, lines_in, next_place, parts_of, place_from, place_in};
+ghost use Rattle.bpf_source_lines.specs.SourceLines.{IsChecked, checked, line_in, line_of, lines_in, parts_of, place_in};
 
 use bpf_assembler::first_line;
+use decimal::decimal_value;
 use refusals::{Fault, Refusal};
 use std::alloc::{AllocError, Allocator};
 use thiserror::Error;
@@ -161,32 +162,6 @@ fn line_in(text: &str) -> Option<PlacedLine<'_>>
 fn place_in(digits: &[u8]) -> Option<usize>
     ensures { result ≡ place_in digits.now }
 {
-    if digits.is_empty() || digits.len() > PLACE_DIGITS {
-        return None;
-    }
-    place_from(digits)
-}
-
-fn place_from(digits: &[u8]) -> Option<usize>
-    ensures { result ≡ place_from 0 digits.now }
-{
-    let mut place = 0;
-    for digit in digits {
-        place = next_place(place, *digit)?;
-    }
-    Some(place)
-}
-
-/// Appends a decimal digit to a place.
-#[tactic(auto, unfolding(crate::specs::SourceLines::next_place))]
-fn next_place(place: usize, digit: u8) -> Option<usize>
-    requires { place ≤ GREATEST_PLACE }
-    ensures value { result ≡ next_place place digit }
-    ensures within { IfSome result (λ next. next ≤ GREATEST_PLACE) }
-{
-    if !digit.is_ascii_digit() {
-        return None;
-    }
-    let next = 10 * place + usize::from(digit - b'0');
-    (next <= GREATEST_PLACE).then_some(next)
+    let place = decimal_value(digits, PLACE_DIGITS)? as usize;
+    (place <= GREATEST_PLACE).then_some(place)
 }

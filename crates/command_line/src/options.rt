@@ -6,6 +6,7 @@ use clap::{Arg, ArgAction, ArgMatches};
 use commands::Compiling;
 use cql2::{Column, NumericColumn};
 use cql2_text::column_named;
+use decimal::are_digits;
 use std::alloc::Global;
 
 /// Returns the required option `--name VALUE`.
@@ -86,7 +87,7 @@ pub fn codes<'a>(
 }
 
 fn five_digits<'a>(code: &'a str) -> Result<&'a str, ArgumentsFault<'a>> {
-    if code.len() != 5 || !are_digits(code) {
+    if code.len() != 5 || !are_digits(code.as_bytes()) {
         return Err(ArgumentsFault::Code(code));
     }
     Ok(code)
@@ -137,7 +138,7 @@ pub fn number<'a>(
         most_digits,
         text,
     };
-    if text.len() > most_digits || !are_digits(text) {
+    if text.len() > most_digits || !are_digits(text.as_bytes()) {
         return Err(fault);
     }
     text.parse().map_err(|_| fault)
@@ -147,11 +148,7 @@ pub fn number<'a>(
 pub fn port<'a>(matches: &ArgMatches<'a>) -> Result<u16, ArgumentsFault<'a>> {
     let text = value(matches, "port")?;
     match text.parse() {
-        Ok(port) if port > 0 && are_digits(text) => Ok(port),
+        Ok(port) if port > 0 && are_digits(text.as_bytes()) => Ok(port),
         _ => Err(ArgumentsFault::Port(text)),
     }
-}
-
-fn are_digits(text: &str) -> bool {
-    text.bytes().all(|byte| byte.is_ascii_digit())
 }

@@ -5,7 +5,6 @@ pub mod CutLemmas
 pub mod LexerLemmas
 pub mod LongestLemmas
 pub mod NameLemmas
-pub mod NumberLemmas
 pub mod PatternLemmas
 pub mod QuoteLemmas
 pub mod ShorterLemmas

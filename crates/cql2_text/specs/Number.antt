@@ -1,6 +1,6 @@
 -- The values of numericLiterals.
 use Rattle.std.specs.Prelude.{ℕ, ℤ, pos, neg_ℤ, ◌+◌, ◌-◌, ◌*◌, ◌^◌, Bool, nat_le, nat_lt, if◌then◌else◌, List, [], ◌∷◌, length, Option, Some, None, Result, Ok, Err}
-use Rattle.tl_fields.specs.Number.{decimal_in}
+use Rattle.decimal.specs.Numeral.{decimal_in}
 use Rattle.tl_segments.specs.declared.limits.TheConstants.{NAME_LIMIT}
 use Rattle.cql2.specs.declared.column.NumericColumn.{NumericColumn}
 use Rattle.cql2.specs.declared.column.NumericColumn.TheVariants.{Number, Coordinate}

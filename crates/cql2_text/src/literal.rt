@@ -1,14 +1,12 @@
 //! Numbers.
-ghost use Rattle.std.specs.Prelude.{◌≡◌, ◌≤◌, ◌<◌, ◌^◌, ◌-◌, Ok, Err, Some, None, if◌then◌else◌, length, IfOk, IfSome, MatchResult};
-ghost use Rattle.std.specs.List.{list_all};
-ghost use Rattle.std.specs.Char.{is_ascii_digit};
-ghost use Rattle.std.specs.Str.Parse.{digits_value};
-ghost use Rattle.tl_fields.specs.Number.{decimal_in};
+ghost use Rattle.std.specs.Prelude.{◌≡◌, ◌≤◌, ◌<◌, ◌^◌, ◌-◌, Ok, Err, IfOk, IfSome, MatchResult};
+ghost use Rattle.decimal.specs.Numeral.{decimal_in};
 ghost use Rattle.cql2_text.specs.Number.{number_of, house_number_of, name_limit_of, count_of, signed, whole_amount, millionths, parts_of};
 
 use crate::fault::FilterFlaw;
 use crate::token::Numeral;
 use cql2::{HouseNumber, Literal, NameLimit, NumericColumn};
+use decimal::decimal_value;
 use tl_segments::NAME_LIMIT;
 
 /// The maximum number of digits in a column's number.
@@ -48,7 +46,7 @@ fn whole_amount(whole: &[u8], decimals: &[u8], most: usize) -> Result<u64, Filte
     if !decimals.is_empty() {
         return Err(FilterFlaw::WrongType);
     }
-    match decimal(whole, most) {
+    match decimal_value(whole, most) {
         Some(amount) => Ok(amount),
         None => Err(FilterFlaw::NumberRange),
     }
@@ -59,7 +57,7 @@ fn millionths(numeral: Numeral) -> Result<u64, FilterFlaw>
     ensures value { result ≡ millionths (decimal_in 18 numeral.entry.whole.now) (parts_of numeral.entry.decimals.now) }
     ensures small { IfOk result (λ amount. amount < 10 ^ 18) }
 {
-    let Some(degrees) = decimal(numeral.whole, MOST_DIGITS) else {
+    let Some(degrees) = decimal_value(numeral.whole, MOST_DIGITS) else {
         return Err(FilterFlaw::NumberRange);
     };
     let Some(parts) = parts_of(numeral.decimals) else {
@@ -80,7 +78,7 @@ fn parts_of(decimals: &[u8]) -> Option<u64>
     if decimals.is_empty() {
         return Some(0);
     }
-    let parts = decimal(decimals, MOST_DECIMALS)?;
+    let parts = decimal_value(decimals, MOST_DECIMALS)?;
     Some(parts * unit(decimals.len()))
 }
 
@@ -110,32 +108,6 @@ fn signed(is_negative: bool, amount: u64) -> Literal
         amount as i64
     };
     Literal { number }
-}
-
-/// Returns the number that 1 to `most` digits write.
-fn decimal(digits: &[u8], most: usize) -> Option<u64>
-    requires few { most ≤ 18 }
-    ensures value { result ≡ decimal_in most digits.now }
-    ensures small { IfSome result (λ n. n < 10 ^ most) }
-{
-    if digits.is_empty() || digits.len() > most {
-        return None;
-    }
-    decimal_value(digits)
-}
-
-fn decimal_value(digits: &[u8]) -> Option<u64>
-    requires { length digits.now ≤ 18 }
-    ensures { result ≡ (if list_all is_ascii_digit digits.now then Some (digits_value 10 digits.now) else None) }
-{
-    let mut value = 0u64;
-    for byte in digits {
-        if !byte.is_ascii_digit() {
-            return None;
-        }
-        value = value * 10 + u64::from(*byte - b'0');
-    }
-    Some(value)
 }
 
 /// Returns a numeral as a house number.

@@ -6,7 +6,6 @@ mod MatchLemmas
 mod NameHashLemmas
 mod NameIndexLemmas
 mod PositionLemmas
-mod QueryLemmas
 mod SearchLemmas
 mod SpanLemmas
 mod StreetLemmas

@@ -1,7 +1,5 @@
 //! A geocoder's query, parsed from texts.
 ghost use Rattle.std.specs.Prelude.{◌≡◌, IfOk, MatchResult, Ok, Err};
-ghost use Rattle.std.specs.Char.{is_ascii_digit};
-ghost use Rattle.std.specs.List.{list_all};
 ghost use Rattle.std.specs.Option.{option_copied};
 ghost use Rattle.geocode.specs.Gazetteer.{IsGazetteerOf};
 ghost use Rattle.geocode.specs.Query.{hits_of, house_number, parts_of, query_of, zip_number};
@@ -10,8 +8,8 @@ use crate::gazetteer::Gazetteer;
 use crate::hit::Hit;
 use crate::hits::find;
 use crate::name_text::NameText;
+use decimal::decimal_value;
 use std::alloc::{AllocError, Allocator};
-use tl_fields::number;
 use tl_segments::County;
 
 /// The maximum number of digits in a house number or a ZIP code: the length of an address field.
@@ -83,20 +81,10 @@ impl Query {
 }
 
 /// Parses the number of a house or of a ZIP code: digits, without a sign or blanks.
-#[tactic(auto, using(crate::proofs::QueryLemmas::number_of_digits))]
 fn house_number(text: &[u8]) -> Option<u64>
     ensures { result ≡ house_number text.now }
 {
-    if !are_digits(text) {
-        return None;
-    }
-    number(text)
-}
-
-fn are_digits(text: &[u8]) -> bool
-    ensures { result ≡ list_all is_ascii_digit text.now }
-{
-    text.iter().all(|byte| byte.is_ascii_digit())
+    decimal_value(text, MOST_DIGITS)
 }
 
 /// Parses the number of a ZIP code, if one is given.

@@ -5,6 +5,7 @@ ghost use Rattle.std.specs.List.{list_all};
 ghost use Rattle.std.specs.Str.Parse.{digits_value};
 ghost use Rattle.http_request.specs.Length.{is_numeral, length_of, up_to_limit};
 
+use decimal::are_digits;
 use thiserror::Error;
 
 /// The greatest number of bytes of a body.
@@ -38,12 +39,6 @@ fn is_numeral(value: &[u8]) -> bool
     ensures { result ≡ is_numeral value.now }
 {
     !value.is_empty() && are_digits(value)
-}
-
-fn are_digits(bytes: &[u8]) -> bool
-    ensures { result ≡ list_all is_ascii_digit bytes.now }
-{
-    bytes.iter().all(|byte| byte.is_ascii_digit())
 }
 
 /// Stops as soon as the number exceeds the limit, so it can't overflow.

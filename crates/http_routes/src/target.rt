@@ -1,8 +1,8 @@
 //! Request targets and their parts.
 ghost use Rattle.std.specs.Prelude.{◌≡◌};
-ghost use Rattle.std.specs.Char.{is_ascii_digit};
-ghost use Rattle.std.specs.List.{list_all};
 ghost use Rattle.http_routes.specs.Target.{job_id, path_of, query_of};
+
+use decimal::are_digits;
 
 // The number of digits of the greatest number below 2^64.
 const ID_LENGTH: usize = 20;
@@ -34,15 +34,10 @@ pub fn job_id(path: &str) -> Option<u64>
     ensures { result ≡ job_id path.now }
 {
     let text = path.strip_prefix("/jobs/")?;
-    if text.len() > ID_LENGTH || !all_digits(text) {
+
+    // `parse` would also accept a plus sign.
+    if text.len() > ID_LENGTH || !are_digits(text.as_bytes()) {
         return None;
     }
     text.parse().ok()
-}
-
-// `parse` would also accept a plus sign.
-fn all_digits(text: &str) -> bool
-    ensures { result ≡ list_all is_ascii_digit text.now }
-{
-    text.as_bytes().iter().all(|byte| byte.is_ascii_digit())
 }

@@ -1,59 +1,22 @@
 -- What follows from the digits of a field.
-use Rattle.std.proofs.Common.{◌≡◌, ℕ, Bool, ◌&&◌, ◌==◌, nat_le, ◌+◌, ◌-◌, ◌*◌, ◌^◌, ◌<◌, ◌≤◌, true, false, List, [], ◌∷◌, ◌++◌, length, get_or}
+use Rattle.std.proofs.Common.{◌≡◌, ℕ, Bool, ◌==◌, ◌+◌, ◌-◌, ◌^◌, ◌<◌, ◌≤◌, true, false, List, [], ◌∷◌, ◌++◌, length, get_or}
 use Rattle.std.proofs.Common.{is_some, sym, ap, ◌∙◌, length-take-le}
-use Rattle.std.proofs.Common.{take, drop, reverse, if◌then◌else◌, Some, None, IfSome, refl, arith, rules}
+use Rattle.std.proofs.Common.{take, drop, reverse, if◌then◌else◌, Some, refl, arith}
 use Rattle.std.specs.List.{list_all}
-use Rattle.std.specs.Char.{is_ascii_digit, digit_value}
-use Rattle.std.specs.Str.Parse.{digits_value}
-use Rattle.std.proofs.lemmas.Bool.{eq-eqb, le-leb, leb-true, and_parts}
+use Rattle.std.specs.Char.{is_ascii_digit}
+use Rattle.std.proofs.lemmas.Bool.{eq-eqb, le-leb, and_parts}
 use Rattle.std.proofs.lemmas.Bool.Decides.{nat_tests}
-use Rattle.std.proofs.lemmas.Int.Digits.{digits_value_more}
 use Rattle.std.proofs.lemmas.List.Elements.{All-from_get_or}
-use Rattle.std.proofs.lemmas.List.Folds.{list_all-append, list_all_more}
+use Rattle.std.proofs.lemmas.List.Folds.{list_all-append}
 use Rattle.std.proofs.lemmas.List.Sums.{list_all-from_AllPass}
 use Rattle.std.proofs.lemmas.Simd.{get_or-chunk}
 use Rattle.std.proofs.Math.Seq.{take-add}
 use Rattle.std.specs.Simd.Lanes.{chunk}
 use mathlib.Core.List.{reverse-cons}
-use Rattle.std.proofs.lemmas.Str.Parse.{IsNumeralModel, numerals_by_value, digits_value_short}
 use Rattle.std.proofs.lemmas.List.{drop-drop, get_or-drop, get_or-take, length-drop, length-reverse, length-take, reverse-reverse}
+use Rattle.decimal.proofs.NumeralLemmas.{decimal_in-below}
 use Rattle.tl_fields.specs.Field.{field_of}
-use Rattle.tl_fields.specs.Number.{decimal_in, is_decimal, number_of, trim, without_blanks_before}
-
-digits_model : IsNumeralModel (λ ds. list_all is_ascii_digit ds ≡ true) (digits_value 10)
-digits_model = numerals_by_value _ (search rules)
-
--- k digits or fewer denote a number below 10 ^ k
-pub digits_value-lt : (ds : List ℕ) (k : ℕ) → list_all is_ascii_digit ds ≡ true → length ds ≤ k → digits_value 10 ds < 10 ^ k
-digits_value-lt ds k digits short = digits_value_short digits_model ds k digits short
-
--- the value so far, and one more digit
-pub digits_value-next : (ds : List ℕ) (i value : ℕ) → i < length ds → is_ascii_digit (get_or ds i 0) ≡ true
-    → value ≡ digits_value 10 (take i ds) → value * 10 + (get_or ds i 0 - 48) ≡ digits_value 10 (take (i + 1) ds)
-digits_value-next ds i value inside digit so_far =
-    let worth : digit_value (get_or ds i 0) ≡ get_or ds i 0 - 48 = grind (arith, nat_tests) in
-    rw (digits_value_more 10 ds i inside, worth, so_far) refl
-
--- the digits so far, and one more
-pub list_all-next : (ds : List ℕ) (i : ℕ) → i < length ds → is_ascii_digit (get_or ds i 0) ≡ true
-    → list_all is_ascii_digit (take i ds) ≡ true → list_all is_ascii_digit (take (i + 1) ds) ≡ true
-list_all-next ds i inside digit so_far = rw (list_all_more is_ascii_digit ds i 0 inside, so_far, digit) refl
-
--- bytes whose length a number may have
-pub decimal_in-few : (most : ℕ) (ds : List ℕ) → 1 ≤ length ds → length ds ≤ most
-    → decimal_in most ds ≡ (if list_all is_ascii_digit ds then Some (digits_value 10 ds) else None)
-decimal_in-few most ds some few = rw (le-leb 1 (length ds) some, le-leb (length ds) most few) refl
-
-decimal_in-below_by : (most k : ℕ) (ds : List ℕ) (b : Bool) → (length ds ≤ most → length ds ≤ k) → is_decimal most ds ≡ b
-    → IfSome (if b then Some (digits_value 10 ds) else None) (λ n. n < 10 ^ k)
-decimal_in-below_by most k ds true fits is =
-    let parts = and_parts (nat_le 1 (length ds) && nat_le (length ds) most) _ is in
-    digits_value-lt ds k parts.1 (fits (leb-true _ _ (and_parts (nat_le 1 (length ds)) _ parts.0).1))
-decimal_in-below_by most k ds false fits is = tt
-
--- `most` digits or fewer denote a number below 10 ^ most
-pub decimal_in-lt : (most : ℕ) (ds : List ℕ) → IfSome (decimal_in most ds) (λ n. n < 10 ^ most)
-decimal_in-lt most ds = decimal_in-below_by most most ds _ (λ fits. fits) refl
+use Rattle.tl_fields.specs.Number.{number_of, trim, without_blanks_before}
 
 without_blanks_before-le_by : (b : ℕ) (bs : List ℕ) (t : Bool) → length (without_blanks_before bs) ≤ length bs
     → length (if t then without_blanks_before bs else b ∷ bs) ≤ length (b ∷ bs)
@@ -78,7 +41,7 @@ trim-le bytes =
 number_of-short : (field : List ℕ) (k n : ℕ) → length field ≤ k → number_of field ≡ Some n → n < 10 ^ k
 unfolding number_of
 number_of-short field k n short e =
-    rw e at (decimal_in-below_by 11 k (trim field) _ (λ fits. omega (arith, trim-le field)) refl)
+    rw e at (decimal_in-below 11 k (trim field) (λ fits. omega (arith, trim-le field)))
 
 -- the number of a field has at most as many digits as the field has bytes
 pub number_of_lt : (line : List ℕ) (first last n : ℕ) → number_of (field_of line first last) ≡ Some n → n < 10 ^ (last + 1 - first)

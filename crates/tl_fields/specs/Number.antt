@@ -1,8 +1,7 @@
 -- The number of a field (TIGER/Line 2006, record layouts: identification numbers, codes and addresses).
-use Rattle.std.specs.Prelude.{ℕ, Bool, ◌&&◌, ◌==◌, if◌then◌else◌, nat_le, List, [], ◌∷◌, length, reverse, Option, Some, None}
+use Rattle.std.specs.Prelude.{ℕ, Bool, ◌==◌, if◌then◌else◌, List, [], ◌∷◌, reverse, Option}
 use Rattle.std.specs.List.{list_all}
-use Rattle.std.specs.Char.{is_ascii_digit}
-use Rattle.std.specs.Str.Parse.{digits_value}
+use Rattle.decimal.specs.Numeral.{decimal_in}
 
 -- the bytes without leading blanks; a blank is the byte 32
 abbrev pub without_blanks_before : List ℕ → List ℕ
@@ -16,14 +15,6 @@ is_blank bytes = list_all (λ b. b == 32) bytes
 -- the bytes without leading and trailing blanks
 abbrev pub trim : List ℕ → List ℕ
 trim bytes = reverse (without_blanks_before (reverse (without_blanks_before bytes)))
-
--- at least one digit, at most `most` of them, and nothing else
-abbrev pub is_decimal : ℕ → List ℕ → Bool
-is_decimal most bytes = nat_le 1 (length bytes) && nat_le (length bytes) most && list_all is_ascii_digit bytes
-
--- the number written in decimal with at most `most` digits, or none if the bytes are anything else
-abbrev pub decimal_in : ℕ → List ℕ → Option ℕ
-decimal_in most bytes = if is_decimal most bytes then Some (digits_value 10 bytes) else None
 
 -- the number in a field, of at most 11 digits, or none if the field has none
 unfoldable pub number_of : List ℕ → Option ℕ

@@ -1,14 +1,13 @@
 //! The number or the coordinate in a field.
-ghost use Rattle.std.specs.Prelude.{◌≡◌, ◌^◌, ◌<◌, ◌≤◌, pos, nat_abs, length, reverse, option_map, is_some, IfSome, if◌then◌else◌, Some, None};
-ghost use Rattle.std.specs.List.{list_all};
-ghost use Rattle.std.specs.Char.{is_ascii_digit};
-ghost use Rattle.std.specs.Str.Parse.{digits_value};
+ghost use Rattle.std.specs.Prelude.{◌≡◌, ◌^◌, ◌<◌, ◌≤◌, pos, nat_abs, length, reverse, option_map, is_some, IfSome};
+ghost use Rattle.decimal.specs.Numeral.{decimal_in};
 ghost use Rattle.tl_fields.specs.Coordinate.{coordinate_in, coordinate_of};
 ghost use Rattle.tl_fields.specs.Field.{field_of};
-ghost use Rattle.tl_fields.specs.Number.{decimal_in, is_blank, number_of, trim, without_blanks_before};
+ghost use Rattle.tl_fields.specs.Number.{is_blank, number_of, trim, without_blanks_before};
 
 use crate::aligned::has_aligned_number;
 use crate::fields::field;
+use decimal::decimal_value;
 
 pub(crate) const BLANK: u8 = b' ';
 
@@ -27,7 +26,7 @@ pub fn number(field: &[u8]) -> Option<u64>
     ensures value { result ≡ number_of field.now }
     ensures small { IfSome result (λ n. n < 10 ^ 11) }
 {
-    decimal(trim(field), MOST_DIGITS)
+    decimal_value(trim(field), MOST_DIGITS)
 }
 
 /// Returns whether the field of a line from column `first` to column `last` has a number, as [`number`] reads it. This takes less time than reading
@@ -103,31 +102,5 @@ fn millionths(digits: &[u8]) -> Option<i64>
     ensures value { result ≡ option_map pos (decimal_in 9 digits.now) }
     ensures small { IfSome result (λ amount. nat_abs amount < 10 ^ 9) }
 {
-    Some(decimal(digits, MOST_COORDINATE_DIGITS)? as i64)
-}
-
-/// Parses a decimal number of 1 to `most` digits.
-fn decimal(digits: &[u8], most: usize) -> Option<u64>
-    requires few { most ≤ 11 }
-    ensures value { result ≡ decimal_in most digits.now }
-    ensures small { IfSome result (λ n. n < 10 ^ most) }
-{
-    if digits.is_empty() || digits.len() > most {
-        return None;
-    }
-    decimal_value(digits)
-}
-
-fn decimal_value(digits: &[u8]) -> Option<u64>
-    requires { length digits.now ≤ 11 }
-    ensures { result ≡ (if list_all is_ascii_digit digits.now then Some (digits_value 10 digits.now) else None) }
-{
-    let mut value = 0u64;
-    for byte in digits {
-        if !byte.is_ascii_digit() {
-            return None;
-        }
-        value = value * 10 + u64::from(*byte - b'0');
-    }
-    Some(value)
+    Some(decimal_value(digits, MOST_COORDINATE_DIGITS)? as i64)
 }

@@ -1,21 +1,21 @@
 use Rattle.std.proofs.Common.{◌<◌, ◌^◌, ◌≤◌, length, take, arith, rules}
 use Rattle.std.specs.Str.Parse.{digits_value}
 use Rattle.std.proofs.lemmas.Grind.{common_steps}
-use Rattle.tl_fields.proofs.NumberLemmas.{digits_value-lt, digits_value-next, list_all-next}
-use Rattle.tl_fields.proofs.numbers.decimal_value.Goals as goal
+use Rattle.decimal.proofs.NumeralLemmas.{digits_value-lt, digits_value-next, list_all-next}
+use Rattle.decimal.proofs.numeral.value_of.Goals as goal
 
 pub overflow_mul-value : goal.overflow_mul-value
 overflow_mul-value c =
     let digits = c.args.digits.now in
-    let few : length (take c.loop-byte.byte-index digits) ≤ 10 = grind (arith, common_steps) in
-    let small : digits_value 10 (take c.loop-byte.byte-index digits) < 10 ^ 10 = digits_value-lt _ 10 c.loop-byte.invariant.digits few in
+    let few : length (take c.loop-byte.byte-index digits) ≤ 18 = grind (arith, common_steps) in
+    let small : digits_value 10 (take c.loop-byte.byte-index digits) < 10 ^ 18 = digits_value-lt _ 18 c.loop-byte.invariant.digits few in
     omega (arith, c.loop-byte.invariant.value)
 
 pub overflow_add-value : goal.overflow_add-value
 overflow_add-value c =
     let digits = c.args.digits.now in
-    let few : length (take c.loop-byte.byte-index digits) ≤ 10 = grind (arith, common_steps) in
-    let small : digits_value 10 (take c.loop-byte.byte-index digits) < 10 ^ 10 = digits_value-lt _ 10 c.loop-byte.invariant.digits few in
+    let few : length (take c.loop-byte.byte-index digits) ≤ 18 = grind (arith, common_steps) in
+    let small : digits_value 10 (take c.loop-byte.byte-index digits) < 10 ^ 18 = digits_value-lt _ 18 c.loop-byte.invariant.digits few in
     omega (arith, c.loop-byte.invariant.value)
 
 pub loop-byte-preserved : goal.loop-byte-preserved
