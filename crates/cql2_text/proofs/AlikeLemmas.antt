@@ -13,8 +13,8 @@ use Rattle.cql2.specs.declared.number.Literal.{Literal}
 use Rattle.cql2.specs.declared.number.NameLimit.{NameLimit}
 use Rattle.cql2.specs.declared.pattern.Pattern.{Pattern}
 use Rattle.cql2.specs.declared.text.Text.{Text as AText}
-use Rattle.cql2_text.specs.Alike.{AreLike, IsLike, next, none, numbers, same, texts}
-use Rattle.cql2_text.specs.Character.{IsComparedText}
+use Rattle.cql2_tokens.specs.Alike.{AreLike, IsLike, next, none, numbers, same, texts}
+use Rattle.cql2_text.specs.Text.{IsComparedText}
 use Rattle.cql2_text.specs.Number.{count_of, number_of, up_to_name_limit}
 use Rattle.cql2_text.specs.Pattern.{IsLikePattern}
 use Rattle.cql2_text.specs.Predicate.{IsCaseiText, IsLikeColumn, IsNumber, IsPoint, IsSubject, IsText, SpellsBetween, SpellsComparison}
@@ -26,10 +26,10 @@ use Rattle.cql2_text.specs.Predicate.{given, usual, true_literal, false_literal,
 use Rattle.cql2_text.specs.Spelled.{Production, Spells, one_term, either, one_factor, both, one_primary, not_primary, grouped, predicate}
 use Rattle.cql2_text.specs.declared.predicate.Subject.{Subject}
 use Rattle.cql2_text.specs.declared.predicate.Subject.TheVariants as subject
-use Rattle.cql2_text.specs.declared.token.Keyword.TheVariants as word
-use Rattle.cql2_text.specs.declared.token.Numeral.{Numeral}
-use Rattle.cql2_text.specs.declared.token.Token.{Token}
-use Rattle.cql2_text.specs.declared.token.Token.TheVariants.{Close, Comma, Compared, Keyword, Number, Open, Text}
+use Rattle.cql2_tokens.specs.declared.token.Keyword.TheVariants as word
+use Rattle.cql2_tokens.specs.declared.token.Numeral.{Numeral}
+use Rattle.cql2_tokens.specs.declared.token.Token.{Token}
+use Rattle.cql2_tokens.specs.declared.token.Token.TheVariants.{Close, Comma, Compared, Keyword, Number, Open, Text}
 
 -- a token that holds no bytes
 abbrev is_plain : Token → Bool

@@ -7,9 +7,9 @@ use Rattle.cql2_text.specs.Predicate.{IsBoth, IsEither, SpellsComparison, Spells
 use Rattle.cql2_text.specs.Read.{IsNotNext}
 use Rattle.cql2_text.specs.Spelled.{Expression, Factor, Spells, Term, both, either, one_factor, one_term}
 use Rattle.cql2_text.specs.declared.predicate.Subject.{Subject}
-use Rattle.cql2_text.specs.declared.token.Keyword.TheVariants as word
-use Rattle.cql2_text.specs.declared.token.Token.{Token}
-use Rattle.cql2_text.specs.declared.token.Token.TheVariants.{Comma, Keyword}
+use Rattle.cql2_tokens.specs.declared.token.Keyword.TheVariants as word
+use Rattle.cql2_tokens.specs.declared.token.Token.{Token}
+use Rattle.cql2_tokens.specs.declared.token.Token.TheVariants.{Comma, Keyword}
 
 -- a chain from a filter and the tokens after it to the filter of all parts and the tokens after them
 pub data Chain {A : Type 0} (between : Token) (Part : List Token → List Token → Filter A → Type 0)

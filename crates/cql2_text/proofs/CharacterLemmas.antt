@@ -7,7 +7,7 @@ use Rattle.std.proofs.lemmas.Bool.Decides.{nat_tests}
 use Rattle.std.proofs.lemmas.Grind.{flat_map-append}
 use Rattle.std.proofs.lemmas.List.Concat.{flat_map-cons}
 use Rattle.std.proofs.lemmas.List.Folds.{list_all-append}
-use Rattle.cql2_text.specs.Character.{HasCharacters, IsCharacter, character_text, is_character}
+use Rattle.cql2_tokens.specs.Character.{HasCharacters, IsCharacter, character_text, is_character}
 
 -- one more character
 pub characters-more : (spelling bytes text rest : List ℕ) (byte : ℕ) → spelling ≡ flat_map character_text bytes ++ text

@@ -1,14 +1,8 @@
 pub mod AlikeLemmas
 pub mod ChainLemmas
 pub mod CharacterLemmas
-pub mod CutLemmas
-pub mod LexerLemmas
-pub mod LongestLemmas
-pub mod NameLemmas
 pub mod PatternLemmas
-pub mod QuoteLemmas
 pub mod ShorterLemmas
 pub mod SpelledLemmas
 pub mod TextLemmas
 pub mod TokenLemmas
-pub mod ViewLemmas

@@ -1,5 +1,6 @@
 -- Patterns.
-use Rattle.std.proofs.Common.{◌≡◌, ◌≢◌, ◌⊎◌, inl, inr, ◌≤◌, ℕ, Bool, true, false, List, [], ◌∷◌, ◌++◌, length, Result, Ok, Err, IfOk, IfErr, MatchResult, ◌<◌, refl, sym, ap, ◌∙◌, subst, arith, append_assoc, append-nil, length-append}
+use Rattle.std.proofs.Common.{◌≡◌, ◌≢◌, ◌⊎◌, inl, inr, ◌≤◌, ℕ, Bool, true, false, List, [], ◌∷◌, ◌++◌, length, Result, Ok, Err, IfOk, IfErr}
+use Rattle.std.proofs.Common.{MatchResult, ◌<◌, refl, sym, ap, ◌∙◌, subst, arith, append_assoc, append-nil, length-append}
 use Rattle.std.proofs.lemmas.Bool.Decides.{nat_tests}
 use Rattle.std.proofs.lemmas.List.Folds.{list_all-append}
 use Rattle.cql2.specs.Pattern.{are_bytes, is_byte}
@@ -8,7 +9,7 @@ use Rattle.cql2.specs.declared.pattern.PatternByte.{PatternByte}
 use Rattle.cql2_text.specs.declared.syntax_fault.TextFault.{TextFault}
 use Rattle.cql2_text.specs.declared.syntax_fault.TextFault.TheVariants as text_fault
 use Rattle.cql2.specs.declared.pattern.PatternByte.TheVariants.{Any}
-use Rattle.cql2_text.specs.Character.{IsCharacter, character_text}
+use Rattle.cql2_tokens.specs.Character.{IsCharacter, character_text}
 use Rattle.cql2_text.proofs.CharacterLemmas.{some-text}
 use Rattle.cql2_text.specs.Pattern.{IsPattern, IsPatternByte, IsSamePattern, ReadsPattern, any, escaped, is_special, next, ordinary, start, character_pattern}
 

@@ -18,7 +18,7 @@ use Rattle.cql2_text.specs.Predicate.{given, usual, true_literal, false_literal,
 use Rattle.cql2_text.specs.Spelled.{Production, Spells, one_term, either, one_factor, both, one_primary, not_primary, grouped, predicate}
 use Rattle.cql2_text.specs.declared.predicate.Subject.{Subject}
 use Rattle.cql2_text.specs.declared.predicate.Subject.TheVariants as subject
-use Rattle.cql2_text.specs.declared.token.Token.{Token}
+use Rattle.cql2_tokens.specs.declared.token.Token.{Token}
 
 number-shorter : (c : NumericColumn) (words rest : List Token) (literal : Literal) → IsNumber c words rest literal
     → length rest < length words

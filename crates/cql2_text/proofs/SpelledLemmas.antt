@@ -11,7 +11,8 @@ use Rattle.cql2_text.specs.Pattern.{IsSamePattern}
 use Rattle.cql2.specs.declared.filter.Filter.{Filter}
 use Rattle.cql2.specs.declared.filter.Filter.TheVariants as filter
 use Rattle.cql2_text.specs.Content.{And, CompareNumber, Like, Not, Or, content}
-use Rattle.cql2_text.specs.Predicate.{IsBoth, IsWithin, IsEither, IsNot, IsSubject, IsText, SpellsComparison, SpellsLike, SpellsList, SpellsNegatable, SpellsOf, SpellsPredicate, SpellsStartsIn, SpellsHasName}
+use Rattle.cql2_text.specs.Predicate.{IsBoth, IsWithin, IsEither, IsNot, IsSubject, IsText, SpellsComparison, SpellsLike, SpellsList, SpellsNegatable}
+use Rattle.cql2_text.specs.Predicate.{SpellsOf, SpellsPredicate, SpellsStartsIn, SpellsHasName}
 use Rattle.cql2_text.specs.Predicate.{binary_comparison, is_between, is_in_list, is_like, is_not_null, is_null, negatable, negated, column_of}
 use Rattle.cql2_text.specs.Predicate.{true_literal, false_literal, has_number, has_name, starts_in, of_subject}
 use Rattle.cql2.specs.declared.number.NameLimit.{NameLimit}
@@ -20,10 +21,10 @@ use Rattle.cql2_text.specs.Read.{IsNotNext}
 use Rattle.cql2_text.specs.Spelled.{Expression, Factor, Primary, Spells, grouped, not_primary, one_primary, predicate}
 use Rattle.cql2_text.specs.declared.predicate.Subject.{Subject}
 use Rattle.cql2_text.specs.declared.predicate.Subject.TheVariants as subject
-use Rattle.cql2_text.specs.declared.token.Keyword.{Keyword as AKeyword}
-use Rattle.cql2_text.specs.declared.token.Keyword.TheVariants as word
-use Rattle.cql2_text.specs.declared.token.Token.{Token}
-use Rattle.cql2_text.specs.declared.token.Token.TheVariants.{Close, Compared, Keyword, Open}
+use Rattle.cql2_tokens.specs.declared.token.Keyword.{Keyword as AKeyword}
+use Rattle.cql2_tokens.specs.declared.token.Keyword.TheVariants as word
+use Rattle.cql2_tokens.specs.declared.token.Token.{Token}
+use Rattle.cql2_tokens.specs.declared.token.Token.TheVariants.{Close, Compared, Keyword, Open}
 
 module _ {A : Type 0} (one other made spelled : Filter A) where
   pub same-not : content one ≡ content other → IsNot one made → IsNot other spelled → content made ≡ content spelled

@@ -10,7 +10,7 @@ use Rattle.tl_fields.specs.Number.{without_blanks_before}
 use Rattle.tl_segments.specs.declared.name.TheConstants.{NAME_LENGTH}
 use Rattle.cql2.specs.Column.{trim_end}
 use Rattle.cql2.specs.Text.{ends_filled, is_text}
-use Rattle.cql2_text.specs.Character.{is_character}
+use Rattle.cql2_tokens.specs.Character.{is_character}
 
 abbrev is_printable : ℕ → Bool
 is_printable byte = nat_le 32 byte && nat_lt byte 256

@@ -1,8 +1,8 @@
 -- Tokens of which the first is known.
 use Rattle.std.proofs.Common.{◌≡◌, List, ◌∷◌, ap, ◌∙◌}
-use Rattle.cql2_text.specs.declared.token.Keyword.{Keyword as AKeyword}
-use Rattle.cql2_text.specs.declared.token.Token.{Token}
-use Rattle.cql2_text.specs.declared.token.Token.TheVariants.{Keyword}
+use Rattle.cql2_tokens.specs.declared.token.Keyword.{Keyword as AKeyword}
+use Rattle.cql2_tokens.specs.declared.token.Token.{Token}
+use Rattle.cql2_tokens.specs.declared.token.Token.TheVariants.{Keyword}
 
 pub first-is : (words rest : List Token) (first known : Token) → words ≡ first ∷ rest → first ≡ known → words ≡ known ∷ rest
 first-is words rest first known is same = is ∙ ap (λ (t : Token). t ∷ rest) same

@@ -1,10 +1,6 @@
-pub mod Alike
-pub mod Character
 pub mod Content
 pub mod FilterFault
 pub mod FilterFlaw
-pub mod Lexed
-pub mod Name
 pub mod Number
 pub mod Pattern
 pub mod Position
@@ -12,3 +8,4 @@ pub mod Predicate
 pub mod Read
 pub mod Spelled
 pub mod Terminal
+pub mod Text

@@ -1,12 +1,13 @@
 -- The values of numericLiterals.
-use Rattle.std.specs.Prelude.{ℕ, ℤ, pos, neg_ℤ, ◌+◌, ◌-◌, ◌*◌, ◌^◌, Bool, nat_le, nat_lt, if◌then◌else◌, List, [], ◌∷◌, length, Option, Some, None, Result, Ok, Err}
+use Rattle.std.specs.Prelude.{ℕ, ℤ, pos, neg_ℤ, ◌+◌, ◌-◌, ◌*◌, ◌^◌, Bool, nat_le, nat_lt, if◌then◌else◌, List, [], ◌∷◌, length, Option, Some, None}
+use Rattle.std.specs.Prelude.{Result, Ok, Err}
 use Rattle.decimal.specs.Numeral.{decimal_in}
 use Rattle.tl_segments.specs.declared.limits.TheConstants.{NAME_LIMIT}
 use Rattle.cql2.specs.declared.column.NumericColumn.{NumericColumn}
 use Rattle.cql2.specs.declared.column.NumericColumn.TheVariants.{Number, Coordinate}
 use Rattle.cql2_text.specs.declared.fault.FilterFlaw.{FilterFlaw}
 use Rattle.cql2_text.specs.declared.fault.FilterFlaw.TheVariants.{WrongType, NumberRange}
-use Rattle.cql2_text.specs.declared.token.Numeral.{Numeral}
+use Rattle.cql2_tokens.specs.declared.token.Numeral.{Numeral}
 
 abbrev pub signed : Bool → ℕ → ℤ
 signed is_negative amount = if is_negative then neg_ℤ (pos amount) else pos amount

@@ -4,7 +4,7 @@ use Rattle.std.specs.Char.{is_ascii_alphabetic, to_ascii_lowercase}
 use Rattle.cql2.specs.declared.pattern.Pattern.{Pattern}
 use Rattle.cql2.specs.declared.pattern.PatternByte.{PatternByte}
 use Rattle.cql2.specs.declared.pattern.PatternByte.TheVariants.{Exactly, EitherCase, Any}
-use Rattle.cql2_text.specs.Character.{character_text, is_character}
+use Rattle.cql2_tokens.specs.Character.{character_text, is_character}
 
 -- the pattern byte of a character: itself, or a letter in either case if case is ignored
 abbrev pub character_pattern : Bool → ℕ → PatternByte

@@ -19,15 +19,15 @@ use Rattle.cql2.specs.declared.number.Literal.{Literal}
 use Rattle.cql2.specs.declared.number.NameLimit.{NameLimit}
 use Rattle.cql2.specs.declared.pattern.Pattern.{Pattern}
 use Rattle.cql2.specs.declared.text.Text.{Text as AText}
-use Rattle.cql2_text.specs.Character.{IsComparedText}
+use Rattle.cql2_text.specs.Text.{IsComparedText}
 use Rattle.cql2_text.specs.Number.{house_number_of, name_limit_of, number_of}
 use Rattle.cql2_text.specs.Pattern.{IsLikePattern, character_pattern}
 use Rattle.cql2_text.specs.declared.predicate.Subject.{Subject}
 use Rattle.cql2_text.specs.declared.predicate.Subject.TheVariants as subject
-use Rattle.cql2_text.specs.declared.token.Keyword.TheVariants as word
-use Rattle.cql2_text.specs.declared.token.Numeral.{Numeral}
-use Rattle.cql2_text.specs.declared.token.Token.{Token}
-use Rattle.cql2_text.specs.declared.token.Token.TheVariants.{Keyword, Column, Compared, Open, Close, Comma, Number, Text}
+use Rattle.cql2_tokens.specs.declared.token.Keyword.TheVariants as word
+use Rattle.cql2_tokens.specs.declared.token.Numeral.{Numeral}
+use Rattle.cql2_tokens.specs.declared.token.Token.{Token}
+use Rattle.cql2_tokens.specs.declared.token.Token.TheVariants.{Keyword, Column, Compared, Open, Close, Comma, Number, Text}
 
 -- the conjunction and the disjunction of two filters, and the negation of one
 abbrev pub IsBoth : {A : Type 0} → Filter A → Filter A → Filter A → Type 0

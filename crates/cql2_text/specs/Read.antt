@@ -5,9 +5,9 @@ use Rattle.cql2.specs.declared.filter.Filter.{Filter}
 use Rattle.cql2_text.specs.Content.{content}
 use Rattle.cql2_text.specs.declared.syntax_fault.SyntaxFault.{SyntaxFault}
 use Rattle.cql2_text.specs.declared.syntax_fault.SyntaxFault.TheVariants.{Memory}
-use Rattle.cql2_text.specs.declared.token.Keyword.{Keyword as AKeyword}
-use Rattle.cql2_text.specs.declared.token.Token.{Token}
-use Rattle.cql2_text.specs.declared.token.Token.TheVariants.{Keyword}
+use Rattle.cql2_tokens.specs.declared.token.Keyword.{Keyword as AKeyword}
+use Rattle.cql2_tokens.specs.declared.token.Token.{Token}
+use Rattle.cql2_tokens.specs.declared.token.Token.TheVariants.{Keyword}
 
 abbrev pub IsRead : {A : Type 0} → Result (Filter A × Bor (List Token)) SyntaxFault → List Token → Filter A → Type 0
 IsRead {A = A} result rest made =

@@ -1,11 +1,11 @@
 -- The filter that a text spells (CQL2, 21-065r2, annex B: one constructor per production).
 use Rattle.std.specs.Prelude.{ℕ, suc, List, [], ◌∷◌}
 use Rattle.cql2.specs.declared.filter.Filter.{Filter}
-use Rattle.cql2_text.specs.Lexed.{Lexes}
+use Rattle.cql2_tokens.specs.Lexed.{Lexes}
 use Rattle.cql2_text.specs.Predicate.{IsBoth, IsEither, IsNot, SpellsPredicate}
-use Rattle.cql2_text.specs.declared.token.Keyword.TheVariants as word
-use Rattle.cql2_text.specs.declared.token.Token.{Token}
-use Rattle.cql2_text.specs.declared.token.Token.TheVariants.{Keyword, Open, Close}
+use Rattle.cql2_tokens.specs.declared.token.Keyword.TheVariants as word
+use Rattle.cql2_tokens.specs.declared.token.Token.{Token}
+use Rattle.cql2_tokens.specs.declared.token.Token.TheVariants.{Keyword, Open, Close}
 
 -- booleanExpression, booleanTerm, booleanFactor, booleanPrimary
 pub data Production : Type 0 where

@@ -1,9 +1,9 @@
 -- The tokens that the grammar requires at one point.
 use Rattle.cql2_text.specs.declared.terminal.Terminal.{Terminal}
 use Rattle.cql2_text.specs.declared.terminal.Terminal.TheVariants.{Opening, Closing, Comma, And, Null, Bbox}
-use Rattle.cql2_text.specs.declared.token.Keyword.TheVariants as word
-use Rattle.cql2_text.specs.declared.token.Token.{Token}
-use Rattle.cql2_text.specs.declared.token.Token.TheVariants as token
+use Rattle.cql2_tokens.specs.declared.token.Keyword.TheVariants as word
+use Rattle.cql2_tokens.specs.declared.token.Token.{Token}
+use Rattle.cql2_tokens.specs.declared.token.Token.TheVariants as token
 
 abbrev pub token_of : Terminal → Token
 token_of Opening = token.Open

@@ -5,17 +5,17 @@ ghost use Rattle.cql2.specs.declared.number.Literal.{Literal as ALiteral};
 ghost use Rattle.cql2.specs.declared.number.NameLimit.{NameLimit as ALimit};
 ghost use Rattle.cql2_text.specs.Predicate.{IsPoint, SpellsLimit, SpellsPredicate};
 ghost use Rattle.cql2_text.specs.Read.{IsRead};
-ghost use Rattle.cql2_text.specs.declared.token.Keyword.TheVariants as word;
-ghost use Rattle.cql2_text.specs.declared.token.Token.{Token};
-ghost use Rattle.cql2_text.specs.declared.token.Token.TheVariants as token;
+ghost use Rattle.cql2_tokens.specs.declared.token.Keyword.TheVariants as word;
+ghost use Rattle.cql2_tokens.specs.declared.token.Token.{Token};
+ghost use Rattle.cql2_tokens.specs.declared.token.Token.TheVariants as token;
 
 use crate::connective::{both, within};
 use crate::literal::{house_number, name_limit};
 use crate::operand::{number, numeral, text};
 use crate::syntax_fault::SyntaxFault;
 use crate::terminal::{Terminal, expect, next};
-use crate::token::Token;
 use cql2::{CoordinateColumn, Filter, Literal, NameLimit, NumericColumn};
+use cql2_tokens::Token;
 use std::alloc::Allocator;
 use tl_segments::NAME_LENGTH;
 

@@ -1,14 +1,10 @@
 //! Reading filters from text (OGC CQL2, 21-065r2, Text encoding).
 #![tactic(auto)]
 
-mod character;
 mod connective;
 mod fault;
 mod function;
-pub mod laws;
-mod lexer;
 mod literal;
-mod name;
 mod nearest;
 mod operand;
 mod parser;
@@ -17,8 +13,8 @@ mod predicate;
 mod reader;
 mod syntax_fault;
 mod terminal;
-mod token;
+mod text;
 
+pub use cql2_tokens::{column_named, laws};
 pub use fault::{Expected, FilterFault, FilterFlaw};
-pub use name::column_named;
 pub use reader::{TEXT_LIMIT, read};

@@ -4,8 +4,8 @@ ghost use Rattle.decimal.specs.Numeral.{decimal_in};
 ghost use Rattle.cql2_text.specs.Number.{number_of, house_number_of, name_limit_of, count_of, signed, whole_amount, millionths, parts_of};
 
 use crate::fault::FilterFlaw;
-use crate::token::Numeral;
 use cql2::{HouseNumber, Literal, NameLimit, NumericColumn};
+use cql2_tokens::Numeral;
 use decimal::decimal_value;
 use tl_segments::NAME_LIMIT;
 

@@ -7,17 +7,17 @@ ghost use Rattle.cql2.specs.declared.text.Text.{Text as AText};
 ghost use Rattle.cql2_text.specs.Number.{number_of};
 ghost use Rattle.cql2_text.specs.Predicate.{IsNumber, IsText};
 ghost use Rattle.cql2_text.specs.declared.syntax_fault.SyntaxFault.TheVariants as syntax_fault;
-ghost use Rattle.cql2_text.specs.declared.token.Numeral.{Numeral};
-ghost use Rattle.cql2_text.specs.declared.token.Token.{Token};
-ghost use Rattle.cql2_text.specs.declared.token.Token.TheVariants as token;
+ghost use Rattle.cql2_tokens.specs.declared.token.Numeral.{Numeral};
+ghost use Rattle.cql2_tokens.specs.declared.token.Token.{Token};
+ghost use Rattle.cql2_tokens.specs.declared.token.Token.TheVariants as token;
 
-use crate::character::compared_text;
 use crate::fault::{Expected, FilterFlaw};
 use crate::literal::literal_of;
 use crate::syntax_fault::SyntaxFault;
 use crate::terminal::next;
-use crate::token::{Keyword, Numeral, Token};
+use crate::text::compared_text;
 use cql2::{Literal, NumericColumn, Text};
+use cql2_tokens::{Keyword, Numeral, Token};
 use std::alloc::Allocator;
 
 /// Takes a number and returns it with the tokens after it.

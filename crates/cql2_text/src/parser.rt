@@ -3,19 +3,19 @@ ghost use Rattle.std.specs.Prelude.{◌≡◌, ◌<◌, ◌∷◌, [], List, len
 ghost use Rattle.cql2.specs.declared.filter.Filter.{Filter};
 ghost use Rattle.cql2_text.specs.Content.{content};
 ghost use Rattle.cql2_text.specs.Read.{IsRead, IsNotNext};
-ghost use Rattle.cql2_text.specs.declared.token.Keyword.TheVariants as word;
+ghost use Rattle.cql2_tokens.specs.declared.token.Keyword.TheVariants as word;
 ghost use Rattle.cql2_text.specs.Spelled.{Expression, Term, Factor, Primary, Spells};
 ghost use Rattle.cql2_text.specs.declared.syntax_fault.SyntaxFault.TheVariants as syntax_fault;
-ghost use Rattle.cql2_text.specs.declared.token.Token.{Token};
-ghost use Rattle.cql2_text.specs.declared.token.Token.TheVariants as token;
+ghost use Rattle.cql2_tokens.specs.declared.token.Token.{Token};
+ghost use Rattle.cql2_tokens.specs.declared.token.Token.TheVariants as token;
 
 use crate::connective::{both, either, negated};
 use crate::fault::{Expected, FilterFlaw};
 use crate::predicate::predicate;
 use crate::syntax_fault::SyntaxFault;
 use crate::terminal::{Terminal, expect, next};
-use crate::token::{Keyword, Token};
 use cql2::Filter;
+use cql2_tokens::{Keyword, Token};
 use std::alloc::Allocator;
 
 /// The maximum number of open parentheses.

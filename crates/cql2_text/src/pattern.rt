@@ -6,10 +6,10 @@ ghost use Rattle.cql2.specs.declared.pattern.PatternByte.{PatternByte as APatter
 ghost use Rattle.cql2_text.specs.declared.syntax_fault.TextFault.TheVariants as text_fault;
 ghost use Rattle.cql2_text.specs.Pattern.{IsLikePattern, IsSamePattern, IsPatternByte, is_special, character_pattern};
 
-use crate::character::character;
 use crate::fault::Expected;
 use crate::syntax_fault::TextFault;
 use cql2::{Pattern, PatternByte};
+use cql2_tokens::character;
 use std::alloc::Allocator;
 
 /// Returns the pattern byte of a character, a letter in either case if case is ignored.

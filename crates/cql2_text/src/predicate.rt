@@ -10,11 +10,12 @@ ghost use Rattle.cql2.specs.declared.pattern.Pattern.{Pattern as APattern};
 ghost use Rattle.cql2_text.specs.declared.predicate.Subject.{Subject};
 ghost use Rattle.cql2_text.specs.Read.{IsRead};
 ghost use Rattle.cql2_text.specs.Pattern.{IsSamePattern};
-ghost use Rattle.cql2_text.specs.Predicate.{IsSubject, IsLikeColumn, is_compared, SpellsBetween, SpellsComparison, SpellsList, SpellsLike, SpellsNegatable, SpellsOf, SpellsPredicate, column_of, width_of};
+ghost use Rattle.cql2_text.specs.Predicate.{IsSubject, IsLikeColumn, is_compared, SpellsBetween, SpellsComparison, SpellsList, SpellsLike};
+ghost use Rattle.cql2_text.specs.Predicate.{SpellsNegatable, SpellsOf, SpellsPredicate, column_of, width_of};
 ghost use Rattle.cql2_text.specs.declared.syntax_fault.SyntaxFault.TheVariants as syntax_fault;
-ghost use Rattle.cql2_text.specs.declared.token.Keyword.TheVariants as word;
-ghost use Rattle.cql2_text.specs.declared.token.Token.{Token};
-ghost use Rattle.cql2_text.specs.declared.token.Token.TheVariants as token;
+ghost use Rattle.cql2_tokens.specs.declared.token.Keyword.TheVariants as word;
+ghost use Rattle.cql2_tokens.specs.declared.token.Token.{Token};
+ghost use Rattle.cql2_tokens.specs.declared.token.Token.TheVariants as token;
 ghost use Rattle.cql2_text.specs.declared.predicate.Subject.TheVariants as subject;
 
 use crate::connective::{either, negated, within};
@@ -24,8 +25,8 @@ use crate::operand::{number, spelling, text};
 use crate::pattern::{pattern, same_but_for_case};
 use crate::syntax_fault::SyntaxFault;
 use crate::terminal::{Terminal, expect, next};
-use crate::token::{Keyword, Token};
 use cql2::{Column, Comparison, Filter, NumericColumn, Pattern, TextColumn};
+use cql2_tokens::{Keyword, Token};
 use std::alloc::Allocator;
 
 /// The subject of a predicate.

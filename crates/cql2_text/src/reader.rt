@@ -9,10 +9,10 @@ ghost use Rattle.cql2_text.specs.Spelled.{IsFilterText};
 ghost use Rattle.cql2_text.specs.declared.reader.TheConstants.{TEXT_LIMIT};
 
 use crate::fault::{Expected, FilterFault, FilterFlaw};
-use crate::lexer::Tokens;
 use crate::parser::filter;
 use crate::syntax_fault::SyntaxFault;
 use cql2::Filter;
+use cql2_tokens::Tokens;
 use std::alloc::Allocator;
 
 /// The maximum number of bytes in a filter's text.

@@ -4,7 +4,7 @@ ghost use Rattle.cql2_text.specs.declared.syntax_fault.SyntaxFault.TheVariants a
 ghost use Rattle.cql2_text.specs.declared.syntax_fault.TextFault.TheVariants as text_fault;
 
 use crate::fault::{Expected, FilterFlaw};
-use crate::token::Token;
+use cql2_tokens::Token;
 use std::alloc::{AllocError, AllocFailed};
 
 /// Why the inside of a string literal is not read.

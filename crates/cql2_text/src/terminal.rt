@@ -1,11 +1,11 @@
 //! The first of a sequence of tokens.
 ghost use Rattle.std.specs.Prelude.{◌≡◌, ◌≢◌, ◌∷◌, [], List, IsTrue, ◌↔◌, MatchOption, MatchResult};
 ghost use Rattle.cql2_text.specs.Terminal.{token_of};
-ghost use Rattle.cql2_text.specs.declared.token.Token.{Token};
+ghost use Rattle.cql2_tokens.specs.declared.token.Token.{Token};
 
 use crate::fault::Expected;
 use crate::syntax_fault::SyntaxFault;
-use crate::token::{Keyword, Token};
+use cql2_tokens::{Keyword, Token};
 
 /// A token that the grammar requires at one point.
 #[derive(Clone, Copy)]

@@ -1,5 +1,5 @@
-use Rattle.cql2_text.specs.declared.token.Token.TheVariants.{Close}
-use Rattle.cql2_text.specs.declared.token.Token.{Token}
+use Rattle.cql2_tokens.specs.declared.token.Token.TheVariants.{Close}
+use Rattle.cql2_tokens.specs.declared.token.Token.{Token}
 use Rattle.cql2_text.specs.Content.{HasName}
 use Rattle.cql2_text.proofs.SpelledLemmas.{has_name-of}
 use Rattle.cql2_text.specs.declared.syntax_fault.SyntaxFault.TheVariants.{Memory}

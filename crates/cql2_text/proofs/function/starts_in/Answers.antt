@@ -1,5 +1,5 @@
 use Rattle.cql2_text.proofs.SpelledLemmas.{same-both, same-within, starts-of}
-use Rattle.cql2_text.specs.declared.token.Token.TheVariants.{Close}
+use Rattle.cql2_tokens.specs.declared.token.Token.TheVariants.{Close}
 use Rattle.std.proofs.Common.{◌≡◌, ◌∷◌, refl}
 use Rattle.cql2_text.specs.Predicate.{starts_in}
 use Rattle.cql2_text.proofs.function.starts_in.Goals as goal

@@ -2,9 +2,9 @@ use Rattle.std.proofs.Common.{◌≡◌, ◌≢◌, ◌-◌, suc, List, ◌∷�
 use Rattle.cql2_text.specs.Read.{IsNotNext}
 use Rattle.cql2_text.specs.Spelled.{both, either, grouped, not_primary, one_factor, one_primary, one_term, predicate}
 use Rattle.cql2_text.specs.declared.syntax_fault.SyntaxFault.TheVariants.{Memory}
-use Rattle.cql2_text.specs.declared.token.Keyword.TheVariants as word
-use Rattle.cql2_text.specs.declared.token.Token.{Token}
-use Rattle.cql2_text.specs.declared.token.Token.TheVariants.{Close, Keyword, Open}
+use Rattle.cql2_tokens.specs.declared.token.Keyword.TheVariants as word
+use Rattle.cql2_tokens.specs.declared.token.Token.{Token}
+use Rattle.cql2_tokens.specs.declared.token.Token.TheVariants.{Close, Keyword, Open}
 use Rattle.cql2_text.proofs.ChainLemmas.{chain-first, chain-last, chain-next, expression-parts, and-not-next, term-parts}
 use Rattle.cql2_text.proofs.ShorterLemmas.{spells-shorter}
 use Rattle.cql2_text.proofs.SpelledLemmas.{group-of, negation-of, predicate-of, primary-of, same-both, same-either, same-not}

@@ -1,5 +1,5 @@
 use Rattle.std.proofs.Common.{◌≡◌, ℕ, List, false, ap, ◌∙◌, subst, sym}
-use Rattle.cql2_text.specs.Character.{IsCharacter}
+use Rattle.cql2_tokens.specs.Character.{IsCharacter}
 use Rattle.cql2_text.specs.Pattern.{is_special, character_pattern}
 use Rattle.cql2_text.proofs.PatternLemmas.{byte-any, byte-escaped, byte-ordinary, is-escaped, is-ordinary, view}
 use Rattle.cql2_text.proofs.pattern.pattern_byte.Goals as goal

@@ -1,5 +1,5 @@
 use Rattle.cql2_text.specs.declared.syntax_fault.SyntaxFault.TheVariants.{Memory}
-use Rattle.cql2_text.specs.declared.token.Token.TheVariants.{Close}
+use Rattle.cql2_tokens.specs.declared.token.Token.TheVariants.{Close}
 use Rattle.std.proofs.Common.{◌≡◌, ◌∷◌, rules}
 use Rattle.cql2_text.proofs.SpelledLemmas.{same-like}
 use Rattle.std.proofs.Common.{refl}

@@ -1,5 +1,5 @@
 use Rattle.cql2_text.specs.declared.syntax_fault.SyntaxFault.TheVariants.{Memory}
-use Rattle.cql2_text.specs.declared.token.Token.TheVariants.{Close}
+use Rattle.cql2_tokens.specs.declared.token.Token.TheVariants.{Close}
 use Rattle.cql2_text.proofs.SpelledLemmas.{same-like, text-at}
 use Rattle.std.proofs.Common.{◌≡◌, ◌∷◌, true, refl, sym, ap, ◌∙◌, map, rules}
 use Rattle.cql2_text.specs.Pattern.{IsSamePattern, character_pattern}

@@ -1,8 +1,8 @@
 use Rattle.std.proofs.Common.{◌≡◌, ◌≢◌, List, ◌∷◌, rules}
 use Rattle.cql2_text.specs.Predicate.{more, one}
 use Rattle.cql2_text.specs.declared.syntax_fault.SyntaxFault.TheVariants.{Memory}
-use Rattle.cql2_text.specs.declared.token.Token.{Token}
-use Rattle.cql2_text.specs.declared.token.Token.TheVariants.{Comma}
+use Rattle.cql2_tokens.specs.declared.token.Token.{Token}
+use Rattle.cql2_tokens.specs.declared.token.Token.TheVariants.{Comma}
 use Rattle.cql2_text.proofs.ChainLemmas.{chain-first, chain-last, chain-next, list-parts}
 use Rattle.cql2_text.proofs.SpelledLemmas.{same-either}
 use Rattle.cql2_text.proofs.TokenLemmas.{first-is}

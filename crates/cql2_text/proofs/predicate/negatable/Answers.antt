@@ -1,6 +1,6 @@
-use Rattle.cql2_text.specs.declared.token.Keyword.TheVariants as word
-use Rattle.cql2_text.specs.declared.token.Token.TheVariants.{Keyword}
-use Rattle.cql2_text.specs.declared.token.Token.{Token}
+use Rattle.cql2_tokens.specs.declared.token.Keyword.TheVariants as word
+use Rattle.cql2_tokens.specs.declared.token.Token.TheVariants.{Keyword}
+use Rattle.cql2_tokens.specs.declared.token.Token.{Token}
 use Rattle.cql2_text.proofs.SpelledLemmas.{like-of, negatable-begins}
 use Rattle.cql2_text.specs.declared.syntax_fault.SyntaxFault.TheVariants.{Memory}
 use Rattle.std.proofs.Common.{◌≡◌, ◌≢◌, ◌∷◌, List, rules}

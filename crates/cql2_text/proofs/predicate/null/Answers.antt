@@ -1,8 +1,8 @@
 use Rattle.std.proofs.Common.{◌≢◌, List, ◌∷◌, sym, rules}
 use Rattle.cql2_text.specs.Predicate.{is_not_null, is_null}
-use Rattle.cql2_text.specs.declared.token.Keyword.TheVariants as word
-use Rattle.cql2_text.specs.declared.token.Token.{Token}
-use Rattle.cql2_text.specs.declared.token.Token.TheVariants.{Keyword}
+use Rattle.cql2_tokens.specs.declared.token.Keyword.TheVariants as word
+use Rattle.cql2_tokens.specs.declared.token.Token.{Token}
+use Rattle.cql2_tokens.specs.declared.token.Token.TheVariants.{Keyword}
 use Rattle.cql2_text.proofs.SpelledLemmas.{not-null-of, null-begins}
 use Rattle.cql2_text.proofs.TokenLemmas.{word-is}
 use Rattle.cql2_text.proofs.predicate.null.Goals as goal

@@ -1,6 +1,6 @@
-use Rattle.cql2_text.specs.declared.token.Keyword.TheVariants as word
-use Rattle.cql2_text.specs.declared.token.Token.{Token}
-use Rattle.cql2_text.specs.declared.token.Token.TheVariants.{Compared, Keyword}
+use Rattle.cql2_tokens.specs.declared.token.Keyword.TheVariants as word
+use Rattle.cql2_tokens.specs.declared.token.Token.{Token}
+use Rattle.cql2_tokens.specs.declared.token.Token.TheVariants.{Compared, Keyword}
 use Rattle.cql2.specs.declared.filter.Comparison.{Comparison}
 use Rattle.cql2_text.proofs.SpelledLemmas.{compared-of, negated-of, operator-of, same-not}
 use Rattle.cql2_text.specs.declared.syntax_fault.SyntaxFault.TheVariants.{Memory}

@@ -1,9 +1,0 @@
-use Rattle.std.proofs.Common.{◌≡◌, length, reverse}
-use Rattle.tl_fields.specs.Number.{without_blanks_before}
-use Rattle.cql2_text.proofs.character.without_trailing_blanks.Given as goal
-
-abbrev pub invariant-loop-rest : goal.invariant-loop-rest
-invariant-loop-rest l = without_blanks_before (reverse l.rest) ≡ without_blanks_before (reverse l.fn.bytes)
-
-abbrev pub decreases-loop-rest : goal.decreases-loop-rest
-decreases-loop-rest l = length l.rest

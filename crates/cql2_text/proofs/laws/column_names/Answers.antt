@@ -1,8 +1,0 @@
-use Rattle.cql2_text.proofs.NameLemmas.{column-found, column-no_keyword}
-use Rattle.cql2_text.proofs.laws.column_names.Goals as goal
-
-pub returns-clause-found : goal.returns-clause-found
-returns-clause-found c = column-found
-
-pub returns-clause-no_keyword : goal.returns-clause-no_keyword
-returns-clause-no_keyword c = column-no_keyword

@@ -1,5 +1,0 @@
-use Rattle.cql2_text.proofs.NameLemmas.{keyword-found}
-use Rattle.cql2_text.proofs.laws.keyword_texts.Goals as goal
-
-pub returns : goal.returns
-returns c = keyword-found

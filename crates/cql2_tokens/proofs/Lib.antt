@@ -1,0 +1,6 @@
+mod CutLemmas
+mod LexerLemmas
+mod LongestLemmas
+mod NameLemmas
+mod QuoteLemmas
+mod ViewLemmas

@@ -1,0 +1,4 @@
+pub mod Alike
+pub mod Character
+pub mod Lexed
+pub mod Name

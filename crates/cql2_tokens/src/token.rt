@@ -1,0 +1,48 @@
+//! The tokens of a filter's text.
+use cql2::{Column, Comparison};
+
+/// A reserved word, in upper or lower case.
+#[derive(Clone, Copy)]
+pub enum Keyword {
+    And,
+    Or,
+    Not,
+    True,
+    False,
+    Is,
+    Null,
+    Like,
+    Between,
+    In,
+    Casei,
+    HasNumber,
+    HasName,
+    StartsIn,
+    Bbox,
+}
+
+/// A number, split into its parts.
+#[derive(Clone, Copy)]
+pub struct Numeral<'a> {
+    pub is_negative: bool,
+    /// The digits before the point.
+    pub whole: &'a [u8],
+    /// The digits after the point; none if there is no point.
+    pub decimals: &'a [u8],
+}
+
+/// A word, a sign or a literal.
+#[derive(Clone, Copy)]
+pub enum Token<'a> {
+    Keyword(Keyword),
+    Column(Column),
+    /// A name that no column has.
+    UnknownColumn,
+    Compared(Comparison),
+    Open,
+    Close,
+    Comma,
+    Number(Numeral<'a>),
+    /// A string literal, without its quotes.
+    Text(&'a [u8]),
+}
