@@ -30,7 +30,8 @@ impl<A: Allocator> Model for Flow<A> {
 }
 
 impl<A: Allocator> Flow<A> {
-    /// Checks a code's jumps in order, then that its last instruction is EXIT, and returns the first fault. Allocates nothing; the time grows with the number of instructions.
+    /// Checks a code's jumps in order, then that its last instruction is EXIT, and returns the first fault. Allocates nothing; the time grows with
+    /// the number of instructions.
     pub fn of(code: Code<A>) -> Result<Self, FlowFault>
         ensures ok { IfOk result (λ flow. (flow.code ≡ code) × IsForward code) }
         ensures err { IfErr result (IsFirstFault code) }

@@ -11,7 +11,7 @@ use std::alloc::{AllocError, AllocFailed};
 use thiserror::Error;
 
 /// The reason why words are no instruction. If several apply, the first one counts, in the order opcode, second word, registers, frame pointer,
-/// widths and unused fields. The derived text is for people.
+/// widths and unused fields.
 #[derive(Clone, Copy, Debug, PartialEq, Eq, Error)]
 pub enum WordFault {
     #[error("no instruction has this opcode")]
@@ -28,7 +28,7 @@ pub enum WordFault {
     WritesFramePointer,
 }
 
-/// The reason why bytes are no program, or that an allocation failed. The derived text is for people.
+/// The reason why bytes are no program, or that an allocation failed.
 #[derive(Clone, Copy, Debug, PartialEq, Eq, Error)]
 pub enum CodeFault {
     #[error("the program has no bytes")]

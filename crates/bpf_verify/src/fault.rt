@@ -7,7 +7,7 @@ use refusals::{Fault, Refusal};
 use std::alloc::AllocError;
 use thiserror::Error;
 
-/// The reason why a code is refused. The derived text is for people.
+/// The reason why a code is refused.
 #[derive(Clone, Copy, Debug, PartialEq, Eq, Error)]
 pub enum VerifyFault {
     /// The instruction at this place may get stuck for this cause. Places count words from 0.
