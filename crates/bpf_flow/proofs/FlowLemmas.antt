@@ -22,7 +22,7 @@ use Rattle.bpf_flow.specs.declared.fault.FlowFault.TheVariants.{BackwardJump, Ou
 pub lead_more : (code : List Insn) (place words : ℕ) (insn : Insn) → instruction_at code place ≡ Some insn → words ≡ length (spelling insn)
     → LeadOnBefore code place → ((distance : ℤ) → jump_distance insn ≡ Some distance → LeadsOn code place distance)
     → LeadOnBefore code (place + words)
-lead_more code place words insn stands long before here earlier other distance below is jumps =
+lead_more code place words insn stands long before here = λ earlier other distance below is jumps.
     elim (cases_lt earlier place) as (λ _. LeadsOn code earlier distance) [
       | inl h ↦ before earlier other distance h is jumps
       | inr from ↦ elim (cases_lt place earlier) as (λ _. LeadsOn code earlier distance) [
@@ -37,7 +37,7 @@ lead_more code place words insn stands long before here earlier other distance b
 
 -- all of them
 pub lead_all : (code : List Insn) (end : ℕ) → word_count code ≤ end → LeadOnBefore code end → JumpsLeadOn code
-lead_all code end whole before place insn distance stands jumps =
+lead_all code end whole before = λ place insn distance stands jumps.
     let within = instruction_within code place (ap is_some stands) in before place insn distance (omega arith) stands jumps
 
 -- a jump is within the code
@@ -261,23 +261,30 @@ target_is code place target found distance is jumps at =
     subst (λ (o : Option Insn). IfSome o (λ insn. option_map pos (Some target) ≡ option_map (target_of place) (jump_distance insn))) is
     (ap Some at ∙ ap (option_map (target_of place)) jumps)
 
--- the instruction with an index is at its place, and the next place is after it
-pub stands_at : {items code : List Insn} (i place : ℕ) {insn : Insn} → items ≡ code → i < length items → insn ≡ get_or items i insn
-    → place ≡ place_of code i → instruction_at code place ≡ Some insn
-stands_at {items} {code} i place {insn} same within is at =
-    ap (instruction_at code) (at ∙ ap (λ (c : List Insn). place_of c i) (sym same))
-    ∙ subst (λ (c : List Insn). instruction_at c (place_of items i) ≡ Some insn) same (begins_at_its_place items i insn within is)
+-- an instruction of a code, by its index in a list that is the code
+pub record IsAtIndex (items code : List Insn) (index : ℕ) (insn : Insn) : Type 0 where
+  pub same : items ≡ code
+  pub within : index < length items
+  pub is : insn ≡ get_or items index insn
 
-pub next_place : {items code : List Insn} (i place words : ℕ) {insn : Insn} → items ≡ code → i < length items → insn ≡ get_or items i insn
-    → place ≡ place_of code i → words ≡ length (spelling insn) → place + words ≡ place_of code (i + 1)
-next_place {items} i place words {insn} same within is at long =
-    ap (λ (n : ℕ). n + words) (at ∙ ap (λ (c : List Insn). place_of c i) (sym same))
-    ∙ ap (λ (n : ℕ). place_of items i + n) long ∙ sym (place_of-more items i insn within is)
-    ∙ ap (λ (c : List Insn). place_of c (i + 1)) same
+-- it is at its place, and the next place is after it
+pub stands_at : {items code : List Insn} (index place : ℕ) {insn : Insn} → IsAtIndex items code index insn → place ≡ place_of code index
+    → instruction_at code place ≡ Some insn
+stands_at {items} {code} index place {insn} item at =
+    ap (instruction_at code) (at ∙ ap (λ (c : List Insn). place_of c index) (sym item.same))
+    ∙ subst (λ (c : List Insn). instruction_at c (place_of items index) ≡ Some insn) item.same
+    (begins_at_its_place items index insn item.within item.is)
+
+pub next_place : {items code : List Insn} (index place words : ℕ) {insn : Insn} → IsAtIndex items code index insn
+    → place ≡ place_of code index → words ≡ length (spelling insn) → place + words ≡ place_of code (index + 1)
+next_place {items} index place words {insn} item at long =
+    ap (λ (n : ℕ). n + words) (at ∙ ap (λ (c : List Insn). place_of c index) (sym item.same))
+    ∙ ap (λ (n : ℕ). place_of items index + n) long ∙ sym (place_of-more items index insn item.within item.is)
+    ∙ ap (λ (c : List Insn). place_of c (index + 1)) item.same
 
 pub leads_by : {code : List Insn} {place : ℕ} (insn : Insn) {distance : ℤ} → FitsSigned w32 distance → Some distance ≡ jump_distance insn
     → LeadsOn code place (to_z w32 (of_z w32 distance)) → (other : ℤ) → jump_distance insn ≡ Some other → LeadsOn code place other
-leads_by {code} {place} insn {distance} fits jumps leads other is =
+leads_by {code} {place} insn {distance} fits jumps leads = λ other is.
     let both : Some distance ≡ Some other = jumps ∙ is in
     let same : distance ≡ other = cc in
     subst (LeadsOn code place) (to_z-of_z w32 distance fits ∙ same) leads

@@ -9,10 +9,13 @@ use Rattle.bpf_flat.proofs.forms.flat_forms.Goals as goal
 pub target_index-target-requires-clause-begins : goal.target_index-target-requires-clause-begins
 target_index-target-requires-clause-begins g c =
     ap is_some (stands_at c.loop-index.index c.place.result
-    (c.instructions-instructions.ensures.value ∙ c.code-code.ensures.value)
-    (let same = ap length (c.instructions-instructions.ensures.value ∙ c.code-code.ensures.value) in let all = c.requires in let below =
-    c.loop-index-test.true in omega arith)
-    c.index-instructions-index.is (c.place.ensures ∙ ap (λ (code : List Insn). place_of code c.loop-index.index) c.code-code.ensures.value))
+    (record {
+      same = c.instructions-instructions.ensures.value ∙ c.code-code.ensures.value;
+      within = let same = ap length (c.instructions-instructions.ensures.value ∙ c.code-code.ensures.value) in let all = c.requires in
+          let below = c.loop-index-test.true in omega arith;
+      is = c.index-instructions-index.is;
+    })
+    (c.place.ensures ∙ ap (λ (code : List Insn). place_of code c.loop-index.index) c.code-code.ensures.value))
 
 pub loop-index-preserved : goal.loop-index-preserved
 loop-index-preserved g c =
@@ -21,7 +24,8 @@ loop-index-preserved g c =
     omega arith in
     let inside : c.loop-index.index < length c.instructions-instructions.result.now = let same = ap length items in omega arith in
     let place = c.place.ensures ∙ ap (λ (code : List Insn). place_of code c.loop-index.index) c.code-code.ensures.value in
-    let stands = stands_at c.loop-index.index c.place.result items inside c.index-instructions-index.is place in
+    let stands = stands_at c.loop-index.index c.place.result
+    (record { same = items; within = inside; is = c.index-instructions-index.is }) place in
     let is = c.index-instructions-index.is ∙ ap (λ (code : List Insn). get_or code c.loop-index.index c.index-instructions-index.result)
     items in
     forms_grow c.flatten.result c.loop-index.invariant (search rules) is within

@@ -12,22 +12,26 @@ check_jump-requires-clause-jump g c =
     let fits : FitsSigned w32 c.in-Some.distance = search rules in
     jumps_by c.args.code.now c.loop-insn.place c.insn-item.result c.in-Some.distance fits
     (stands_at c.loop-insn.insn-index c.loop-insn.place
-    c.instructions-instructions.ensures.value c.loop-insn-test.true c.insn-item.is c.loop-insn.invariant.place) c.in-Some.ensures
+    (record { same = c.instructions-instructions.ensures.value; within = c.loop-insn-test.true; is = c.insn-item.is })
+    c.loop-insn.invariant.place) c.in-Some.ensures
 
 pub overflow_add-place : goal.overflow_add-place
 overflow_add-place g c =
     let stands = stands_at c.loop-insn.insn-index c.loop-insn.place
-    c.instructions-instructions.ensures.value c.loop-insn-test.true c.insn-item.is c.loop-insn.invariant.place in
+    (record { same = c.instructions-instructions.ensures.value; within = c.loop-insn-test.true; is = c.insn-item.is })
+    c.loop-insn.invariant.place in
     let ends = ends_within c.args.code.now c.loop-insn.place c.insn-item.result stands in
     let sized = c.instructions-instructions.ensures.sized in omega (arith, c.words-place.ensures)
 
 pub loop-insn-preserved : goal.loop-insn-preserved
 loop-insn-preserved g c =
     let stands = stands_at c.loop-insn.insn-index c.loop-insn.place
-    c.instructions-instructions.ensures.value c.loop-insn-test.true c.insn-item.is c.loop-insn.invariant.place in
+    (record { same = c.instructions-instructions.ensures.value; within = c.loop-insn-test.true; is = c.insn-item.is })
+    c.loop-insn.invariant.place in
     record {
       place = next_place c.loop-insn.insn-index c.loop-insn.place c.words-place.result
-          c.instructions-instructions.ensures.value c.loop-insn-test.true c.insn-item.is c.loop-insn.invariant.place c.words-place.ensures;
+          (record { same = c.instructions-instructions.ensures.value; within = c.loop-insn-test.true; is = c.insn-item.is })
+          c.loop-insn.invariant.place c.words-place.ensures;
       jumps = lead_more c.args.code.now c.loop-insn.place c.words-place.result c.insn-item.result stands c.words-place.ensures
           c.loop-insn.invariant.jumps
           (elim c.match-jump_distance.branch [

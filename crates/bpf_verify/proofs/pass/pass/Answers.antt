@@ -19,7 +19,7 @@ module _ {code items : List Insn} (index : ℕ) {insn : Insn} (same : items ≡ 
   -- the current instruction of the pass
   comes_to : {ahead : Ahead} {areas : List (Option Area)} {visits : List Visit} → IsOnItsWay code (take index code) ahead areas visits
       → instruction_at code ahead.place ≡ Some insn
-  comes_to {ahead} way = stands_at index ahead.place same within is way.at
+  comes_to {ahead} way = stands_at index ahead.place (record { same = same; within = within; is = is }) way.at
 
   -- the instructions passed so far, and one more
   passed_more : take (index + 1) code ≡ take index code ++ insn ∷ []
