@@ -5,6 +5,7 @@ use Rattle.std.proofs.lemmas.List.{ext_get_or}
 use Rattle.bpf_insn.specs.Frame.{FrameContents, slot_value}
 use Rattle.bpf_insn.specs.declared.memory.TheConstants.{SLOT_LENGTH}
 use Rattle.bpf_kinds.specs.Kind as kind
+use Rattle.bpf_kinds.specs.Order.{IsOrder}
 use Rattle.bpf_kinds.specs.declared.kind.Kind.{Kind}
 use Rattle.bpf_kinds.specs.declared.kind.Kind.TheVariants.{Number, Record, Frame, Nothing}
 use Rattle.bpf_kinds.proofs.KindLemmas as kinds
@@ -121,3 +122,15 @@ is_join xs ys marks n left right count each =
     let both : length xs ≡ length ys = left ∙ sym right in
     ext_get_or false marks _ (count ∙ sym (length-join_marks xs ys both ∙ left))
     (λ at within. each at (omega arith) ∙ sym (get_or-join xs ys at both))
+
+pub is_order : IsOrder IsProper Admits IsWithin join
+is_order = record {
+  reflexive = λ x proper. reflexive x;
+  transitive = λ x y z proper-x proper-y proper-z. transitive x y z;
+  antisymmetric = antisymmetric;
+  join_is_proper = join_is_proper;
+  left_is_within_join = left_is_within_join;
+  right_is_within_join = right_is_within_join;
+  join_is_least = λ x y z proper-x proper-y proper-z. join_is_least x y z proper-x proper-y;
+  admits_more = λ x y frame proper-x proper-y. admits_more x y frame;
+}

@@ -233,21 +233,7 @@ impl Order for FrameMap {
 
     ghost join = { map.join };
 
-    ghost reflexive = { λ x _. laws.reflexive x };
-
-    ghost transitive = { λ x y z _ _ _. laws.transitive x y z };
-
-    ghost antisymmetric = { laws.antisymmetric };
-
-    ghost join_is_proper = { laws.join_is_proper };
-
-    ghost left_is_within_join = { laws.left_is_within_join };
-
-    ghost right_is_within_join = { laws.right_is_within_join };
-
-    ghost join_is_least = { λ x y z proper_x proper_y _. laws.join_is_least x y z proper_x proper_y };
-
-    ghost admits_more = { λ x y frame _ _. laws.admits_more x y frame };
+    ghost laws = { laws.is_order };
 
     fn leq(&self, other: &FrameMap) -> bool {
         self.lanes & other.lanes == other.lanes && are_within(&self.kinds, &other.kinds)

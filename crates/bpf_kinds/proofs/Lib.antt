@@ -6,6 +6,7 @@ pub mod ShiftLemmas
 pub mod ExactLemmas
 pub mod AluLemmas
 pub mod ResultLemmas
+pub mod LowerLemmas
 mod RiseLemmas
 pub mod ResultsRise
 pub mod NarrowingLaws

@@ -7,6 +7,7 @@ use Rattle.std.proofs.lemmas.Bool.Decides.{nat_tests}
 use Rattle.std.proofs.lemmas.Int.{ints}
 use Rattle.std.proofs.lemmas.Option.{cond_some}
 use Rattle.bpf_insn.specs.Pointer.{is_offset}
+use Rattle.bpf_kinds.proofs.LowerLemmas.{AreLowerOffsets}
 use Rattle.bpf_kinds.proofs.MovingLaws.{near_above, near_below, is_offset-between, offset_ends}
 use Rattle.bpf_kinds.specs.Interval as interval
 use Rattle.bpf_kinds.specs.Moving.{near_distances, if_offsets, move_by, move_back_by}
@@ -51,15 +52,14 @@ offsets_rise here there moved ordered within is =
     let test : (is_offset here.low && is_offset here.high) ≡ true = rw (first, last) refl in
     (here, some_of _ here test, subst (IsWithin here) parts.1 within, ordered)
 
-pub move_by_rises : {x d a e moved : Offsets} → x.low ≤ℤ x.high → d.low ≤ℤ d.high → IsWithin x a → IsWithin d e → move_by a e ≡ Some moved
+pub move_by_rises : {x d a e moved : Offsets} → AreLowerOffsets a x → AreLowerOffsets e d → move_by a e ≡ Some moved
     → (nearer : Offsets) × (move_by x d ≡ Some nearer) × IsWithin nearer moved × (nearer.low ≤ℤ nearer.high)
-move_by_rises {x} {d} {a} {e} {moved} ordered-x ordered-d left right is =
+move_by_rises {x} {d} {a} {e} {moved} left right is =
     offsets_rise (between (x.low +ℤ d.low) (x.high +ℤ d.high)) (between (a.low +ℤ e.low) (a.high +ℤ e.high)) moved (omega (arith, ints))
     (record { low = omega (arith, ints); high = omega (arith, ints) }) is
 
-pub move_back_by_rises : {x d a e moved : Offsets} → x.low ≤ℤ x.high → d.low ≤ℤ d.high → IsWithin x a → IsWithin d e
-    → move_back_by a e ≡ Some moved
+pub move_back_by_rises : {x d a e moved : Offsets} → AreLowerOffsets a x → AreLowerOffsets e d → move_back_by a e ≡ Some moved
     → (nearer : Offsets) × (move_back_by x d ≡ Some nearer) × IsWithin nearer moved × (nearer.low ≤ℤ nearer.high)
-move_back_by_rises {x} {d} {a} {e} {moved} ordered-x ordered-d left right is =
+move_back_by_rises {x} {d} {a} {e} {moved} left right is =
     offsets_rise (between (x.low -ℤ d.high) (x.high -ℤ d.low)) (between (a.low -ℤ e.high) (a.high -ℤ e.low)) moved (omega (arith, ints))
     (record { low = omega (arith, ints); high = omega (arith, ints) }) is

@@ -89,15 +89,21 @@ stand_where SignedLessOrEqual true width m n a b is = leb-true m n (rw (signed_n
 stand_where SignedLessOrEqual false width m n a b is = leb-false m n (rw (signed_number width m a, signed_number width n b) at is)
 stand_where SharesBit taken width m n a b is = tt
 
-stand_plain : (condition : Condition) (width : Width) {x y : Interval} {m n : ℕ} {taken : Bool} → Admits x m → Admits y n
-    → is_met condition width m n ≡ taken → is_plain condition width x y ≡ true → StandIf (relation_of condition taken) m n
-stand_plain condition width {x} {y} {m} {n} {taken} left right answer plain =
+-- two numbers in intervals, and the answer of their comparison
+pub record IsAnswer (condition : Condition) (width : Width) (x y : Interval) (taken : Bool) (m n : ℕ) : Type 0 where
+  pub left : Admits x m
+  pub right : Admits y n
+  pub answer : is_met condition width m n ≡ taken
+
+stand_plain : (condition : Condition) (width : Width) {x y : Interval} {taken : Bool} {m n : ℕ} → IsAnswer condition width x y taken m n
+    → is_plain condition width x y ≡ true → StandIf (relation_of condition taken) m n
+stand_plain condition width {taken = taken} {m} {n} is plain =
     let limits = and_parts _ _ plain in
-    let below-m : m < plain_limit condition width = under m x.high _ left.below limits.0 in
-    let below-n : n < plain_limit condition width = under n y.high _ right.below limits.1 in
+    let below-m : m < plain_limit condition width = under m _ _ is.left.below limits.0 in
+    let below-n : n < plain_limit condition width = under n _ _ is.right.below limits.1 in
     let fits = limit_fits (is_signed condition) width in
     let same = compared condition width m n (whole m _ _ below-m fits) (whole n _ _ below-n fits) in
-    stand_where condition taken width m n below-m below-n (sym same ∙ answer)
+    stand_where condition taken width m n below-m below-n (sym same ∙ is.answer)
 
 -- two numbers are admitted on an edge
 
@@ -172,35 +178,32 @@ pub decided : (single edge : Bool) (both : Narrowed) → (single ≡ true → ed
 decided true edge both met = rw (met refl) refl
 decided false edge both met = refl
 
-decide-keeps : (condition : Condition) (width : Width) {x y : Interval} {m n : ℕ} {taken : Bool} → Admits x m → Admits y n
-    → is_met condition width m n ≡ taken → Keeps (decide condition width x y taken) m n
-decide-keeps condition width {x} {y} {m} {n} {taken} here there answer =
+decide-keeps : (condition : Condition) (width : Width) {x y : Interval} {taken : Bool} {m n : ℕ} → IsAnswer condition width x y taken m n
+    → Keeps (decide condition width x y taken) m n
+decide-keeps condition width {x} {y} {taken} {m} {n} is =
     let met : (is_single x && is_single y) ≡ true → beq (is_met condition width x.low y.low) taken ≡ true = λ single.
     let singles = and_parts (is_single x) (is_single y) single in
-    let e-m : x.low ≡ m = sym (only x m here singles.0) in
-    let e-n : y.low ≡ n = sym (only y n there singles.1) in
-    edge_of _ taken (rw (e-m, e-n) answer) in
-    (narrowed x y, decided (is_single x && is_single y) _ (narrowed x y) met, here, there)
+    let e-m : x.low ≡ m = sym (only x m is.left singles.0) in
+    let e-n : y.low ≡ n = sym (only y n is.right singles.1) in
+    edge_of _ taken (rw (e-m, e-n) is.answer) in
+    (narrowed x y, decided (is_single x && is_single y) _ (narrowed x y) met, is.left, is.right)
 
 keeps_if : (test : Bool) (a b : Option Narrowed) (m n : ℕ) → (test ≡ true → Keeps a m n) → Keeps b m n → Keeps (if test then a else b) m n
 keeps_if true a b m n first second = first refl
 keeps_if false a b m n first second = second
 
-refine_by-keeps : (relation : Option Relation) (condition : Condition) (width : Width) {x y : Interval} {m n : ℕ} {taken : Bool}
-    → Admits x m → Admits y n → is_met condition width m n ≡ taken → (is_plain condition width x y ≡ true → StandIf relation m n)
+refine_by-keeps : (relation : Option Relation) (condition : Condition) (width : Width) {x y : Interval} {taken : Bool} {m n : ℕ}
+    → IsAnswer condition width x y taken m n → (is_plain condition width x y ≡ true → StandIf relation m n)
     → Keeps (refine_by relation condition width x y taken) m n
-refine_by-keeps None condition width here there answer stand = decide-keeps condition width here there answer
-refine_by-keeps (Some relation) condition width {x} {y} {m} {n} {taken} here there answer stand =
-    keeps_if (is_plain condition width x y) (narrow relation x y) (decide condition width x y taken) m n
-    (λ plain. narrow-keeps relation x y m n here there (stand plain)) (decide-keeps condition width here there answer)
+refine_by-keeps None condition width is stand = decide-keeps condition width is
+refine_by-keeps (Some relation) condition width {x} {y} is stand =
+    keeps_if (is_plain condition width x y) (narrow relation x y) _ _ _
+    (λ plain. narrow-keeps relation x y _ _ is.left is.right (stand plain)) (decide-keeps condition width is)
 
 -- two compared numbers remain admitted on the edge that their comparison takes
-pub refine-keeps : (condition : Condition) (width : Width) {x y : Interval} {m n : ℕ} {taken : Bool} → IsProper x → IsProper y → Admits x m
-    → Admits y n → is_met condition width m n ≡ taken
+pub refine-keeps : (condition : Condition) (width : Width) {x y : Interval} (taken : Bool) {m n : ℕ} → IsAnswer condition width x y taken m n
     → (both : Narrowed) × (refine condition width x y taken ≡ Some both) × Admits both.left m × Admits both.right n
-refine-keeps condition width {taken} proper-x proper-y left right answer =
-    refine_by-keeps (relation_of condition taken) condition width left right answer
-    (λ plain. stand_plain condition width left right answer plain)
+refine-keeps condition width taken is = refine_by-keeps (relation_of condition taken) condition width is (stand_plain condition width is)
 
 -- narrowed intervals are proper, and lie within the original ones
 
@@ -285,8 +288,8 @@ refine_by-within (Some relation) condition width x y taken both is =
 
 pub refine-within : (condition : Condition) (width : Width) {x y : Interval} (taken : Bool) {both : Narrowed} → IsProper x → IsProper y
     → refine condition width x y taken ≡ Some both → IsProper both.left × IsProper both.right × IsWithin both.left x × IsWithin both.right y
-refine-within condition width {x} {y} taken {both} proper-x proper-y is =
-    let narrows = refine_by-within (relation_of condition taken) condition width x y taken both is in
+refine-within condition width taken proper-x proper-y is =
+    let narrows = refine_by-within (relation_of condition taken) condition width _ _ taken _ is in
     let proper = narrows.proper proper-x proper-y in
     (proper.0, proper.1, narrows.within.0, narrows.within.1)
 
@@ -295,9 +298,8 @@ refine-within condition width {x} {y} taken {both} proper-x proper-y is =
 pub refined-keeps : (condition : Condition) (width : Width) {x y : Interval} {taken : Bool} {result : Option Narrowed}
     → result ≡ refine condition width x y taken → (m n : ℕ) → Admits x m → Admits y n → is_met condition width m n ≡ taken
     → IsSomeAnd result (λ both. Admits both.left m × Admits both.right n)
-refined-keeps condition width {taken} is m n left right answer =
-    let kept = refine_by-keeps (relation_of condition taken) condition width left right answer
-    (λ plain. stand_plain condition width left right answer plain) in
+refined-keeps condition width {taken = taken} is = λ m n left right answer.
+    let kept = refine-keeps condition width taken (record { left = left; right = right; answer = answer }) in
     subst (λ (o : Option Narrowed). IsSomeAnd o (λ both. Admits both.left m × Admits both.right n)) (sym (is ∙ kept.1)) (kept.2, kept.3)
 
 pub refined-within : (condition : Condition) (width : Width) (x y : Interval) (taken : Bool) (result : Option Narrowed)
@@ -307,6 +309,6 @@ refined-within condition width x y taken result is =
 
 pub refined-proper : (condition : Condition) (width : Width) {x y : Interval} (taken : Bool) {result : Option Narrowed}
     → result ≡ refine condition width x y taken → IsProper x → IsProper y → IfSome result (λ both. IsProper both.left × IsProper both.right)
-refined-proper condition width {x} {y} taken {result} is proper-x proper-y =
-    if_some result _ (λ both some. (refine_by-within (relation_of condition taken) condition width x y taken both (sym is ∙ some)).proper
+refined-proper condition width taken is proper-x proper-y =
+    if_some _ _ (λ both some. (refine_by-within (relation_of condition taken) condition width _ _ taken both (sym is ∙ some)).proper
     proper-x proper-y)

@@ -8,6 +8,7 @@ use mathlib.Core.Bool.{beq}
 use Rattle.bpf_insn.specs.Arithmetic.{is_met}
 use Rattle.bpf_insn.specs.declared.instruction.Condition.{Condition}
 use Rattle.bpf_insn.specs.declared.instruction.Width.{Width}
+use Rattle.bpf_kinds.proofs.LowerLemmas.{IsLowerInterval}
 use Rattle.bpf_kinds.proofs.NarrowingLaws.{some_of, decided, without-within, refined-within}
 use Rattle.bpf_kinds.specs.Interval.{IsWithin, is_single}
 use Rattle.bpf_kinds.specs.Narrowing.{relation_of, is_plain, at_least, at_most, common, without, narrowed, if_reached, narrow, decide}
@@ -75,26 +76,26 @@ without-rises x y a b ordered left right =
     (record { low = low-rises x.low a.low b.low left.low; high = high-rises x.high a.high b.low left.high }))
     (within_also (without x y) x a (without-within x y) left)
 
-narrow-rises : (relation : Relation) {x y a b : Interval} {both : Narrowed} → x.low ≤ x.high → y.low ≤ y.high → IsWithin x a → IsWithin y b
+narrow-rises : (relation : Relation) {x y a b : Interval} {both : Narrowed} → IsLowerInterval a x → IsLowerInterval b y
     → narrow relation x y ≡ Some both → Covers (narrow relation a b) both
-narrow-rises Same {x} {y} {a} {b} {both} ordered-x ordered-y left right is =
-    reached-rises (common x y) (common x y) (common a b) (common a b) both (common-rises x y a b left right)
-    (common-rises x y a b left right) is
-narrow-rises Different {x} {y} {a} {b} {both} ordered-x ordered-y left right is =
-    reached-rises (without x y) (without y x) (without a b) (without b a) both (without-rises x y a b ordered-y left right)
-    (without-rises y x b a ordered-x right left) is
-narrow-rises Above {x} {y} {a} {b} {both} ordered-x ordered-y left right is =
-    reached-rises (at_least x (y.low + 1)) (at_most y (x.high - 1)) (at_least a (b.low + 1)) (at_most b (a.high - 1)) both
-    (at_least-rises x a _ _ left (omega arith)) (at_most-rises y b _ _ right (omega arith)) is
-narrow-rises AtLeast {x} {y} {a} {b} {both} ordered-x ordered-y left right is =
-    reached-rises (at_least x y.low) (at_most y x.high) (at_least a b.low) (at_most b a.high) both (at_least-rises x a _ _ left right.low)
-    (at_most-rises y b _ _ right left.high) is
-narrow-rises Below {x} {y} {a} {b} {both} ordered-x ordered-y left right is =
-    reached-rises (at_most x (y.high - 1)) (at_least y (x.low + 1)) (at_most a (b.high - 1)) (at_least b (a.low + 1)) both
-    (at_most-rises x a _ _ left (omega arith)) (at_least-rises y b _ _ right (omega arith)) is
-narrow-rises AtMost {x} {y} {a} {b} {both} ordered-x ordered-y left right is =
-    reached-rises (at_most x y.high) (at_least y x.low) (at_most a b.high) (at_least b a.low) both (at_most-rises x a _ _ left right.high)
-    (at_least-rises y b _ _ right left.low) is
+narrow-rises Same {x} {y} {a} {b} left right is =
+    reached-rises (common x y) (common x y) (common a b) (common a b) _ (common-rises x y a b left.within right.within)
+    (common-rises x y a b left.within right.within) is
+narrow-rises Different {x} {y} {a} {b} left right is =
+    reached-rises (without x y) (without y x) (without a b) (without b a) _
+    (without-rises x y a b right.ordered left.within right.within) (without-rises y x b a left.ordered right.within left.within) is
+narrow-rises Above {x} {y} {a} {b} left right is =
+    reached-rises (at_least x (y.low + 1)) (at_most y (x.high - 1)) (at_least a (b.low + 1)) (at_most b (a.high - 1)) _
+    (at_least-rises x a _ _ left.within (omega arith)) (at_most-rises y b _ _ right.within (omega arith)) is
+narrow-rises AtLeast {x} {y} {a} {b} left right is =
+    reached-rises (at_least x y.low) (at_most y x.high) (at_least a b.low) (at_most b a.high) _ (at_least-rises x a _ _ left.within right.within.low)
+    (at_most-rises y b _ _ right.within left.within.high) is
+narrow-rises Below {x} {y} {a} {b} left right is =
+    reached-rises (at_most x (y.high - 1)) (at_least y (x.low + 1)) (at_most a (b.high - 1)) (at_least b (a.low + 1)) _
+    (at_most-rises x a _ _ left.within (omega arith)) (at_least-rises y b _ _ right.within (omega arith)) is
+narrow-rises AtMost {x} {y} {a} {b} left right is =
+    reached-rises (at_most x y.high) (at_least y x.low) (at_most a b.high) (at_least b a.low) _ (at_most-rises x a _ _ left.within right.within.high)
+    (at_least-rises y b _ _ right.within left.within.low) is
 
 -- neither interval is narrowed
 
@@ -106,42 +107,41 @@ answered test edge z both is single = cc
 less_test : (m n limit : ℕ) → m ≤ n → nat_lt n limit ≡ true → nat_lt m limit ≡ true
 less_test m n limit most is = grind (arith, nat_tests)
 
-module _ (condition : Condition) (width : Width) (x y a b : Interval) (taken : Bool) (both : Narrowed) (ordered-x : x.low ≤ x.high)
-    (ordered-y : y.low ≤ y.high) (left : IsWithin x a) (right : IsWithin y b) (here : IsWithin both.left x)
-    (there : IsWithin both.right y) where
+module _ (condition : Condition) (width : Width) {x y a b : Interval} (taken : Bool) {both : Narrowed} (left : IsLowerInterval a x)
+    (right : IsLowerInterval b y) (kept : IsWithin both.left x × IsWithin both.right y) where
   -- both wider intervals are left, since one number each has the same answer
   decide-covers : ((is_single a && is_single b) ≡ true → beq (is_met condition width a.low b.low) taken ≡ true)
       → Covers (decide condition width a b taken) both
   decide-covers edge = (
     narrowed a b,
     decided (is_single a && is_single b) _ (narrowed a b) edge,
-    within_also both.left x a here left,
-    within_also both.right y b there right,
+    within_also both.left x a kept.0 left.within,
+    within_also both.right y b kept.1 right.within,
   )
 
   decide-rises : decide condition width x y taken ≡ Some both → Covers (decide condition width a b taken) both
   decide-rises is =
       decide-covers (λ single.
       let singles = and_parts (is_single a) (is_single b) single in
-      let same-x = (single_within x a ordered-x left singles.0).0 in
-      let same-y = (single_within y b ordered-y right singles.1).0 in
+      let same-x = (single_within x a left.ordered left.within singles.0).0 in
+      let same-y = (single_within y b right.ordered right.within singles.1).0 in
       let small : (is_single x && is_single y) ≡ true = rw
-      (is_single-within x a ordered-x left singles.0, is_single-within y b ordered-y right singles.1) refl in
+      (is_single-within x a left.ordered left.within singles.0, is_single-within y b right.ordered right.within singles.1) refl in
       rw (← same-x, ← same-y) (answered (is_single x && is_single y) _ (narrowed x y) both is small))
 
   -- lower intervals are compared unchanged if higher ones are
   plain_falls : is_plain condition width a b ≡ true → is_plain condition width x y ≡ true
   plain_falls plain =
       let limits = and_parts _ _ plain in
-      rw (less_test x.high a.high _ left.high limits.0, less_test y.high b.high _ right.high limits.1) refl
+      rw (less_test x.high a.high _ left.within.high limits.0, less_test y.high b.high _ right.within.high limits.1) refl
 
   -- one number each is compared unchanged, whether it's known as a lower or as a higher interval
   plain_single : is_plain condition width x y ≡ true → is_plain condition width a b ≡ false → (is_single a && is_single b) ≡ true
       → beq (is_met condition width a.low b.low) taken ≡ true
   plain_single small large single =
       let singles = and_parts (is_single a) (is_single b) single in
-      let same-x = (single_within x a ordered-x left singles.0).1 in
-      let same-y = (single_within y b ordered-y right singles.1).1 in
+      let same-x = (single_within x a left.ordered left.within singles.0).1 in
+      let same-y = (single_within y b right.ordered right.within singles.1).1 in
       let same : is_plain condition width x y ≡ is_plain condition width a b = rw (same-x, same-y) refl in
       cc
 
@@ -158,16 +158,16 @@ module _ (condition : Condition) (width : Width) (x y a b : Interval) (taken : B
   refine_by-rises None is = decide-rises is
   refine_by-rises (Some relation) is =
       by_plain _ _ plain_falls
-      (narrow-rises relation ordered-x ordered-y left right)
+      (narrow-rises relation left right)
       (λ small large. decide-covers (plain_single small large))
       decide-rises
       is
 
 -- lower intervals are narrowed to intervals within those of higher ones, which then reach the edge
-pub refine_rises : (condition : Condition) (width : Width) {x y a b : Interval} (taken : Bool) {both : Narrowed} → x.low ≤ x.high
-    → y.low ≤ y.high → IsWithin x a → IsWithin y b → refine condition width x y taken ≡ Some both
+pub refine_rises : (condition : Condition) (width : Width) {x y a b : Interval} (taken : Bool) {both : Narrowed} → IsLowerInterval a x
+    → IsLowerInterval b y → refine condition width x y taken ≡ Some both
     → (wider : Narrowed) × (refine condition width a b taken ≡ Some wider) × IsWithin both.left wider.left × IsWithin both.right wider.right
-refine_rises condition width {x} {y} {a} {b} taken {both} ordered-x ordered-y left right is =
+refine_rises condition width {x} {y} taken left right is =
     let narrower = subst (λ (o : Option Narrowed). IfSome o (λ z. IsWithin z.left x × IsWithin z.right y)) is
     (refined-within condition width x y taken (refine condition width x y taken) refl) in
-    refine_by-rises condition width x y a b taken both ordered-x ordered-y left right narrower.0 narrower.1 (relation_of condition taken) is
+    refine_by-rises condition width taken left right narrower (relation_of condition taken) is

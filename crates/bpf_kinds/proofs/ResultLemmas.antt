@@ -61,9 +61,9 @@ alu-holds operation width x y m n left right =
     let w = operand_bits width in
     result_on-holds operation width (cut w x) (cut w y) (low_bits w m) (low_bits w n) (cut-holds w x m left) (cut-holds w y n right)
 
-pub alu-admits : (operation : Operation) (width : Width) {x y : Interval} {m n : ℕ} → IsProper x → IsProper y → Admits x m → Admits y n
+pub alu-admits : (operation : Operation) (width : Width) {x y : Interval} {m n : ℕ} → Admits x m → Admits y n
     → Admits (alu operation width x y) (result_of operation width m n)
-alu-admits operation width {x} {y} {m} {n} x_proper y_proper left right = admits_held _ _ (alu-holds operation width x y m n left right)
+alu-admits operation width {x} {y} {m} {n} left right = admits_held _ _ (alu-holds operation width x y m n left right)
 
 pub alu-proper : (operation : Operation) (width : Width) (x y : Interval) → IsProper x → IsProper y → IsProper (alu operation width x y)
 alu-proper operation width x y x_proper y_proper =

@@ -26,6 +26,7 @@ use Rattle.bpf_kinds.proofs.HoldLemmas.{Holds, quotient_le, cut-holds}
 use Rattle.bpf_kinds.proofs.AluLemmas.{some_bits, result_on-holds}
 use Rattle.bpf_kinds.proofs.ResultLemmas.{least, operands_wide, alu-holds, negate-holds, extends, extend_low-holds}
 use Rattle.bpf_kinds.proofs.ResultLemmas.{extend-holds, swap-fits, byte_swap-holds}
+use Rattle.bpf_kinds.proofs.LowerLemmas.{IsLowerInterval}
 use Rattle.bpf_kinds.proofs.RiseLemmas.{Covers, holds_low, within_held, within_same, within_full, full_within, if_single-within}
 use Rattle.bpf_kinds.proofs.RiseLemmas.{sum_of-within, difference_of-within, product_of-within, quotient_of-within, remainder_of-within}
 use Rattle.bpf_kinds.proofs.RiseLemmas.{and-within, or-within, exclusive_or-within, left_shift_of-within, right_shift_of-within}
@@ -104,12 +105,12 @@ result_on-within operation width x y a b left right =
     let P : Interval → Type 0 = λ z. IsWithin (operation_on operation w x y) z in
     subst P (sym (cond-false _ _ _ as_unknown)) (operation_on-within operation width x y a b left right))
 
-pub alu_rises : (operation : Operation) (width : Width) {x y a b : Interval} → x.low ≤ x.high → y.low ≤ y.high → IsWithin x a → IsWithin y b
+pub alu_rises : (operation : Operation) (width : Width) {x y a b : Interval} → IsLowerInterval a x → IsLowerInterval b y
     → IsWithin (alu operation width x y) (alu operation width a b)
-alu_rises operation width {x} {y} {a} {b} x_ordered y_ordered left right =
+alu_rises operation width {x} {y} {a} {b} left right =
     let w = operand_bits width in
-    result_on-within operation width (cut w x) (cut w y) (cut w a) (cut w b) (cut_covers w x a x_ordered left)
-    (cut_covers w y b y_ordered right)
+    result_on-within operation width (cut w x) (cut w y) (cut w a) (cut w b) (cut_covers w x a left.ordered left.within)
+    (cut_covers w y b right.ordered right.within)
 
 pub alu_ordered : (operation : Operation) (width : Width) (x y : Interval) → x.low ≤ x.high → y.low ≤ y.high
     → (alu operation width x y).low ≤ (alu operation width x y).high
@@ -121,13 +122,14 @@ alu_ordered operation width x y x_ordered y_ordered =
 if_known-within : {limit : ℕ} (w : Bits) (f : ℕ → ℕ) (x a : Interval) → ((n : ℕ) → f n < 2 ^ bits w) → Covers limit a x
     → IsWithin (if is_single x then single (f x.low) else full w) (if is_single a then single (f a.low) else full w)
 if_known-within w f x a fits covers =
-    if_single-within _ _ covers
-    (λ is.
-    let same : x.low ≡ a.low = omega arith in
-    let P : ℕ → Type 0 = λ k. IsWithin (single (f x.low)) (single (f k)) in
-    subst P same (within_same (single (f x.low))))
-    (λ is. within_full w _ (fits x.low))
-    (within_same (full w))
+    if_single-within covers (record {
+      both = λ is.
+          let same : x.low ≡ a.low = omega arith in
+          let P : ℕ → Type 0 = λ k. IsWithin (single (f x.low)) (single (f k)) in
+          subst P same (within_same (single (f x.low)));
+      one = λ is. within_full w _ (fits x.low);
+      neither = within_same (full w);
+    })
 
 pub negate_rises : (width : Width) (x a : Interval) → x.low ≤ x.high → IsWithin x a → IsWithin (negate width x) (negate width a)
 negate_rises width x a ordered within =
@@ -150,18 +152,19 @@ extend_on-within extension x a covers =
     let to = target_bits extension in
     let within : IsWithin x a = record { low = covers.low; high = covers.high } in
     let number = extension_of extension x.low in
-    if_single-within _ _ covers
-    (λ is.
-    let same : x.low ≡ a.low = omega arith in
-    let P : ℕ → Type 0 = λ k. IsWithin (single number) (single (extension_of extension k)) in
-    subst P same (within_same (single number)))
-    (λ is.
-    let ends = extend_low from to (cut from a) in
-    let held = extend_low-holds extension (cut from a) (low_bits from x.low)
-    (cut-holds from a x.low (low_admitted x a covers.ordered within)) in
-    let P : ℕ → Type 0 = λ k. IsWithin (single k) ends in
-    subst P (sym ((extends extension).is x.low)) (within_held ends _ _ held held))
-    (extend_low-within from to (cut from x) (cut from a) (extends extension).wider (cut_covers from x a covers.ordered within))
+    if_single-within covers (record {
+      both = λ is.
+          let same : x.low ≡ a.low = omega arith in
+          let P : ℕ → Type 0 = λ k. IsWithin (single number) (single (extension_of extension k)) in
+          subst P same (within_same (single number));
+      one = λ is.
+          let ends = extend_low from to (cut from a) in
+          let held = extend_low-holds extension (cut from a) (low_bits from x.low)
+          (cut-holds from a x.low (low_admitted x a covers.ordered within)) in
+          let P : ℕ → Type 0 = λ k. IsWithin (single k) ends in
+          subst P (sym ((extends extension).is x.low)) (within_held ends _ _ held held);
+      neither = extend_low-within from to (cut from x) (cut from a) (extends extension).wider (cut_covers from x a covers.ordered within);
+    })
 
 pub extend_rises : (extension : SignExtension) (x a : Interval) → x.low ≤ x.high → IsWithin x a
     → IsWithin (extend extension x) (extend extension a)

@@ -45,13 +45,19 @@ within_full w x fits = record { low = omega arith; high = omega arith }
 pub full_within : (w : Bits) (test : Bool) (z : Interval) → test ≡ false → IsWithin (full w) (if test then z else full w)
 full_within w test z not = subst (IsWithin (full w)) (sym (cond-false test z (full w) not)) (within_same (full w))
 
--- a choice by whether an operand is one number, as it is if a wider one is
-pub if_single-within : {limit : ℕ} {x a q s : Interval} (p r : Interval) → Covers limit a x → (a.low ≡ a.high → IsWithin p r)
-    → (x.low ≡ x.high → IsWithin p s) → IsWithin q s → IsWithin (if is_single x then p else q) (if is_single a then r else s)
-if_single-within {x} {a} {q} {s} p r covers both one neither =
+-- the results p and q for an operand x, by whether it's one number, lie within the results r and s for a wider operand a
+pub record RiseBySingle (x a p q r s : Interval) : Type 0 where
+  pub both : a.low ≡ a.high → IsWithin p r
+  pub one : x.low ≡ x.high → IsWithin p s
+  pub neither : IsWithin q s
+
+-- an operand is one number if a wider one is
+pub if_single-within : {limit : ℕ} {x a p q r s : Interval} → Covers limit a x → RiseBySingle x a p q r s
+    → IsWithin (if is_single x then p else q) (if is_single a then r else s)
+if_single-within {x} {a} {p} {q} {r} {s} covers rise =
     cond_both (is_single x) p q (λ z. IsWithin z (if is_single a then r else s))
-    (λ x_is. cond_both (is_single a) r s (λ z. IsWithin p z) (λ a_is. both (eqb-true _ _ a_is)) (λ not. one (eqb-true _ _ x_is)))
-    (λ x_not. cond_both (is_single a) r s (λ z. IsWithin q z) (λ a_is. grind (arith, nat_tests)) (λ not. neither))
+    (λ x_is. cond_both (is_single a) r s (λ z. IsWithin p z) (λ a_is. rise.both (eqb-true _ _ a_is)) (λ not. rise.one (eqb-true _ _ x_is)))
+    (λ x_not. cond_both (is_single a) r s (λ z. IsWithin q z) (λ a_is. grind (arith, nat_tests)) (λ not. rise.neither))
 
 pub sum_of-within : (w : Bits) (x y a b : Interval) → Covers (2 ^ bits w) a x → Covers (2 ^ bits w) b y
     → IsWithin (sum_of w x y) (sum_of w a b)
@@ -115,15 +121,16 @@ pub left_shift_of-within : (w : Bits) (x y a b : Interval) → 0 < bits w → Co
 left_shift_of-within w x y a b some left right =
     let limit = 2 ^ bits w in
     let by = λ (amount : ℕ). single (2 ^ (amount % bits w)) in
-    if_single-within _ _ right
-    (λ is.
-    let same : b.low ≡ y.low = omega arith in
-    let power : Covers limit (by y.low) (by y.low) = record
-    { ordered = omega arith; low = omega arith; high = omega arith; fits = pow_below (y.low % bits w) (bits w) (mod-lt y.low some) } in
-    let P : ℕ → Type 0 = λ amount. IsWithin (product_of w x (by y.low)) (product_of w a (by amount)) in
-    subst P (sym same) (product_of-within w x (by y.low) a (by y.low) left power))
-    (λ is. within_full w _ (product_of-fits w x (by y.low)))
-    (within_same (full w))
+    if_single-within right (record {
+      both = λ is.
+          let same : b.low ≡ y.low = omega arith in
+          let power : Covers limit (by y.low) (by y.low) = record
+          { ordered = omega arith; low = omega arith; high = omega arith; fits = pow_below (y.low % bits w) (bits w) (mod-lt y.low some) } in
+          let P : ℕ → Type 0 = λ amount. IsWithin (product_of w x (by y.low)) (product_of w a (by amount)) in
+          subst P (sym same) (product_of-within w x (by y.low) a (by y.low) left power);
+      one = λ is. within_full w _ (product_of-fits w x (by y.low));
+      neither = within_same (full w);
+    })
 
 pub right_shift_of-within : (w : Bits) (x y a b : Interval) → Covers (2 ^ bits w) a x → Covers (2 ^ bits w) b y
     → IsWithin (right_shift_of w x y) (right_shift_of w a b)
@@ -133,14 +140,15 @@ right_shift_of-within w x y a b left right =
     let least = quotient_le a.low x.low power power left.low some (omega arith) in
     let most = quotient_le x.high a.high power power left.high some (omega arith) in
     let whole = div-le_self x.high power in
-    if_single-within _ _ right
-    (λ is.
-    let same : b.low ≡ y.low = omega arith in
-    let P : ℕ → Type 0 = λ amount. IsWithin (between (x.low / power) (x.high / power))
-    (between (a.low / 2 ^ (amount % bits w)) (a.high / 2 ^ (amount % bits w))) in
-    subst P (sym same) (record { low = least; high = most }))
-    (λ is. record { low = omega arith; high = omega arith })
-    (record { low = omega arith; high = omega arith })
+    if_single-within right (record {
+      both = λ is.
+          let same : b.low ≡ y.low = omega arith in
+          let P : ℕ → Type 0 = λ amount. IsWithin (between (x.low / power) (x.high / power))
+          (between (a.low / 2 ^ (amount % bits w)) (a.high / 2 ^ (amount % bits w))) in
+          subst P (sym same) (record { low = least; high = most });
+      one = λ is. record { low = omega arith; high = omega arith };
+      neither = record { low = omega arith; high = omega arith };
+    })
 
 pub arithmetic_shift_of-within : (width : Width) (x y a b : Interval) → Covers (2 ^ bits (operand_bits width)) a x
     → Covers (2 ^ bits (operand_bits width)) b y → IsWithin (arithmetic_shift_of (operand_bits width) x y)

@@ -5,3 +5,4 @@ pub mod Kind
 pub mod Results
 pub mod Narrowing
 pub mod Moving
+pub mod Order

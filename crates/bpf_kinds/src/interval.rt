@@ -77,21 +77,7 @@ impl Order for Interval {
 
     ghost join = { interval.join };
 
-    ghost reflexive = { Prim.search rules };
-
-    ghost transitive = { Prim.search rules };
-
-    ghost antisymmetric = { Prim.search rules };
-
-    ghost join_is_proper = { Prim.search rules };
-
-    ghost left_is_within_join = { Prim.search rules };
-
-    ghost right_is_within_join = { Prim.search rules };
-
-    ghost join_is_least = { Prim.search rules };
-
-    ghost admits_more = { Prim.search rules };
+    ghost laws = { Prim.search rules };
 
     fn leq(&self, other: &Interval) -> bool {
         other.low <= self.low && self.high <= other.high

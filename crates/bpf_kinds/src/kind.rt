@@ -31,21 +31,16 @@ impl Order for Kind {
 
     ghost join = { kind.join };
 
-    ghost reflexive = { Prim.search rules };
-
-    ghost transitive = { Prim.search rules };
-
-    ghost antisymmetric = { Prim.search rules };
-
-    ghost join_is_proper = { Prim.search rules };
-
-    ghost left_is_within_join = { Prim.search rules };
-
-    ghost right_is_within_join = { Prim.search rules };
-
-    ghost join_is_least = { Prim.search rules };
-
-    ghost admits_more = { Prim.search rules };
+    ghost laws = { record {
+      reflexive = Prim.search rules;
+      transitive = Prim.search rules;
+      antisymmetric = Prim.search rules;
+      join_is_proper = Prim.search rules;
+      left_is_within_join = Prim.search rules;
+      right_is_within_join = Prim.search rules;
+      join_is_least = Prim.search rules;
+      admits_more = Prim.search rules;
+    } };
 
     fn leq(&self, other: &Kind) -> bool {
         match (self, other) {

@@ -102,7 +102,7 @@ results_held operation width x y m n left right =
     let one = single-proper x left.1 in let other = single-proper y right.1 in (
       ap (λ (k : ℕ). result_of operation width k n) left.0 ∙ ap (λ (k : ℕ). result_of operation width x k) right.0,
       admitted_fits _ _ (alu-proper operation width (single x) (single y) one other)
-          (alu-admits operation width one other (single-admits x) (single-admits y)),
+          (alu-admits operation width (single-admits x) (single-admits y)),
     )
 
 pub operate_held : (operation : Operation) (width : Width) (v w : Value) (m n : ℕ) → IsWordOf v m → IsWordOf w n

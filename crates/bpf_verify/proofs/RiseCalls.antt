@@ -24,7 +24,8 @@ use Rattle.bpf_verify.specs.Transfer.{are_allowed, argument_kind, argument_in, a
 use Rattle.bpf_verify.specs.Transfer.{all_marked, write_bytes, call}
 use Rattle.bpf_verify.specs.declared.calls.LentBytes.{LentBytes}
 use Rattle.bpf_verify.specs.declared.known.Known.{Known}
-use Rattle.bpf_verify.proofs.RiseChecks.{IsLower, lower_cases, IsLowerInterval, AreLowerOffsets, read_lower}
+use Rattle.bpf_kinds.proofs.LowerLemmas.{IsLowerInterval, AreLowerOffsets}
+use Rattle.bpf_verify.proofs.RiseChecks.{IsLower, lower_cases, read_lower}
 use Rattle.bpf_verify.proofs.RiseMemory.{ChangesBelow, lie_within_falls, all_marked_falls, write_bytes_lower}
 use Rattle.bpf_kinds.proofs.KindLemmas as kinds_order
 

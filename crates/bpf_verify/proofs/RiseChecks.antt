@@ -24,18 +24,11 @@ use Rattle.bpf_verify.specs.AbstractState.{IsBelow, kind_of}
 use Rattle.bpf_verify.specs.Transfer.{read_kind, read, number_or, or_cause, tagged_kind, kind_pointer, kind_tags}
 use Rattle.bpf_verify.specs.declared.known.Known.{Known}
 use Rattle.bpf_kinds.proofs.KindLemmas.{within-nothing}
+use Rattle.bpf_kinds.proofs.LowerLemmas.{IsLowerInterval, AreLowerOffsets}
 use Rattle.bpf_kinds.proofs.MovingRises.{near_rises, move_by_rises, move_back_by_rises}
 use Rattle.bpf_kinds.proofs.ResultsRise.{cut_rises, cut_ordered, alu_rises, alu_ordered}
 
--- Intervals that lie within others and whose ends are in order. Nothing is required of the outer ones.
-
-pub record IsLowerInterval (higher lower : Interval) : Type 0 where
-  pub within : interval.IsWithin lower higher
-  pub ordered : lower.low ≤ lower.high
-
-pub record AreLowerOffsets (higher lower : Offsets) : Type 0 where
-  pub within : offsets.IsWithin lower higher
-  pub ordered : lower.low ≤ℤ lower.high
+-- Kinds that lie within others, and whose ends are in order. Nothing is required of the outer ones.
 
 abbrev pub IsLower : Kind → Kind → Type 0
 IsLower (Number x) (Number n) = IsLowerInterval x n
@@ -88,7 +81,7 @@ number_or_lower cause = lower_cases (λ x n. Sound IsLowerInterval (number_or ca
 alu_lower : (operation : Operation) (width : Width) (x y m n : Interval) → IsLowerInterval x m → IsLowerInterval y n
     → IsLowerInterval (alu operation width x y) (alu operation width m n)
 alu_lower operation width x y m n left right = record {
-  within = alu_rises operation width left.ordered right.ordered left.within right.within;
+  within = alu_rises operation width left right;
   ordered = alu_ordered operation width m n left.ordered right.ordered;
 }
 
@@ -126,9 +119,9 @@ kinds_agree = record {
   distance = λ x n is. found_lower PointerArithmetic (near_distances x) (near_distances n)
       (λ distances found. near_rises n x distances is.ordered is.within found);
   forwards = λ x n d e here by. found_lower LeavesArea (move_by x d) (move_by n e)
-      (λ moved found. move_by_rises here.ordered by.ordered here.within by.within found);
+      (λ moved found. move_by_rises here by found);
   backwards = λ x n d e here by. found_lower LeavesArea (move_back_by x d) (move_back_by n e)
-      (λ moved found. move_back_by_rises here.ordered by.ordered here.within by.within found);
+      (λ moved found. move_back_by_rises here by found);
 }
 
 pub operate_lower : (operation : Operation) (width : Width) (x y m n : Kind) → IsLower x m → IsLower y n

@@ -16,7 +16,8 @@ use Rattle.bpf_verify.specs.Transfer.{is_register, with_narrowed, narrowed, bran
 use Rattle.bpf_verify.specs.declared.comparison.Comparison.{Comparison}
 use Rattle.bpf_verify.specs.declared.known.Known.{Known}
 use Rattle.bpf_verify.specs.declared.comparison.Edge.TheVariants.{Unchanged}
-use Rattle.bpf_verify.proofs.RiseChecks.{IsLower, lower_cases, IsLowerInterval}
+use Rattle.bpf_kinds.proofs.LowerLemmas.{IsLowerInterval}
+use Rattle.bpf_verify.proofs.RiseChecks.{IsLower, lower_cases}
 use Rattle.bpf_verify.proofs.RiseMemory.{with_kind_lower}
 
 -- the states on the edges
@@ -48,8 +49,7 @@ branch_lower {higher} {lower} below comparison {x} {y} {m} {n} first second take
         (on_edge higher comparison (narrowed (refine comparison.condition comparison.width x y taken)))
     by_refined None found = tt
     by_refined (Some both) found =
-        let there = refine_rises comparison.condition comparison.width taken first.ordered second.ordered
-        first.within second.within found in
+        let there = refine_rises comparison.condition comparison.width taken first second found in
         subst (λ (refined : Option Narrowed). IsWithin (on_edge lower comparison (narrowed (Some both)))
         (on_edge higher comparison (narrowed refined))) (sym there.1)
         (with_narrowed_lower comparison.left.number comparison.right there.0 both same below.within there.2 there.3)

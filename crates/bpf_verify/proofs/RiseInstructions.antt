@@ -13,7 +13,8 @@ use Rattle.bpf_verify.specs.AbstractState.{IsBelow, AbstractState, Unreached, Re
 use Rattle.bpf_verify.specs.AbstractState.{IsWithinKnown}
 use Rattle.bpf_verify.specs.Transfer.{kinds, transfer}
 use Rattle.bpf_verify.specs.declared.known.Known.{Known}
-use Rattle.bpf_verify.proofs.RiseChecks.{IsLower, IsLowerInterval, AreLowerOffsets, is_within, single_lower, read_lower, number_or_lower}
+use Rattle.bpf_kinds.proofs.LowerLemmas.{IsLowerInterval, AreLowerOffsets}
+use Rattle.bpf_verify.proofs.RiseChecks.{IsLower, is_within, single_lower, read_lower, number_or_lower}
 use Rattle.bpf_verify.proofs.RiseChecks.{operate_lower, move_lower}
 use Rattle.bpf_verify.proofs.RiseMemory.{ArePointersLower, ChangesBelow, pointers_lower, load_from_lower, frame_offsets_lower}
 use Rattle.bpf_verify.proofs.RiseMemory.{store_at_lower, with_kind_lower}

@@ -40,7 +40,8 @@ use Rattle.bpf_verify.specs.Transfer.{load_area, load_from, frame_offsets, mark_
 use Rattle.bpf_verify.specs.declared.memory.Pointers.{Pointers}
 use Rattle.bpf_verify.specs.declared.known.Known.{Known}
 use Rattle.bpf_verify.proofs.PointerLemmas.{ArePointers, record_pointers, frame_pointers}
-use Rattle.bpf_verify.proofs.RiseChecks.{IsLower, is_lower, lower_cases, IsLowerInterval, AreLowerOffsets, read_lower}
+use Rattle.bpf_kinds.proofs.LowerLemmas.{IsLowerInterval, AreLowerOffsets}
+use Rattle.bpf_verify.proofs.RiseChecks.{IsLower, is_lower, lower_cases, read_lower}
 
 -- the base
 

@@ -76,8 +76,8 @@ branch_admits {known} {state} has comparison {x} {y} {taken} operands answer = b
         (if same then Unchanged else narrowed (refine comparison.condition comparison.width x y taken))) state
     by_test true = has.admits
     by_test false =
-        let kept = refine-keeps comparison.condition comparison.width operands.first.proper operands.second.proper operands.first.admits
-        operands.second.admits answer in
+        let kept = refine-keeps comparison.condition comparison.width taken
+        (record { left = operands.first.admits; right = operands.second.admits; answer = answer }) in
         subst (λ (refined : Option Narrowed). known_state.Admits (on_edge known comparison (narrowed refined)) state) (sym kept.1)
         (with_narrowed_admits has.admits left right kept.0 operands.on_left operands.on_right kept.2 kept.3)
 

@@ -4,8 +4,8 @@ use Rattle.bpf_kinds.proofs.laws.results_rise.Goals as goal
 pub returns : goal.returns
 returns g = record {
   low_bits = λ w x a small large within. lemmas.cut_rises w x a small.ordered within;
-  alu = λ operation width x y a b x_proper y_proper a_proper b_proper first second. lemmas.alu_rises operation width x_proper.ordered
-      y_proper.ordered first second;
+  alu = λ operation width x y a b x_proper y_proper a_proper b_proper first second. lemmas.alu_rises operation width
+      (record { within = first; ordered = x_proper.ordered }) (record { within = second; ordered = y_proper.ordered });
   negate = λ width x a small large within. lemmas.negate_rises width x a small.ordered within;
   extend = λ extension x a small large within. lemmas.extend_rises extension x a small.ordered within;
   byte_swap = λ order width x a small large within. lemmas.byte_swap_rises order width x a small.ordered within;

@@ -12,7 +12,7 @@ value c = cc
 pub returns-clause-admits : goal.returns-clause-admits
 returns-clause-admits c = λ m n left right.
     let P : Interval → Type 0 = λ z. Admits z (result_of c.args.operation c.args.width m n) in
-    subst P (sym (value c)) (alu-admits c.args.operation c.args.width c.requires.x c.requires.y left right)
+    subst P (sym (value c)) (alu-admits c.args.operation c.args.width left right)
 
 pub returns-clause-proper : goal.returns-clause-proper
 returns-clause-proper c = subst IsProper (sym (value c))
