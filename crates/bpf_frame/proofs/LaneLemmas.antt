@@ -166,13 +166,14 @@ mark_without xs ys at lanes others =
 abbrev pub contents : List ℕ → List Kind → Contents
 contents lanes kinds = record { marks = marks_of lanes; kinds = kinds }
 
-pub join_is : {xs ys : List ℕ} {joined : List Kind} (kinds others : List Kind) {map other : Contents} → AreLanes xs → AreLanes ys
-    → joined ≡ join_kinds kinds others → contents xs kinds ≡ map → contents ys others ≡ other
-    → contents (zip2 bit_and xs ys) joined ≡ join map other
-join_is {xs} {ys} {joined} kinds others {map} lanes other_lanes same seen other_seen =
+pub join_is : {xs ys : List ℕ} {joined : List Kind} (kinds others : List Kind) → AreLanes xs → AreLanes ys → joined ≡ join_kinds kinds others
+    → contents (zip2 bit_and xs ys) joined ≡ join (contents xs kinds) (contents ys others)
+join_is {xs} {ys} {joined} kinds others lanes other_lanes same =
     same_maps (contents (zip2 bit_and xs ys) joined) (join (contents xs kinds) (contents ys others))
     (marks_of-and xs ys lanes other_lanes) same
-    ∙ ap (λ (m : Contents). join m (contents ys others)) seen ∙ ap (join map) other_seen
+
+pub same_join : {map map' other other' : Contents} → map ≡ map' → other ≡ other' → join map other ≡ join map' other'
+same_join {map' = map'} {other} same same' = ap (λ (m : Contents). join m other) same ∙ ap (join map') same'
 
 -- what a comparison of two vectors tests: no lane differs
 abbrev pub no_lane_differs : List ℕ → List ℕ → Bool

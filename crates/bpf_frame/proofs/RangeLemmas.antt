@@ -91,17 +91,22 @@ no_range from end = record {
     no_mark at within = get_or-marks_of _ at within ∙ ap (λ (n : ℕ). has_bit n (at % 64)) (get_or-replicate 8 (at / 64) 0 0 (omega arith))
         ∙ ap (λ (n : ℕ). n == 1) (bit_at-zero (at % 64))
 
-pub one_lane_more : {lanes : List ℕ} {from end lane : ℕ} (bits : ℕ) → IsRange lanes from end lane → end ≤ 512 → lane < 8 → bits < 2 ^ 64
-    → ((bit : ℕ) → bit < 64 → IsTrue (has_bit bits bit) ↔ ((from ≤ 64 * lane + bit) × (64 * lane + bit < end)))
+-- the bits of a lane that are in a range
+pub record AreBitsOf (from end lane bits : ℕ) : Type 0 where
+  pub within : lane < 8
+  pub fits : bits < 2 ^ 64
+  pub inside : (bit : ℕ) → bit < 64 → IsTrue (has_bit bits bit) ↔ ((from ≤ 64 * lane + bit) × (64 * lane + bit < end))
+
+pub one_lane_more : {lanes : List ℕ} {from end lane : ℕ} (bits : ℕ) → IsRange lanes from end lane → end ≤ 512 → AreBitsOf from end lane bits
     → IsRange (set lanes lane bits) from end (lane + 1)
-one_lane_more {lanes} {from} {end} {lane} bits range short within fits inside = record {
-  are_lanes = set_are_lanes lanes lane bits range.are_lanes fits;
+one_lane_more {lanes} {from} {end} {lane} bits range short are = record {
+  are_lanes = set_are_lanes lanes lane bits range.are_lanes are.fits;
   marks = λ at.
       elim (cases_eq (at / 64) lane) [
         | inl same ↦
             let place : 64 * lane + at % 64 ≡ at = omega arith in
             let here : IsTrue (has_bit bits (at % 64)) ↔ ((from ≤ at) × (at < end)) =
-            subst (λ (n : ℕ). IsTrue (has_bit bits (at % 64)) ↔ ((from ≤ n) × (n < end))) place (inside (at % 64) (omega arith)) in
+            subst (λ (n : ℕ). IsTrue (has_bit bits (at % 64)) ↔ ((from ≤ n) × (n < end))) place (are.inside (at % 64) (omega arith)) in
             let is = mark_in_set lanes lane bits at range.are_lanes (omega arith) same in
             (λ marked. let both = here.0 (sym is ∙ marked) in (both.0, both.1, omega arith), λ all. is ∙ here.1 (all.0, all.1))
         | inr other ↦ (

@@ -7,7 +7,8 @@ loop-lane-init c = no_range c.args.from c.args.end
 
 pub loop-lane-preserved : goal.loop-lane-preserved
 loop-lane-preserved c =
-    one_lane_more c.bits_within.result c.loop-lane.invariant (omega arith) (omega arith) (omega arith) c.bits_within.ensures
+    one_lane_more c.bits_within.result c.loop-lane.invariant (omega arith)
+    (record { within = omega arith; fits = omega arith; inside = c.bits_within.ensures })
 
 pub returns-clause-lanes : goal.returns-clause-lanes
 returns-clause-lanes c = c.loop-lane.invariant.are_lanes
