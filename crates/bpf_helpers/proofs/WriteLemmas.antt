@@ -41,10 +41,10 @@ put_mid-write {A} memory bytes at count same = put_mid-paste at count memory byt
     ∙ ap (λ (part : List A). take at memory ++ part ++ drop (at + count) memory) (take_all count bytes (omega arith)) ∙ rw same refl
 
 -- a name's first bytes, copied into a part of memory
-pub put_mid-first_bytes : {bytes : List ℕ} (memory : List ℕ) (name : Option (List ℕ)) {k : ℕ} (at count : ℕ) → at + count ≤ length memory
-    → k ≡ at + count - at → length bytes ≡ length (mid_of at k memory) → bytes ≡ first_bytes (length (mid_of at k memory)) name
-    → put_mid at k memory bytes ≡ write memory at (first_bytes count name)
-put_mid-first_bytes {bytes} memory name {k} at count within same kept is =
-    let all : k ≡ count = omega arith in
-    let long : length (mid_of at k memory) ≡ count = rw all (grind (arith, common_steps)) in
-    put_mid-write memory bytes at k (all ∙ sym long ∙ sym kept) ∙ ap (write memory at) (is ∙ ap (λ (n : ℕ). first_bytes n name) long)
+pub put_mid-first_bytes : {bytes : List ℕ} (memory : List ℕ) (name : Option (List ℕ)) (at count : ℕ) → at + count ≤ length memory
+    → length bytes ≡ length (mid_of at (at + count - at) memory) → bytes ≡ first_bytes (length (mid_of at (at + count - at) memory)) name
+    → put_mid at (at + count - at) memory bytes ≡ write memory at (first_bytes count name)
+put_mid-first_bytes {bytes} memory name at count within kept is =
+    let all : at + count - at ≡ count = omega arith in
+    let long : length (mid_of at (at + count - at) memory) ≡ count = rw all (grind (arith, common_steps)) in
+    put_mid-write memory bytes at (at + count - at) (all ∙ sym long ∙ sym kept) ∙ ap (write memory at) (is ∙ ap (λ (n : ℕ). first_bytes n name) long)
