@@ -84,21 +84,26 @@ pub record AreMet (wanted : List Argument) (arguments : List ℕ) : Type 0 where
   pub count : length arguments ≡ 3
   pub each : (at : ℕ) → Meets (get_or wanted at argument.Unused) (get_or arguments at 0)
 
-three_met : {a b c : Argument} {x y z : ℕ} → Meets a x → Meets b y → Meets c z → AreMet (a ∷ b ∷ c ∷ []) (x ∷ y ∷ z ∷ [])
-three_met {a} {b} {c} {x} {y} {z} one two three = record { count = refl; each = each }
-  where
-    each : (at : ℕ) → Meets (get_or (a ∷ b ∷ c ∷ []) at argument.Unused) (get_or (x ∷ y ∷ z ∷ []) at 0)
-    each zero = one
-    each (suc zero) = two
-    each (suc (suc zero)) = three
-    each (suc (suc (suc at))) = tt
+abbrev AreMetAt : List Argument → List ℕ → Type 0
+AreMetAt wanted arguments = (at : ℕ) → Meets (get_or wanted at argument.Unused) (get_or arguments at 0)
+
+none_met : AreMetAt [] []
+none_met at = tt
+
+more_met : (first : Argument) (wanted : List Argument) (word : ℕ) (arguments : List ℕ) → Meets first word → AreMetAt wanted arguments
+    → AreMetAt (first ∷ wanted) (word ∷ arguments)
+more_met first wanted word arguments one others zero = one
+more_met first wanted word arguments one others (suc at) = others at
 
 arguments_met : (state : State) (a b c : Argument) → IfPasses (AreMet (a ∷ b ∷ c ∷ [])) (arguments_in state (a ∷ b ∷ c ∷ []))
 arguments_met state a b c =
     then_keeps (Meets a) _ (argument_in state 1 a) _ (argument_meets state 1 a) (λ x one.
     then_keeps (Meets b) _ (argument_in state 2 b) _ (argument_meets state 2 b) (λ y two.
     then_keeps (Meets c) _ (argument_in state 3 c) _ (argument_meets state 3 c) (λ z three.
-    three_met one two three)))
+    record {
+      count = refl;
+      each = more_met a (b ∷ c ∷ []) x (y ∷ z ∷ []) one (more_met b (c ∷ []) y (z ∷ []) two (more_met c [] z [] three none_met));
+    })))
 
 -- lent bytes lie within the frame, and those that are read are written
 

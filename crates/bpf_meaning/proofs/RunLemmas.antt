@@ -113,11 +113,11 @@ pub traces_end : {code : List Insn} {segment : Contents} {steps : ℕ} (limit : 
     → IsOnItsWay code segment steps state → steps < limit → configuration_of ended next ≡ after code segment state
     → (ended ≡ outcome.Running → ⊥) → IsTraced code segment limit ended
 traces_end limit next outcome.Running way less is ends = absurd (ends refl)
-traces_end {code} {segment} {steps} limit {state} next (outcome.Exit answer score) way less is ends =
-    let way = comes_to code segment steps state (Exited answer score) way is in
+traces_end limit next (outcome.Exit answer score) way less is ends =
+    let way = comes_to _ _ _ _ (Exited answer score) way is in
     record { run = way.run; is_run = way.is_run; ends = (way.ends, let long = way.long in omega arith) }
-traces_end {code} {segment} {steps} limit {state} next (outcome.Stuck place cause) way less is ends =
-    let way = comes_to code segment steps state (Stuck place cause) way is in
+traces_end limit next (outcome.Stuck place cause) way less is ends =
+    let way = comes_to _ _ _ _ (Stuck place cause) way is in
     record { run = way.run; is_run = way.is_run; ends = (way.ends, let long = way.long in omega arith) }
 
 pub traces_on : (code : List Insn) (segment : Contents) (steps limit : ℕ) (state : State) → IsOnItsWay code segment steps state

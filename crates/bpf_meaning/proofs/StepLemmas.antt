@@ -8,15 +8,22 @@ use Rattle.bpf_insn.specs.Frame.{FrameByte, Byte, number_of}
 use Rattle.bpf_meaning.specs.Effect.{load_bytes, lie_within, load_number}
 use Rattle.bpf_meaning.specs.declared.cause.Cause.TheVariants.{OutOfBounds}
 
--- a load of bytes that lie within the memory
-pub load_inside : (format : LoadFormat) (memory : List FrameByte) (offset : ℤ) {at count bytes : ℕ} {found : Option ℕ}
-    → count ≡ load_length format → bytes ≡ length memory → IsTrue (lie_within offset count bytes) → at ≡ unsigned_abs offset
-    → found ≡ number_of (take count (drop at memory)) → load_number format found ≡ load_bytes format memory offset
-load_inside format memory offset {at} {count} is long inside place number =
+-- the number of bytes that lie within the memory
+pub record IsNumberAt (format : LoadFormat) (memory : List FrameByte) (offset : ℤ) (found : Option ℕ) : Type 0 where
+  pub at : ℕ
+  pub place : at ≡ unsigned_abs offset
+  pub count : ℕ
+  pub is : count ≡ load_length format
+  pub inside : IsTrue (lie_within offset count (length memory))
+  pub number : found ≡ number_of (take count (drop at memory))
+
+pub load_inside : (format : LoadFormat) (memory : List FrameByte) (offset : ℤ) {found : Option ℕ} → IsNumberAt format memory offset found
+    → load_number format found ≡ load_bytes format memory offset
+load_inside format memory offset found =
     let within : lie_within offset (load_length format) (length memory) ≡ true =
-    ap (λ (n : ℕ). lie_within offset n (length memory)) (sym is) ∙ ap (λ (n : ℕ). lie_within offset count n) (sym long) ∙ inside in
-    ap (load_number format) (number ∙ ap (λ (n : ℕ). number_of (take n (drop at memory))) is
-    ∙ ap (λ (n : ℕ). number_of (take (load_length format) (drop n memory))) place)
+    ap (λ (n : ℕ). lie_within offset n (length memory)) (sym found.is) ∙ found.inside in
+    ap (load_number format) (found.number ∙ ap (λ (n : ℕ). number_of (take n (drop found.at memory))) found.is
+    ∙ ap (λ (n : ℕ). number_of (take (load_length format) (drop n memory))) found.place)
     ∙ sym (ap (λ (b : Bool). if b then load_number format (number_of (take (load_length format) (drop (unsigned_abs offset) memory))) else
     Err OutOfBounds) within)
 
