@@ -1,15 +1,28 @@
-//! Numbers at the right end of a field.
+//! Whether a field has a number.
 ghost use Rattle.std.specs.Prelude.{◌≡◌, ◌==◌, ◌+◌, ◌-◌, ◌<◌, ◌≤◌, ℕ, IsTrue, true, length, is_some, slice_index};
 ghost use Rattle.std.specs.Char.{is_ascii_digit};
 ghost use Rattle.tl_fields.specs.Aligned.{first_set};
 ghost use Rattle.tl_fields.specs.Field.{field_of};
 ghost use Rattle.tl_fields.specs.Number.{number_of};
 
-use crate::numbers::{BLANK, MOST_DIGITS};
+use crate::fields::field;
+use crate::numbers::{BLANK, MOST_DIGITS, number};
 use std::simd::prelude::*;
 
 // The bytes of one vector.
 const LANES: usize = 16;
+
+/// Returns whether the field of a line from column `first` to column `last` has a number, as [`number`] reads it. This takes less time than reading
+/// the number. Columns are counted as in [`field`].
+#[inline]
+pub fn has_number(line: &[u8], first: usize, last: usize) -> bool
+    requires counted_from_one { 1 ≤ first }
+    requires ordered { first ≤ last }
+    requires within { last ≤ length line.now }
+    ensures { result ≡ is_some (number_of (field_of line.now first last)) }
+{
+    has_aligned_number(line, first, last) || number(field(line, first, last)).is_some()
+}
 
 /// Returns true if the field has blanks, and then digits up to its end, as numbers in records do. It may return false for such a field near the end of
 /// the line.

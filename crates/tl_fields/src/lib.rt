@@ -5,9 +5,10 @@ mod aligned;
 mod fields;
 mod numbers;
 
+pub use aligned::has_number;
 pub use counted_io::{
     Buffered, Burst, CountedRead, CountedWrite, Counting, Fuse, LONGEST_CONTENT, Stop, WriteFault,
     count_one, write_whole,
 };
 pub use fields::field;
-pub use numbers::{blank, coordinate, has_number, number};
+pub use numbers::{blank, coordinate, number};

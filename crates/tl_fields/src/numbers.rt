@@ -1,12 +1,9 @@
 //! The number or the coordinate in a field.
-ghost use Rattle.std.specs.Prelude.{◌≡◌, ◌^◌, ◌<◌, ◌≤◌, pos, nat_abs, length, reverse, option_map, is_some, IfSome};
+ghost use Rattle.std.specs.Prelude.{◌≡◌, ◌^◌, ◌<◌, pos, nat_abs, length, reverse, option_map, IfSome};
 ghost use Rattle.decimal.specs.Numeral.{decimal_in};
 ghost use Rattle.tl_fields.specs.Coordinate.{coordinate_in, coordinate_of};
-ghost use Rattle.tl_fields.specs.Field.{field_of};
 ghost use Rattle.tl_fields.specs.Number.{is_blank, number_of, trim, without_blanks_before};
 
-use crate::aligned::has_aligned_number;
-use crate::fields::field;
 use decimal::decimal_value;
 
 pub(crate) const BLANK: u8 = b' ';
@@ -27,18 +24,6 @@ pub fn number(field: &[u8]) -> Option<u64>
     ensures small { IfSome result (λ n. n < 10 ^ 11) }
 {
     decimal_value(trim(field), MOST_DIGITS)
-}
-
-/// Returns whether the field of a line from column `first` to column `last` has a number, as [`number`] reads it. This takes less time than reading
-/// the number. Columns are counted as in [`field`].
-#[inline]
-pub fn has_number(line: &[u8], first: usize, last: usize) -> bool
-    requires counted_from_one { 1 ≤ first }
-    requires ordered { first ≤ last }
-    requires within { last ≤ length line.now }
-    ensures { result ≡ is_some (number_of (field_of line.now first last)) }
-{
-    has_aligned_number(line, first, last) || number(field(line, first, last)).is_some()
 }
 
 /// Returns the coordinate in a field in millionths of a degree, or `None` if it has none. A coordinate is 1 to 9 digits with an optional sign, as in
