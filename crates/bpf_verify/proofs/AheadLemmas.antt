@@ -15,7 +15,7 @@ use Rattle.bpf_insn.specs.declared.instruction.Insn.{Insn}
 use Rattle.bpf_flow.specs.Flow.{IsForward}
 use Rattle.bpf_verify.specs.Pass.{Ahead, AreAhead, AreProper, IsTargetAhead, first, joined, joined_if, kept, propagated, state_of}
 use Rattle.bpf_verify.specs.Pass.{states_in, waiting_at}
-use Rattle.bpf_verify.specs.AbstractState.{AbstractState, Unreached, Reached, Edges, join, IsProper, IsProperKnown}
+use Rattle.bpf_verify.specs.AbstractState.{AbstractState, Unreached, Reached, Edges, join, IsProper, IsProperKnown, AreProperEdges}
 use Rattle.bpf_verify.specs.declared.known.Known.{Known}
 use Rattle.bpf_verify.proofs.PassLemmas.{entry_is_proper, is_found_proper, joined-here, joined-other, joined-same, joined_each}
 use Rattle.bpf_verify.proofs.PassLemmas.{joined_if-same, joined_proper, same_place}
@@ -35,13 +35,20 @@ lies_behind code place insn to stands begins past = elim (cases_lt to (place + l
     none-is_some None is some = false≢true some
     none-is_some (Some insn) is some = absurd (let no : ⊥ = cc in no)
 
+-- the place after the instruction at a place
+record IsNext (code : List Insn) (place next : ℕ) : Type 0 where
+  insn : Insn
+  stands : instruction_at code place ≡ Some insn
+  goes : next ≡ place + length (spelling insn)
+
 -- a target ahead, other than the place itself, is still ahead after the instruction there
-pub stays_ahead : {code : List Insn} {place next : ℕ} {insn : Insn} {to : ℕ} → IsForward code → instruction_at code place ≡ Some insn
-    → next ≡ place + length (spelling insn) → to ≢ place → IsTargetAhead code place to → IsTargetAhead code next to
-stays_ahead {code} {place} {insn} {to} forward stands goes apart target =
+stays_ahead : {code : List Insn} {place next : ℕ} → IsForward code → IsNext code place next → {to : ℕ} → to ≢ place
+    → IsTargetAhead code place to → IsTargetAhead code next to
+stays_ahead {code} {place} forward is_next {to} apart target =
     let on = forward.jumps target.jump target.jumps.insn target.distance target.jumps.stands target.jumps.jumps in
     let same : on.target ≡ to = (let both : pos on.target ≡ pos to = sym on.is_target ∙ target.leads in cc) in
-    let long = length-spelling_positive insn in
+    let long = length-spelling_positive is_next.insn in
+    let goes = is_next.goes in
     let from = target.ahead in
     let past : place < to = grind (arith, from, apart) in
     record {
@@ -50,8 +57,8 @@ stays_ahead {code} {place} {insn} {to} forward stands goes apart target =
       distance = target.distance;
       jumps = target.jumps;
       leads = target.leads;
-      ahead = (let behind = lies_behind code place insn to stands (subst (λ (p : ℕ). IsSome (instruction_at code p)) same on.begins) past in
-          omega (arith, goes));
+      ahead = (let behind = lies_behind code place is_next.insn to is_next.stands
+          (subst (λ (p : ℕ). IsSome (instruction_at code p)) same on.begins) past in omega (arith, goes));
     }
 
 -- at the start
@@ -110,16 +117,16 @@ pub waits_joined : {A : Type 0} (old new : BTreeMap ℕ (Box Known A)) (place : 
     (state : AbstractState) → Updates nat_cmp old new place (Some met) → there ≡ lookup (is_at (nat_cmp place)) old.entries
     → Reached met.value ≡ join (state_of there) state → (other : ℕ)
     → waiting_at (states_in new.entries) other ≡ joined (waiting_at (states_in old.entries)) place state other
-waits_joined old new place {met} state updates found value other =
-    waits_after old new place (Some met) updates other ∙ by (other == place) refl
+waits_joined old new place {met} state updates found value = λ other.
+    waits_after old new place (Some met) updates other ∙ by other (other == place) refl
   where
-    by : (test : Bool) → (other == place) ≡ test
+    by : (other : ℕ) (test : Bool) → (other == place) ≡ test
         → (if test then Reached met.value else waiting_at (states_in old.entries) other)
         ≡ (if test then join (waiting_at (states_in old.entries) other) state else waiting_at (states_in old.entries) other)
-    by true is =
+    by other true is =
         subst (λ (p : ℕ). Reached met.value ≡ join (waiting_at (states_in old.entries) p) state) (same_place other place is)
         (value ∙ ap (λ (s : AbstractState). join s state) (ap state_of found ∙ sym (waits old.entries place)))
-    by false is = refl
+    by other false is = refl
 
 -- states with one taken
 
@@ -144,18 +151,18 @@ kept_proper ahead are = joined_proper (waiting_at ahead.waiting) ahead.place ahe
 abbrev with_states : Ahead → AbstractState → List (ℕ × AbstractState) → Ahead
 with_states ahead straight waiting = record { code = ahead.code; place = ahead.place; straight = straight; waiting = waiting }
 
--- a state is joined into those that wait, at the target of a jump that was passed
-pub joined_ahead : {ahead : Ahead} {straight : AbstractState} (waiting : List (ℕ × AbstractState)) {to : ℕ} (state : AbstractState)
-    → AreAhead ahead → IsProper straight → IsProper state → IsTargetAhead ahead.code ahead.place to
-    → ((other : ℕ) → waiting_at waiting other ≡ joined (waiting_at ahead.waiting) to state other)
-    → AreAhead (with_states ahead straight waiting)
-joined_ahead {ahead} {straight} waiting {to} state are proper-straight proper-state target is = record {
+-- the state on the edge to the target of a jump that was passed is joined into those that wait
+pub joined_ahead : {ahead : Ahead} (waiting : List (ℕ × AbstractState)) {to : ℕ} (edges : Edges) → AreAhead ahead → AreProperEdges edges
+    → IsTargetAhead ahead.code ahead.place to
+    → ((other : ℕ) → waiting_at waiting other ≡ joined (waiting_at ahead.waiting) to edges.target other)
+    → AreAhead (with_states ahead edges.next waiting)
+joined_ahead {ahead} waiting {to} edges are proper target is = record {
   forward = are.forward;
-  straight = proper-straight;
-  proper = λ other. subst IsProper (sym (is other)) (joined_proper (waiting_at ahead.waiting) to state are.proper proper-state other);
+  straight = proper.next;
+  proper = λ other. subst IsProper (sym (is other)) (joined_proper (waiting_at ahead.waiting) to edges.target are.proper proper.target other);
   wait = λ other.
       subst (λ (s : AbstractState). s ≢ Unreached → IsTargetAhead ahead.code ahead.place other) (sym (is other))
-      (joined_each (λ p s. s ≢ Unreached → IsTargetAhead ahead.code ahead.place p) (waiting_at ahead.waiting) to state
+      (joined_each (λ p s. s ≢ Unreached → IsTargetAhead ahead.code ahead.place p) (waiting_at ahead.waiting) to edges.target
       (λ waits. target) are.wait other);
 }
 
@@ -170,7 +177,7 @@ moved_ahead ahead waiting next insn are stands goes taken = record {
   proper = left_each (λ other. IsProper) ahead.waiting waiting ahead.place taken (λ other. tt) (λ other apart. are.proper other);
   wait = left_each (λ other s. s ≢ Unreached → IsTargetAhead ahead.code next other) ahead.waiting waiting ahead.place taken
       (λ other waits. absurd (waits refl))
-      (λ other apart waits. stays_ahead are.forward stands goes apart (are.wait other waits));
+      (λ other apart waits. stays_ahead are.forward (record { insn = insn; stands = stands; goes = goes }) apart (are.wait other waits));
 }
 
 -- past the place, they wait as before
@@ -202,7 +209,7 @@ pub visited_states : (before middle after : Ahead) (target : Option ℕ) (edges 
     → ((other : ℕ) → before.place < other → waiting_at middle.waiting other ≡ waiting_at before.waiting other)
     → ((other : ℕ) → waiting_at after.waiting other ≡ joined_if (waiting_at middle.waiting) target edges.target other)
     → after.straight ≡ edges.next → ArePropagated before after target edges
-visited_states before middle after target edges left waits straight other past =
+visited_states before middle after target edges left waits straight = λ other past.
     ap (λ (s : AbstractState). joined (waiting_at after.waiting) after.place s other) straight
     ∙ joined-same (waiting_at after.waiting) (joined_if (kept before) target edges.target) after.place edges.next other
     (waits other ∙ joined_if-same (waiting_at middle.waiting) (kept before) target edges.target other

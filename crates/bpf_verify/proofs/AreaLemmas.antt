@@ -148,16 +148,6 @@ by_state (Reached known) state insn base edges admits passes is =
     subst (IsPointerInto (register_value state base)) (sym (ap (option_and_then (λ (base : ℕ). area_of_kind (kind_of known base))) is))
     (points_into (kind_of known base) (register_value state base) base pointers.0 (admits.registers base) pointers.1)
 
--- a state that a run has reached
-state_points : {code : List Insn} {segment : segments.Contents} {annotation : Annotation} → IsVerified code segment annotation
-    → (run : List Configuration) → IsRun code segment run → {state : State} → end_of run ≡ Running state → {insn : Insn} {base : ℕ}
-    → instruction_at code state.place ≡ Some insn → base_of insn ≡ Some base
-    → IsPointerInto (register_value state base) (area_of (annotation state.place) insn)
-state_points {code} {segment} {annotation} verified run is_run {state} end {insn} {base} stands is =
-    let way = subst (IsAdmitted code annotation) end (end_admitted code segment annotation verified run is_run) in
-    let passes = verified.good.passes state.place insn (instruction_within code state.place (ap is_some stands)) stands in
-    by_state (annotation state.place) state insn base passes.edges way.admits passes.passes is
-
 pub areas_hold : (code : List Insn) (areas : List (Option Area)) → IsForward code → HaveImmediates code → IsAccepted code areas
     → HasBaseAreas code areas
 areas_hold code areas forward immediates accepted = record {
@@ -169,7 +159,10 @@ areas_hold code areas forward immediates accepted = record {
       ap (λ (areas : List (Option Area)). get_or areas index None) accepted.are
       ∙ area_at accepted.annotation 0 code state.place index insn at stands
       ∙ ap (λ (p : ℕ). area_of (accepted.annotation p) insn) (omega arith) in
-      subst (IsPointerInto (register_value state base)) (sym place) (state_points verified run is_run end stands is);
+      let way = subst (IsAdmitted code accepted.annotation) end (end_admitted code segment accepted.annotation verified run is_run) in
+      let passes = verified.good.passes state.place insn (instruction_within code state.place (ap is_some stands)) stands in
+      subst (IsPointerInto (register_value state base)) (sym place)
+      (by_state (accepted.annotation state.place) state insn base passes.edges way.admits passes.passes is);
 }
 
 -- The immediates of a code.
@@ -199,11 +192,12 @@ all_have_immediates code have place insn stands =
 
 pub one_more_has_immediates : (code : List Insn) (count : ℕ) (next : Insn) → next ≡ get_or code count next → HasImmediates next
     → HaveImmediatesBefore code count → HaveImmediatesBefore code (count + 1)
-one_more_has_immediates code count next is has have index insn below found = by_place (cases_lt index count)
+one_more_has_immediates code count next is has have = λ index insn below found. by_place index insn below found (cases_lt index count)
   where
-    by_place : (index < count) ⊎ (count ≤ index) → HasImmediates insn
-    by_place (inl before) = have index insn before found
-    by_place (inr not_before) =
+    by_place : (index : ℕ) (insn : Insn) → index < count + 1 → slice_get code index ≡ Some insn → (index < count) ⊎ (count ≤ index)
+        → HasImmediates insn
+    by_place index insn below found (inl before) = have index insn before found
+    by_place index insn below found (inr not_before) =
         let here : count ≡ index = omega arith in
         let at_index = subst (λ (at : ℕ). next ≡ get_or code at next) here is in
         subst HasImmediates (at_index ∙ get_or_from_slice_get code index insn next found) has

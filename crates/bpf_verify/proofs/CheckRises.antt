@@ -27,9 +27,9 @@ base_rises lower higher base below = weaker ArePointersLower (λ x n. ArePointer
 pub load_rises : {lower higher : Known} (format : LoadFormat) {x n : Pointers} (offset : ℤ) → IsBelow lower higher
     → offsets.IsProper n.offsets → ArePointersWithin n x
     → Sound (λ x n. kind.IsWithin n x) (load_from higher format x offset) (load_from lower format n offset)
-load_rises {lower} {higher} format {x} {n} offset below proper within =
+load_rises format offset below proper within =
     weaker IsLower (λ x n. kind.IsWithin n x) _ _ is_within
-    (load_from_lower higher lower below format x n offset
+    (load_from_lower _ _ below format _ _ offset
     (record { into = within.into; offsets = record { within = within.offsets; ordered = proper.ordered } }))
 
 pub argument_rises : (lower higher : Known) (number : ℕ) (wanted : Argument) → IsBelow lower higher

@@ -454,37 +454,43 @@ accepts code passed ahead areas all way = record {
 -- what a visitor was shown
 
 -- of all instructions
-pub shows : {V : Type 0} (visited : V → Visit → V) (code passed : List Insn) (ahead : Ahead) {areas : List (Option Area)}
+pub shows : {V : Type 0} (visited : V → Visit → V) {code passed : List Insn} {ahead : Ahead} {areas : List (Option Area)}
     {visits : List Visit} (old new : V) → passed ≡ code → IsOnItsWay code passed ahead areas visits → new ≡ visited_all visited old visits
     → IsShown visited code old new
-shows visited code passed ahead old new all way shown = record {
+shows visited {code} old new all way shown = record {
   annotation = way.annotation;
   is_least = subst (λ (p : ℕ). IsLeastUpTo code p way.annotation) (way.at ∙ ap word_count all)
       (record { good = way.good; least = λ other good at before. way.least other good at });
   shown = shown ∙ ap (visited_all visited old) (way.shown ∙ ap (visits_from way.annotation 0) all);
 }
 
--- of one more instruction, whose check failed
-pub shows_refusal : {V : Type 0} (visited : V → Visit → V) {code : List Insn} (insn : Insn) {ahead : Ahead} {areas : List (Option Area)}
-    {visits : List Visit} (index : ℕ) (fault : VerifyFault) (old now new : V) → take (index + 1) code ≡ take index code ++ insn ∷ []
-    → IsOnItsWay code (take index code) ahead areas visits → now ≡ visited_all visited old visits
-    → IsVisitFault ahead insn fault → IsRefusedVisit visited ahead insn fault now new → IsShownRefusal visited code fault old new
-shows_refusal visited insn index Memory old now new one_more way so_far fails last = tt
-shows_refusal {V} visited {code} insn {ahead} {visits = visits} index (Refused at cause) old now new one_more way so_far fails last =
-    let here : ahead.place ≡ 0 + word_count (take index code) = omega (arith, way.at) in
-    let state : kept ahead ahead.place ≡ way.annotation (0 + word_count (take index code)) =
-    sym (way.kept_on ahead.place (omega arith)) ∙ ap way.annotation here in
-    subst (λ (p : ℕ). IsShownUpTo visited code p old new) (sym fails.0)
-    (record {
-      annotation = way.annotation;
-      is_least = record { good = way.good; least = λ other good at before. way.least other good at };
-      index = index;
-      at = way.at;
-      shown =
-          last ∙ ap (λ visitor. visited visitor (visit_of ahead insn)) so_far ∙ visited_all-more visited old visits (visit_of ahead insn)
-          ∙ ap (λ visits. visited_all visited old (visits ++ visit_of ahead insn ∷ [])) way.shown
-          ∙ ap (λ visit. visited_all visited old (visits_from way.annotation 0 (take index code) ++ visit ∷ []))
-          (visit-parts ahead.place insn (kept ahead ahead.place) here state)
-          ∙ ap (visited_all visited old) (sym (visits_from-more way.annotation 0 (take index code) insn))
-          ∙ ap (λ passed. visited_all visited old (visits_from way.annotation 0 passed)) (sym one_more);
-    })
+-- the instructions before an index were visited
+module _ {V : Type 0} (visited : V → Visit → V) {code : List Insn} (index : ℕ) {ahead : Ahead} {areas : List (Option Area)}
+    {visits : List Visit} (old : V) {now : V} (way : IsOnItsWay code (take index code) ahead areas visits)
+    (so_far : now ≡ visited_all visited old visits) (insn : Insn) (one_more : take (index + 1) code ≡ take index code ++ insn ∷ []) where
+  -- and so was one more
+  shows_one_more : visited now (visit_of ahead insn) ≡ visited_all visited old (visits_from way.annotation 0 (take (index + 1) code))
+  shows_one_more =
+      let here : ahead.place ≡ 0 + word_count (take index code) = omega (arith, way.at) in
+      let state : kept ahead ahead.place ≡ way.annotation (0 + word_count (take index code)) =
+      sym (way.kept_on ahead.place (omega arith)) ∙ ap way.annotation here in
+      ap (λ visitor. visited visitor (visit_of ahead insn)) so_far ∙ visited_all-more visited old visits (visit_of ahead insn)
+      ∙ ap (λ visits. visited_all visited old (visits ++ visit_of ahead insn ∷ [])) way.shown
+      ∙ ap (λ visit. visited_all visited old (visits_from way.annotation 0 (take index code) ++ visit ∷ []))
+      (visit-parts ahead.place insn (kept ahead ahead.place) here state)
+      ∙ ap (visited_all visited old) (sym (visits_from-more way.annotation 0 (take index code) insn))
+      ∙ ap (λ passed. visited_all visited old (visits_from way.annotation 0 passed)) (sym one_more)
+
+  -- whose check failed
+  pub shows_refusal : (new : V) (fault : VerifyFault) → IsVisitFault ahead insn fault
+      → IsRefusedVisit visited (visit_of ahead insn) fault now new → IsShownRefusal visited code fault old new
+  shows_refusal new Memory fails last = tt
+  shows_refusal new (Refused at cause) fails last =
+      subst (λ (p : ℕ). IsShownUpTo visited code p old new) (sym fails.0)
+      (record {
+        annotation = way.annotation;
+        is_least = record { good = way.good; least = λ other good at before. way.least other good at };
+        index = index;
+        at = way.at;
+        shown = last ∙ shows_one_more;
+      })

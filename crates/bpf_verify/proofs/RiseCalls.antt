@@ -117,7 +117,7 @@ lend_read_lower higher lower below x n are = by_test (all_marked higher x.offset
         → Sound ChangesBelow (if marked then Ok higher else Err UnwrittenFrame) (lend_read lower n)
     by_test true marked =
         passes_if ChangesBelow (Ok higher) (Ok lower) (all_marked lower n.offsets (pos 0) n.count.high) UnwrittenFrame
-        (all_marked_falls below (pos 0) x.count.high n.count.high are.offsets are.count.within.high are.within marked) below.within
+        (all_marked_falls below (pos 0) are.offsets x.count.high n.count.high are.count.within.high are.within marked) below.within
     by_test false unmarked = tt
 
 lend_frame_lower : (higher lower : Known) → IsBelow lower higher → (frame : FrameUse) (kinds others : List Kind)

@@ -62,7 +62,7 @@ kinds_rise higher lower below insn = record {
   operate = operate_lower;
   load = load_from_lower higher lower below;
   frame = λ p q offset are. frame_offsets_lower p q are;
-  store_at = λ x n offset size k l is stored. store_at_lower below offset size k l is stored;
+  store_at = λ x n offset size k l is stored. store_at_lower below offset is size k l stored;
   call = call_lower higher lower below;
   set = λ goes_on destination x n is. on_to_next _ _
       (with_kind_lower higher lower destination.number x n (below.proper.count ∙ sym below.proper_higher.count) below.within

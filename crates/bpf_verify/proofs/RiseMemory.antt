@@ -63,8 +63,8 @@ pointers_lower higher lower below base = then_sound IsLower ArePointersLower _ _
 
 pub lie_within_falls : {x n : Offsets} (offset : ℤ) (count less bytes : ℕ) → AreLowerOffsets x n → less ≤ count
     → lie_within x offset count bytes ≡ true → lie_within n offset less bytes ≡ true
-lie_within_falls {x} {n} offset count less bytes is fewer within =
-    by_ends x.low n.low n.high x.high is.within.low is.ordered is.within.high within
+lie_within_falls offset count less bytes is fewer within =
+    by_ends _ _ _ _ is.within.low is.ordered is.within.high within
   where
     by_ends : (least low high most : ℤ) → least ≤ℤ low → low ≤ℤ high → high ≤ℤ most
         → (int_le (pos 0) (least +ℤ offset) && int_le ((most +ℤ offset) +ℤ pos count) (pos bytes)) ≡ true
@@ -92,18 +92,6 @@ lie_inside offset count is within =
 -- offsets lie within themselves
 themselves : (x : Offsets) → x.low ≤ℤ x.high → AreLowerOffsets x x
 themselves x ordered = record { within = record { low = omega (arith, ints); high = omega (arith, ints) }; ordered = ordered }
-
-pub all_marked_falls : {higher lower : Known} → IsBelow lower higher → {x n : Offsets} (offset : ℤ) (count less : ℕ) → AreLowerOffsets x n
-    → less ≤ count → lie_within x offset count FRAME_LENGTH ≡ true → all_marked higher x offset count ≡ true
-    → all_marked lower n offset less ≡ true
-all_marked_falls below offset count zero is fewer within marked = refl
-all_marked_falls below offset zero (suc less) is fewer within marked = absurd (omega arith)
-all_marked_falls {higher} {lower} below {x} {n} offset (suc count) (suc less) is fewer within marked =
-    let ends = lie_inside offset (suc count) is within in
-    let above = ends.above in let between = ends.between in let under = ends.below in let short = ends.within in
-    all_written_falls below.proper.frame below.proper_higher.frame below.within.frame (unsigned_abs (n.low +ℤ offset))
-    (unsigned_abs (n.high +ℤ offset) + less) (unsigned_abs (x.low +ℤ offset)) (unsigned_abs (x.high +ℤ offset) + count)
-    above (omega arith) marked
 
 -- loads
 
@@ -139,10 +127,10 @@ marked_first : {known : Known} (x : Offsets) (offset : ℤ) {count : ℕ} → Is
     → lie_within x offset count FRAME_LENGTH ≡ true → all_marked known x offset count ≡ true
     → IsMarked known.frame.marks (unsigned_abs (x.low +ℤ offset))
 marked_first x offset {count = zero} proper long ordered within marked = absurd (omega (arith, long))
-marked_first {known} x offset {count = suc more} proper long ordered within marked =
+marked_first x offset {count = suc more} proper long ordered within marked =
     let ends = lie_inside offset (suc more) (themselves x ordered) within in
     let between = ends.between in let short = ends.within in let count = proper.frame.count in
-    written_at known.frame.marks (unsigned_abs (x.low +ℤ offset)) (unsigned_abs (x.high +ℤ offset) + more) (unsigned_abs (x.low +ℤ offset))
+    written_at _ (unsigned_abs (x.low +ℤ offset)) (unsigned_abs (x.high +ℤ offset) + more) (unsigned_abs (x.low +ℤ offset))
     (omega arith) (omega arith) (omega arith) marked
 
 -- the kind in a slot, if it's known which slot is loaded
@@ -179,78 +167,89 @@ kept_lower otherwise other k l is =
     lower_cases (λ k l. (k ≡ Nothing → Sound IsLower otherwise (kept_or other l)) → Sound IsLower (kept_or otherwise k) (kept_or other l))
     (λ x n is rest. is) (λ x n are rest. are) (λ x n are rest. are) (λ n rest. rest refl) k l is
 
-load_area_lower : {higher lower : Known} → IsBelow lower higher → (format : LoadFormat) (into : Area) {x n : Offsets} (offset : ℤ)
-    → AreLowerOffsets x n → lie_within x offset (load_length format) (area_length into) ≡ true
-    → Sound IsLower (load_area higher format (record { area = into; offsets = x }) offset)
-    (load_area lower format (record { area = into; offsets = n }) offset)
-load_area_lower below format area.Record offset is within = load_lower format
-load_area_lower {higher} {lower} below format area.Frame {x} {n} offset is within =
-    by_slot (known_slot x offset count) (known_slot n offset count) refl refl
-  where
-    count : ℕ
-    count = load_length format
+-- offsets of a lower state within those of a higher one, from which bytes are loaded
+module _ {higher lower : Known} (below : IsBelow lower higher) {x n : Offsets} (offset : ℤ) (is : AreLowerOffsets x n) where
+  pub all_marked_falls : (count less : ℕ) → less ≤ count → lie_within x offset count FRAME_LENGTH ≡ true
+      → all_marked higher x offset count ≡ true → all_marked lower n offset less ≡ true
+  all_marked_falls count zero fewer within marked = refl
+  all_marked_falls zero (suc less) fewer within marked = absurd (omega arith)
+  all_marked_falls (suc count) (suc less) fewer within marked =
+      let ends = lie_inside offset (suc count) is within in
+      let above = ends.above in let between = ends.between in let under = ends.below in let short = ends.within in
+      all_written_falls below.proper.frame below.proper_higher.frame below.within.frame (unsigned_abs (n.low +ℤ offset))
+      (unsigned_abs (n.high +ℤ offset) + less) (unsigned_abs (x.low +ℤ offset)) (unsigned_abs (x.high +ℤ offset) + count)
+      above (omega arith) marked
 
-    bytes : Known → Offsets → Result Kind Cause
-    bytes known offsets = if all_marked known offsets offset count then Ok (Number (load format)) else Err UnwrittenFrame
+  load_area_lower : (format : LoadFormat) (into : Area) → lie_within x offset (load_length format) (area_length into) ≡ true
+      → Sound IsLower (load_area higher format (record { area = into; offsets = x }) offset)
+      (load_area lower format (record { area = into; offsets = n }) offset)
+  load_area_lower format area.Record within = load_lower format
+  load_area_lower format area.Frame within =
+      by_slot (known_slot x offset count) (known_slot n offset count) refl refl
+    where
+      count : ℕ
+      count = load_length format
 
-    -- bytes that are marked in the higher state are marked in the lower one
-    bytes_lower : (marked : Bool) → all_marked higher x offset count ≡ marked
-        → Sound IsLower (if marked then Ok (Number (load format)) else Err UnwrittenFrame) (bytes lower n)
-    bytes_lower true marked =
-        passes_if IsLower (Ok (Number (load format))) (Ok (Number (load format))) (all_marked lower n offset count) UnwrittenFrame
-        (all_marked_falls below offset count count is (omega arith) within marked) (load_lower format)
-    bytes_lower false unmarked = tt
+      bytes : Known → Offsets → Result Kind Cause
+      bytes known offsets = if all_marked known offsets offset count then Ok (Number (load format)) else Err UnwrittenFrame
 
-    -- the slot of the lower state, if its bytes are marked in the higher one
-    slot_lower : (slot : ℕ) → known_slot n offset count ≡ Some slot → (marked : Bool) → all_marked higher x offset count ≡ marked
-        → Sound IsLower (if marked then Ok (Number (load format)) else Err UnwrittenFrame)
-        (kept_or (bytes lower n) (slot_kind lower.frame slot))
-    slot_lower slot known true marked =
-        let whole = known_slot_whole n offset count slot known in
-        marked_lower format (bytes lower n) (slot_kind lower.frame slot) whole.0
-        (no_pointer_at_mark lower.frame slot (unsigned_abs (n.low +ℤ offset)) below.proper.frame whole.1
-        (marked_first n offset below.proper whole.0 is.ordered (lie_within_falls offset count count FRAME_LENGTH is (omega arith) within)
-        (all_marked_falls below offset count count is (omega arith) within marked)))
-        (below.proper.frame.kinds slot) (bytes_lower true marked)
-    slot_lower slot known false unmarked = tt
+      -- bytes that are marked in the higher state are marked in the lower one
+      bytes_lower : (marked : Bool) → all_marked higher x offset count ≡ marked
+          → Sound IsLower (if marked then Ok (Number (load format)) else Err UnwrittenFrame) (bytes lower n)
+      bytes_lower true marked =
+          passes_if IsLower (Ok (Number (load format))) (Ok (Number (load format))) (all_marked lower n offset count) UnwrittenFrame
+          (all_marked_falls count count (omega arith) within marked) (load_lower format)
+      bytes_lower false unmarked = tt
 
-    by_slot : (found other : Option ℕ) → known_slot x offset count ≡ found → known_slot n offset count ≡ other
-        → Sound IsLower (kept_or (bytes higher x) (kept_kind higher found)) (kept_or (bytes lower n) (kept_kind lower other))
-    by_slot None None none nowhere = bytes_lower (all_marked higher x offset count) refl
-    by_slot None (Some slot) none known = slot_lower slot known (all_marked higher x offset count) refl
-    by_slot (Some slot) other known is_other =
-        let same : other ≡ Some slot = sym is_other ∙ known_slot_falls x n offset count slot is known in
-        subst (λ (o : Option ℕ). Sound IsLower (kept_or (bytes higher x) (slot_kind higher.frame slot))
-        (kept_or (bytes lower n) (kept_kind lower o))) (sym same)
-        (kept_lower (bytes higher x) (bytes lower n) (slot_kind higher.frame slot) (slot_kind lower.frame slot)
-        (is_lower (slot_kind higher.frame slot) (slot_kind lower.frame slot) (below.within.frame.kinds slot)
-        (below.proper.frame.kinds slot))
-        (λ nothing. slot_lower slot (known_slot_falls x n offset count slot is known) (all_marked higher x offset count) refl))
+      -- the slot of the lower state, if its bytes are marked in the higher one
+      slot_lower : (slot : ℕ) → known_slot n offset count ≡ Some slot → (marked : Bool) → all_marked higher x offset count ≡ marked
+          → Sound IsLower (if marked then Ok (Number (load format)) else Err UnwrittenFrame)
+          (kept_or (bytes lower n) (slot_kind lower.frame slot))
+      slot_lower slot known true marked =
+          let whole = known_slot_whole n offset count slot known in
+          marked_lower format (bytes lower n) (slot_kind lower.frame slot) whole.0
+          (no_pointer_at_mark lower.frame slot (unsigned_abs (n.low +ℤ offset)) below.proper.frame whole.1
+          (marked_first n offset below.proper whole.0 is.ordered (lie_within_falls offset count count FRAME_LENGTH is (omega arith) within)
+          (all_marked_falls count count (omega arith) within marked)))
+          (below.proper.frame.kinds slot) (bytes_lower true marked)
+      slot_lower slot known false unmarked = tt
 
-load_into_lower : {higher lower : Known} → IsBelow lower higher → (format : LoadFormat) (into : Area) {x n : Offsets} (offset : ℤ)
-    → AreLowerOffsets x n
-    → Sound IsLower (load_from higher format (record { area = into; offsets = x }) offset)
-    (load_from lower format (record { area = into; offsets = n }) offset)
-load_into_lower {higher} {lower} below format into {x} {n} offset is =
-    by_test (lie_within x offset (load_length format) (area_length into)) refl
-  where
-    by_test : (within : Bool) → lie_within x offset (load_length format) (area_length into) ≡ within
-        → Sound IsLower (if within then load_area higher format (record { area = into; offsets = x }) offset else Err OutOfBounds)
-        (load_from lower format (record { area = into; offsets = n }) offset)
-    by_test true within =
-        passes_if IsLower (load_area higher format (record { area = into; offsets = x }) offset)
-        (load_area lower format (record { area = into; offsets = n }) offset)
-        (lie_within n offset (load_length format) (area_length into)) OutOfBounds
-        (lie_within_falls offset (load_length format) (load_length format) (area_length into) is (omega arith) within)
-        (load_area_lower below format into offset is within)
-    by_test false outside = tt
+      by_slot : (found other : Option ℕ) → known_slot x offset count ≡ found → known_slot n offset count ≡ other
+          → Sound IsLower (kept_or (bytes higher x) (kept_kind higher found)) (kept_or (bytes lower n) (kept_kind lower other))
+      by_slot None None none nowhere = bytes_lower (all_marked higher x offset count) refl
+      by_slot None (Some slot) none known = slot_lower slot known (all_marked higher x offset count) refl
+      by_slot (Some slot) other known is_other =
+          let same : other ≡ Some slot = sym is_other ∙ known_slot_falls x n offset count slot is known in
+          subst (λ (o : Option ℕ). Sound IsLower (kept_or (bytes higher x) (slot_kind higher.frame slot))
+          (kept_or (bytes lower n) (kept_kind lower o))) (sym same)
+          (kept_lower (bytes higher x) (bytes lower n) (slot_kind higher.frame slot) (slot_kind lower.frame slot)
+          (is_lower (slot_kind higher.frame slot) (slot_kind lower.frame slot) (below.within.frame.kinds slot)
+          (below.proper.frame.kinds slot))
+          (λ nothing. slot_lower slot (known_slot_falls x n offset count slot is known) (all_marked higher x offset count) refl))
+
+  load_into_lower : (format : LoadFormat) (into : Area)
+      → Sound IsLower (load_from higher format (record { area = into; offsets = x }) offset)
+      (load_from lower format (record { area = into; offsets = n }) offset)
+  load_into_lower format into =
+      by_test (lie_within x offset (load_length format) (area_length into)) refl
+    where
+      by_test : (within : Bool) → lie_within x offset (load_length format) (area_length into) ≡ within
+          → Sound IsLower (if within then load_area higher format (record { area = into; offsets = x }) offset else Err OutOfBounds)
+          (load_from lower format (record { area = into; offsets = n }) offset)
+      by_test true within =
+          passes_if IsLower (load_area higher format (record { area = into; offsets = x }) offset)
+          (load_area lower format (record { area = into; offsets = n }) offset)
+          (lie_within n offset (load_length format) (area_length into)) OutOfBounds
+          (lie_within_falls offset (load_length format) (load_length format) (area_length into) is (omega arith) within)
+          (load_area_lower format into within)
+      by_test false outside = tt
 
 pub load_from_lower : (higher lower : Known) → IsBelow lower higher → (format : LoadFormat) (p q : Pointers) (offset : ℤ)
     → ArePointersLower p q → Sound IsLower (load_from higher format p offset) (load_from lower format q offset)
 load_from_lower higher lower below format p q offset are =
     subst (λ (into : Area). Sound IsLower (load_from higher format p offset)
     (load_from lower format (record { area = into; offsets = q.offsets }) offset)) (sym are.into)
-    (load_into_lower below format p.area offset are.offsets)
+    (load_into_lower below offset are.offsets format p.area)
 
 -- stores
 
@@ -272,15 +271,15 @@ frame_offsets_lower p q are =
 abbrev marks : Known → Offsets → ℤ → ℕ → Bool → Known
 marks known x offset count one = if one then record known { frame = mark known.frame (unsigned_abs (x.low +ℤ offset)) count } else known
 
--- offsets of a lower state within those of a higher one
+-- the same, to which bytes are stored
 module _ {higher lower : Known} (below : IsBelow lower higher) {x n : Offsets} (offset : ℤ) (is : AreLowerOffsets x n) where
   -- bytes from each of the higher state's offsets on are touched in the higher state, and none or some of these in the lower one
   marks_lower : {frame : map.Contents} (fewer least more : ℕ) → map.IsProper frame
-      → map.IsWithin frame (touch higher.frame (unsigned_abs (x.low +ℤ offset)) (unsigned_abs (x.high +ℤ offset) + more))
+      × map.IsWithin frame (touch higher.frame (unsigned_abs (x.low +ℤ offset)) (unsigned_abs (x.high +ℤ offset) + more))
       → fewer ≤ least → least ≤ suc more → lie_within x offset (suc more) FRAME_LENGTH ≡ true
       → IsWithinKnown (mark_bytes (record lower { frame = frame }) n offset least)
       (mark_bytes (touch_bytes higher x offset (suc more)) x offset fewer)
-  marks_lower {frame} fewer least more proper within less few inside = by_tests (int_eq x.low x.high) (int_eq n.low n.high) refl refl
+  marks_lower {frame} fewer least more (proper, within) less few inside = by_tests (int_eq x.low x.high) (int_eq n.low n.high) refl refl
     where
       low : ℕ
       low = unsigned_abs (x.low +ℤ offset)
@@ -365,16 +364,19 @@ module _ {higher lower : Known} (below : IsBelow lower higher) {x n : Offsets} (
       let ends = lie_inside offset (suc more) is within in
       let above = ends.above in let between = ends.between in let under = ends.below in let short = ends.within in
       let low = unsigned_abs (x.low +ℤ offset) in let high = unsigned_abs (x.high +ℤ offset) + more in
-      marks_lower fewer least more below.proper.frame
-      (touch_widens low high below.proper_higher.frame (omega arith) (omega arith) below.within.frame) one (omega arith) within
+      marks_lower fewer least more
+      (below.proper.frame, touch_widens low high below.proper_higher.frame (omega arith) (omega arith) below.within.frame) one (omega arith)
+      within
   write_bytes_lower fewer (suc more) least (suc rest) one two three within =
       let ends = lie_inside offset (suc more) is within in
       let above = ends.above in let between = ends.between in let under = ends.below in let short = ends.within in
       let low = unsigned_abs (x.low +ℤ offset) in let high = unsigned_abs (x.high +ℤ offset) + more in
       let from = unsigned_abs (n.low +ℤ offset) in let to = unsigned_abs (n.high +ℤ offset) + rest in
-      marks_lower fewer least more (touch_is_proper lower.frame from to below.proper.frame (omega arith) (omega arith))
-      (touch_rises below.proper.frame below.proper_higher.frame below.within.frame from to low high above (omega arith)
-      (omega arith) (omega arith))
+      marks_lower fewer least more (
+        touch_is_proper lower.frame from to below.proper.frame (omega arith) (omega arith),
+        touch_rises below.proper.frame below.proper_higher.frame below.within.frame from to low high above (omega arith) (omega arith)
+            (omega arith),
+      )
       one (omega arith) within
   write_bytes_lower fewer zero least less one two three within = absurd (omega arith)
 
@@ -390,118 +392,117 @@ slot_inside x offset count slot known ordered within =
     let ends = lie_inside offset count (themselves x ordered) within in
     let between = ends.between in let short = ends.within in let long = whole.0 in let place = whole.1 in omega arith
 
--- a stored number
-numbers_lower : {higher lower : Known} → IsBelow lower higher → {x n : Offsets} (offset : ℤ) (count : ℕ) {k l : Interval}
-    → AreLowerOffsets x n → IsLowerInterval k l → lie_within x offset count FRAME_LENGTH ≡ true
-    → IsWithinKnown (keep lower n offset count (Number l) (known_slot n offset count))
-    (keep higher x offset count (Number k) (known_slot x offset count))
-numbers_lower {higher} {lower} below {x} {n} offset count {k} {l} is stored within =
-    by_slot (known_slot x offset count) (known_slot n offset count) refl refl
-  where
-    inside : lie_within n offset count FRAME_LENGTH ≡ true
-    inside = lie_within_falls offset count count FRAME_LENGTH is (omega arith) within
+-- the same, where a kind is stored
+module _ {higher lower : Known} (below : IsBelow lower higher) {x n : Offsets} (offset : ℤ) (is : AreLowerOffsets x n) where
+  -- a stored number
+  numbers_lower : (count : ℕ) {k l : Interval} → IsLowerInterval k l → lie_within x offset count FRAME_LENGTH ≡ true
+      → IsWithinKnown (keep lower n offset count (Number l) (known_slot n offset count))
+      (keep higher x offset count (Number k) (known_slot x offset count))
+  numbers_lower count {k} {l} stored within =
+      by_slot (known_slot x offset count) (known_slot n offset count) refl refl
+    where
+      inside : lie_within n offset count FRAME_LENGTH ≡ true
+      inside = lie_within_falls offset count count FRAME_LENGTH is (omega arith) within
 
-    -- the slot of one of the offsets, if any of them may have been written
-    into_slot : (slot count : ℕ) → known_slot n offset count ≡ Some slot → known_slot x offset count ≡ None
-        → lie_within x offset count FRAME_LENGTH ≡ true
-        → IsWithinKnown (record lower { frame = set_slot lower.frame slot (Number l) }) (write_bytes higher x offset count count)
-    into_slot slot zero known none within = absurd (omega (arith, (known_slot_whole n offset 0 slot known).0))
-    into_slot slot (suc more) known none within = by_test (int_eq x.low x.high) refl
-      where
-        by_test : (one : Bool) → int_eq x.low x.high ≡ one
-            → IsWithinKnown (record lower { frame = set_slot lower.frame slot (Number l) })
-            (marks (touch_bytes higher x offset (suc more)) x offset (suc more) one)
-        by_test true one =
-            let only = only_one x.low n.low n.high x.high is.within.low is.ordered is.within.high one in
-            let there : slot_at (unsigned_abs (n.low +ℤ offset)) (suc more) ≡ Some slot = rw (only.1) at known in
-            let nowhere : slot_at (unsigned_abs (x.low +ℤ offset)) (suc more) ≡ None = rw (one) at none in
-            let both : slot_at (unsigned_abs (x.low +ℤ offset)) (suc more) ≡ Some slot =
-            ap (λ (z : ℤ). slot_at (unsigned_abs (z +ℤ offset)) (suc more)) (sym only.0) ∙ there in
-            absurd (let no : ⊥ = cc in no)
-        by_test false many =
-            let whole = known_slot_at n offset (suc more) slot known in
-            let ends = lie_inside offset (suc more) is within in
-            let above = ends.above in let between = ends.between in let under = ends.below in let short = ends.within in
-            let long = whole.0 in let place = whole.1 in
-            let low = unsigned_abs (x.low +ℤ offset) in let high = unsigned_abs (x.high +ℤ offset) + more in
-            record {
-              registers = below.within.registers;
-              frame = set_number_lowers below.proper.frame below.proper_higher.frame low high (omega arith)
-                  (touch_widens low high below.proper_higher.frame (omega arith) (omega arith) below.within.frame) slot l
-                  (omega arith) (omega arith);
-            }
+      -- the slot of one of the offsets, if any of them may have been written
+      into_slot : (slot count : ℕ) → known_slot n offset count ≡ Some slot → known_slot x offset count ≡ None
+          → lie_within x offset count FRAME_LENGTH ≡ true
+          → IsWithinKnown (record lower { frame = set_slot lower.frame slot (Number l) }) (write_bytes higher x offset count count)
+      into_slot slot zero known none within = absurd (omega (arith, (known_slot_whole n offset 0 slot known).0))
+      into_slot slot (suc more) known none within = by_test (int_eq x.low x.high) refl
+        where
+          by_test : (one : Bool) → int_eq x.low x.high ≡ one
+              → IsWithinKnown (record lower { frame = set_slot lower.frame slot (Number l) })
+              (marks (touch_bytes higher x offset (suc more)) x offset (suc more) one)
+          by_test true one =
+              let only = only_one x.low n.low n.high x.high is.within.low is.ordered is.within.high one in
+              let there : slot_at (unsigned_abs (n.low +ℤ offset)) (suc more) ≡ Some slot = rw (only.1) at known in
+              let nowhere : slot_at (unsigned_abs (x.low +ℤ offset)) (suc more) ≡ None = rw (one) at none in
+              let both : slot_at (unsigned_abs (x.low +ℤ offset)) (suc more) ≡ Some slot =
+              ap (λ (z : ℤ). slot_at (unsigned_abs (z +ℤ offset)) (suc more)) (sym only.0) ∙ there in
+              absurd (let no : ⊥ = cc in no)
+          by_test false many =
+              let whole = known_slot_at n offset (suc more) slot known in
+              let ends = lie_inside offset (suc more) is within in
+              let above = ends.above in let between = ends.between in let under = ends.below in let short = ends.within in
+              let long = whole.0 in let place = whole.1 in
+              let low = unsigned_abs (x.low +ℤ offset) in let high = unsigned_abs (x.high +ℤ offset) + more in
+              record {
+                registers = below.within.registers;
+                frame = set_number_lowers below.proper.frame below.proper_higher.frame low high (omega arith)
+                    (touch_widens low high below.proper_higher.frame (omega arith) (omega arith) below.within.frame) slot l
+                    (omega arith) (omega arith);
+              }
 
-    by_slot : (found other : Option ℕ) → known_slot x offset count ≡ found → known_slot n offset count ≡ other
-        → IsWithinKnown (keep lower n offset count (Number l) other) (keep higher x offset count (Number k) found)
-    by_slot None None none nowhere =
-        write_bytes_lower below offset is count count count count (omega arith) (omega arith) (omega arith) within
-    by_slot None (Some slot) none known = into_slot slot count known none within
-    by_slot (Some slot) other known is_other =
-        let same : other ≡ Some slot = sym is_other ∙ known_slot_falls x n offset count slot is known in
-        subst (λ (o : Option ℕ). IsWithinKnown (keep lower n offset count (Number l) o)
-        (record higher { frame = set_slot higher.frame slot (Number k) })) (sym same)
-        (record {
-          registers = below.within.registers;
-          frame = set_slot_rises below.proper.frame below.proper_higher.frame below.within.frame slot (Number l) (Number k)
-              (slot_inside n offset count slot (known_slot_falls x n offset count slot is known) is.ordered inside) (λ e. cc) stored.within;
-        })
+      by_slot : (found other : Option ℕ) → known_slot x offset count ≡ found → known_slot n offset count ≡ other
+          → IsWithinKnown (keep lower n offset count (Number l) other) (keep higher x offset count (Number k) found)
+      by_slot None None none nowhere =
+          write_bytes_lower below offset is count count count count (omega arith) (omega arith) (omega arith) within
+      by_slot None (Some slot) none known = into_slot slot count known none within
+      by_slot (Some slot) other known is_other =
+          let same : other ≡ Some slot = sym is_other ∙ known_slot_falls x n offset count slot is known in
+          subst (λ (o : Option ℕ). IsWithinKnown (keep lower n offset count (Number l) o)
+          (record higher { frame = set_slot higher.frame slot (Number k) })) (sym same)
+          (record {
+            registers = below.within.registers;
+            frame = set_slot_rises below.proper.frame below.proper_higher.frame below.within.frame slot (Number l) (Number k)
+                (slot_inside n offset count slot (known_slot_falls x n offset count slot is known) is.ordered inside) (λ e. cc) stored.within;
+          })
 
--- a pointer stored in a known slot
-pointers_kept_lower : {higher lower : Known} → IsBelow lower higher → {x n : Offsets} (offset : ℤ) (size : StoreSize) {k l : Kind}
-    → AreLowerOffsets x n → kind.IsWithin l k → ArePointers k → ArePointers l
-    → Sound ChangesBelow (store_at higher x offset size k) (store_at lower n offset size l)
-pointers_kept_lower {higher} {lower} below {x} {n} offset size {k} {l} is stored pointers others =
-    by_slot (known_slot x offset (store_length size)) refl
-  where
-    into_slot : (slot : ℕ) → known_slot x offset (store_length size) ≡ Some slot → (within : Bool)
-        → lie_within x offset (store_length size) FRAME_LENGTH ≡ within
-        → Sound ChangesBelow (if within then Ok (record higher { frame = set_slot higher.frame slot k }) else Err OutOfBounds)
-        (if lie_within n offset (store_length size) FRAME_LENGTH then Ok
-        (record lower { frame = set_slot lower.frame slot l }) else Err OutOfBounds)
-    into_slot slot known true within =
-        let inside = lie_within_falls offset (store_length size) (store_length size) FRAME_LENGTH is (omega arith) within in
-        passes_if ChangesBelow (Ok (record higher { frame = set_slot higher.frame slot k }))
-        (Ok (record lower { frame = set_slot lower.frame slot l })) (lie_within n offset (store_length size) FRAME_LENGTH) OutOfBounds
-        inside
-        (record {
-          registers = below.within.registers;
-          frame = set_slot_rises below.proper.frame below.proper_higher.frame below.within.frame slot l k
-              (slot_inside n offset (store_length size) slot (known_slot_falls x n offset (store_length size) slot is known) is.ordered
-              inside) pointers.known stored;
-        })
-    into_slot slot known false outside = tt
+  -- a pointer stored in a known slot
+  pointers_kept_lower : (size : StoreSize) {k l : Kind} → kind.IsWithin l k → ArePointers k → ArePointers l
+      → Sound ChangesBelow (store_at higher x offset size k) (store_at lower n offset size l)
+  pointers_kept_lower size {k} {l} stored pointers others =
+      by_slot (known_slot x offset (store_length size)) refl
+    where
+      into_slot : (slot : ℕ) → known_slot x offset (store_length size) ≡ Some slot → (within : Bool)
+          → lie_within x offset (store_length size) FRAME_LENGTH ≡ within
+          → Sound ChangesBelow (if within then Ok (record higher { frame = set_slot higher.frame slot k }) else Err OutOfBounds)
+          (if lie_within n offset (store_length size) FRAME_LENGTH then Ok
+          (record lower { frame = set_slot lower.frame slot l }) else Err OutOfBounds)
+      into_slot slot known true within =
+          let inside = lie_within_falls offset (store_length size) (store_length size) FRAME_LENGTH is (omega arith) within in
+          passes_if ChangesBelow (Ok (record higher { frame = set_slot higher.frame slot k }))
+          (Ok (record lower { frame = set_slot lower.frame slot l })) (lie_within n offset (store_length size) FRAME_LENGTH) OutOfBounds
+          inside
+          (record {
+            registers = below.within.registers;
+            frame = set_slot_rises below.proper.frame below.proper_higher.frame below.within.frame slot l k
+                (slot_inside n offset (store_length size) slot (known_slot_falls x n offset (store_length size) slot is known) is.ordered
+                inside) pointers.known stored;
+          })
+      into_slot slot known false outside = tt
 
-    by_slot : (found : Option ℕ) → known_slot x offset (store_length size) ≡ found
-        → Sound ChangesBelow (store_at higher x offset size k) (store_at lower n offset size l)
-    by_slot None none = rw (none, pointers.nowhere) tt
-    by_slot (Some slot) known =
-        let same = known_slot_falls x n offset (store_length size) slot is known in
-        rw (known, same, pointers.somewhere slot, others.somewhere slot)
-        (into_slot slot known (lie_within x offset (store_length size) FRAME_LENGTH) refl)
+      by_slot : (found : Option ℕ) → known_slot x offset (store_length size) ≡ found
+          → Sound ChangesBelow (store_at higher x offset size k) (store_at lower n offset size l)
+      by_slot None none = rw (none, pointers.nowhere) tt
+      by_slot (Some slot) known =
+          let same = known_slot_falls x n offset (store_length size) slot is known in
+          rw (known, same, pointers.somewhere slot, others.somewhere slot)
+          (into_slot slot known (lie_within x offset (store_length size) FRAME_LENGTH) refl)
 
-pub store_at_lower : {higher lower : Known} → IsBelow lower higher → {x n : Offsets} (offset : ℤ) (size : StoreSize) (k l : Kind)
-    → AreLowerOffsets x n → IsLower k l → Sound ChangesBelow (store_at higher x offset size k) (store_at lower n offset size l)
-store_at_lower {higher} {lower} below {x} {n} offset size k l is stored =
-    lower_cases (λ k l. Sound ChangesBelow (store_at higher x offset size k) (store_at lower n offset size l)) numbers
-    (λ k l are. pointers_kept_lower below offset size is are.within (record_pointers k) (record_pointers l))
-    (λ k l are. pointers_kept_lower below offset size is are.within (frame_pointers k) (frame_pointers l))
-    (λ l. tt) k l stored
-  where
-    numbers : (k l : Interval) → IsLowerInterval k l → Sound ChangesBelow (store_at higher x offset size (Number k))
-        (store_at lower n offset size (Number l))
-    numbers k l stored = by_test (lie_within x offset (store_length size) FRAME_LENGTH) refl
-      where
-        after : Known
-        after = keep higher x offset (store_length size) (Number k) (known_slot x offset (store_length size))
+  pub store_at_lower : (size : StoreSize) (k l : Kind) → IsLower k l → Sound ChangesBelow (store_at higher x offset size k) (store_at lower n offset size l)
+  store_at_lower size k l stored =
+      lower_cases (λ k l. Sound ChangesBelow (store_at higher x offset size k) (store_at lower n offset size l)) numbers
+      (λ k l are. pointers_kept_lower size are.within (record_pointers k) (record_pointers l))
+      (λ k l are. pointers_kept_lower size are.within (frame_pointers k) (frame_pointers l))
+      (λ l. tt) k l stored
+    where
+      numbers : (k l : Interval) → IsLowerInterval k l → Sound ChangesBelow (store_at higher x offset size (Number k))
+          (store_at lower n offset size (Number l))
+      numbers k l stored = by_test (lie_within x offset (store_length size) FRAME_LENGTH) refl
+        where
+          after : Known
+          after = keep higher x offset (store_length size) (Number k) (known_slot x offset (store_length size))
 
-        by_test : (within : Bool) → lie_within x offset (store_length size) FRAME_LENGTH ≡ within
-            → Sound ChangesBelow (if within then Ok after else Err OutOfBounds) (store_at lower n offset size (Number l))
-        by_test true within =
-            let inside = lie_within_falls offset (store_length size) (store_length size) FRAME_LENGTH is (omega arith) within in
-            passes_if ChangesBelow (Ok after) (Ok (keep lower n offset (store_length size) (Number l)
-            (known_slot n offset (store_length size)))) (lie_within n offset (store_length size) FRAME_LENGTH) OutOfBounds inside
-            (numbers_lower below offset (store_length size) is stored within)
-        by_test false outside = tt
+          by_test : (within : Bool) → lie_within x offset (store_length size) FRAME_LENGTH ≡ within
+              → Sound ChangesBelow (if within then Ok after else Err OutOfBounds) (store_at lower n offset size (Number l))
+          by_test true within =
+              let inside = lie_within_falls offset (store_length size) (store_length size) FRAME_LENGTH is (omega arith) within in
+              passes_if ChangesBelow (Ok after) (Ok (keep lower n offset (store_length size) (Number l)
+              (known_slot n offset (store_length size)))) (lie_within n offset (store_length size) FRAME_LENGTH) OutOfBounds inside
+              (numbers_lower (store_length size) stored within)
+          by_test false outside = tt
 
 -- registers that are set
 

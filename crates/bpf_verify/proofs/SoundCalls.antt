@@ -210,7 +210,7 @@ reads_sound known state has lent words is = by_test (all_marked known lent.offse
     by_test true marked =
         let inside = lent_inside lent words is in
         let same = inside.same in let most = is.count.below in
-        let written = marked_are_written has (pos 0) lent.count.high is.offset.admits is.within marked in
+        let written = marked_are_written (pos 0) is.offset.admits has lent.count.high is.within marked in
         passes_if (IsLent state frame_use.Reads) (Ok known) (Ok words)
         (all_written (bytes_read frame_use.Reads words state.frame.bytes)) UnwrittenFrame
         (all_written-part state.frame.bytes (second words) (third words) (λ i above below. written i (omega arith) (omega arith)))

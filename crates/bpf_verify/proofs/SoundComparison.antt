@@ -50,50 +50,52 @@ record Operands (state : State) (left : ℕ) (right : Source) (x y : Interval) (
   on_left : register_value state left ≡ value.Number m
   on_right : RightHolds state right n
 
-with_narrowed_admits : {known : Known} {state : State} → known_state.AdmitsKnown known state
-    → (left : ℕ) (right : Source) (both : Narrowed) {m n : ℕ} → register_value state left ≡ value.Number m → RightHolds state right n
-    → Admits both.left m → Admits both.right n → known_state.AdmitsKnown (with_narrowed known left right both) state
-with_narrowed_admits {known} {state} admits left (Immediate immediate) both holds other first second =
-    narrows_keep known state admits left (Number both.left) (subst (kind.Admits (Number both.left)) (sym holds) first)
-with_narrowed_admits {known} {state} admits left (Register register) both holds other first second =
-    narrows_keep (known_state.with_kind known left (Number both.left)) state
-    (narrows_keep known state admits left (Number both.left) (subst (kind.Admits (Number both.left)) (sym holds) first))
-    register.number (Number both.right) (subst (kind.Admits (Number both.right)) (sym other) second)
-
--- an edge of a conditional jump
-branch_admits : {known : Known} {state : State} → HasState known state → (comparison : Comparison) {x y : Interval} {m n : ℕ} {taken : Bool}
-    → Operands state comparison.left.number comparison.right x y m n → is_met comparison.condition comparison.width m n ≡ taken
-    → known_state.Admits (on_edge known comparison (branch comparison x y taken)) state
-branch_admits {known} {state} has comparison {x} {y} {taken} operands answer = by_test (is_register left right)
-  where
-    left : ℕ
-    left = comparison.left.number
-
-    right : Source
-    right = comparison.right
-
-    by_test : (same : Bool) → known_state.Admits (on_edge known comparison
-        (if same then Unchanged else narrowed (refine comparison.condition comparison.width x y taken))) state
-    by_test true = has.admits
-    by_test false =
-        let kept = refine-keeps comparison.condition comparison.width taken
-        (record { left = operands.first.admits; right = operands.second.admits; answer = answer }) in
-        subst (λ (refined : Option Narrowed). known_state.Admits (on_edge known comparison (narrowed refined)) state) (sym kept.1)
-        (with_narrowed_admits has.admits left right kept.0 operands.on_left operands.on_right kept.2 kept.3)
-
 -- both edges, if the operands are numbers
 abbrev edges_of : Known → Comparison → Interval → Interval → Edges
 edges_of known comparison x y = edges_to known (Branch comparison (branch comparison x y false) (branch comparison x y true))
 
-edges_take : {known : Known} {state : State} → HasState known state → (comparison : Comparison) {x y : Interval} {m n : ℕ}
-    → Operands state comparison.left.number comparison.right x y m n
-    → TakesEdge state (edges_of known comparison x y) (is_met comparison.condition comparison.width m n)
-edges_take {known} {state} has comparison {x} {y} {m} {n} operands = by_answer (is_met comparison.condition comparison.width m n) refl
-  where
-    by_answer : (taken : Bool) → is_met comparison.condition comparison.width m n ≡ taken
-        → TakesEdge state (edges_of known comparison x y) taken
-    by_answer true answer = branch_admits has comparison operands answer
-    by_answer false answer = branch_admits has comparison operands answer
+-- an admitted state
+module _ {known : Known} {state : State} (has : HasState known state) where
+  with_narrowed_admits : (left : ℕ) (right : Source) (both : Narrowed) {m n : ℕ} → register_value state left ≡ value.Number m
+      → RightHolds state right n → Admits both.left m → Admits both.right n
+      → known_state.AdmitsKnown (with_narrowed known left right both) state
+  with_narrowed_admits left (Immediate immediate) both holds other first second =
+      narrows_keep known state has.admits left (Number both.left) (subst (kind.Admits (Number both.left)) (sym holds) first)
+  with_narrowed_admits left (Register register) both holds other first second =
+      narrows_keep (known_state.with_kind known left (Number both.left)) state
+      (narrows_keep known state has.admits left (Number both.left) (subst (kind.Admits (Number both.left)) (sym holds) first))
+      register.number (Number both.right) (subst (kind.Admits (Number both.right)) (sym other) second)
+
+  -- an edge of a conditional jump
+  branch_admits : (comparison : Comparison) {x y : Interval} {m n : ℕ} {taken : Bool}
+      → Operands state comparison.left.number comparison.right x y m n → is_met comparison.condition comparison.width m n ≡ taken
+      → known_state.Admits (on_edge known comparison (branch comparison x y taken)) state
+  branch_admits comparison {x} {y} {taken} operands answer = by_test (is_register left right)
+    where
+      left : ℕ
+      left = comparison.left.number
+
+      right : Source
+      right = comparison.right
+
+      by_test : (same : Bool) → known_state.Admits (on_edge known comparison
+          (if same then Unchanged else narrowed (refine comparison.condition comparison.width x y taken))) state
+      by_test true = has.admits
+      by_test false =
+          let kept = refine-keeps comparison.condition comparison.width taken
+          (record { left = operands.first.admits; right = operands.second.admits; answer = answer }) in
+          subst (λ (refined : Option Narrowed). known_state.Admits (on_edge known comparison (narrowed refined)) state) (sym kept.1)
+          (with_narrowed_admits left right kept.0 operands.on_left operands.on_right kept.2 kept.3)
+
+  edges_take : (comparison : Comparison) {x y : Interval} {m n : ℕ}
+      → Operands state comparison.left.number comparison.right x y m n
+      → TakesEdge state (edges_of known comparison x y) (is_met comparison.condition comparison.width m n)
+  edges_take comparison {x} {y} {m} {n} operands = by_answer (is_met comparison.condition comparison.width m n) refl
+    where
+      by_answer : (taken : Bool) → is_met comparison.condition comparison.width m n ≡ taken
+          → TakesEdge state (edges_of known comparison x y) taken
+      by_answer true answer = branch_admits comparison operands answer
+      by_answer false answer = branch_admits comparison operands answer
 
 -- An immediate is compared by its low bits.
 

@@ -73,63 +73,58 @@ pub record Stands (code : List Insn) (segment : Contents) (known : Known) (state
   pub leads : (distance : ℤ) → jump_distance insn ≡ Some distance → LeadsOn code state.place distance
   pub fits : HasImmediates insn
 
--- on to the next instruction
-next_sound : {code : List Insn} {segment : Contents} {known : Known} {state : State} {insn : Insn} {next : ℕ}
-    → Stands code segment known state insn next → (insn ≡ Exit → ⊥) → (edges : Edges) (change : Change)
-    → known_state.Admits edges.next (carry_out segment state change)
-    → Sound (Follows code segment state insn next) (Ok edges) (effect.go_on code next change)
-next_sound {code} {segment} {state} {insn} {next} stands goes_on edges change admits =
-    let begins = stands.followed goes_on in
-    subst (λ (b : Bool). Sound (Follows code segment state insn next) (Ok edges)
-    (if b then Ok (GoOn change next) else (if nat_lt next (word_count code) then Err IntoWide else Err OutOfProgram))) (sym begins)
-    (inl (record { is_next = refl; begins = begins; admits = admits }))
+-- an instruction that passes its checks
+module _ {code : List Insn} {segment : Contents} {known : Known} {state : State} {insn : Insn} {next : ℕ}
+    (stands : Stands code segment known state insn next) where
+  -- on to the next instruction
+  next_sound : (insn ≡ Exit → ⊥) → (edges : Edges) (change : Change) → known_state.Admits edges.next (carry_out segment state change)
+      → Sound (Follows code segment state insn next) (Ok edges) (effect.go_on code next change)
+  next_sound goes_on edges change admits =
+      let begins = stands.followed goes_on in
+      subst (λ (b : Bool). Sound (Follows code segment state insn next) (Ok edges)
+      (if b then Ok (GoOn change next) else (if nat_lt next (word_count code) then Err IntoWide else Err OutOfProgram))) (sym begins)
+      (inl (record { is_next = refl; begins = begins; admits = admits }))
 
--- to the target of a jump
-target_sound : {code : List Insn} (segment : Contents) (state : State) (insn : Insn) (next : ℕ) (edges : Edges) {distance : ℤ}
-    → jump_distance insn ≡ Some distance → LeadsOn code state.place distance → known_state.Admits edges.target state
-    → Sound (Follows code segment state insn next) (Ok edges) (effect.jump code state.place distance)
-target_sound {code} segment state insn next edges {distance} jumps leads admits =
-    subst (λ (z : ℤ). Sound (Follows code segment state insn next) (Ok edges) (effect.go_to code z)) (sym leads.is_target)
-    (subst (λ (b : Bool). Sound (Follows code segment state insn next) (Ok edges)
-    (if b then Ok (GoOn Nothing leads.target) else (if nat_lt leads.target (word_count code) then Err IntoWide else Err OutOfProgram)))
-    (sym leads.begins)
-    (inr (record {
-      distance = distance;
-      jumps = jumps;
-      is_target = leads.is_target;
-      later = leads.later;
-      begins = leads.begins;
-      admits =
-          admits;
-    })))
+  -- to the target of a jump
+  target_sound : (edges : Edges) {distance : ℤ} → jump_distance insn ≡ Some distance → known_state.Admits edges.target state
+      → Sound (Follows code segment state insn next) (Ok edges) (effect.jump code state.place distance)
+  target_sound edges {distance} jumps admits =
+      let leads = stands.leads distance jumps in
+      subst (λ (z : ℤ). Sound (Follows code segment state insn next) (Ok edges) (effect.go_to code z)) (sym leads.is_target)
+      (subst (λ (b : Bool). Sound (Follows code segment state insn next) (Ok edges)
+      (if b then Ok (GoOn Nothing leads.target) else (if nat_lt leads.target (word_count code) then Err IntoWide else Err OutOfProgram)))
+      (sym leads.begins)
+      (inr (record {
+        distance = distance;
+        jumps = jumps;
+        is_target = leads.is_target;
+        later = leads.later;
+        begins = leads.begins;
+        admits = admits;
+      })))
 
--- a register is set
-set_sound : {code : List Insn} {segment : Contents} {known : Known} {state : State} {insn : Insn} {next : ℕ}
-    → Stands code segment known state insn next → (insn ≡ Exit → ⊥) → (destination : WritableRegister) (x : Kind) (v : Value)
-    → kind.Admits x v
-    → Sound (Follows code segment state insn next) (edge.set_register known destination.number x)
-    (effect.set_register code next destination v)
-set_sound {segment} {known} {state} stands goes_on destination x v admits =
-    next_sound stands goes_on _ (SetRegister destination v) (writes_admit segment known state stands.has destination x v admits)
+  -- a register is set
+  set_sound : (insn ≡ Exit → ⊥) → (destination : WritableRegister) (x : Kind) (v : Value) → kind.Admits x v
+      → Sound (Follows code segment state insn next) (edge.set_register known destination.number x)
+      (effect.set_register code next destination v)
+  set_sound goes_on destination x v admits =
+      next_sound goes_on _ (SetRegister destination v) (writes_admit segment known state stands.has destination x v admits)
 
--- the edge of a conditional jump
-branch_sound : {code : List Insn} {segment : Contents} {known : Known} {state : State} {insn : Insn} {next : ℕ}
-    → Stands code segment known state insn next → (insn ≡ Exit → ⊥) → {distance : ℤ} → jump_distance insn ≡ Some distance
-    → (edges : Edges) (taken : Bool) → TakesEdge state edges taken
-    → Sound (Follows code segment state insn next) (Ok edges)
-    (if taken then effect.jump code state.place distance else effect.go_on code next Nothing)
-branch_sound {segment} {state} {insn} {next} stands goes_on {distance} jumps edges true admits =
-    target_sound segment state insn next edges jumps (stands.leads distance jumps) admits
-branch_sound stands goes_on jumps edges false admits = next_sound stands goes_on edges Nothing admits
+  -- the edge of a conditional jump
+  branch_sound : (insn ≡ Exit → ⊥) → {distance : ℤ} → jump_distance insn ≡ Some distance → (edges : Edges) (taken : Bool)
+      → TakesEdge state edges taken
+      → Sound (Follows code segment state insn next) (Ok edges)
+      (if taken then effect.jump code state.place distance else effect.go_on code next Nothing)
+  branch_sound goes_on jumps edges true admits = target_sound edges jumps admits
+  branch_sound goes_on jumps edges false admits = next_sound goes_on edges Nothing admits
 
-taken_sound : {code : List Insn} {segment : Contents} {known : Known} {state : State} {insn : Insn} {next : ℕ}
-    → Stands code segment known state insn next → (insn ≡ Exit → ⊥) → {distance : ℤ} → jump_distance insn ≡ Some distance
-    → (abstract : Result Edges Cause) (concrete : Result Bool Cause) → Sound (TakesEdge state) abstract concrete
-    → Sound (Follows code segment state insn next) abstract
-    (concrete >>= λ taken. if taken then effect.jump code state.place distance else effect.go_on code next Nothing)
-taken_sound stands goes_on jumps (Err cause) concrete sound = tt
-taken_sound stands goes_on jumps (Ok edges) (Err cause) sound = absurd sound
-taken_sound stands goes_on jumps (Ok edges) (Ok taken) sound = branch_sound stands goes_on jumps edges taken sound
+  taken_sound : (insn ≡ Exit → ⊥) → {distance : ℤ} → jump_distance insn ≡ Some distance
+      → (abstract : Result Edges Cause) (concrete : Result Bool Cause) → Sound (TakesEdge state) abstract concrete
+      → Sound (Follows code segment state insn next) abstract
+      (concrete >>= λ taken. if taken then effect.jump code state.place distance else effect.go_on code next Nothing)
+  taken_sound goes_on jumps (Err cause) concrete sound = tt
+  taken_sound goes_on jumps (Ok edges) (Err cause) sound = absurd sound
+  taken_sound goes_on jumps (Ok edges) (Ok taken) sound = branch_sound goes_on jumps edges taken sound
 
 -- each step of an instruction
 kinds_foresee : (code : List Insn) (segment : Contents) (known : Known) (state : State) (insn : Insn) (next : ℕ)
@@ -161,13 +156,13 @@ kinds_foresee code segment known state insn next stands = record {
   byte_swap = λ order width x n has. byte_swap-admits order width x n has.proper has.admits;
   move = move_sound;
   operate = operate_sound;
-  load = λ format p q offset points. load_from_sound stands.is_segment stands.has format q offset points.into points.admits;
+  load = λ format p q offset points. load_from_sound stands.is_segment stands.has format p q offset points;
   frame = λ p q offset points. from_sound p.area p.offsets q offset points.into points.admits;
-  store_at = λ x from offset size k held is stored. store_at_sound segment stands.has size k held is stored;
+  store_at = λ x from offset size k held is stored. store_at_sound segment stands.has size is k held stored;
   call = λ helper. call_sound segment known state stands.is_segment stands.has (Some helper);
   set = set_sound stands;
   go_on = λ goes_on behind change admits. next_sound stands goes_on _ change admits;
-  jump = λ distance jumps. target_sound segment state insn next _ jumps (stands.leads distance jumps) stands.has.admits;
+  jump = λ distance jumps. target_sound stands _ jumps stands.has.admits;
   with_immediate = λ jump immediate may fits left.
       taken_sound stands may.goes_on may.leads _ _
       (with_immediate stands.has jump.condition jump.width jump.left immediate left.first left.second left.is);

@@ -50,19 +50,6 @@ lie_between low high at offset count above below within = record {
   within = grind (arith, ints, nat_tests);
 }
 
--- bytes that are marked from each of the offsets on are written from one of them on
-pub marked_are_written : {known : Known} {state : State} → HasState known state → {x : Offsets} {at : ℤ} (offset : ℤ) (count : ℕ)
-    → Admits x at → lie_within x offset count FRAME_LENGTH ≡ true → all_marked known x offset count ≡ true
-    → AreWritten state.frame.bytes (at +ℤ offset) count
-marked_are_written has offset zero admits within marked i above below = absurd (omega arith)
-marked_are_written {known} {state} has {x} {at} offset (suc more) admits within marked i above below =
-    let ends = lie_between x.low x.high at offset (suc more) admits.above admits.below within in
-    let left = ends.above in let right = ends.below in let short = ends.within in let count = has.proper.frame.count in
-    let from = unsigned_abs (x.low +ℤ offset) in
-    let to = unsigned_abs (x.high +ℤ offset) + more in
-    has.admits.frame.written i
-    ((all_written_is known.frame.marks from to (omega arith) (omega arith)).0 marked i (omega arith) (omega arith))
-
 -- the ends of the bytes that may be written
 touched_ends : (low high offset : ℤ) (more : ℕ) → low ≤ℤ high
     → (int_le (pos 0) (low +ℤ offset) && int_le ((high +ℤ offset) +ℤ pos (suc more)) (pos FRAME_LENGTH)) ≡ true
@@ -96,8 +83,21 @@ pub record IsKnownBefore (known : Known) (before : FrameContents) (after : State
 ordered_ends : (x : Offsets) (at : ℤ) → Admits x at → x.low ≤ℤ x.high
 ordered_ends x at admits = let above = admits.above in let below = admits.below in omega (arith, ints)
 
--- one of the offsets from which bytes may have been written
+-- one of the offsets from which bytes are read, or may have been written
 module _ {x : Offsets} {at : ℤ} (offset : ℤ) (admits : Admits x at) where
+  -- bytes that are marked from each of the offsets on are written from one of them on
+  pub marked_are_written : {known : Known} {state : State} → HasState known state → (count : ℕ)
+      → lie_within x offset count FRAME_LENGTH ≡ true → all_marked known x offset count ≡ true
+      → AreWritten state.frame.bytes (at +ℤ offset) count
+  marked_are_written has zero within marked i above below = absurd (omega arith)
+  marked_are_written {known} has (suc more) within marked i above below =
+      let ends = lie_between x.low x.high at offset (suc more) admits.above admits.below within in
+      let left = ends.above in let right = ends.below in let short = ends.within in let count = has.proper.frame.count in
+      let from = unsigned_abs (x.low +ℤ offset) in
+      let to = unsigned_abs (x.high +ℤ offset) + more in
+      has.admits.frame.written i
+      ((all_written_is known.frame.marks from to (omega arith) (omega arith)).0 marked i (omega arith) (omega arith))
+
   -- the state after bytes may have been written from each of the offsets on, if they were written from one of them on
   touched_admits : {known : Known} {before : FrameContents} {after : State} → IsKnownBefore known before after → (count most : ℕ)
       → lie_within x offset most FRAME_LENGTH ≡ true → count ≤ most → IsWritten before after.frame (at +ℤ offset) count
@@ -152,8 +152,8 @@ module _ {x : Offsets} {at : ℤ} (offset : ℤ) (admits : Admits x at) where
   pub writes_admit : {known : Known} {before : FrameContents} {after : State} → IsKnownBefore known before after → (count least most : ℕ)
       → lie_within x offset most FRAME_LENGTH ≡ true → least ≤ count → count ≤ most → IsWritten before after.frame (at +ℤ offset) count
       → AdmitsKnown (write_bytes known x offset least most) after
-  writes_admit {known} is count least most within fewer more written =
-      marks_admit (touched_is_proper known x offset most is.proper (ordered_ends x at admits) within)
+  writes_admit is count least most within fewer more written =
+      marks_admit (touched_is_proper _ x offset most is.proper (ordered_ends x at admits) within)
       (touched_admits is count most within more written) count least (shorter x.low x.high most count more within) fewer written.written
     where
       shorter : (low high : ℤ) (count less : ℕ) → less ≤ count

@@ -90,16 +90,6 @@ load_inside load_format bytes (pos at) hold within written =
     rw (within, part.is) (load-admits load_format part.number part.below)
 load_inside load_format bytes (negsuc n) hold within written = absurd (false≢true within)
 
--- a load from an area, if the bytes from each of the offsets on are written
-area_sound : (load_format : LoadFormat) (bytes : List FrameByte) {count : ℕ} {x : Offsets} {at : ℤ} (offset : ℤ) → HoldBytes bytes
-    → length bytes ≡ count → Admits x at → lie_within x offset (load_length load_format) count ≡ true
-    → AreWritten bytes (at +ℤ offset) (load_length load_format)
-    → Sound kind.Admits (Ok (Number (load load_format))) (effect.load_bytes load_format bytes (at +ℤ offset))
-area_sound load_format bytes {count} {x} {at} offset hold long admits within written =
-    let inside = lies_within x at offset (load_length load_format) count admits within in
-    load_inside load_format bytes (at +ℤ offset) hold (subst
-    (λ (n : ℕ). effect.lie_within (at +ℤ offset) (load_length load_format) n ≡ true) (sym long) inside) written
-
 -- all bytes of the record are written
 record_written : (bytes : List ℕ) (i : ℕ) → i < length bytes → IsTrue (is_written (map Byte bytes) i)
 record_written [] i below = absurd (omega arith)
@@ -122,8 +112,9 @@ record_sound segment is load_format x at offset admits = by_test (lie_within x o
         (effect.load_bytes load_format (map Byte segment.bytes) (at +ℤ offset))
     by_test true within =
         let inside = lies_within x at offset (load_length load_format) RECORD_LENGTH admits within in
-        area_sound load_format (map Byte segment.bytes) offset (bytes-map segment.bytes is.bytes.bytes)
-        (length-map segment.bytes Byte ∙ is.bytes.length) admits within
+        load_inside load_format (map Byte segment.bytes) (at +ℤ offset) (bytes-map segment.bytes is.bytes.bytes)
+        (subst (λ (n : ℕ). effect.lie_within (at +ℤ offset) (load_length load_format) n ≡ true)
+        (sym (length-map segment.bytes Byte ∙ is.bytes.length)) inside)
         (part_written segment.bytes (at +ℤ offset) (load_length load_format)
         (subst (λ (n : ℕ). effect.lie_within (at +ℤ offset) (load_length load_format) n ≡ true) (sym is.bytes.length) inside))
     by_test false outside = tt
@@ -175,74 +166,79 @@ kept_sound otherwise (Frame x) (value.Pointer pointer) admits rest = admits
 kept_sound otherwise k held admits rest = absurd admits
 
 -- a load of bytes within the frame
-within_sound : {known : Known} {state : State} → HasState known state → (load_format : LoadFormat) {x : Offsets} {at : ℤ} (offset : ℤ)
-    → Admits x at → lie_within x offset (load_length load_format) FRAME_LENGTH ≡ true
-    → unsigned_abs (at +ℤ offset) + load_length load_format ≤ length state.frame.bytes
-    → Sound kind.Admits (load_area known load_format (record { area = area.Frame; offsets = x }) offset)
-    (effect.load_within load_format state.frame (unsigned_abs (at +ℤ offset)))
-within_sound {known} {state} has load_format {x} {at} offset admits within inside =
-    by_slot (known_slot x offset (load_length load_format)) refl
-  where
-    from : ℕ
-    from = unsigned_abs (at +ℤ offset)
+module _ {known : Known} {state : State} (has : HasState known state) (load_format : LoadFormat) {x : Offsets} {at : ℤ} (offset : ℤ)
+    (admits : Admits x at) where
+  within_sound : lie_within x offset (load_length load_format) FRAME_LENGTH ≡ true
+      → unsigned_abs (at +ℤ offset) + load_length load_format ≤ length state.frame.bytes
+      → Sound kind.Admits (load_area known load_format (record { area = area.Frame; offsets = x }) offset)
+      (effect.load_within load_format state.frame (unsigned_abs (at +ℤ offset)))
+  within_sound within inside =
+      by_slot (known_slot x offset (load_length load_format)) refl
+    where
+      from : ℕ
+      from = unsigned_abs (at +ℤ offset)
 
-    by_marks : (marked : Bool) → all_marked known x offset (load_length load_format) ≡ marked
-        → Sound kind.Admits (if marked then Ok (Number (load load_format)) else Err UnwrittenFrame)
-        (effect.load_within load_format state.frame from)
-    by_marks true marked =
-        load_written load_format state.frame from has.bytes.frame inside
-        (marked_are_written has offset (load_length load_format) admits within marked)
-    by_marks false unmarked = tt
+      by_marks : (marked : Bool) → all_marked known x offset (load_length load_format) ≡ marked
+          → Sound kind.Admits (if marked then Ok (Number (load load_format)) else Err UnwrittenFrame)
+          (effect.load_within load_format state.frame from)
+      by_marks true marked =
+          load_written load_format state.frame from has.bytes.frame inside
+          (marked_are_written offset admits has (load_length load_format) within marked)
+      by_marks false unmarked = tt
 
-    bytes_sound : Sound kind.Admits (if all_marked known x offset (load_length load_format) then Ok
-        (Number (load load_format)) else Err UnwrittenFrame) (effect.load_within load_format state.frame from)
-    bytes_sound = by_marks (all_marked known x offset (load_length load_format)) refl
+      bytes_sound : Sound kind.Admits (if all_marked known x offset (load_length load_format) then Ok
+          (Number (load load_format)) else Err UnwrittenFrame) (effect.load_within load_format state.frame from)
+      bytes_sound = by_marks (all_marked known x offset (load_length load_format)) refl
 
-    by_slot : (found : Option ℕ) → known_slot x offset (load_length load_format) ≡ found
-        → Sound kind.Admits (load_area known load_format (record { area = area.Frame; offsets = x }) offset)
-        (effect.load_within load_format state.frame from)
-    by_slot None none = rw (none) bytes_sound
-    by_slot (Some slot) is =
-        let here : slot_at from (load_length load_format) ≡ Some slot =
-        known_slot_is x at offset (load_length load_format) slot admits is in
-        let bytes : Sound kind.Admits (if all_marked known x offset (load_length load_format) then Ok
-        (Number (load load_format)) else Err UnwrittenFrame) (effect.load_slot (slot_value state.frame slot)) =
-        rw (here) at bytes_sound in
-        rw (is, here) (kept_sound _ (slot_kind known.frame slot) (slot_value state.frame slot) (has.admits.frame.slots slot) bytes)
+      by_slot : (found : Option ℕ) → known_slot x offset (load_length load_format) ≡ found
+          → Sound kind.Admits (load_area known load_format (record { area = area.Frame; offsets = x }) offset)
+          (effect.load_within load_format state.frame from)
+      by_slot None none = rw (none) bytes_sound
+      by_slot (Some slot) is =
+          let here : slot_at from (load_length load_format) ≡ Some slot =
+          known_slot_is x at offset (load_length load_format) slot admits is in
+          let bytes : Sound kind.Admits (if all_marked known x offset (load_length load_format) then Ok
+          (Number (load load_format)) else Err UnwrittenFrame) (effect.load_slot (slot_value state.frame slot)) =
+          rw (here) at bytes_sound in
+          rw (is, here) (kept_sound _ (slot_kind known.frame slot) (slot_value state.frame slot) (has.admits.frame.slots slot) bytes)
 
-frame_sound : (known : Known) (state : State) → HasState known state → (load_format : LoadFormat) (x : Offsets) (at offset : ℤ)
-    → Admits x at
-    → Sound kind.Admits (load_from known load_format (record { area = area.Frame; offsets = x }) offset)
-    (effect.load_frame load_format state.frame (at +ℤ offset))
-frame_sound known state has load_format x at offset admits = by_test (lie_within x offset (load_length load_format) FRAME_LENGTH) refl
-  where
-    by_test : (within : Bool) → lie_within x offset (load_length load_format) FRAME_LENGTH ≡ within
-        → Sound kind.Admits (if within then load_area known load_format
-        (record { area = area.Frame; offsets = x }) offset else Err OutOfBounds) (effect.load_frame load_format state.frame (at +ℤ offset))
-    by_test true within =
-        let inside : effect.lie_within (at +ℤ offset) (load_length load_format) (length state.frame.bytes) ≡ true =
-        subst (λ (n : ℕ). effect.lie_within (at +ℤ offset) (load_length load_format) n ≡ true) (sym has.whole.frame)
-        (lies_within x at offset (load_length load_format) FRAME_LENGTH admits within) in
-        passes_if kind.Admits (load_area known load_format (record { area = area.Frame; offsets = x }) offset)
-        (effect.load_within load_format state.frame (unsigned_abs (at +ℤ offset)))
-        (effect.lie_within (at +ℤ offset) (load_length load_format) (length state.frame.bytes)) OutOfBounds inside
-        (within_sound has load_format offset admits within
-        (inside_ends (at +ℤ offset) (load_length load_format) (length state.frame.bytes) inside))
-    by_test false outside = tt
+  frame_sound : Sound kind.Admits (load_from known load_format (record { area = area.Frame; offsets = x }) offset)
+      (effect.load_frame load_format state.frame (at +ℤ offset))
+  frame_sound = by_test (lie_within x offset (load_length load_format) FRAME_LENGTH) refl
+    where
+      by_test : (within : Bool) → lie_within x offset (load_length load_format) FRAME_LENGTH ≡ within
+          → Sound kind.Admits (if within then load_area known load_format
+          (record { area = area.Frame; offsets = x }) offset else Err OutOfBounds) (effect.load_frame load_format state.frame (at +ℤ offset))
+      by_test true within =
+          let inside : effect.lie_within (at +ℤ offset) (load_length load_format) (length state.frame.bytes) ≡ true =
+          subst (λ (n : ℕ). effect.lie_within (at +ℤ offset) (load_length load_format) n ≡ true) (sym has.whole.frame)
+          (lies_within x at offset (load_length load_format) FRAME_LENGTH admits within) in
+          passes_if kind.Admits (load_area known load_format (record { area = area.Frame; offsets = x }) offset)
+          (effect.load_within load_format state.frame (unsigned_abs (at +ℤ offset)))
+          (effect.lie_within (at +ℤ offset) (load_length load_format) (length state.frame.bytes)) OutOfBounds inside
+          (within_sound within
+          (inside_ends (at +ℤ offset) (load_length load_format) (length state.frame.bytes) inside))
+      by_test false outside = tt
 
-pub load_from_sound : {segment : Contents} {known : Known} {state : State} → IsSegment segment → HasState known state
-    → (load_format : LoadFormat) {into : Area} {x : Offsets} (pointer : PointerParts) (offset : ℤ) → pointer.area ≡ into
-    → Admits x pointer.offset
-    → Sound kind.Admits (load_from known load_format (record { area = into; offsets = x }) offset)
-    (effect.load_from segment state load_format pointer.area (pointer.offset +ℤ offset))
-load_from_sound {segment} {known} {state} is has load_format {into = area.Record} {x} pointer offset into admits =
-    subst (λ (a : Area). Sound kind.Admits (load_from known load_format (record { area = area.Record; offsets = x }) offset)
-    (effect.load_from segment state load_format a (pointer.offset +ℤ offset))) (sym into)
-    (record_sound segment is load_format x pointer.offset offset admits)
-load_from_sound {segment} {known} {state} is has load_format {into = area.Frame} {x} pointer offset into admits =
-    subst (λ (a : Area). Sound kind.Admits (load_from known load_format (record { area = area.Frame; offsets = x }) offset)
-    (effect.load_from segment state load_format a (pointer.offset +ℤ offset))) (sym into)
-    (frame_sound known state has load_format x pointer.offset offset admits)
+-- a load from an area
+module _ {segment : Contents} {known : Known} {state : State} (is : IsSegment segment) (has : HasState known state)
+    (load_format : LoadFormat) where
+  load_sound : (into : Area) (x : Offsets) (pointer : PointerParts) (offset : ℤ) → pointer.area ≡ into → Admits x pointer.offset
+      → Sound kind.Admits (load_from known load_format (record { area = into; offsets = x }) offset)
+      (effect.load_from segment state load_format pointer.area (pointer.offset +ℤ offset))
+  load_sound area.Record x pointer offset into admits =
+      subst (λ (a : Area). Sound kind.Admits (load_from known load_format (record { area = area.Record; offsets = x }) offset)
+      (effect.load_from segment state load_format a (pointer.offset +ℤ offset))) (sym into)
+      (record_sound segment is load_format x pointer.offset offset admits)
+  load_sound area.Frame x pointer offset into admits =
+      subst (λ (a : Area). Sound kind.Admits (load_from known load_format (record { area = area.Frame; offsets = x }) offset)
+      (effect.load_from segment state load_format a (pointer.offset +ℤ offset))) (sym into)
+      (frame_sound has load_format offset admits)
+
+  pub load_from_sound : (pointers : Pointers) (pointer : PointerParts) (offset : ℤ) → PointsWithin pointers pointer
+      → Sound kind.Admits (load_from known load_format pointers offset)
+      (effect.load_from segment state load_format pointer.area (pointer.offset +ℤ offset))
+  load_from_sound pointers pointer offset points = load_sound pointers.area pointers.offsets pointer offset points.into points.admits
 
 -- stores
 
@@ -267,24 +263,6 @@ Stores segment state known change = AdmitsKnown known (carry_out segment state c
 -- the state after the bytes of a number are stored in the frame
 abbrev stored : Contents → State → ℤ → StoreSize → ℕ → State
 stored segment state from size number = carry_out segment state (StoreBytes (unsigned_abs from) size number)
-
-number_written : (segment : Contents) {known : Known} {state : State} → HasState known state
-    → {x : Offsets} {at : ℤ} (offset : ℤ) (size : StoreSize) (number : ℕ) → Admits x at
-    → lie_within x offset (store_length size) FRAME_LENGTH ≡ true
-    → AdmitsKnown (write_bytes known x offset (store_length size) (store_length size)) (stored segment state (at +ℤ offset) size number)
-number_written segment {state} has {x} {at} offset size number admits within =
-    let inside = inside_ends (at +ℤ offset) (store_length size) FRAME_LENGTH
-    (lies_within x at offset (store_length size) FRAME_LENGTH admits within) in
-    let fits : unsigned_abs (at +ℤ offset) + store_length size ≤ length state.frame.bytes = (let whole = has.whole.frame in omega arith) in
-    writes_admit offset admits (record { proper = has.proper; registers = has.admits.registers; frame = has.admits.frame })
-    (store_length size) (store_length size) (store_length size) within (omega arith) (omega arith)
-    (record {
-      stay = λ i written. stored_stays state.frame.bytes (unsigned_abs (at +ℤ offset)) (store_length size) number i fits written;
-      written = λ i above below. is_written-store_inside state.frame.bytes (unsigned_abs (at +ℤ offset))
-          (store_length size) number i fits above below;
-      kept = λ slot inside apart. slot_value-store_number_apart state.frame (unsigned_abs (at +ℤ offset))
-          (store_length size) number slot fits inside has.whole.slots apart;
-    })
 
 -- bytes of one slot aren't in another one
 other_slot : (slot other : ℕ) → other ≢ slot → IsApart other (SLOT_LENGTH * slot) SLOT_LENGTH
@@ -320,129 +298,144 @@ length-kept frame slot pointer fits = length-write frame.bytes (replicate SLOT_L
 slot_inside : (at count slot : ℕ) → slot_at at count ≡ Some slot → at + count ≤ FRAME_LENGTH → slot < SLOTS
 slot_inside at count slot is within = let whole = slot_at-is at count slot is in let wide = whole.0 in let place = whole.1 in omega arith
 
--- a number in a slot
-number_kept : (segment : Contents) {known : Known} {state : State} → HasState known state
-    → {k : Interval} (from : ℤ) (size : StoreSize) {slot : ℕ} (number : ℕ) → slot_at (unsigned_abs from) (store_length size) ≡ Some slot
-    → unsigned_abs from + store_length size ≤ FRAME_LENGTH → HasValue (Number k) (value.Number number)
-    → AdmitsKnown (record known { frame = set_slot known.frame slot (Number k) }) (stored segment state from size number)
-number_kept segment {known} {state} has {k} from size {slot} number is within holds =
-    let whole = slot_at-is (unsigned_abs from) (store_length size) slot is in
-    let below = slot_inside (unsigned_abs from) (store_length size) slot is within in
-    let long = has.whole.frame in
-    let fits : SLOT_LENGTH * slot + SLOT_LENGTH ≤ length state.frame.bytes = omega arith in
-    let most = holds.admits.below in let high = holds.proper.fits in
-    let small : number < 2 ^ 64 = omega arith in
-    let after : FrameContents = store_number state.frame (SLOT_LENGTH * slot) SLOT_LENGTH number in
-    let admitted : map.Admits (set_slot known.frame slot (Number k)) after =
-    set_slot_admits after has.proper.frame has.admits.frame slot (Number k) below
-    (let same = length-stored state.frame (SLOT_LENGTH * slot) SLOT_LENGTH number fits in omega arith) (λ e. cc)
-    (λ i apart written. stored_stays state.frame.bytes (SLOT_LENGTH * slot) SLOT_LENGTH number i fits written)
-    (λ other inside apart. slot_value-store_number_apart state.frame
-    (SLOT_LENGTH * slot) SLOT_LENGTH number other fits inside has.whole.slots (other_slot slot other apart))
-    (subst (kind.Admits (Number k)) (sym (slot_value-store_slot state.frame slot number fits small)) holds.admits) in
-    record {
-      registers = has.admits.registers;
-      frame = subst (λ (n : ℕ). map.Admits (set_slot known.frame slot (Number k)) (store_number state.frame n (store_length size) number))
-          (sym whole.1)
-          (subst (λ (n : ℕ). map.Admits (set_slot known.frame slot (Number k)) (store_number state.frame (SLOT_LENGTH * slot) n number))
-          (sym whole.0) admitted);
-    }
-
-number_keeps : (segment : Contents) {known : Known} {state : State} → HasState known state
-    → {k : Interval} {x : Offsets} {at : ℤ} (offset : ℤ) (size : StoreSize) (number : ℕ) → Admits x at
-    → lie_within x offset (store_length size) FRAME_LENGTH ≡ true → HasValue (Number k) (value.Number number)
-    → AdmitsKnown (keep known x offset (store_length size) (Number k) (known_slot x offset (store_length size)))
-    (stored segment state (at +ℤ offset) size number)
-number_keeps segment {known} {state} has {k} {x} {at} offset size number admits within holds =
-    by_slot (known_slot x offset (store_length size)) refl
-  where
-    by_slot : (found : Option ℕ) → known_slot x offset (store_length size) ≡ found
-        → AdmitsKnown (keep known x offset (store_length size) (Number k) found) (stored segment state (at +ℤ offset) size number)
-    by_slot None none = number_written segment has offset size number admits within
-    by_slot (Some slot) is =
-        number_kept segment has (at +ℤ offset) size number (known_slot_is x at offset (store_length size) slot admits is)
-        (inside_ends (at +ℤ offset) (store_length size) FRAME_LENGTH
-        (lies_within x at offset (store_length size) FRAME_LENGTH admits within)) holds
-
-number_sound : (segment : Contents) {known : Known} {state : State} → HasState known state
-    → {k : Interval} {x : Offsets} {offset from : ℤ} (size : StoreSize) (number : ℕ) → IsFrom offset x from
-    → HasValue (Number k) (value.Number number)
-    → Sound (Stores segment state) (store_at known x offset size (Number k)) (effect.store_number from size number)
-number_sound segment {known} {state} has {k} {x} {offset} {from} size number is holds =
-    by_test (lie_within x offset (store_length size) FRAME_LENGTH) refl
-  where
-    after : Known
-    after = keep known x offset (store_length size) (Number k) (known_slot x offset (store_length size))
-
-    by_test : (within : Bool) → lie_within x offset (store_length size) FRAME_LENGTH ≡ within
-        → Sound (Stores segment state) (if within then Ok after else Err OutOfBounds) (effect.store_number from size number)
-    by_test true within =
-        let inside = lies_within x is.at offset (store_length size) FRAME_LENGTH is.admits within in
-        subst (λ (z : ℤ). Sound (Stores segment state) (Ok after) (effect.store_number z size number)) (sym is.sum)
-        (passes_if (Stores segment state) (Ok after) (Ok (StoreBytes (unsigned_abs (is.at +ℤ offset)) size number))
-        (effect.lie_within (is.at +ℤ offset) (store_length size) FRAME_LENGTH) OutOfBounds inside
-        (number_keeps segment has offset size number is.admits within holds))
-    by_test false outside = tt
-
--- a pointer in a slot
-pointer_kept : (segment : Contents) {known : Known} {state : State} → HasState known state → {k : Kind} (slot : ℕ) (pointer : PointerParts)
-    → slot < SLOTS → k ≢ Nothing → kind.Admits k (value.Pointer pointer)
-    → AdmitsKnown (record known { frame = set_slot known.frame slot k }) (carry_out segment state (StorePointer slot pointer))
-pointer_kept segment {known} {state} has {k} slot pointer below known_kind holds =
-    let long = has.whole.frame in let many = has.whole.slots in
-    let fits : SLOT_LENGTH * slot + SLOT_LENGTH ≤ length state.frame.bytes = omega arith in
-    let after : FrameContents = keep_pointer state.frame slot pointer in
-    record {
-      registers = has.admits.registers;
-      frame = set_slot_admits after has.proper.frame has.admits.frame slot k below
-          (let same = length-kept state.frame slot pointer fits in omega arith) known_kind
-          (λ i apart written. stays_outside state.frame slot pointer i fits apart ∙ written)
-          (λ other inside apart. slot_value-keep_pointer_apart state.frame slot pointer other fits apart)
-          (subst (kind.Admits k) (sym (slot_value-keep_pointer state.frame slot pointer fits (omega arith))) holds);
-    }
-
 -- the store of a pointer of a kind, into a slot if one is known
 abbrev keeps_kind : Known → Offsets → ℤ → StoreSize → Kind → Option ℕ → Result Known Cause
 keeps_kind known x offset size k found =
     storable found k >>= λ k. if lie_within x offset (store_length size) FRAME_LENGTH then Ok
     (keep known x offset (store_length size) k found) else Err OutOfBounds
 
-pointer_sound : (segment : Contents) {known : Known} {state : State} → HasState known state
-    → {k : Kind} {x : Offsets} {offset from : ℤ} (size : StoreSize) (pointer : PointerParts) → IsFrom offset x from
-    → kind.Admits k (value.Pointer pointer) → ArePointers k
-    → Sound (Stores segment state) (store_at known x offset size k) (effect.store_pointer from size pointer)
-pointer_sound segment {known} {state} has {k} {x} {offset} {from} size pointer is holds pointers =
-    by_slot (known_slot x offset (store_length size)) refl
-  where
-    into_slot : (slot : ℕ) → slot_at (unsigned_abs (is.at +ℤ offset)) (store_length size) ≡ Some slot → (within : Bool)
-        → lie_within x offset (store_length size) FRAME_LENGTH ≡ within
-        → Sound (Stores segment state) (if within then Ok (record known { frame = set_slot known.frame slot k }) else Err OutOfBounds)
-        (if effect.lie_within (is.at +ℤ offset) (store_length size) FRAME_LENGTH then Ok
-        (StorePointer slot pointer) else Err OutOfBounds)
-    into_slot slot here true within =
-        let inside = lies_within x is.at offset (store_length size) FRAME_LENGTH is.admits within in
-        passes_if (Stores segment state) (Ok (record known { frame = set_slot known.frame slot k })) (Ok (StorePointer slot pointer))
-        (effect.lie_within (is.at +ℤ offset) (store_length size) FRAME_LENGTH) OutOfBounds inside
-        (pointer_kept segment has slot pointer
-        (slot_inside _ _ slot here (inside_ends (is.at +ℤ offset) (store_length size) FRAME_LENGTH inside)) pointers.known holds)
-    into_slot slot here false outside = tt
+-- what is stored in an admitted state
+module _ (segment : Contents) {known : Known} {state : State} (has : HasState known state) where
+  -- the bytes of a number
+  number_written : {x : Offsets} {at : ℤ} (offset : ℤ) (size : StoreSize) (number : ℕ) → Admits x at
+      → lie_within x offset (store_length size) FRAME_LENGTH ≡ true
+      → AdmitsKnown (write_bytes known x offset (store_length size) (store_length size)) (stored segment state (at +ℤ offset) size number)
+  number_written {x} {at} offset size number admits within =
+      let inside = inside_ends (at +ℤ offset) (store_length size) FRAME_LENGTH
+      (lies_within x at offset (store_length size) FRAME_LENGTH admits within) in
+      let fits : unsigned_abs (at +ℤ offset) + store_length size ≤ length state.frame.bytes = (let whole = has.whole.frame in omega arith) in
+      writes_admit offset admits (record { proper = has.proper; registers = has.admits.registers; frame = has.admits.frame })
+      (store_length size) (store_length size) (store_length size) within (omega arith) (omega arith)
+      (record {
+        stay = λ i written. stored_stays state.frame.bytes (unsigned_abs (at +ℤ offset)) (store_length size) number i fits written;
+        written = λ i above below. is_written-store_inside state.frame.bytes (unsigned_abs (at +ℤ offset))
+            (store_length size) number i fits above below;
+        kept = λ slot inside apart. slot_value-store_number_apart state.frame (unsigned_abs (at +ℤ offset))
+            (store_length size) number slot fits inside has.whole.slots apart;
+      })
 
-    by_slot : (found : Option ℕ) → known_slot x offset (store_length size) ≡ found
-        → Sound (Stores segment state) (keeps_kind known x offset size k found) (effect.store_pointer from size pointer)
-    by_slot None none = rw (pointers.nowhere) tt
-    by_slot (Some slot) known_here =
-        let here = known_slot_is x is.at offset (store_length size) slot is.admits known_here in
-        subst (λ (z : ℤ). Sound (Stores segment state) (keeps_kind known x offset size k (Some slot)) (effect.store_pointer z size pointer))
-        (sym is.sum)
-        (rw (pointers.somewhere slot, here) (into_slot slot here (lie_within x offset (store_length size) FRAME_LENGTH) refl))
+  -- a number in a slot
+  number_kept : {k : Interval} (from : ℤ) (size : StoreSize) {slot : ℕ} (number : ℕ) → slot_at (unsigned_abs from) (store_length size) ≡ Some slot
+      → unsigned_abs from + store_length size ≤ FRAME_LENGTH → HasValue (Number k) (value.Number number)
+      → AdmitsKnown (record known { frame = set_slot known.frame slot (Number k) }) (stored segment state from size number)
+  number_kept {k} from size {slot} number is within holds =
+      let whole = slot_at-is (unsigned_abs from) (store_length size) slot is in
+      let below = slot_inside (unsigned_abs from) (store_length size) slot is within in
+      let long = has.whole.frame in
+      let fits : SLOT_LENGTH * slot + SLOT_LENGTH ≤ length state.frame.bytes = omega arith in
+      let most = holds.admits.below in let high = holds.proper.fits in
+      let small : number < 2 ^ 64 = omega arith in
+      let after : FrameContents = store_number state.frame (SLOT_LENGTH * slot) SLOT_LENGTH number in
+      let admitted : map.Admits (set_slot known.frame slot (Number k)) after =
+      set_slot_admits after has.proper.frame has.admits.frame slot (Number k) below
+      (let same = length-stored state.frame (SLOT_LENGTH * slot) SLOT_LENGTH number fits in omega arith) (λ e. cc)
+      (λ i apart written. stored_stays state.frame.bytes (SLOT_LENGTH * slot) SLOT_LENGTH number i fits written)
+      (λ other inside apart. slot_value-store_number_apart state.frame
+      (SLOT_LENGTH * slot) SLOT_LENGTH number other fits inside has.whole.slots (other_slot slot other apart))
+      (subst (kind.Admits (Number k)) (sym (slot_value-store_slot state.frame slot number fits small)) holds.admits) in
+      record {
+        registers = has.admits.registers;
+        frame = subst (λ (n : ℕ). map.Admits (set_slot known.frame slot (Number k)) (store_number state.frame n (store_length size) number))
+            (sym whole.1)
+            (subst (λ (n : ℕ). map.Admits (set_slot known.frame slot (Number k)) (store_number state.frame (SLOT_LENGTH * slot) n number))
+            (sym whole.0) admitted);
+      }
 
-pub store_at_sound : (segment : Contents) {known : Known} {state : State} → HasState known state
-    → {x : Offsets} {offset from : ℤ} (size : StoreSize) (k : Kind) (held : Value) → IsFrom offset x from → HasValue k held
-    → Sound (Stores segment state) (store_at known x offset size k) (effect.store_at from size held)
-store_at_sound segment has size (Number k) (value.Number n) is holds = number_sound segment has size n is holds
-store_at_sound segment has size (Record k) (value.Pointer pointer) is holds =
-    pointer_sound segment has size pointer is holds.admits (record_pointers k)
-store_at_sound segment has size (Frame k) (value.Pointer pointer) is holds =
-    pointer_sound segment has size pointer is holds.admits (frame_pointers k)
-store_at_sound segment has size Nothing held is holds = tt
-store_at_sound segment has size k held is holds = absurd holds.admits
+  -- a pointer in a slot
+  pointer_kept : {k : Kind} (slot : ℕ) (pointer : PointerParts)
+      → slot < SLOTS → k ≢ Nothing → kind.Admits k (value.Pointer pointer)
+      → AdmitsKnown (record known { frame = set_slot known.frame slot k }) (carry_out segment state (StorePointer slot pointer))
+  pointer_kept {k} slot pointer below known_kind holds =
+      let long = has.whole.frame in let many = has.whole.slots in
+      let fits : SLOT_LENGTH * slot + SLOT_LENGTH ≤ length state.frame.bytes = omega arith in
+      let after : FrameContents = keep_pointer state.frame slot pointer in
+      record {
+        registers = has.admits.registers;
+        frame = set_slot_admits after has.proper.frame has.admits.frame slot k below
+            (let same = length-kept state.frame slot pointer fits in omega arith) known_kind
+            (λ i apart written. stays_outside state.frame slot pointer i fits apart ∙ written)
+            (λ other inside apart. slot_value-keep_pointer_apart state.frame slot pointer other fits apart)
+            (subst (kind.Admits k) (sym (slot_value-keep_pointer state.frame slot pointer fits (omega arith))) holds);
+      }
+
+-- the same, from one of some offsets on
+module _ (segment : Contents) {known : Known} {state : State} (has : HasState known state) {x : Offsets} {offset from : ℤ}
+    (size : StoreSize) (is : IsFrom offset x from) where
+  number_keeps : {k : Interval} (number : ℕ) → lie_within x offset (store_length size) FRAME_LENGTH ≡ true → HasValue (Number k) (value.Number number)
+      → AdmitsKnown (keep known x offset (store_length size) (Number k) (known_slot x offset (store_length size)))
+      (stored segment state (is.at +ℤ offset) size number)
+  number_keeps {k} number within holds =
+      by_slot (known_slot x offset (store_length size)) refl
+    where
+      by_slot : (found : Option ℕ) → known_slot x offset (store_length size) ≡ found
+          → AdmitsKnown (keep known x offset (store_length size) (Number k) found) (stored segment state (is.at +ℤ offset) size number)
+      by_slot None none = number_written segment has offset size number is.admits within
+      by_slot (Some slot) found =
+          number_kept segment has (is.at +ℤ offset) size number (known_slot_is x is.at offset (store_length size) slot is.admits found)
+          (inside_ends (is.at +ℤ offset) (store_length size) FRAME_LENGTH
+          (lies_within x is.at offset (store_length size) FRAME_LENGTH is.admits within)) holds
+
+  number_sound : {k : Interval} (number : ℕ) → HasValue (Number k) (value.Number number)
+      → Sound (Stores segment state) (store_at known x offset size (Number k)) (effect.store_number from size number)
+  number_sound {k} number holds =
+      by_test (lie_within x offset (store_length size) FRAME_LENGTH) refl
+    where
+      after : Known
+      after = keep known x offset (store_length size) (Number k) (known_slot x offset (store_length size))
+
+      by_test : (within : Bool) → lie_within x offset (store_length size) FRAME_LENGTH ≡ within
+          → Sound (Stores segment state) (if within then Ok after else Err OutOfBounds) (effect.store_number from size number)
+      by_test true within =
+          let inside = lies_within x is.at offset (store_length size) FRAME_LENGTH is.admits within in
+          subst (λ (z : ℤ). Sound (Stores segment state) (Ok after) (effect.store_number z size number)) (sym is.sum)
+          (passes_if (Stores segment state) (Ok after) (Ok (StoreBytes (unsigned_abs (is.at +ℤ offset)) size number))
+          (effect.lie_within (is.at +ℤ offset) (store_length size) FRAME_LENGTH) OutOfBounds inside
+          (number_keeps number within holds))
+      by_test false outside = tt
+
+  pointer_sound : {k : Kind} (pointer : PointerParts) → kind.Admits k (value.Pointer pointer) → ArePointers k
+      → Sound (Stores segment state) (store_at known x offset size k) (effect.store_pointer from size pointer)
+  pointer_sound {k} pointer holds pointers =
+      by_slot (known_slot x offset (store_length size)) refl
+    where
+      into_slot : (slot : ℕ) → slot_at (unsigned_abs (is.at +ℤ offset)) (store_length size) ≡ Some slot → (within : Bool)
+          → lie_within x offset (store_length size) FRAME_LENGTH ≡ within
+          → Sound (Stores segment state) (if within then Ok (record known { frame = set_slot known.frame slot k }) else Err OutOfBounds)
+          (if effect.lie_within (is.at +ℤ offset) (store_length size) FRAME_LENGTH then Ok
+          (StorePointer slot pointer) else Err OutOfBounds)
+      into_slot slot here true within =
+          let inside = lies_within x is.at offset (store_length size) FRAME_LENGTH is.admits within in
+          passes_if (Stores segment state) (Ok (record known { frame = set_slot known.frame slot k })) (Ok (StorePointer slot pointer))
+          (effect.lie_within (is.at +ℤ offset) (store_length size) FRAME_LENGTH) OutOfBounds inside
+          (pointer_kept segment has slot pointer
+          (slot_inside _ _ slot here (inside_ends (is.at +ℤ offset) (store_length size) FRAME_LENGTH inside)) pointers.known holds)
+      into_slot slot here false outside = tt
+
+      by_slot : (found : Option ℕ) → known_slot x offset (store_length size) ≡ found
+          → Sound (Stores segment state) (keeps_kind known x offset size k found) (effect.store_pointer from size pointer)
+      by_slot None none = rw (pointers.nowhere) tt
+      by_slot (Some slot) known_here =
+          let here = known_slot_is x is.at offset (store_length size) slot is.admits known_here in
+          subst (λ (z : ℤ). Sound (Stores segment state) (keeps_kind known x offset size k (Some slot)) (effect.store_pointer z size pointer))
+          (sym is.sum)
+          (rw (pointers.somewhere slot, here) (into_slot slot here (lie_within x offset (store_length size) FRAME_LENGTH) refl))
+
+  pub store_at_sound : (k : Kind) (held : Value) → HasValue k held
+      → Sound (Stores segment state) (store_at known x offset size k) (effect.store_at from size held)
+  store_at_sound (Number k) (value.Number n) holds = number_sound n holds
+  store_at_sound (Record k) (value.Pointer pointer) holds =
+      pointer_sound pointer holds.admits (record_pointers k)
+  store_at_sound (Frame k) (value.Pointer pointer) holds =
+      pointer_sound pointer holds.admits (frame_pointers k)
+  store_at_sound Nothing held holds = tt
+  store_at_sound k held holds = absurd holds.admits

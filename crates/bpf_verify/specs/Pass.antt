@@ -109,6 +109,6 @@ abbrev pub visit_of : Ahead → Insn → Visit
 visit_of ahead insn = record { place = ahead.place; insn = insn; state = kept ahead ahead.place }
 
 -- a visitor was shown the instruction whose check failed
-abbrev pub IsRefusedVisit : {V : Type 0} → (V → Visit → V) → Ahead → Insn → VerifyFault → V → V → Type 0
-IsRefusedVisit visited ahead insn (Refused place cause) old new = new ≡ visited old (visit_of ahead insn)
-IsRefusedVisit visited ahead insn Memory old new = Unit {0}
+abbrev pub IsRefusedVisit : {V : Type 0} → (V → Visit → V) → Visit → VerifyFault → V → V → Type 0
+IsRefusedVisit visited visit (Refused place cause) old new = new ≡ visited old visit
+IsRefusedVisit visited visit Memory old new = Unit {0}

@@ -104,7 +104,7 @@ fn visit<A: Allocator + Copy, V: Visitor>(
     ensures immediates { HasImmediates insn }
     ensures err { IfErr result (IsVisitFault ahead.old insn) }
     ensures shown { OnOk result (visitor.new ≡ V.visited visitor.old (visit_of ahead.old insn)) }
-    ensures shown_refusal { IfErr result (λ fault. IsRefusedVisit V.visited ahead.old insn fault visitor.old visitor.new) }
+    ensures shown_refusal { IfErr result (λ fault. IsRefusedVisit V.visited (visit_of ahead.old insn) fault visitor.old visitor.new) }
 {
     let place = ahead.place();
     let target = ahead.target();

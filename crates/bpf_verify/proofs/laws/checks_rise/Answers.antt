@@ -15,7 +15,7 @@ returns-clause-load c = λ lower higher. rises.load_rises
 
 pub returns-clause-store : goal.returns-clause-store
 returns-clause-store c = λ lower higher x n offset size k l below proper within proper_kind stored.
-    store_at_lower below offset size k l (record { within = within; ordered = proper.ordered }) (is_lower k l stored proper_kind)
+    store_at_lower below offset (record { within = within; ordered = proper.ordered }) size k l (is_lower k l stored proper_kind)
 
 pub returns-clause-argument : goal.returns-clause-argument
 returns-clause-argument c = rises.argument_rises

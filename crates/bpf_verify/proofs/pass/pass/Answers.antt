@@ -102,16 +102,16 @@ returns-clause-ok g c =
 pub returns-clause-shown : goal.returns-clause-shown
 returns-clause-shown g c =
     let same = c.instructions-instructions.ensures.value ∙ c.code.ensures.value in
-    shows g.V.Visitor.visited _ _ c.loop-insn.ahead c.args.visitor.now c.loop-insn.visitor (take_all c.loop-insn.insn-index c.args.flow.now.code
+    shows g.V.Visitor.visited c.args.visitor.now c.loop-insn.visitor (take_all c.loop-insn.insn-index c.args.flow.now.code
     (let long = ap length same in omega (arith, c.loop-insn-test.false))) c.loop-insn.invariant.way c.loop-insn.invariant.shown
 
 pub returns-in_err-visit-clause-shown_refusal : goal.returns-in_err-visit-clause-shown_refusal
 returns-in_err-visit-clause-shown_refusal g c =
     let invariant = c.loop-insn.invariant in
     let same = c.instructions-instructions.ensures.value ∙ c.code.ensures.value in
-    let shown = shows_refusal g.V.Visitor.visited c.insn-item.result c.loop-insn.insn-index c.in_err-visit.field-0.0 c.args.visitor.now
-    c.loop-insn.visitor c.visit.new.visitor (passed_more c.loop-insn.insn-index same c.loop-insn-test.true c.insn-item.is)
-    invariant.way invariant.shown c.in_err-visit.ensures.err c.in_err-visit.ensures.shown_refusal in
+    let shown = shows_refusal g.V.Visitor.visited c.loop-insn.insn-index c.args.visitor.now invariant.way invariant.shown
+    c.insn-item.result (passed_more c.loop-insn.insn-index same c.loop-insn-test.true c.insn-item.is) c.visit.new.visitor
+    c.in_err-visit.field-0.0 c.in_err-visit.ensures.err c.in_err-visit.ensures.shown_refusal in
     search rules
 
 pub returns-clause-safe : goal.returns-clause-safe

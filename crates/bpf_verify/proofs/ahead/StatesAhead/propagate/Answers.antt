@@ -25,8 +25,13 @@ stay_ahead g c entries joined =
     let target = c.in-Some.target in
     let ahead = subst (λ (a : Ahead). IsTargetAhead a.code a.place target) (sym c.self.view_is)
     (subst (λ (o : Option ℕ). IfSome o (IsTargetAhead c.args.self.now.code c.args.self.now.place)) c.in-Some.is c.requires.target) in
-    joined_ahead (states_in entries) (Reached c.in-Some-target.known.value) c.self.invariant c.requires.proper.next
-    (subst (λ (k : Option (Box Known _)). IsProper (state_of k)) c.in-Some-target.is c.requires.proper.target) ahead joined
+    joined_ahead (states_in entries) (record { next = state_of c.args.edges.next; target = Reached c.in-Some-target.known.value })
+    c.self.invariant
+    (record {
+      next = c.requires.proper.next;
+      target = subst (λ (k : Option (Box Known _)). IsProper (state_of k)) c.in-Some-target.is c.requires.proper.target;
+    })
+    ahead joined
 
 -- the same, said of the arguments
 are_joined : (g : Over) (c : After-get_mut g) (entries : List (ℕ × Box Known g.row.A.Denot)) → IsJoined g c entries → (other : ℕ)
