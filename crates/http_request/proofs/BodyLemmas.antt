@@ -1,7 +1,7 @@
 -- What is known about a body while it's read.
 use Rattle.std.proofs.Common.{◌≡◌, ◌≢◌, ℕ, ◌+◌, ◌<◌, ◌≤◌, List, [], ◌++◌, length, take, min, inl, inr, ◌∙◌, ap, arith, refl, sym}
 use Rattle.std.proofs.Common.{append_assoc, length-append}
-use Rattle.std.proofs.lemmas.List.{append-nil, length-take, length-take-le, nil_from_length, take-append-le, take_all, take_min}
+use Rattle.std.proofs.lemmas.List.{append-nil, length-take, length-take-le, nil_from_length, take_all, take_min}
 use Rattle.std.proofs.lemmas.Bool.{cases_lt}
 use Rattle.std.specs.Io.KnownBytes.{IsAtEnd, Keeps}
 use Rattle.counted_io.specs.Device.{Reader}
@@ -36,60 +36,50 @@ so_far-length after_head count body old new so_far short =
     omega (arith, ap length so_far.is_body, length-append (take count after_head) so_far.taken, length-take count after_head)
 
 -- one more piece, with the bytes that a read returned
-pub body_more : {after_head : List ℕ} {count : ℕ} {body more : List ℕ} (given rest : List ℕ) (read : ℕ) {old now new : Reader}
-    → IsBodySoFar after_head count body old now → Takes (take read given) now new → more ≡ body ++ take read (given ++ rest)
-    → read ≤ length given → length body + read ≤ count → IsBodySoFar after_head count more old new
-body_more {after_head} {count} {body} {more} given rest read {old} {now} {new} so_far takes is inside fits =
-    let same : more ≡ body ++ take read given = is ∙ ap (λ (xs : List ℕ). body ++ xs) (take-append-le read given rest inside) in
-    record {
-      taken = so_far.taken ++ take read given;
-      takes = Takes-append so_far.taken (take read given) old now new so_far.takes takes;
-      is_body = same ∙ ap (λ (xs : List ℕ). xs ++ take read given) so_far.is_body
-          ∙ append_assoc (take count after_head) so_far.taken (take read given);
-      within = omega (arith, ap length same, length-append body (take read given), length-take-le read given inside);
-    }
+pub body_more : {after_head : List ℕ} {count : ℕ} {body more : List ℕ} (piece : List ℕ) {old now new : Reader}
+    → IsBodySoFar after_head count body old now → Takes piece now new → more ≡ body ++ piece → length body + length piece ≤ count
+    → IsBodySoFar after_head count more old new
+body_more {after_head} {count} {body} piece so_far takes is fits = record {
+  taken = so_far.taken ++ piece;
+  takes = Takes-append so_far.taken piece _ _ _ so_far.takes takes;
+  is_body = is ∙ ap (λ (xs : List ℕ). xs ++ piece) so_far.is_body ∙ append_assoc (take count after_head) so_far.taken piece;
+  within = omega (arith, ap length is, length-append body piece);
+}
 
 -- the input ended
-pub body_ends : {after_head : List ℕ} {count : ℕ} {body : List ℕ} (piece : List ℕ) {read : ℕ} {old now new : Reader}
-    → IsBodySoFar after_head count body old now → length body < count → Takes (take read piece) now new → read ≡ 0 → IsAtEnd new.left
+pub body_ends : {after_head : List ℕ} {count : ℕ} {body : List ℕ} (piece : List ℕ) {old now new : Reader}
+    → IsBodySoFar after_head count body old now → length body < count → Takes piece now new → piece ≡ [] → IsAtEnd new.left
     → EndsInBody after_head count old new
-body_ends {after_head} {count} {body} piece {read} {old} {now} {new} so_far short takes none ended = record {
-  taken = so_far.taken ++ take read piece;
-  takes = Takes-append so_far.taken (take read piece) old now new so_far.takes takes;
+body_ends {after_head} piece so_far short takes none ended = record {
+  taken = so_far.taken ++ piece;
+  takes = Takes-append so_far.taken piece _ _ _ so_far.takes takes;
   ended = ended;
-  short = rw (none, append-nil) (omega (arith, length-append after_head so_far.taken, so_far-length after_head count body old now so_far short));
+  short = rw (none, append-nil) (omega (arith, length-append after_head so_far.taken, so_far-length _ _ _ _ _ so_far short));
 }
 
 -- a read failed
 pub body_fails : {after_head : List ℕ} {count : ℕ} {body : List ℕ} {old now new : Reader} → IsBodySoFar after_head count body old now
     → length body < count → Keeps now.left new.left → new.failed ≢ now.failed → FailsInBody after_head count old new
-body_fails {after_head} {count} {body} {old} {now} {new} so_far short keeps failed = record {
+body_fails {after_head} so_far short keeps failed = record {
   taken = so_far.taken ++ [];
   fails = record {
-    consumed = Consumes-append old.left now.left new.left so_far.taken [] so_far.takes.consumed
-        (Consumes-from_keeps now.left new.left keeps);
+    consumed = Consumes-append _ _ _ so_far.taken [] so_far.takes.consumed (Consumes-from_keeps _ _ keeps);
     failed = λ same. failed (same ∙ sym so_far.takes.failed);
   };
-  short = rw append-nil (omega (arith, length-append after_head so_far.taken, so_far-length after_head count body old now so_far short));
+  short = rw append-nil (omega (arith, length-append after_head so_far.taken, so_far-length _ _ _ _ _ so_far short));
 }
 
 -- an allocation failed for a piece
-pub body_out_of_memory : {after_head : List ℕ} {count : ℕ} {body : List ℕ} (given : List ℕ) (read : ℕ) {old now new : Reader}
-    → IsBodySoFar after_head count body old now → length body < count → Takes (take read given) now new → 0 < read → read ≤ length given
-    → length body + read ≤ count → OutOfMemoryInBody after_head count old new
-body_out_of_memory {after_head} {count} {body} given read {old} {now} {new} so_far short takes some inside fits = record {
-  taken = so_far.taken ++ take read given;
-  takes = Takes-append so_far.taken (take read given) old now new so_far.takes takes;
-  within = omega (
-    arith,
-    length-append so_far.taken (take read given),
-    length-take-le read given inside,
-    so_far-length after_head count body old now so_far short,
-  );
+pub body_out_of_memory : {after_head : List ℕ} {count : ℕ} {body : List ℕ} (piece : List ℕ) {old now new : Reader}
+    → IsBodySoFar after_head count body old now → length body < count → Takes piece now new → 0 < length piece
+    → length body + length piece ≤ count → OutOfMemoryInBody after_head count old new
+body_out_of_memory {after_head} piece so_far short takes some fits = record {
+  taken = so_far.taken ++ piece;
+  takes = Takes-append so_far.taken piece _ _ _ so_far.takes takes;
+  within = omega (arith, length-append so_far.taken piece, so_far-length _ _ _ _ _ so_far short);
   nonempty = omega arith;
   received = (
-      let all = length-append after_head (so_far.taken ++ take read given) in let last = length-append so_far.taken (take read given) in
-      let long = length-take-le read given inside in omega (arith, some));
+      let all = length-append after_head (so_far.taken ++ piece) in let last = length-append so_far.taken piece in omega (arith, some));
 }
 
 -- bytes that fit are the first of all bytes

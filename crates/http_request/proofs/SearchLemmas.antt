@@ -2,7 +2,7 @@
 use Rattle.std.proofs.Common.{◌≡◌, ◌≢◌, ℕ, ◌+◌, ◌<◌, ◌≤◌, List, [], ◌++◌, length, take, drop, ◌∙◌, ap, arith, refl, sym, inl}
 use Rattle.std.proofs.lemmas.List.{append-nil, take-append-le, take_at, take-append-drop, length-take-le}
 use Rattle.std.proofs.Math.Seq.{take-append-add}
-use Rattle.std.specs.Io.KnownBytes.{Consumes, Keeps}
+use Rattle.std.specs.Io.KnownBytes.{Keeps}
 use borrow.Rule.Slice.PartMut.{put_mid, post_of}
 use Rattle.httparse.specs.Grammar.{HasNoRequest, MayBecomeRequest, print_request}
 use Rattle.httparse.specs.Spans.{RequestOverflows}
@@ -40,12 +40,11 @@ take-put_mid_read bytes piece count room read inside fits =
     (take-append-le read piece rest fits)
 
 -- one more read
-pub takes_more : {bytes : List ℕ} (piece : List ℕ) {count : ℕ} (room read : ℕ) {old now : Reader} (new : Reader)
-    → HasReadSoFar bytes count old now → read ≤ length piece → Consumes now.left new.left (take read piece) → new.failed ≡ now.failed
-    → Takes (take (count + read) (put_mid count room bytes piece)) old new
-takes_more {bytes} piece {count} room read {old} {now} new so_far fits consumed failed =
+pub takes_more : {bytes : List ℕ} (piece : List ℕ) {count : ℕ} (room read : ℕ) {old now new : Reader} → HasReadSoFar bytes count old now
+    → read ≤ length piece → Takes (take read piece) now new → Takes (take (count + read) (put_mid count room bytes piece)) old new
+takes_more {bytes} piece {count} room read so_far fits takes =
     rw (take-put_mid_read bytes piece count room read so_far.inside fits) (
-    Takes-append (take count bytes) (take read piece) old now new so_far.takes (record { consumed = consumed; failed = failed })
+    Takes-append (take count bytes) (take read piece) _ _ _ so_far.takes takes
     )
 
 -- bytes that hold no request hold no head
@@ -93,11 +92,11 @@ no_head_by_limit bytes count old new full past so_far = record {
 -- a read failed, and it took no byte
 pub fails : {bytes : List ℕ} {count : ℕ} {old now new : Reader} → length bytes ≡ 8192 → count < length bytes
     → HasReadSoFar bytes count old now → Keeps now.left new.left → new.failed ≢ now.failed → FailsInHead old new
-fails {bytes} {count} {old} {now} {new} full inside so_far keeps failed = record {
+fails {bytes} {count} full inside so_far keeps failed = record {
   taken = take count bytes;
   fails = record {
-    consumed = rw append-nil at (Consumes-append old.left now.left new.left (take count bytes) [] so_far.takes.consumed
-        (Consumes-from_keeps now.left new.left keeps));
+    consumed = rw append-nil at (Consumes-append _ _ _ (take count bytes) [] so_far.takes.consumed
+        (Consumes-from_keeps _ _ keeps));
     failed = λ same. failed (same ∙ sym so_far.takes.failed);
   };
   part = HasNoHead-from_request (take count bytes) so_far.none;
