@@ -25,8 +25,8 @@ none_so_far content input e = rw e (record {
 -- one more byte that is not a line feed
 pub one_more : (content : List ℕ) {byte : ℕ} (bytes now left : Option (List ℕ)) → HasNoLineFeed content → Consumes bytes now content
     → byte ≢ 10 → Consumes now left (byte ∷ []) → HasNoLineFeed (content ++ byte ∷ []) × Consumes bytes left (content ++ byte ∷ [])
-one_more content {byte} bytes now left p taken q read =
-    (All-push (λ b. b ≢ 10) content byte p q, Consumes-append bytes now left content (byte ∷ []) taken read)
+one_more content bytes now left p taken q read =
+    (All-push (λ b. b ≢ 10) content _ p q, Consumes-append bytes now left content _ taken read)
 
 -- a read that returned no byte
 pub no_more : (content : List ℕ) (bytes now left : Option (List ℕ)) → Consumes bytes now content → Consumes now left []
