@@ -82,21 +82,30 @@ aligned_number bs ds blanks digits some few =
     rw (trimmed, le-leb 1 (length ds) some, le-leb (length ds) 11 few, digits) refl
 
 -- bytes of a line from a place on, if they pass a test in the vector that begins there
-passes_in_front : (p : ℕ → Bool) (line : List ℕ) (start count r : ℕ) → start + 16 ≤ length line → count ≤ r → r ≤ 16
-    → ((k : ℕ) → k < r → p (get_or (chunk start 16 line) k 0) ≡ true) → list_all p (take count (drop start line)) ≡ true
-passes_in_front p line start count r within few lanes front =
+passes_in_front : (p : ℕ → Bool) (line : List ℕ) (start count : ℕ) → start + 16 ≤ length line → count ≤ 16
+    → ((k : ℕ) → k < count → p (get_or (chunk start 16 line) k 0) ≡ true) → list_all p (take count (drop start line)) ≡ true
+passes_in_front p line start count within lanes front =
     list_all-from_AllPass p (take count (drop start line)) (All-from_get_or (λ b. p b ≡ true) (take count (drop start line)) 0 (λ k inside.
     let low : k < count = omega (arith, length-take count (drop start line)) in
     let same = get_or-take count (drop start line) k 0 low ∙ get_or-drop start line k 0
     ∙ sym (get_or-chunk start 16 line k 0 (omega arith)) in
-    ap p same ∙ front k (omega arith)))
+    ap p same ∙ front k low))
 
--- a field of blanks and then digits, by the vectors that begin with each
-pub aligned_field : (line : List ℕ) (start count blanks digits : ℕ) → start + 32 ≤ length line → blanks < count → count - blanks ≤ digits
-    → count - blanks ≤ 11 → blanks ≤ 16 → digits ≤ 16 → ((k : ℕ) → k < blanks → get_or (chunk start 16 line) k 0 ≡ 32)
-    → ((k : ℕ) → k < digits → is_ascii_digit (get_or (chunk (start + blanks) 16 line) k 0) ≡ true)
+-- a field of blanks and then digits: the first bytes of the vectors that begin with each
+pub record IsAlignedField (line : List ℕ) (start count blanks digits : ℕ) : Type 0 where
+  pub within : start + 32 ≤ length line
+  pub some : blanks < count
+  pub ends : count - blanks ≤ digits
+  pub few : count - blanks ≤ 11
+  pub blanks_few : blanks ≤ 16
+  pub digits_few : digits ≤ 16
+  pub are_blanks : (k : ℕ) → k < blanks → get_or (chunk start 16 line) k 0 ≡ 32
+  pub are_digits : (k : ℕ) → k < digits → is_ascii_digit (get_or (chunk (start + blanks) 16 line) k 0) ≡ true
+
+pub aligned_field : (line : List ℕ) (start count blanks digits : ℕ) → IsAlignedField line start count blanks digits
     → is_some (number_of (take count (drop start line))) ≡ true
-aligned_field line start count blanks digits within some ends few blanks_few digits_few are_blanks are_digits =
+aligned_field line start count blanks digits is =
+    let within = is.within in let some = is.some in let ends = is.ends in let few = is.few in let digits_few = is.digits_few in
     let bs = take blanks (drop start line) in
     let ds = take (count - blanks) (drop (start + blanks) line) in
     let whole : blanks + (count - blanks) ≡ count = omega arith in
@@ -105,7 +114,8 @@ aligned_field line start count blanks digits within some ends few blanks_few dig
     ∙ ap (λ rest. bs ++ take (count - blanks) rest) (drop-drop blanks start line) in
     let long : length ds ≡ count - blanks =
     length-take-le (count - blanks) (drop (start + blanks) line) (omega (arith, length-drop (start + blanks) line)) in
-    let left = passes_in_front (λ b. b == 32) line start blanks blanks (omega arith) (omega arith) blanks_few
-    (λ k before. eq-eqb _ _ (are_blanks k before)) in
-    let right = passes_in_front is_ascii_digit line (start + blanks) (count - blanks) digits (omega arith) ends digits_few are_digits in
+    let left = passes_in_front (λ b. b == 32) line start blanks (omega arith) is.blanks_few
+    (λ k before. eq-eqb _ _ (is.are_blanks k before)) in
+    let right = passes_in_front is_ascii_digit line (start + blanks) (count - blanks) (omega arith) (omega arith)
+    (λ k before. is.are_digits k (omega arith)) in
     rw parts (aligned_number bs ds left right (omega arith) (omega arith))

@@ -10,6 +10,13 @@ returns c is =
     let blanks = c.blanks_in_front-blanks.result in
     let digits = c.digits_in_front-digits.result in
     let least : c.args.last - (first - 1) - blanks ≤ c.min.result = leb-true _ _ is in
-    aligned_field c.args.line.now (first - 1) count blanks digits (omega arith) (omega arith) (omega (arith, c.min.ensures))
-    (omega (arith, c.min.ensures)) c.blanks_in_front-blanks.ensures.within c.digits_in_front-digits.ensures.within
-    c.blanks_in_front-blanks.ensures.blanks c.digits_in_front-digits.ensures.digits
+    aligned_field c.args.line.now (first - 1) count blanks digits (record {
+      within = omega arith;
+      some = omega arith;
+      ends = omega (arith, c.min.ensures);
+      few = omega (arith, c.min.ensures);
+      blanks_few = c.blanks_in_front-blanks.ensures.within;
+      digits_few = c.digits_in_front-digits.ensures.within;
+      are_blanks = c.blanks_in_front-blanks.ensures.blanks;
+      are_digits = c.digits_in_front-digits.ensures.digits;
+    })
