@@ -221,10 +221,8 @@ pub same_next : (first second : Result Next Cause) (one other : Next) → first 
 same_next first second one other is there same = let both : Ok one ≡ second = sym is ∙ same in cc
 
 -- an instruction leads to an entry, or to the end, as the next configuration says
-pub steps_to : (code : List Insn) (configuration : Configuration) (to : Option ℕ) (old new : Bare) (next : Next) {first : Result Next Cause}
-    → HoldsNext code configuration next → first ≡ Ok next → first ≡ Ok (next_of to (words_of new)) → (to ≡ None → new ≡ old)
-    → StepsTo code configuration to old new
-steps_to code configuration (Some at) old new next {first} held is value kept =
-    goes_on code configuration (record new { at = at }) next held (same_next first first _ _ is value refl) old
-steps_to code configuration None old new next {first} held is value kept = λ answer says.
-    ends code configuration answer next held (same_next first first _ _ is value refl ∙ sym says) (kept refl)
+pub steps_to : (code : List Insn) (configuration : Configuration) (to : Option ℕ) (old new : Bare) {next : Next}
+    → HoldsNext code configuration next → next ≡ next_of to (words_of new) → (to ≡ None → new ≡ old) → StepsTo code configuration to old new
+steps_to code configuration (Some at) old new held is kept = goes_on code configuration (record new { at = at }) _ held is old
+steps_to code configuration None old new held is kept = λ answer says.
+    ends code configuration answer _ held (is ∙ sym says) (kept refl)

@@ -1,6 +1,6 @@
 use Rattle.std.proofs.Common.{sym, subst, arith, refl, IsOk}
 use Rattle.bpf_meaning.specs.Step.{after}
-use Rattle.bpf_machine.proofs.StepHeld.{leads_on, steps_to, within_on}
+use Rattle.bpf_machine.proofs.StepHeld.{leads_on, same_next, steps_to, within_on}
 use Rattle.bpf_machine.proofs.machine.step_from.Goals as goal
 
 pub offset_bounds-flat_forms-at : goal.offset_bounds-flat_forms-at
@@ -44,4 +44,4 @@ returns g c = λ state reached holds.
     c.args.flat_forms.now c.requires.areas c.requires.forms state (record c.args.bare.now { at = c.args.at })
     c.index-flat_forms-at.result reached holds c.index-flat_forms-at.is in
     steps_to c.args.verified.now.code (after c.args.verified.now.code c.args.segment.now state) c.execute.result c.args.bare.now
-    c.execute.new.bare leads.next leads.holds leads.leads c.execute.ensures.value c.execute.ensures.kept
+    c.execute.new.bare leads.holds (same_next _ _ _ _ leads.leads c.execute.ensures.value refl) c.execute.ensures.kept
