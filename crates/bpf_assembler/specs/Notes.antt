@@ -38,10 +38,10 @@ PushesItem statements item old new result = MatchResult result
 abbrev pub places_in : BTreeMap (Bor (List ℕ)) ℕ → List ℕ → Option ℕ
 places_in labels name = get_by (λ key. slice_cmp nat_cmp name key.now) labels
 
--- One more line: its statement is noted after those before it, or it's refused.
-abbrev pub NotesLine : List Statement → Result Statement TextFlaw → ℕ → List Item → (List ℕ → Option ℕ) → ℕ → Result (Unit {0}) TextFault → Type 0
-NotesLine before meaning line items labels words result = MatchResult result
-    (λ _. (statement : Statement) × (meaning ≡ Ok statement) × (fault_after before statement ≡ None) × AreNotesOf items labels words (before ++ statement ∷ []))
+-- One more line: the notes are of its statement too, after those before it, or it's refused.
+abbrev pub NotesLine : List Statement → Result Statement TextFlaw → ℕ → (List Statement → Type 0) → Result (Unit {0}) TextFault → Type 0
+NotesLine before meaning line AreNotes result = MatchResult result
+    (λ _. (statement : Statement) × (meaning ≡ Ok statement) × (fault_after before statement ≡ None) × AreNotes (before ++ statement ∷ []))
     (λ fault. IsRefusal line (refusal_after before meaning) fault)
 
 -- The notes after the first `lines_read` lines; `rest` is the remaining text.

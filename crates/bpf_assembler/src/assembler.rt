@@ -91,7 +91,7 @@ impl<'a, A: Allocator + Copy> Notes<'a, A> {
         ensures within { self.new.words ≤ WORD_LIMIT }
         ensures noted { (before : List Meaning) → AreNotesOf self.old.items.items (places_in self.old.labels) self.old.words before
             → number ≡ suc (length before)
-            → NotesLine before (statement_in line.now) number self.new.items.items (places_in self.new.labels) self.new.words result }
+            → NotesLine before (statement_in line.now) number (AreNotesOf self.new.items.items (places_in self.new.labels) self.new.words) result }
     {
         match Statement::read(line) {
             Ok(Statement::Blank) => Ok(()),
@@ -107,7 +107,7 @@ impl<'a, A: Allocator + Copy> Notes<'a, A> {
         requires { self.old.words ≤ WORD_LIMIT }
         ensures within { self.new.words ≤ WORD_LIMIT }
         ensures noted { (before : List Meaning) → AreNotesOf self.old.items.items (places_in self.old.labels) self.old.words before → line ≡ suc (length before)
-            → NotesLine before (Ok (Label name.now)) line self.new.items.items (places_in self.new.labels) self.new.words result }
+            → NotesLine before (Ok (Label name.now)) line (AreNotesOf self.new.items.items (places_in self.new.labels) self.new.words) result }
     {
         if self.labels.contains_key(&name) {
             return Err(TextFault::InLine {
@@ -128,7 +128,8 @@ impl<'a, A: Allocator + Copy> Notes<'a, A> {
         requires { self.old.words ≤ WORD_LIMIT }
         ensures within { self.new.words ≤ WORD_LIMIT }
         ensures noted { (before : List Meaning) → AreNotesOf self.old.items.items (places_in self.old.labels) self.old.words before → line ≡ suc (length before)
-            → NotesLine before (Ok (Instruction insn (name_view target.entry))) line self.new.items.items (places_in self.new.labels) self.new.words result }
+            → NotesLine before (Ok (Instruction insn (name_view target.entry))) line
+            (AreNotesOf self.new.items.items (places_in self.new.labels) self.new.words) result }
     {
         let words = insn.words();
         if WORD_LIMIT - self.words < words {
