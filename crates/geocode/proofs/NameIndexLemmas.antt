@@ -138,7 +138,8 @@ numbers-new test n m (segment ∷ segments) below =
 
 module _ {A : Type 0} (old new : NameIndex A) (n : ℕ) (span : Span) where
   -- one more segment
-  pub IsIndexFrom-next : (segments : List Contents) {segment : Contents} → (n < length segments) × (segment ≡ get_or segments n segment) → IsIndexFrom old (n + 1) (drop (n + 1) segments)
+  pub IsIndexFrom-next : (segments : List Contents) {segment : Contents} → (n < length segments) × (segment ≡ get_or segments n segment)
+      → IsIndexFrom old (n + 1) (drop (n + 1) segments)
       → AddsNames old new n span (names_of segment) → IsIndexFrom new n (drop n segments)
   IsIndexFrom-next segments {segment} at so_far more key =
       let after = drop (n + 1) segments in
