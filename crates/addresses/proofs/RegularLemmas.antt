@@ -90,7 +90,11 @@ one-step state after byte fields field bytes goes = rw goes refl
 walks : (bytes : List ℕ) (part next : Part) → walk bytes part ≡ Some next → (fields : Fields) (field : List ℕ)
     → Reads (state_of part) fields field bytes (state_of next)
 unfolding walk
-walks [] part next is fields field = record { now = fields; cell = field; reads = λ file. ap (λ p. next_record default_config (state_of p) fields field file) (cc is) }
+walks [] part next is fields field = record {
+  now = fields;
+  cell = field;
+  reads = λ file. ap (λ p. next_record default_config (state_of p) fields field file) (cc is);
+}
 walks (byte ∷ bytes) part next is fields field =
     option_and_then_some (walk bytes) (after part byte) next is (λ middle goes later.
     let stepped = steps part middle byte goes in

@@ -57,28 +57,20 @@ pub record IsBefore (file text rest : List ℕ) (reader : Reader Marked) : Type 
   pub split : file ≡ text ++ rest
   pub in_step : IsInStep file reader
 
--- what the reader reads next
-reads-whole : (file text rest : List ℕ) (reader : Reader Marked) → (before : IsBefore file text rest reader)
-    → next_record default_config reader.state [] [] before.in_step.left
-    ≡ Some (before.whole.fields, before.whole.state, before.whole.left ++ rest)
-reads-whole file text rest reader before =
-    before.in_step.next ∙ ap (next_record default_config StartRecord [] []) before.split ∙ before.whole.reads rest
-
 -- the read consumed the text, and what is left of it is skipped
-record IsTaken (file text rest : List ℕ) (reader : Reader Marked) (before : IsBefore file text rest reader) (after : Reader Marked)
-    (left : Option (List ℕ)) (found : Bool) (fields : Fields) : Type 0 where
+record IsTaken {text : List ℕ} (whole : IsWholeRecord text) (rest : List ℕ) (after : Reader Marked) (left : Option (List ℕ)) (found : Bool)
+    (fields : Fields) : Type 0 where
   pub is_found : found ≡ true
-  pub are_fields : fields ≡ before.whole.fields
-  pub is_state : after.state ≡ before.whole.state
-  pub is_left : left ≡ Some (before.whole.left ++ rest)
+  pub are_fields : fields ≡ whole.fields
+  pub is_state : after.state ≡ whole.state
+  pub is_left : left ≡ Some (whole.left ++ rest)
 
-is-taken : (file text rest : List ℕ) (reader : Reader Marked) (before : IsBefore file text rest reader) (after : Reader Marked)
-    (left : List ℕ) (found : Bool) (fields : Fields) (next : Option Read)
-    → next ≡ Some (before.whole.fields, before.whole.state, before.whole.left ++ rest) → NextIs next found fields after.state left
-    → IsTaken file text rest reader before after (Some left) found fields
-is-taken file text rest reader before after left found fields None read is = cc read
-is-taken file text rest reader before after left found fields (Some next) read is =
-    let same : next ≡ (before.whole.fields, before.whole.state, before.whole.left ++ rest) = cc read in
+is-taken : {text rest : List ℕ} (whole : IsWholeRecord text) (after : Reader Marked) (left : List ℕ) {found : Bool} {fields : Fields}
+    (next : Option Read) → next ≡ Some (whole.fields, whole.state, whole.left ++ rest) → NextIs next found fields after.state left
+    → IsTaken whole rest after (Some left) found fields
+is-taken whole after left None read is = cc read
+is-taken {rest = rest} whole after left (Some next) read is =
+    let same : next ≡ (whole.fields, whole.state, whole.left ++ rest) = cc read in
     record {
       is_found = is.0;
       are_fields = is.1 ∙ ap (λ (r : Read). r.0) same;
@@ -86,62 +78,60 @@ is-taken file text rest reader before after left found fields (Some next) read i
       is_left = ap Some (is.3 ∙ ap (λ (r : Read). r.2) same);
     }
 
-taken : (file text rest : List ℕ) (reader : Reader Marked) (before : IsBefore file text rest reader) (after : Reader Marked)
-    (left : Option (List ℕ)) (found : Bool) (fields : Fields)
-    → ReadsNext default_config reader.state (Some before.in_step.left) left found fields after.state
-    → IsTaken file text rest reader before after left found fields
-taken file text rest reader before after None found fields reads = absurd reads
-taken file text rest reader before after (Some left) found fields reads =
-    is-taken file text rest reader before after left found fields (next_record default_config reader.state [] [] before.in_step.left)
-    (reads-whole file text rest reader before) reads
+module _ {file text rest : List ℕ} {a : Reader Marked} (before : IsBefore file text rest a) where
+  -- what the reader reads next
+  reads-whole : next_record default_config a.state [] [] before.in_step.left
+      ≡ Some (before.whole.fields, before.whole.state, before.whole.left ++ rest)
+  reads-whole = before.in_step.next ∙ ap (next_record default_config StartRecord [] []) before.split ∙ before.whole.reads rest
 
--- the read of a text that is one record
-pub record IsRead (file text rest : List ℕ) (a b : Reader Marked) (found : Bool) (fields : Fields) : Type 0 where
-  pub before : IsBefore file text rest a
-  pub reads : ReadRecord marked_left a b found fields
+  taken : (after : Reader Marked) (left : Option (List ℕ)) (found : Bool) (fields : Fields)
+      → ReadsNext default_config a.state (Some before.in_step.left) left found fields after.state
+      → IsTaken before.whole rest after left found fields
+  taken after None found fields reads = absurd reads
+  taken after (Some left) found fields reads =
+      is-taken before.whole after left (next_record default_config a.state [] [] before.in_step.left) reads-whole reads
 
-was-taken : (file text rest : List ℕ) (a b : Reader Marked) (found : Bool) (fields : Fields) → (read : IsRead file text rest a b found fields)
-    → IsTaken file text rest a read.before b (pending_of (marked_left b.rdr) b) found fields
-was-taken file text rest a b found fields read =
-    taken file text rest a read.before b (pending_of (marked_left b.rdr) b) found fields
-    (rw (read.before.in_step.config, read.before.in_step.source) at read.reads.0)
+  was-taken : (b : Reader Marked) (found : Bool) (fields : Fields) → ReadRecord marked_left a b found fields
+      → IsTaken before.whole rest b (pending_of (marked_left b.rdr) b) found fields
+  was-taken b found fields reads =
+      taken b (pending_of (marked_left b.rdr) b) found fields (rw (before.in_step.config, before.in_step.source) at reads.0)
 
--- the record of the text was found
-pub as-whole : (line : ℕ) (file text rest : List ℕ) (a b : Reader Marked) (found : Bool) (fields : Fields)
-    → IsRead file text rest a b found fields → AllText fields → IsRecordRead line fields (fields_in text) (Ok found)
-as-whole line file text rest a b found fields read utf8 =
-    let is = was-taken file text rest a b found fields read in
-    let whole = read.before.whole in
-    let all : list_all is_utf8 whole.fields ≡ true = rw (sym is.are_fields) (all-utf8 fields utf8) in
-    rw (is.is_found, is.are_fields, whole-read text whole, all, whole-only text whole) refl
+  -- the record of the text was found
+  pub as-whole : (line : ℕ) (b : Reader Marked) (found : Bool) (fields : Fields) → ReadRecord marked_left a b found fields → AllText fields
+      → IsRecordRead line fields (fields_in text) (Ok found)
+  as-whole line b found fields reads utf8 =
+      let is = was-taken b found fields reads in
+      let whole = before.whole in
+      let all : list_all is_utf8 whole.fields ≡ true = rw (sym is.are_fields) (all-utf8 fields utf8) in
+      rw (is.is_found, is.are_fields, whole-read text whole, all, whole-only text whole) refl
 
--- the reader is then before the rest of the file
-pub after-whole : (file text rest : List ℕ) (a b : Reader Marked) (found : Bool) (fields : Fields)
-    → IsRead file text rest a b found fields → took_first b ≡ true → IsInStep rest b
-after-whole file text rest a b found fields read began =
-    let is = was-taken file text rest a b found fields read in
-    record {
-      config = read.reads.2 ∙ read.before.in_step.config;
-      plain = read.reads.3 ∙ read.before.in_step.plain;
-      ready = inl began;
-      left = read.before.whole.left ++ rest;
-      source = rw read.reads.1 is.is_left;
-      next = rw is.is_state (read.before.whole.skips rest);
-    }
+  -- the reader is then before the rest of the file
+  pub after-whole : (b : Reader Marked) (found : Bool) (fields : Fields) → ReadRecord marked_left a b found fields → took_first b ≡ true
+      → IsInStep rest b
+  after-whole b found fields reads began =
+      let is = was-taken b found fields reads in
+      record {
+        config = reads.2 ∙ before.in_step.config;
+        plain = reads.3 ∙ before.in_step.plain;
+        ready = inl began;
+        left = before.whole.left ++ rest;
+        source = rw reads.1 is.is_left;
+        next = rw is.is_state (before.whole.skips rest);
+      }
 
--- an error is caused by the text or by running out of memory
-pub as-failed : (line : ℕ) (file text rest : List ℕ) (a b : Reader Marked) (fields : Fields) (error : ErrorKind)
-    → IsBefore file text rest a → ExplainsRead marked_left a b true error → IsRecordRead line fields (fields_in text) (Err (fault_of line error))
-as-failed line file text rest a b fields (kind.Utf8 pos err) before why =
-    let (same, read, took, mixed) = why in
-    let is = taken file text rest a before b (pending_of (marked_left b.rdr) b) true read (rw (before.in_step.config, before.in_step.source) at took) in
-    let some : list_all is_utf8 before.whole.fields ≡ false = rw (sym is.are_fields) (not-all-utf8 read mixed) in
-    (refl, rw (whole-read text before.whole, some) refl)
-as-failed line file text rest a b fields (kind.Io e) before why = tt
-as-failed line file text rest a b fields kind.OutOfMemory before why = tt
-as-failed line file text rest a b fields (kind.UnequalLengths pos expected len) before why = tt
-as-failed line file text rest a b fields (kind.Serialize e) before why = tt
-as-failed line file text rest a b fields (kind.Deserialize pos err) before why = tt
+  -- an error is caused by the text or by running out of memory
+  pub as-failed : (line : ℕ) (b : Reader Marked) (fields : Fields) (error : ErrorKind) → ExplainsRead marked_left a b true error
+      → IsRecordRead line fields (fields_in text) (Err (fault_of line error))
+  as-failed line b fields (kind.Utf8 pos err) why =
+      let (same, read, took, mixed) = why in
+      let is = taken b (pending_of (marked_left b.rdr) b) true read (rw (before.in_step.config, before.in_step.source) at took) in
+      let some : list_all is_utf8 before.whole.fields ≡ false = rw (sym is.are_fields) (not-all-utf8 read mixed) in
+      (refl, rw (whole-read text before.whole, some) refl)
+  as-failed line b fields (kind.Io e) why = tt
+  as-failed line b fields kind.OutOfMemory why = tt
+  as-failed line b fields (kind.UnequalLengths pos expected len) why = tt
+  as-failed line b fields (kind.Serialize e) why = tt
+  as-failed line b fields (kind.Deserialize pos err) why = tt
 
 -- a text without a record is skipped
 pub after-blank : (file text rest : List ℕ) (reader : Reader Marked) → file ≡ text ++ rest → IsNoRecord text → IsInStep file reader
