@@ -122,11 +122,11 @@ pub record HasLine (line : LineParts) (number tlid : ℕ) (old new : Reader) (se
   pub numbered : number_in Rt1 segment.bytes ≡ Some tlid
 
 -- this also holds for any segment with the bytes that the line was read into
-pub has_line : {segment : Contents} (line : LineParts) (number tlid : ℕ) (read : Contents) (old new : Reader)
+pub has_line : {segment : Contents} (line : LineParts) (number tlid : ℕ) (read : Contents) {old new : Reader}
     → IsRecordRead line (record { number = number; segment = read }) old new (Ok (Some tt)) → number_in Rt1 read.bytes ≡ Some tlid
     → segment.bytes ≡ read.bytes
     → HasLine line number tlid old new segment
-has_line line number tlid read old new is numbered same = record {
+has_line line number tlid read {old = old} {new = new} is numbered same = record {
   good = subst (λ bytes. ReadsGoodLine line (record { number = number; bytes = bytes }) old new) (sym same) is.0;
   numbered = ap (number_in Rt1) same ∙ numbered;
 }

@@ -43,8 +43,8 @@ keeps_by f found line list false e = e ∙ ap (λ s. map f s) (sym (append-nil f
 pub keeps-push : {V A : Type 0} (file : CountyFile) (f : List ℕ → V) {old new : Grouped V A} (lines : List (List ℕ)) (line : List ℕ)
     {number : ℕ} → number_in file line ≡ Some number → ((q : ℕ) → list_at old q ≡ map f (lines_with file q lines))
     → AddsAt old new number (f line) → (q : ℕ) → list_at new q ≡ map f (lines_with file q (lines ++ line ∷ []))
-keeps-push file f {old} lines line {number} is keeps adds q =
-    adds.lists q ∙ keeps_by f (lines_with file q lines) line (list_at old q) (nat_eq number q) (keeps q)
+keeps-push file f lines line {number} is keeps adds = λ q.
+    adds.lists q ∙ keeps_by f (lines_with file q lines) line _ (nat_eq number q) (keeps q)
     ∙ ap (λ s. map f s) (sym (lines_with-push file lines line number q is))
 
 length_by : (found : List (List ℕ)) (line : List ℕ) (has : Bool) → length (found ++ cond has (line ∷ []) []) ≡ length found + cond has 1 0
@@ -87,7 +87,7 @@ name_by field (Some before) line false = refl
 -- a table of names that keeps type 5 lines keeps one more line
 pub names-push : {A : Type 0} (old new : FeatureNames A) (lines : List (List ℕ)) (line : List ℕ) (feat : ℕ) → number_in Rt5 line ≡ Some feat
     → KeepsNames old lines → AddsNameAt old new feat (full_name_in line) → KeepsNames new (lines ++ line ∷ [])
-names-push old new lines line feat is keeps adds q =
+names-push old new lines line feat is keeps adds = λ q.
     let added : name_at new q ≡ (if nat_eq feat q then Some (unwrap_or (feature_full_name lines q) (full_name_in line)) else
     feature_full_name lines q) = adds q
     ∙ ap (λ name. if nat_eq feat q then Some (unwrap_or name (full_name_in line)) else name) (keeps q) in

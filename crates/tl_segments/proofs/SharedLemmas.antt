@@ -78,9 +78,9 @@ lists_made lines names ranges {first} {bytes} has made is =
 pub keeps_one_more : {A : Type 0} (index : Index A) (old new : SharedLists A) (tlid : ℕ) (joined : Rc (Joined A) A) → KeepsShared index old
     → IsJoinedTo index tlid joined.value
     → ((q : ℕ) → get nat_eq new.lists q ≡ (if nat_eq tlid q then Some joined else get nat_eq old.lists q)) → KeepsShared index new
-keeps_one_more index old new tlid joined keeps by lists q = rw (lists q) (at_number (nat_eq tlid q) refl)
+keeps_one_more index old new tlid joined keeps by lists = λ q. rw (lists q) (at_number q (nat_eq tlid q) refl)
   where
-    at_number : (same : Bool) → nat_eq tlid q ≡ same
+    at_number : (q : ℕ) (same : Bool) → nat_eq tlid q ≡ same
         → IfSome (if same then Some joined else get nat_eq old.lists q) (λ joined. IsJoinedTo index q joined.value)
-    at_number true e = subst (λ n. IsJoinedTo index n joined.value) (grind (arith, nat_tests)) by
-    at_number false e = keeps q
+    at_number q true e = subst (λ n. IsJoinedTo index n joined.value) (grind (arith, nat_tests)) by
+    at_number q false e = keeps q
