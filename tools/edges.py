@@ -87,7 +87,8 @@ def module_uses(crate: str) -> Dict[str, Set[str]]:
     sources = {"::".join(path.relative_to(folder).with_suffix("").parts): path for path in sorted(folder.rglob("*.rt"))}
 
     def module_of(path: str) -> Optional[str]:
-        return max((it for it in sources if path == it or path.startswith(f"{it}::")), key=len, default=None)
+        found = [it for it in sources if path == it or path.startswith(f"{it}::")]
+        return max(found, key=len) if found else None
 
     uses: Dict[str, Set[str]] = {}
     for module, source in sources.items():

@@ -16,7 +16,7 @@ use Rattle.csv.specs.declared.error.ErrorKind.TheVariants as kind
 use Rattle.csv.specs.declared.reader.Reader.{Reader}
 use Rattle.addresses.specs.Record.{IsRecordRead, Fields, fault_of, fields_in, has_more}
 use Rattle.addresses.specs.TextReader.{IsTextReader, Marked, marked_left}
-use Rattle.addresses.specs.declared.fault.AddressFlaw.TheVariants.{NotOneRecord, NotUtf8}
+use Rattle.addresses.specs.declared.fault.AddressFaultKind.TheVariants.{NotOneRecord, NotUtf8}
 
 pub all-utf8 : (fields : List (List ℕ)) → AllText fields → list_all is_utf8 fields ≡ true
 unfolding AllText

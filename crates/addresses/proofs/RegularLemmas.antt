@@ -85,7 +85,7 @@ one-step : (state after : State) (byte : ℕ) (fields : Fields) (field bytes : L
     ≡ next_record default_config (step default_config state byte).0 (fields_after (step default_config state byte).1 fields field)
     (field_after (step default_config state byte).1 byte field) bytes
 unfolding next_record
-one-step state after byte fields field bytes goes = rw goes refl
+one-step state after byte fields field bytes next_part = rw next_part refl
 
 walks : (bytes : List ℕ) (part next : Part) → walk bytes part ≡ Some next → (fields : Fields) (field : List ℕ)
     → Reads (state_of part) fields field bytes (state_of next)
@@ -96,8 +96,8 @@ walks [] part next is fields field = record {
   reads = λ file. ap (λ p. next_record default_config (state_of p) fields field file) (cc is);
 }
 walks (byte ∷ bytes) part next is fields field =
-    option_and_then_some (walk bytes) (after part byte) next is (λ middle goes later.
-    let stepped = steps part middle byte goes in
+    option_and_then_some (walk bytes) (after part byte) next is (λ middle next_part later.
+    let stepped = steps part middle byte next_part in
     let rest = walks bytes middle next later (fields_after (step default_config (state_of part) byte).1 fields field)
     (field_after (step default_config (state_of part) byte).1 byte field) in
     record {
@@ -120,7 +120,7 @@ no-end byte next is = elim (cases_Bool (byte == 34)) [
 begins : (byte : ℕ) (bytes : List ℕ) → is_line_end byte ≡ false
     → next_record default_config st.StartRecord [] [] (byte ∷ bytes) ≡ next_record default_config st.StartField [] [] (byte ∷ bytes)
 unfolding next_record
-begins byte bytes goes = rw goes refl
+begins byte bytes next_part = rw next_part refl
 
 -- a line end outside quotation marks ends the record
 ends : (part : Part) → part ≢ Quoted → (fields : Fields) (cell file : List ℕ)
@@ -153,7 +153,7 @@ first-in-line : (byte : ℕ) (bytes : List ℕ) (last : Part) → walk (byte ∷
     → is_line_end byte ≡ false
 unfolding walk
 first-in-line byte bytes last walked =
-    option_and_then_some (walk bytes) (after Start byte) last walked (λ middle goes later. no-end byte middle goes)
+    option_and_then_some (walk bytes) (after Start byte) last walked (λ middle next_part later. no-end byte middle next_part)
 
 line-reads : (line : List ℕ) (last : Part) → IsLine line last → Reads st.StartRecord [] [] line (state_of last)
 line-reads [] last is = absurd (is.some refl)
@@ -190,8 +190,8 @@ whole-line line text last is (inr return) =
 pub walk-next : (bytes : List ℕ) (at : ℕ) (part next : Part) → at < length bytes → after part (get_or bytes at 0) ≡ Some next
     → walk (drop at bytes) part ≡ walk (drop (at + 1) bytes) next
 unfolding walk
-walk-next bytes at part next below goes =
-    rw (drop-cons bytes at 0 below, goes) (ap (λ n. walk (drop n bytes) next) (sym (add-one at)))
+walk-next bytes at part next below next_part =
+    rw (drop-cons bytes at 0 below, next_part) (ap (λ n. walk (drop n bytes) next) (sym (add-one at)))
 
 pub whole-text : (line text : List ℕ) (at : ℕ) (last : Part) → (line ≢ []) × EndsLine line text → walk line Start ≡ walk (drop at line) last
     → length line ≤ at → last ≢ Quoted → IsWholeRecord text

@@ -19,7 +19,7 @@ use Rattle.addresses.specs.RecordText.{is_open}
 use Rattle.addresses.specs.Regular.{is_line_end}
 use Rattle.addresses.specs.TextReader.{IsTextReader, Marked, marked_left}
 use Rattle.addresses.specs.WholeRecord.{IsNoRecord, IsWholeRecord}
-use Rattle.addresses.specs.declared.record.TheConstants.{RECORD_LIMIT}
+use Rattle.addresses.specs.declared.record.TheConstants.{MAX_RECORD_LENGTH}
 use Rattle.addresses.proofs.ReadLemmas.{all-utf8, not-all-utf8}
 
 no-record : (text file : List ℕ) → list_all is_line_end text ≡ true
@@ -145,9 +145,9 @@ after-blank file text rest reader split none before = record {
   next = before.next ∙ ap (next_record default_config StartRecord [] []) split ∙ none rest;
 }
 
-pub no-record-in : (text : List ℕ) → is_open text ≡ false → length text ≤ RECORD_LIMIT → IsNoRecord text → record_in text ≡ Ok None
+pub no-record-in : (text : List ℕ) → is_open text ≡ false → length text ≤ MAX_RECORD_LENGTH → IsNoRecord text → record_in text ≡ Ok None
 no-record-in text closed few none =
-    let short : nat_lt RECORD_LIMIT (length text) ≡ false = grind (arith, nat_tests) in
+    let short : nat_lt MAX_RECORD_LENGTH (length text) ≡ false = grind (arith, nat_tests) in
     rw (closed, short, no-fields text none) refl
 
 -- a new reader is before its text

@@ -16,7 +16,7 @@ concat-joined byte (text ∷ texts) = refl
 concat-with_byte : (byte : ℕ) (inside : Bool) (texts : List (List ℕ)) → concat (with_byte byte inside texts) ≡ byte ∷ concat texts
 concat-with_byte byte inside texts = elim (cases_Bool (is_line_feed byte && not inside)) [
   | inl ends ↦ rw ends refl
-  | inr goes_on ↦ rw goes_on (concat-joined byte texts)
+  | inr continues ↦ rw continues (concat-joined byte texts)
 ]
 
 concat-texts : (inside : Bool) (file : List ℕ) → concat (texts_from inside file) ≡ file
@@ -39,8 +39,8 @@ record IsFirstFrom (inside : Bool) (file text rest : List ℕ) : Type 0 where
   ended : ((at : ℕ) × EndsFrom inside text at) ⊎ (rest ≡ [])
 
 -- a line feed leaves the state of the quotation marks unchanged
-feed-keeps : (byte : ℕ) (inside : Bool) → byte ≡ 10 → inside_after inside byte ≡ inside
-feed-keeps byte inside feed = rw feed refl
+feed-unchanged : (byte : ℕ) (inside : Bool) → byte ≡ 10 → inside_after inside byte ≡ inside
+feed-unchanged byte inside feed = rw feed refl
 
 ends-is : (byte : ℕ) (inside : Bool) → byte ≡ 10 → inside ≡ false → (is_line_feed byte && not (inside_after inside byte)) ≡ true
 ends-is byte inside feed outside = rw (feed, outside) refl
@@ -54,7 +54,7 @@ is-end byte inside ends =
     let parts = and_parts (is_line_feed byte) (not (inside_after inside byte)) ends in
     let test : is_line_feed byte ≡ true = parts.0 in
     let feed : byte ≡ 10 = grind (arith, nat_tests) in
-    (feed, sym (feed-keeps byte inside feed) ∙ not-true (inside_after inside byte) parts.1)
+    (feed, sym (feed-unchanged byte inside feed) ∙ not-true (inside_after inside byte) parts.1)
 
 joined-some : (byte : ℕ) (texts : List (List ℕ)) → joined byte texts ≡ [] → ⊥
 joined-some byte [] none = cc none
@@ -65,7 +65,7 @@ unfolding texts_from
 texts-some inside [] none = refl
 texts-some inside (byte ∷ rest) none = elim (cases_Bool (is_line_feed byte && not (inside_after inside byte))) [
   | inl ends ↦ cc (rw ends at none)
-  | inr goes_on ↦ absurd (joined-some byte (texts_from (inside_after inside byte) rest) (rw goes_on at none))
+  | inr continues ↦ absurd (joined-some byte (texts_from (inside_after inside byte) rest) (rw continues at none))
 ]
 
 one-byte : (byte at : ℕ) → slice_get (byte ∷ []) at ≡ Some 10 → suc at ≡ 1
@@ -87,9 +87,9 @@ is-last inside byte rest none = record {
 }
 
 -- a record's text that continues after a byte
-goes-on : (inside : Bool) (byte : ℕ) (file text rest : List ℕ) → (is_line_feed byte && not (inside_after inside byte)) ≡ false
+continues-text : (inside : Bool) (byte : ℕ) (file text rest : List ℕ) → (is_line_feed byte && not (inside_after inside byte)) ≡ false
     → IsFirstFrom (inside_after inside byte) file text rest → IsFirstFrom inside (byte ∷ file) (byte ∷ text) rest
-goes-on inside byte file text rest more later = record {
+continues-text inside byte file text rest more later = record {
   split = ap (λ bytes. byte ∷ bytes) later.split;
   first = first;
   ended = elim later.ended [ inl end ↦ inl (suc end.0, end.1) | inr none ↦ inr none ];
@@ -111,7 +111,7 @@ first-from inside (byte ∷ file) text texts is = elim (cases_Bool (is_line_feed
       let cut = rw ends at is in
       let one : text ≡ byte ∷ [] = cc cut in
       let others : texts ≡ texts_from now file = cc cut in
-      let outside : now ≡ false = feed-keeps byte inside (is-end byte inside ends).0 ∙ (is-end byte inside ends).1 in
+      let outside : now ≡ false = feed-unchanged byte inside (is-end byte inside ends).0 ∙ (is-end byte inside ends).1 in
       (file, rw one (ends-here inside byte file ends), others ∙ ap (λ (after : Bool). texts_from after file) outside)
   | inr more ↦ on more (texts_from now file) refl (rw more at is) (first-from now file)
 ]
@@ -132,7 +132,7 @@ first-from inside (byte ∷ file) text texts is = elim (cases_Bool (is_line_feed
         let one : text ≡ byte ∷ t = cc cut in
         let others : texts ≡ ts = cc cut in
         let (rest, first, later) = rec t ts some in
-        (rest, rw one (goes-on inside byte file t rest more first), others ∙ later)
+        (rest, rw one (continues-text inside byte file t rest more first), others ∙ later)
 
 pub first_text_lem : (file text : List ℕ) (texts : List (List ℕ)) → record_texts file ≡ text ∷ texts
     → (rest : List ℕ) × IsFirstText file text rest × (texts ≡ record_texts rest)

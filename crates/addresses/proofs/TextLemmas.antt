@@ -46,17 +46,17 @@ open-next file at byte inside next within =
     rw (front-next file at byte next, fold-append inside_after false (take at file) (byte ∷ []), sym within) refl
 
 -- the record continues with a byte, after which it is inside quotation marks or not
-abbrev Goes : List ℕ → ℕ → ℕ → Bool → Type 0
-Goes file at byte now = record_texts file ≡ all_joined (take at file) (with_byte byte now (texts_from now (drop (at + 1) file)))
+abbrev IsSplitAfter : List ℕ → ℕ → ℕ → Bool → Type 0
+IsSplitAfter file at byte now = record_texts file ≡ all_joined (take at file) (with_byte byte now (texts_from now (drop (at + 1) file)))
 
 texts-next : (file : List ℕ) (at byte : ℕ) (inside : Bool) → IsNextByte file at byte → IsScanned file at inside
-    → Goes file at byte (inside_after inside byte)
+    → IsSplitAfter file at byte (inside_after inside byte)
 unfolding texts_from
 texts-next file at byte inside next scanned = rw (rest-next file at byte next) at scanned.texts
 
-goes-on : (file : List ℕ) (at byte : ℕ) (now : Bool) → Goes file at byte now → (is_line_feed byte && not now) ≡ false
+continues-text : (file : List ℕ) (at byte : ℕ) (now : Bool) → IsSplitAfter file at byte now → (is_line_feed byte && not now) ≡ false
     → record_texts file ≡ all_joined (take at file) (joined byte (texts_from now (drop (at + 1) file)))
-goes-on file at byte now goes more = rw more at goes
+continues-text file at byte now split more = rw more at split
 
 pub scanned-none : (file : List ℕ) → IsScanned file 0 false
 scanned-none file = record { within = refl; texts = refl }
@@ -64,13 +64,13 @@ scanned-none file = record { within = refl; texts = refl }
 -- one more byte that doesn't end the record
 pub scanned-next : (file : List ℕ) (at byte : ℕ) (inside : Bool) → IsNextByte file at byte → IsScanned file at inside
     → (is_line_feed byte && not (inside_after inside byte)) ≡ false → IsScanned file (at + 1) (inside_after inside byte)
-scanned-next file at byte inside next scanned goes_on =
+scanned-next file at byte inside next scanned continues =
     let now = inside_after inside byte in
     record {
       within = open-next file at byte inside next scanned.within;
       texts =
           rw (front-next file at byte next, all_joined-append (take at file) (byte ∷ []) (texts_from now (drop (at + 1) file)))
-          (goes-on file at byte now (texts-next file at byte inside next scanned) goes_on);
+          (continues-text file at byte now (texts-next file at byte inside next scanned) continues);
     }
 
 -- the byte that ends the record
@@ -78,7 +78,7 @@ pub scanned-end : (file : List ℕ) (at byte : ℕ) (inside : Bool) → IsNextBy
     → is_line_feed byte ≡ true → inside_after inside byte ≡ false
     → record_texts file ≡ take (at + 1) file ∷ record_texts (drop (at + 1) file)
 scanned-end file at byte inside next scanned feed outside =
-    let step = rw feed at (subst (Goes file at byte) outside (texts-next file at byte inside next scanned)) in
+    let step = rw feed at (subst (IsSplitAfter file at byte) outside (texts-next file at byte inside next scanned)) in
     rw (front-next file at byte next) (step ∙ all_joined-cons (take at file) (byte ∷ []) (record_texts (drop (at + 1) file)))
 
 whole-text : (file : List ℕ) → file ≢ [] → all_joined file [] ≡ file ∷ []

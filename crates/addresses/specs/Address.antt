@@ -6,7 +6,7 @@ use Rattle.addresses.specs.Reading.{RecordParts}
 use Rattle.addresses.specs.Record.{Fields}
 use Rattle.addresses.specs.declared.columns.Columns.{Columns}
 use Rattle.addresses.specs.declared.row.Address.{Address}
-use Rattle.addresses.specs.declared.row.Row.{Row}
+use Rattle.addresses.specs.declared.row.AddressRow.{AddressRow}
 
 -- an address, wherever its text is stored
 pub record AddressParts : Type 0 where
@@ -54,7 +54,7 @@ address_of columns row = record {
 }
 
 -- the address in a row
-abbrev pub address_in : Row → AddressParts
+abbrev pub address_in : AddressRow → AddressParts
 address_in row = address_of row.columns (record { line = row.line; fields = fields_of row.cells })
 
 -- the row before the first address

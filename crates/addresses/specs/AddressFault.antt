@@ -1,7 +1,7 @@
 -- The refusal for an address file's fault.
 use Rattle.std.specs.Prelude.{codes}
 use Rattle.refusals.specs.Refusal.{RefusalParts, at_line, memory, refused}
-use Rattle.addresses.specs.AddressFlaw as address_flaw
+use Rattle.addresses.specs.AddressFaultKind as address_flaw
 use Rattle.addresses.specs.declared.fault.AddressFault.{AddressFault}
 use Rattle.addresses.specs.declared.fault.AddressFault.TheVariants.{NoHeader, At, Memory}
 

@@ -1,6 +1,6 @@
 pub mod Address
 pub mod AddressFault
-pub mod AddressFlaw
+pub mod AddressFaultKind
 pub mod Columns
 pub mod InStep
 pub mod Listing

@@ -7,7 +7,7 @@ use Rattle.addresses.specs.declared.addresses.Addresses.{Addresses}
 use Rattle.addresses.specs.declared.columns.Columns.{Columns}
 use Rattle.addresses.specs.declared.fault.AddressFault.{AddressFault}
 use Rattle.addresses.specs.declared.fault.AddressFault.TheVariants.{NoHeader, At, Memory}
-use Rattle.addresses.specs.declared.fault.AddressFlaw.{AddressFlaw}
+use Rattle.addresses.specs.declared.fault.AddressFaultKind.{AddressFaultKind}
 
 -- the addresses that can be read, and the fault of the record after them, if any
 pub record Listing : Type 0 where
@@ -29,7 +29,7 @@ with_addresses first later = record { addresses = first ++ later.addresses; faul
 abbrev pub listed : Columns → Reading → Listing
 listed columns reading = record { addresses = map (address_of columns) reading.records; fault = reading.fault }
 
-abbrev pub under_columns : ℕ → Result Columns AddressFlaw → Reading → Result Listing AddressFault
+abbrev pub under_columns : ℕ → Result Columns AddressFaultKind → Reading → Result Listing AddressFault
 under_columns line (Err flaw) reading = Err (At line flaw)
 under_columns line (Ok columns) reading = Ok (listed columns reading)
 

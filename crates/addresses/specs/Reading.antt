@@ -5,7 +5,7 @@ use Rattle.addresses.specs.Record.{Fields, record_in}
 use Rattle.addresses.specs.RecordText.{line_feeds, record_texts}
 use Rattle.addresses.specs.declared.fault.AddressFault.{AddressFault}
 use Rattle.addresses.specs.declared.fault.AddressFault.TheVariants.{NoHeader, At, Memory}
-use Rattle.addresses.specs.declared.fault.AddressFlaw.{AddressFlaw}
+use Rattle.addresses.specs.declared.fault.AddressFaultKind.{AddressFaultKind}
 
 -- a record's line, counted from 1, and its fields
 pub record RecordParts : Type 0 where
@@ -27,7 +27,7 @@ abbrev pub preceded : RecordParts → Reading → Reading
 preceded first later = record { records = first ∷ later.records; fault = later.fault }
 
 -- the contents of a text in this line, followed by the later records; nothing follows a flaw
-abbrev pub followed : ℕ → Result (Option Fields) AddressFlaw → Reading → Reading
+abbrev pub followed : ℕ → Result (Option Fields) AddressFaultKind → Reading → Reading
 followed line (Ok None) later = later
 followed line (Ok (Some fields)) later = preceded (record { line = line; fields = fields }) later
 followed line (Err flaw) later = failing (At line flaw)

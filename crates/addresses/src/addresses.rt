@@ -5,7 +5,7 @@ ghost use Rattle.addresses.specs.Listing.{IsAddressRead, IsHeaderRead, addresses
 
 use crate::columns::Columns;
 use crate::fault::AddressFault;
-use crate::row::Row;
+use crate::row::AddressRow;
 use crate::unread::Unread;
 use csv::StringRecord;
 use std::alloc::Global;
@@ -39,7 +39,7 @@ impl<'a> Addresses<'a> {
 
     /// Reads the next address into a row. Returns false after the last one; then, and after a fault, the row's contents are unspecified. A call after
     /// a fault reads the same record again.
-    pub fn read(&mut self, row: &mut Row) -> Result<bool, AddressFault>
+    pub fn read(&mut self, row: &mut AddressRow) -> Result<bool, AddressFault>
         ensures next { IsAddressRead result (address_in row.new) (addresses_left self.old) (addresses_left self.new) }
         ensures stays { OnErr result (self.new ≡ self.old) }
     {

@@ -3,7 +3,7 @@ ghost use Rattle.std.specs.Prelude.{◌≡◌};
 ghost use Rattle.addresses.specs.Columns.{column_named, columns_of, is_named};
 ghost use Rattle.csv.specs.Records.{fields_of};
 
-use crate::fault::AddressFlaw;
+use crate::fault::AddressFaultKind;
 use csv::StringRecord;
 
 /// The indices of the columns in a record, counted from 0.
@@ -21,11 +21,11 @@ pub(crate) struct Columns {
 
 impl Columns {
     /// Finds the columns that a header names. It has to have `number` and `name`.
-    pub(crate) fn of(header: &StringRecord) -> Result<Columns, AddressFlaw>
+    pub(crate) fn of(header: &StringRecord) -> Result<Columns, AddressFaultKind>
         ensures { result ≡ columns_of (fields_of header.now) }
     {
-        let number = column_named(header, "number").ok_or(AddressFlaw::NoNumber)?;
-        let name = column_named(header, "name").ok_or(AddressFlaw::NoName)?;
+        let number = column_named(header, "number").ok_or(AddressFaultKind::NoNumber)?;
+        let name = column_named(header, "name").ok_or(AddressFaultKind::NoName)?;
         Ok(Columns {
             id: column_named(header, "id"),
             number,

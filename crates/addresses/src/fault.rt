@@ -1,6 +1,6 @@
 //! Why a file's addresses can't be read.
 ghost use Rattle.std.specs.Prelude.{◌≡◌};
-ghost use Rattle.addresses.specs.AddressFlaw as address_flaw;
+ghost use Rattle.addresses.specs.AddressFaultKind as address_flaw;
 
 use refusals::{Fault, Refusal};
 use std::alloc::AllocError;
@@ -8,7 +8,7 @@ use thiserror::Error;
 
 /// What is wrong with a record. The derived text is for people.
 #[derive(Clone, Copy, Debug, PartialEq, Eq, Error)]
-pub enum AddressFlaw {
+pub enum AddressFaultKind {
     #[error("the header has no column `number`")]
     NoNumber,
     #[error("the header has no column `name`")]
@@ -32,24 +32,24 @@ pub enum AddressFault {
     At {
         /// The line in which the record begins, counted from 1.
         line: u64,
-        flaw: AddressFlaw,
+        flaw: AddressFaultKind,
     },
     #[error("out of memory")]
     Memory,
 }
 
-impl AddressFlaw {
+impl AddressFaultKind {
     /// Returns the flaw as a refusal, without its line.
     pub fn refusal(self) -> Refusal
         ensures { result ≡ address_flaw.refusal self }
     {
         match self {
-            AddressFlaw::NoNumber => Refusal::refused(101, "NoColumn"),
-            AddressFlaw::NoName => Refusal::refused(101, "NoColumn"),
-            AddressFlaw::NotUtf8 => Refusal::refused(102, "NotUtf8"),
-            AddressFlaw::OpenQuote => Refusal::refused(103, "OpenQuote"),
-            AddressFlaw::LineTooLong => Refusal::refused(104, "LineTooLong"),
-            AddressFlaw::NotOneRecord => Refusal::refused(105, "NotOneRecord"),
+            AddressFaultKind::NoNumber => Refusal::refused(101, "NoColumn"),
+            AddressFaultKind::NoName => Refusal::refused(101, "NoColumn"),
+            AddressFaultKind::NotUtf8 => Refusal::refused(102, "NotUtf8"),
+            AddressFaultKind::OpenQuote => Refusal::refused(103, "OpenQuote"),
+            AddressFaultKind::LineTooLong => Refusal::refused(104, "LineTooLong"),
+            AddressFaultKind::NotOneRecord => Refusal::refused(105, "NotOneRecord"),
         }
     }
 }

@@ -13,6 +13,6 @@ mod text;
 mod unread;
 
 pub use addresses::Addresses;
-pub use fault::{AddressFault, AddressFlaw};
-pub use record::RECORD_LIMIT;
-pub use row::{Address, Row};
+pub use fault::{AddressFault, AddressFaultKind};
+pub use record::MAX_RECORD_LENGTH;
+pub use row::{Address, AddressRow};

@@ -5,14 +5,14 @@ ghost use Rattle.addresses.specs.TextReader.{IsTextReader};
 ghost use Rattle.csv.specs.Reading.{error_kind};
 ghost use Rattle.csv.specs.Records.{fields_of};
 
-use crate::fault::{AddressFault, AddressFlaw};
+use crate::fault::{AddressFault, AddressFaultKind};
 use crate::text::BYTE_ORDER_MARK;
 use csv::{ByteRecord, Error, ErrorKind, Reader, ReaderBuilder, StringRecord};
 use std::alloc::Global;
 use std::io::{Chain, Read};
 
 /// The maximum length of a record in bytes, including its line end.
-pub const RECORD_LIMIT: usize = 65_536;
+pub const MAX_RECORD_LENGTH: usize = 65_536;
 
 /// A reader of a text, after a byte order mark.
 pub(crate) type TextReader<'a> = Reader<Chain<&'a [u8], &'a [u8]>>;
@@ -36,7 +36,7 @@ pub(crate) fn read_fields(
         Ok(false) => Ok(true),
         Ok(true) => Err(AddressFault::At {
             line,
-            flaw: AddressFlaw::NotOneRecord,
+            flaw: AddressFaultKind::NotOneRecord,
         }),
         Err(_) => Err(AddressFault::Memory),
     }
@@ -61,7 +61,7 @@ pub(crate) fn fault_of(line: u64, error: &Error) -> AddressFault
     match error.kind() {
         ErrorKind::Utf8 { .. } => AddressFault::At {
             line,
-            flaw: AddressFlaw::NotUtf8,
+            flaw: AddressFaultKind::NotUtf8,
         },
         _ => AddressFault::Memory,
     }

@@ -6,8 +6,8 @@ ghost use Rattle.addresses.specs.RecordText.{is_open};
 ghost use Rattle.addresses.specs.WholeRecord.{IsWholeRecord};
 ghost use Rattle.csv.specs.Records.{fields_of};
 
-use crate::fault::{AddressFault, AddressFlaw};
-use crate::record::{RECORD_LIMIT, TextReader, fault_of, read_fields, text_reader};
+use crate::fault::{AddressFault, AddressFaultKind};
+use crate::record::{MAX_RECORD_LENGTH, TextReader, fault_of, read_fields, text_reader};
 use crate::regular::is_regular;
 use crate::text::{FirstText, is_blank};
 use csv::StringRecord;
@@ -30,11 +30,11 @@ pub(crate) fn read_record<'a>(
     ensures stays { OnErr result (IsInStep first.entry.file.now reader.new) }
 {
     if first.is_open {
-        let flaw = AddressFlaw::OpenQuote;
+        let flaw = AddressFaultKind::OpenQuote;
         return Err(AddressFault::At { line, flaw });
     }
-    if first.text.len() > RECORD_LIMIT {
-        let flaw = AddressFlaw::LineTooLong;
+    if first.text.len() > MAX_RECORD_LENGTH {
+        let flaw = AddressFaultKind::LineTooLong;
         return Err(AddressFault::At { line, flaw });
     }
     if is_blank(first.text) {

@@ -26,18 +26,18 @@ pub struct Address<'a> {
 
 /// A row of a file. Its memory is reused for the next row.
 #[derive(Drop)]
-pub struct Row {
+pub struct AddressRow {
     pub(crate) line: u64,
     pub(crate) columns: Columns,
     pub(crate) cells: StringRecord,
 }
 
-impl Row {
+impl AddressRow {
     /// Creates an empty row for [`Addresses::read`](crate::Addresses::read). Doesn't allocate.
-    pub fn new(alloc: Global) -> Row
+    pub fn new(alloc: Global) -> AddressRow
         ensures { address_in result ≡ no_address }
     {
-        Row {
+        AddressRow {
             line: 0,
             columns: Columns {
                 id: None,

@@ -5,8 +5,8 @@ use Rattle.std.proofs.lemmas.Grind.{take_at_read}
 use Rattle.std.proofs.lemmas.List.{flat_map_more}
 
 -- one more cell
-pub with_cell : {before cells next : List (List ℕ)} {cell wanted : List ℕ} → cells ≡ before → next ≡ cells ++ cell ∷ [] → cell ≡ wanted
-    → next ≡ before ++ wanted ∷ []
+pub with_cell : {before cells next : List (List ℕ)} {cell expected : List ℕ} → cells ≡ before → next ≡ cells ++ cell ∷ [] → cell ≡ expected
+    → next ≡ before ++ expected ∷ []
 with_cell {before} {cell} so_far added is = added ∙ ap (λ cells. cells ++ cell ∷ []) so_far ∙ ap (λ cell. before ++ cell ∷ []) is
 
 -- the results for the elements up to one more, after its results were appended to those before it

@@ -1,6 +1,6 @@
-pub mod Answer
+pub mod LookupResult
 pub mod Batch
 pub mod Degrees
 pub mod Lines
-pub mod Question
+pub mod AddressQuery
 pub mod ReadyWriter

@@ -5,12 +5,12 @@ use Rattle.csv.specs.Records.{fields_of}
 use Rattle.csv.specs.Writing.{default_writer, row_text}
 use Rattle.addresses.specs.Address.{AddressParts}
 use Rattle.addresses.specs.Columns.{trimmed}
-use Rattle.batch.specs.Answer.{AnswerParts, Found, Nowhere, answer_of, status_of}
+use Rattle.batch.specs.LookupResult.{LookupParts, Found, NotFound, lookup_of, status_of}
 use Rattle.batch.specs.Degrees.{degrees}
 use Rattle.batch.specs.declared.reason.Reason.{Reason}
 use Rattle.batch.specs.declared.reason.Reason.TheVariants as reason
-use Rattle.batch.specs.declared.answer.Status.{Status}
-use Rattle.batch.specs.declared.answer.Status.TheVariants.{Match, Tie, NoMatch}
+use Rattle.batch.specs.declared.lookup.Status.{Status}
+use Rattle.batch.specs.declared.lookup.Status.TheVariants.{Match, Tie, NoMatch}
 use Rattle.batch.specs.declared.row.Cells.{Cells}
 use Rattle.geocode.specs.HitLine.{letter}
 use Rattle.geocode.specs.Latin1.{utf8_of}
@@ -74,13 +74,13 @@ abbrev pub cells_of : Cells → List (List ℕ)
 cells_of cells = fields_of cells.cells
 
 -- one line for each match
-abbrev pub lines_with : List ℕ → List (List ℕ) → AnswerParts → List ℕ
+abbrev pub lines_with : List ℕ → List (List ℕ) → LookupParts → List ℕ
 lines_with id counties (Found found) = flat_map (λ one. line (match_cells id (status_of found) counties one)) found
-lines_with id counties (Nowhere reason) = line (none_cells id reason)
+lines_with id counties (NotFound reason) = line (none_cells id reason)
 
 -- the lines of an address in counties with these codes
 abbrev pub lines_of : List (List ℕ) → List CountyParts → AddressParts → List ℕ
-lines_of codes counties address = lines_with (id_of address) codes (answer_of counties address)
+lines_of codes counties address = lines_with (id_of address) codes (lookup_of counties address)
 
 -- the output for addresses, in order
 abbrev pub lines_of_all : List (List ℕ) → List CountyParts → List AddressParts → List ℕ

@@ -1,10 +1,10 @@
 //! Addresses looked up in counties.
 ghost use Rattle.std.specs.Prelude.{◌≡◌, map, IfOk, OnOk};
 
-use crate::answer::Answer;
+use crate::address_query::AddressQuery;
 use crate::cells::push_lines;
 use crate::lines::Lines;
-use crate::question::Question;
+use crate::lookup::LookupResult;
 use addresses::Address;
 use geocode::Gazetteer;
 use itoa::Buffer;
@@ -35,8 +35,8 @@ impl<'a, A: Allocator> Model for Batch<'a, A> {
 
 impl<'a, A: Allocator + Copy> Batch<'a, A> {
     ghost use Rattle.addresses.specs.Address.{parts_of};
-    ghost use Rattle.batch.specs.Answer.{answer_of};
-    ghost use Rattle.batch.specs.Answer as answered;
+    ghost use Rattle.batch.specs.LookupResult.{lookup_of};
+    ghost use Rattle.batch.specs.LookupResult as looked_up;
     ghost use Rattle.batch.specs.Lines.{lines_of};
 
     /// Indexes the street names of counties, to look for addresses in them. The codes are in the order of the counties.
@@ -60,23 +60,23 @@ impl<'a, A: Allocator + Copy> Batch<'a, A> {
     ) -> Result<(), AllocError>
         ensures { OnOk result (lines.new ≡ lines_of self.now.codes self.now.counties (parts_of address.now)) }
     {
-        let answer = self.answer(alloc, address)?;
+        let lookup = self.lookup(alloc, address)?;
         let mut line = Buffer::new();
         let id = match address.id {
             Some(id) => id,
             None => line.format(address.line),
         };
         lines.clear();
-        push_lines(tables, id.as_bytes(), self.codes, &answer, lines)
+        push_lines(tables, id.as_bytes(), self.codes, &lookup, lines)
     }
 
     /// Looks for an address.
-    fn answer(&self, alloc: A, address: &Address<'_>) -> Result<Answer<'a, A>, AllocError>
-        ensures { IfOk result (λ answer. answered.parts_of answer ≡ answer_of self.now.counties (parts_of address.now)) }
+    fn lookup(&self, alloc: A, address: &Address<'_>) -> Result<LookupResult<'a, A>, AllocError>
+        ensures { IfOk result (λ lookup. looked_up.parts_of lookup ≡ lookup_of self.now.counties (parts_of address.now)) }
     {
-        match Question::of(address) {
-            Ok(question) => question.answer(alloc, &self.gazetteer, self.counties),
-            Err(reason) => Ok(Answer::Nowhere(reason)),
+        match AddressQuery::of(address) {
+            Ok(address_query) => address_query.lookup(alloc, &self.gazetteer, self.counties),
+            Err(reason) => Ok(LookupResult::NotFound(reason)),
         }
     }
 }

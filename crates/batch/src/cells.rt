@@ -1,13 +1,13 @@
 //! The lines of output: one for each match, or one that says why there is none.
 ghost use Rattle.std.specs.Prelude.{◌≡◌, ◌++◌, map, OnOk};
 ghost use Rattle.std.specs.List.{flat_map};
-ghost use Rattle.batch.specs.Answer as answered;
+ghost use Rattle.batch.specs.LookupResult as looked_up;
 ghost use Rattle.batch.specs.Lines.{header, latitude_cell, code_at, line, lines_with, longitude_cell, match_cells, none_cells, reason_text, status_text};
 ghost use Rattle.geocode.specs.Matches.{match_of};
 
-use crate::answer::{Answer, Status, status_of};
 use crate::degrees::{DEGREES_LENGTH, degrees};
 use crate::lines::Lines;
+use crate::lookup::{LookupResult, Status, status_of};
 use crate::reason::Reason;
 use crate::row::Cells;
 use arrayvec::ArrayVec;
@@ -30,14 +30,14 @@ pub(crate) fn push_lines<A: Allocator>(
     alloc: Global,
     id: &[u8],
     codes: &[&str],
-    answer: &Answer<'_, A>,
+    lookup: &LookupResult<'_, A>,
     lines: &mut Lines,
 ) -> Result<(), AllocError>
-    ensures { OnOk result (lines.new ≡ lines.old ++ lines_with id.now (map (λ code. code.now) codes.now) (answered.parts_of answer.now)) }
+    ensures { OnOk result (lines.new ≡ lines.old ++ lines_with id.now (map (λ code. code.now) codes.now) (looked_up.parts_of lookup.now)) }
 {
-    match answer {
-        Answer::Found(found) => push_matches(alloc, id, codes, found.as_slice(), lines),
-        Answer::Nowhere(reason) => push_none(alloc, id, *reason, lines),
+    match lookup {
+        LookupResult::Found(found) => push_matches(alloc, id, codes, found.as_slice(), lines),
+        LookupResult::NotFound(reason) => push_none(alloc, id, *reason, lines),
     }
 }
 
@@ -50,7 +50,7 @@ fn push_matches(
     lines: &mut Lines,
 ) -> Result<(), AllocError>
     ensures { OnOk result (lines.new ≡ lines.old
-        ++ flat_map (λ found_one. line (match_cells id.now (answered.status_of (map match_of found.now)) (map (λ code. code.now) codes.now) found_one))
+        ++ flat_map (λ found_one. line (match_cells id.now (looked_up.status_of (map match_of found.now)) (map (λ code. code.now) codes.now) found_one))
         (map match_of found.now)) }
 {
     let status = status_of(found);

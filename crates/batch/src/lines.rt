@@ -9,7 +9,7 @@ use std::alloc::{AllocError, Global};
 use std::marker::Model;
 
 /// The number of bytes after which a new writer begins.
-const KEPT: usize = 65_536;
+const MAX_WRITER_BYTES: usize = 65_536;
 
 /// The lines of an address, in CSV. Contracts see their text.
 ///
@@ -65,7 +65,7 @@ impl Lines {
             None => 0,
         };
         self.start = written;
-        if written >= KEPT {
+        if written >= MAX_WRITER_BYTES {
             self.writer = None;
             self.start = 0;
         }

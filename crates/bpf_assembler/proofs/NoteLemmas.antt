@@ -18,8 +18,8 @@ use Rattle.bpf_assembler.specs.declared.fault.TextFault.TheVariants.{InLine}
 use Rattle.bpf_insn.specs.Form.{spelling}
 use Rattle.bpf_insn.specs.declared.instruction.Insn.{Insn}
 use Rattle.bpf_assembler.specs.declared.assembler.Item.{Item}
-use Rattle.bpf_insn.specs.declared.code.TheConstants.{WORD_LIMIT}
-use Rattle.bpf_assembler.specs.declared.fault.TextFlaw.{TextFlaw}
+use Rattle.bpf_insn.specs.declared.code.TheConstants.{MAX_WORDS}
+use Rattle.bpf_assembler.specs.declared.fault.TextFaultKind.{TextFaultKind}
 use Rattle.bpf_assembler.specs.Statement.{Statement, Blank, Label, Instruction, statement_in}
 use Rattle.bpf_assembler.specs.Text as text
 use Rattle.bpf_assembler.specs.Text.{words_of, label_place, items_from, item, fault_after, refusal_after, HasFirstFaultAt, onto_code, code_from}
@@ -93,7 +93,7 @@ pub faultless-label : (before : List Statement) (name : List ℕ) → label_plac
 faultless-label before name absent = rw absent refl
 
 pub faultless-instruction : (before : List Statement) (insn : Insn) (target : Option (List ℕ))
-    → words_of before + length (spelling insn) ≤ WORD_LIMIT → fault_after before (Instruction insn target) ≡ None
+    → words_of before + length (spelling insn) ≤ MAX_WORDS → fault_after before (Instruction insn target) ≡ None
 faultless-instruction before insn target fits = rw (le-ltb _ _ fits) refl
 
 -- one more line
@@ -111,15 +111,15 @@ read-more {line} after {statement} read cut means none noted = record {
   front = read.front ++ line ∷ [];
   split = read.split ∙ ap (λ (xs : List (List ℕ)). read.front ++ xs) cut ∙ sym (append_assoc read.front (line ∷ []) (lines after));
   counted = omega (arith, read.counted, length-append read.front (line ∷ []));
-  meant = map-append statement_in read.front (line ∷ []) ∙ ap (λ (xs : List (Result Statement TextFlaw)). xs ++ statement_in line ∷ [])
-      read.meant ∙ ap (λ (r : Result Statement TextFlaw). map Ok read.statements ++ r ∷ []) means
+  meant = map-append statement_in read.front (line ∷ []) ∙ ap (λ (xs : List (Result Statement TextFaultKind)). xs ++ statement_in line ∷ [])
+      read.meant ∙ ap (λ (r : Result Statement TextFaultKind). map Ok read.statements ++ r ∷ []) means
       ∙ sym (map-append Ok read.statements (statement ∷ []));
   faultless = faultless-snoc [] read.statements statement read.faultless none;
   noted = noted;
 }
 
 pub read-fault : {text rest line : List ℕ} (after : List ℕ) {number : ℕ} {items : List Item} {labels : List ℕ → Option ℕ} {words : ℕ}
-    {why : TextFlaw} (read : HasRead text rest number items labels words) → lines rest ≡ line ∷ lines after
+    {why : TextFaultKind} (read : HasRead text rest number items labels words) → lines rest ≡ line ∷ lines after
     → refusal_after read.statements (statement_in line) ≡ Some why → HasFirstFaultAt text (number + 1) why
 read-fault {line} after read cut refused = record {
   before = read.statements;
@@ -210,10 +210,10 @@ code-more statements items i {it} old inside is means =
     let at : map item_view (drop i items) ≡ item_view it ∷ map item_view (drop (i + 1) items) =
     items-at items i it inside ∙ ap (λ (x : Item). item_view x ∷ map item_view (drop (i + 1) items)) (sym is) in
     with-front-more old it.line _ rest
-    ∙ ap (λ (r : Result Insn TextFlaw). with_front old (onto_code it.line r rest)) (sym means)
+    ∙ ap (λ (r : Result Insn TextFaultKind). with_front old (onto_code it.line r rest)) (sym means)
     ∙ ap (λ (xs : List text.Item). with_front old (code_from statements xs)) (sym at)
 
-pub code-fault : (statements : List Statement) (items : List Item) (i : ℕ) {it : Item} (old : List Insn) {why : TextFlaw} → i < length items
+pub code-fault : (statements : List Statement) (items : List Item) (i : ℕ) {it : Item} (old : List Insn) {why : TextFaultKind} → i < length items
     → it ≡ get_or items i it → resolve statements (item_view it) ≡ Err why
     → with_front old (code_from statements (map item_view (drop i items))) ≡ Err (InLine it.line why)
 code-fault statements items i {it} old inside is fails =
@@ -221,4 +221,4 @@ code-fault statements items i {it} old inside is fails =
     let at : map item_view (drop i items) ≡ item_view it ∷ map item_view (drop (i + 1) items) =
     items-at items i it inside ∙ ap (λ (x : Item). item_view x ∷ map item_view (drop (i + 1) items)) (sym is) in
     ap (λ (xs : List text.Item). with_front old (code_from statements xs)) at
-    ∙ ap (λ (r : Result Insn TextFlaw). with_front old (onto_code it.line r rest)) fails
+    ∙ ap (λ (r : Result Insn TextFaultKind). with_front old (onto_code it.line r rest)) fails

@@ -9,7 +9,7 @@ use Rattle.std.specs.Str.Lines.{lines}
 use Rattle.bpf_insn.specs.Form.{spelling}
 use Rattle.bpf_insn.specs.Code.{word_count}
 use Rattle.bpf_insn.specs.declared.instruction.Insn.{Insn}
-use Rattle.bpf_assembler.specs.declared.fault.TextFlaw.{TextFlaw}
+use Rattle.bpf_assembler.specs.declared.fault.TextFaultKind.{TextFaultKind}
 use Rattle.bpf_assembler.specs.declared.fault.TextFault.{TextFault}
 use Rattle.bpf_assembler.specs.declared.fault.TextFault.TheVariants.{InLine, Memory}
 use Rattle.bpf_assembler.specs.Statement.{Statement, Blank, Label, Instruction, statement_in}
@@ -78,7 +78,7 @@ label-snoc place name (Instruction insn target ∷ ss) s =
     label-snoc (place + length (spelling insn)) name ss s ∙ ap
     (λ (n : ℕ). first_of (label_from (place + length (spelling insn)) name ss) (label_in n name s)) places
 
-abbrev meanings : List Statement → List (Result Statement TextFlaw)
+abbrev meanings : List Statement → List (Result Statement TextFaultKind)
 meanings ss = map Ok ss
 
 pub length-meant : (front : List (List ℕ)) (statements : List Statement) → map statement_in front ≡ meanings statements
@@ -97,24 +97,24 @@ same-statements (s ∷ a) (t ∷ b) e =
     cc
 
 -- the first refusal of lines, each following statements, with its line number, given the number of the first line
-abbrev unless : Option TextFlaw → ℕ → Option TextFault → Option TextFault
+abbrev unless : Option TextFaultKind → ℕ → Option TextFault → Option TextFault
 unless (Some flaw) line later = Some (InLine line flaw)
 unless None line later = later
 
-abbrev first_refusal : ℕ → List Statement → List (Result Statement TextFlaw) → Option TextFault
+abbrev first_refusal : ℕ → List Statement → List (Result Statement TextFaultKind) → Option TextFault
 first_refusal line before [] = None
 first_refusal line before (Err flaw ∷ rest) = Some (InLine line flaw)
 first_refusal line before (Ok statement ∷ rest) = unless (fault_after before statement) line
     (first_refusal (suc line) (before ++ statement ∷ []) rest)
 
-refused-first : (line : ℕ) (done : List Statement) (meaning : Result Statement TextFlaw) (rest : List (Result Statement TextFlaw))
-    (flaw : TextFlaw) → refusal_after done meaning ≡ Some flaw → first_refusal line done (meaning ∷ rest) ≡ Some (InLine line flaw)
+refused-first : (line : ℕ) (done : List Statement) (meaning : Result Statement TextFaultKind) (rest : List (Result Statement TextFaultKind))
+    (flaw : TextFaultKind) → refusal_after done meaning ≡ Some flaw → first_refusal line done (meaning ∷ rest) ≡ Some (InLine line flaw)
 refused-first line done (Ok statement) rest flaw refused = ap
-    (λ (o : Option TextFlaw). unless o line (first_refusal (suc line) (done ++ statement ∷ []) rest)) refused
+    (λ (o : Option TextFaultKind). unless o line (first_refusal (suc line) (done ++ statement ∷ []) rest)) refused
 refused-first line done (Err other) rest flaw refused = let same : other ≡ flaw = cc in cc
 
-refused-after : (line : ℕ) (done before : List Statement) (meaning : Result Statement TextFlaw) (rest : List (Result Statement TextFlaw))
-    (flaw : TextFlaw) → FaultlessAfter done before → refusal_after (done ++ before) meaning ≡ Some flaw
+refused-after : (line : ℕ) (done before : List Statement) (meaning : Result Statement TextFaultKind) (rest : List (Result Statement TextFaultKind))
+    (flaw : TextFaultKind) → FaultlessAfter done before → refusal_after (done ++ before) meaning ≡ Some flaw
     → first_refusal line done (meanings before ++ meaning ∷ rest) ≡ Some (InLine (line + length before) flaw)
 refused-after line done [] meaning rest flaw all refused =
     rw add-zero (refused-first line done meaning rest flaw
@@ -124,25 +124,25 @@ refused-after line done (s ∷ before) meaning rest flaw all refused =
     let later = refused-after (suc line) (done ++ s ∷ []) before meaning rest flaw all.1
     (subst (λ (b : List Statement). refusal_after b meaning ≡ Some flaw) whole refused) in
     let lines : suc line + length before ≡ line + suc (length before) = omega arith in
-    ap (λ (o : Option TextFlaw). unless o line (first_refusal (suc line) (done ++ s ∷ []) (meanings before ++ meaning ∷ rest))) all.0
+    ap (λ (o : Option TextFaultKind). unless o line (first_refusal (suc line) (done ++ s ∷ []) (meanings before ++ meaning ∷ rest))) all.0
     ∙ later ∙ ap (λ (n : ℕ). Some (InLine n flaw)) lines
 
 refused-none : (line : ℕ) (done all : List Statement) → FaultlessAfter done all → first_refusal line done (meanings all) ≡ None
 refused-none line done [] faultless = refl
 refused-none line done (s ∷ rest) faultless =
-    ap (λ (o : Option TextFlaw). unless o line (first_refusal (suc line) (done ++ s ∷ []) (meanings rest))) faultless.0
+    ap (λ (o : Option TextFaultKind). unless o line (first_refusal (suc line) (done ++ s ∷ []) (meanings rest))) faultless.0
     ∙ refused-none (suc line) (done ++ s ∷ []) rest faultless.1
 
 abbrev first_refusal_of : List ℕ → Option TextFault
 first_refusal_of text = first_refusal 1 [] (map statement_in (lines text))
 
-refused-line : (text : List ℕ) (line : ℕ) (flaw : TextFlaw) → HasFirstFaultAt text line flaw
+refused-line : (text : List ℕ) (line : ℕ) (flaw : TextFaultKind) → HasFirstFaultAt text line flaw
     → first_refusal_of text ≡ Some (InLine line flaw)
 refused-line text line flaw f =
     let rest = map statement_in f.back in
     let front : map statement_in (lines text) ≡ meanings f.before ++ statement_in f.faulty ∷ rest =
     ap (map statement_in) f.split ∙ map-append statement_in f.front (f.faulty ∷ f.back)
-    ∙ ap (λ (ms : List (Result Statement TextFlaw)). ms ++ statement_in f.faulty ∷ rest) f.meant in
+    ∙ ap (λ (ms : List (Result Statement TextFaultKind)). ms ++ statement_in f.faulty ∷ rest) f.meant in
     let numbered : 1 + length f.before ≡ line = omega (arith, f.numbered, length-meant f.front f.before f.meant) in
     ap (first_refusal 1 []) front ∙ refused-after 1 [] f.before (statement_in f.faulty) rest flaw f.faultless f.refused
     ∙ ap (λ (n : ℕ). Some (InLine n flaw)) numbered
@@ -151,7 +151,7 @@ refused-nowhere : (text : List ℕ) (all : List Statement) → HasStatements tex
 refused-nowhere text all has = ap (first_refusal 1 []) has.meant ∙ refused-none 1 [] all has.faultless
 
 -- a text with statements has no fault in a line
-no-fault-in-line : (text : List ℕ) (all : List Statement) (line : ℕ) (flaw : TextFlaw) → HasStatements text all
+no-fault-in-line : (text : List ℕ) (all : List Statement) (line : ℕ) (flaw : TextFaultKind) → HasStatements text all
     → HasFirstFaultAt text line flaw → ⊥
 no-fault-in-line text all line flaw has fault = none-some (InLine line flaw)
     (sym (refused-nowhere text all has) ∙ refused-line text line flaw fault)
@@ -166,7 +166,7 @@ pub one-code : (text : List ℕ) (a b : List Insn) → Means text a → Means te
 one-code text a b x y = let same = same-code x.has_statements y.has_statements x.meant y.meant in cc
 
 -- a text that means a code has no fault
-pub no-fault : (text : List ℕ) (code : List Insn) (line : ℕ) (flaw : TextFlaw) → Means text code → IsFirstFault text (InLine line flaw) → ⊥
+pub no-fault : (text : List ℕ) (code : List Insn) (line : ℕ) (flaw : TextFaultKind) → Means text code → IsFirstFault text (InLine line flaw) → ⊥
 no-fault text code line flaw m (inl in_line) = no-fault-in-line text m.statements line flaw m.has_statements in_line
 no-fault text code line flaw m (inr (inl none)) =
     let nothing = same-code m.has_statements none.1 m.meant none.2 in
@@ -177,7 +177,7 @@ no-fault text code line flaw m (inr (inr target)) =
     let bad = same-code m.has_statements target.1 m.meant target.2 in cc
 
 -- a text has at most one first fault
-same-fault : (text : List ℕ) (p q : ℕ) (x y : TextFlaw) → IsFirstFault text (InLine p x) → IsFirstFault text (InLine q y)
+same-fault : (text : List ℕ) (p q : ℕ) (x y : TextFaultKind) → IsFirstFault text (InLine p x) → IsFirstFault text (InLine q y)
     → InLine p x ≡ InLine q y
 same-fault text p q x y (inl a) (inl b) = let same = sym (refused-line text p x a) ∙ refused-line text q y b in cc
 same-fault text p q x y (inl a) (inr (inl b)) = absurd (no-fault-in-line text b.0 p x b.1 a)

@@ -6,5 +6,5 @@ pub mod Statement
 pub mod View
 pub mod Text
 pub mod Notes
-pub mod TextFlaw
+pub mod TextFaultKind
 pub mod TextFault

@@ -7,7 +7,7 @@ use Rattle.std.specs.Ordering.{nat_cmp}
 use Rattle.std.specs.Str.Lines.{lines}
 use Rattle.bpf_insn.specs.declared.instruction.Insn.{Insn}
 use Rattle.bpf_assembler.specs.declared.assembler.Item.{Item}
-use Rattle.bpf_assembler.specs.declared.fault.TextFlaw.{TextFlaw}
+use Rattle.bpf_assembler.specs.declared.fault.TextFaultKind.{TextFaultKind}
 use Rattle.bpf_assembler.specs.declared.fault.TextFault.{TextFault}
 use Rattle.bpf_assembler.specs.declared.fault.TextFault.TheVariants.{InLine, Memory}
 use Rattle.bpf_assembler.specs.Statement.{Statement, statement_in}
@@ -25,21 +25,21 @@ pub record AreNotesOf (items : List Item) (labels : List ℕ → Option ℕ) (wo
   pub words_are : words ≡ words_of statements
 
 -- a fault in the line that follows the statements, or a failed allocation
-abbrev pub IsRefusal : ℕ → Option TextFlaw → TextFault → Type 0
-IsRefusal line refused fault = (fault ≡ Memory) ⊎ ((why : TextFlaw) × (refused ≡ Some why) × (fault ≡ InLine line why))
+abbrev pub IsRefusal : ℕ → Option TextFaultKind → TextFault → Type 0
+IsRefusal line refused fault = (fault ≡ Memory) ⊎ ((why : TextFaultKind) × (refused ≡ Some why) × (fault ≡ InLine line why))
 
 -- an item's instruction was added, or it has a fault
 abbrev pub PushesItem : List Statement → Item → List Insn → List Insn → Result (Unit {0}) TextFault → Type 0
 PushesItem statements item old new result = MatchResult result
     (λ _. (insn : Insn) × (resolve statements (item_view item) ≡ Ok insn) × (new ≡ old ++ insn ∷ []))
-    (λ fault. (fault ≡ Memory) ⊎ ((why : TextFlaw) × (resolve statements (item_view item) ≡ Err why) × (fault ≡ InLine item.line why)))
+    (λ fault. (fault ≡ Memory) ⊎ ((why : TextFaultKind) × (resolve statements (item_view item) ≡ Err why) × (fault ≡ InLine item.line why)))
 
 -- the places of labels, by name
 abbrev pub places_in : BTreeMap (Bor (List ℕ)) ℕ → List ℕ → Option ℕ
 places_in labels name = get_by (λ key. slice_cmp nat_cmp name key.now) labels
 
 -- One more line: the notes are of its statement too, after those before it, or it's refused.
-abbrev pub NotesLine : List Statement → Result Statement TextFlaw → ℕ → (List Statement → Type 0) → Result (Unit {0}) TextFault → Type 0
+abbrev pub NotesLine : List Statement → Result Statement TextFaultKind → ℕ → (List Statement → Type 0) → Result (Unit {0}) TextFault → Type 0
 NotesLine before meaning line AreNotes result = MatchResult result
     (λ _. (statement : Statement) × (meaning ≡ Ok statement) × (fault_after before statement ≡ None) × AreNotes (before ++ statement ∷ []))
     (λ fault. IsRefusal line (refusal_after before meaning) fault)

@@ -5,11 +5,11 @@ use Rattle.std.specs.List.{list_all}
 use Rattle.std.specs.Char.{digit_value}
 use Rattle.std.specs.Int.{cast_signed, w32}
 use Rattle.std.specs.Str.Parse.{digits_value}
-use Rattle.bpf_assembler.specs.declared.fault.TextFlaw.{TextFlaw}
-use Rattle.bpf_assembler.specs.declared.fault.TextFlaw.TheVariants.{Syntax, NumberRange}
+use Rattle.bpf_assembler.specs.declared.fault.TextFaultKind.{TextFaultKind}
+use Rattle.bpf_assembler.specs.declared.fault.TextFaultKind.TheVariants.{Syntax, NumberRange}
 
 -- the next step's result if there is a value, otherwise the fault
-abbrev pub and_then : {A B : Type 0} → Result A TextFlaw → (A → Result B TextFlaw) → Result B TextFlaw
+abbrev pub and_then : {A B : Type 0} → Result A TextFaultKind → (A → Result B TextFaultKind) → Result B TextFaultKind
 and_then (Ok value) next = next value
 and_then (Err fault) next = Err fault
 
@@ -22,19 +22,19 @@ abbrev pub is_number : ℕ → ℕ → List ℕ → Bool
 is_number radix most digits = nat_le 1 (length digits) && nat_le (length digits) most && list_all (is_digit radix) digits
 
 -- the number that digits denote
-abbrev pub number_in : ℕ → ℕ → List ℕ → Result ℕ TextFlaw
+abbrev pub number_in : ℕ → ℕ → List ℕ → Result ℕ TextFaultKind
 number_in radix most digits = if is_number radix most digits then Ok (digits_value radix digits) else Err Syntax
 
 -- decimal numbers have up to 20 digits
-abbrev pub decimal_in : List ℕ → Result ℕ TextFlaw
+abbrev pub decimal_in : List ℕ → Result ℕ TextFaultKind
 decimal_in digits = number_in 10 20 digits
 
 -- numbers in two's complement with a given number of bits; the limit, 2^(bits-1), is one past the greatest number and the magnitude of the least
 -- one
-abbrev pub positive : ℕ → ℕ → Result ℤ TextFlaw
+abbrev pub positive : ℕ → ℕ → Result ℤ TextFaultKind
 positive limit amount = if nat_lt amount limit then Ok (pos amount) else Err NumberRange
 
-abbrev pub negative : ℕ → ℕ → Result ℤ TextFlaw
+abbrev pub negative : ℕ → ℕ → Result ℤ TextFaultKind
 negative limit amount = if nat_le amount limit then Ok (neg_ℤ (pos amount)) else Err NumberRange
 
 -- the limits for 16 and for 32 bits
@@ -49,7 +49,7 @@ abbrev pub IsWithin : ℕ → ℤ → Type 0
 IsWithin limit value = (neg_ℤ (pos limit) ≤ℤ value) × (value <ℤ pos limit)
 
 -- a decimal number with its sign, `+` or `-`
-abbrev pub signed_in : ℕ → List ℕ → Result ℤ TextFlaw
+abbrev pub signed_in : ℕ → List ℕ → Result ℤ TextFaultKind
 signed_in limit text =
     if slice_index text 0 == 43 then and_then (decimal_in (drop 1 text)) (positive limit)
     else (if slice_index text 0 == 45 then and_then (decimal_in (drop 1 text)) (negative limit) else Err Syntax)
@@ -59,16 +59,16 @@ abbrev pub is_hexadecimal : List ℕ → Bool
 is_hexadecimal text = slice_index text 0 == 48 && slice_index text 1 == 120
 
 -- an immediate: a decimal number with an optional minus sign, or 32 bits as up to 8 hexadecimal digits
-abbrev pub immediate_in : List ℕ → Result ℤ TextFlaw
+abbrev pub immediate_in : List ℕ → Result ℤ TextFaultKind
 immediate_in text =
     if is_hexadecimal text then and_then (number_in 16 8 (drop 2 text)) (λ bits. Ok (cast_signed w32 bits))
     else (if slice_index text 0 == 45 then and_then (decimal_in (drop 1 text)) (negative limit_of_32_bits)
     else and_then (decimal_in text) (positive limit_of_32_bits))
 
 -- the number of a wide load, without a sign: a decimal number below 2^64, or up to 16 hexadecimal digits
-abbrev pub below_64_bits : ℕ → Result ℕ TextFlaw
+abbrev pub below_64_bits : ℕ → Result ℕ TextFaultKind
 below_64_bits number = if nat_lt number (2 ^ 64) then Ok number else Err NumberRange
 
-abbrev pub wide_in : List ℕ → Result ℕ TextFlaw
+abbrev pub wide_in : List ℕ → Result ℕ TextFaultKind
 wide_in text =
     if is_hexadecimal text then number_in 16 16 (drop 2 text) else and_then (decimal_in text) below_64_bits

@@ -12,8 +12,8 @@ use Rattle.bpf_assembler.specs.declared.mnemonic_form.MnemonicForm.{MnemonicForm
 use Rattle.bpf_assembler.specs.declared.mnemonic_form.MnemonicForm.TheVariants.{Alu, MoveSignExtended, Negate, ByteSwap, JumpIf, ShortJump, LongJump, Call, Exit}
 use Rattle.bpf_assembler.specs.declared.mnemonic_form.MnemonicForm.TheVariants.{Load}
 use Rattle.bpf_assembler.specs.declared.mnemonic_form.MnemonicForm.TheVariants.{StoreImmediate, Store, WideLoad}
-use Rattle.bpf_assembler.specs.declared.fault.TextFlaw.{TextFlaw}
-use Rattle.bpf_assembler.specs.declared.fault.TextFlaw.TheVariants.{Syntax, UnknownMnemonic}
+use Rattle.bpf_assembler.specs.declared.fault.TextFaultKind.{TextFaultKind}
+use Rattle.bpf_assembler.specs.declared.fault.TextFaultKind.TheVariants.{Syntax, UnknownMnemonic}
 use Rattle.bpf_assembler.specs.Words.{content_of, first_word, after_word, is_mnemonic_byte, is_label, split_operand}
 use Rattle.bpf_assembler.specs.Number.{and_then, immediate_in, wide_in, limit_of_16_bits, limit_of_32_bits}
 use Rattle.bpf_assembler.specs.Mnemonic.{form_named}
@@ -26,26 +26,26 @@ pub data Statement : Type 0 where
   Instruction : (insn : Insn) (target : Option (List ℕ)) → Statement
 
 -- an instruction that names no label
-abbrev pub plain : Insn → Result Statement TextFlaw
+abbrev pub plain : Insn → Result Statement TextFaultKind
 plain insn = Ok (Instruction insn None)
 
 -- an instruction that writes its first operand
-abbrev pub writing : Register → (WritableRegister → Insn) → Result Statement TextFlaw
+abbrev pub writing : Register → (WritableRegister → Insn) → Result Statement TextFaultKind
 writing register insn = and_then (destination_of register) (λ destination. plain (insn destination))
 
 -- two or three operands
-abbrev pub with_two : {A B : Type 0} → (List ℕ → Result A TextFlaw) → (List ℕ → Result B TextFlaw) → Option (List ℕ × List ℕ) → Result (A × B) TextFlaw
+abbrev pub with_two : {A B : Type 0} → (List ℕ → Result A TextFaultKind) → (List ℕ → Result B TextFaultKind) → Option (List ℕ × List ℕ) → Result (A × B) TextFaultKind
 with_two left right (Some parts) = both (left parts.0) (right parts.1)
 with_two left right None = Err Syntax
 
-abbrev pub two : {A B : Type 0} → (List ℕ → Result A TextFlaw) → (List ℕ → Result B TextFlaw) → List ℕ → Result (A × B) TextFlaw
+abbrev pub two : {A B : Type 0} → (List ℕ → Result A TextFaultKind) → (List ℕ → Result B TextFaultKind) → List ℕ → Result (A × B) TextFaultKind
 two left right operands = with_two left right (split_operand operands)
 
 -- `rD, rS` or `rD, imm`
-abbrev pub register_and_source : List ℕ → Result (Register × Source) TextFlaw
+abbrev pub register_and_source : List ℕ → Result (Register × Source) TextFaultKind
 register_and_source operands = two register_in source_in operands
 
-abbrev pub comparands_and_target : List ℕ → Result (Register × (Source × (ℤ × Option (List ℕ)))) TextFlaw
+abbrev pub comparands_and_target : List ℕ → Result (Register × (Source × (ℤ × Option (List ℕ)))) TextFaultKind
 comparands_and_target operands = two register_in (two source_in (target_in limit_of_16_bits)) operands
 
 -- the two halves of a wide load's number
@@ -56,7 +56,7 @@ abbrev pub high_half : ℕ → ℤ
 high_half number = cast_signed w32 (number / 2 ^ 32)
 
 -- The meaning of a form with its operands: one line for each row of the instruction table.
-abbrev pub instruction_in : MnemonicForm → List ℕ → Result Statement TextFlaw
+abbrev pub instruction_in : MnemonicForm → List ℕ → Result Statement TextFaultKind
 instruction_in (Alu operation width) operands =
     and_then (register_and_source operands) (λ read. writing read.0 (λ destination. insn.Alu operation width destination read.1))
 instruction_in (MoveSignExtended extension) operands =
@@ -84,23 +84,23 @@ instruction_in WideLoad operands =
     and_then (two register_in wide_in operands) (λ read. writing read.0 (λ destination. insn.WideLoad destination (low_half read.1) (high_half read.1)))
 
 -- the meaning of a mnemonic with its operands
-abbrev pub instruction_with : Option MnemonicForm → List ℕ → Result Statement TextFlaw
+abbrev pub instruction_with : Option MnemonicForm → List ℕ → Result Statement TextFaultKind
 instruction_with (Some form) operands = instruction_in form operands
 instruction_with None operands = Err UnknownMnemonic
 
-abbrev pub instruction_of : List ℕ → Result Statement TextFlaw
+abbrev pub instruction_of : List ℕ → Result Statement TextFaultKind
 instruction_of content =
     if list_all is_mnemonic_byte (first_word content) then instruction_with (form_named (first_word content)) (after_word content) else Err Syntax
 
-abbrev pub label_of : List ℕ → Result Statement TextFlaw
+abbrev pub label_of : List ℕ → Result Statement TextFaultKind
 label_of name = if is_label name then Ok (Label name) else Err Syntax
 
 -- content that ends in a colon is a label or an error
-abbrev pub statement_of : List ℕ → Result Statement TextFlaw
+abbrev pub statement_of : List ℕ → Result Statement TextFaultKind
 statement_of content =
     if length content == 0 then Ok Blank
     else (if slice_index content (length content - 1) == 58 then label_of (take (length content - 1) content) else instruction_of content)
 
 -- the meaning of a line, given without its line end
-abbrev pub statement_in : List ℕ → Result Statement TextFlaw
+abbrev pub statement_in : List ℕ → Result Statement TextFaultKind
 statement_in line = statement_of (content_of line)

@@ -4,12 +4,12 @@ use Rattle.std.specs.Prelude.{length, map, Option, Some, None, Result, Ok, Err}
 use Rattle.std.specs.Str.{bytes_eq}
 use Rattle.std.specs.Str.Lines.{lines}
 use Rattle.bpf_insn.specs.Form.{spelling}
-use Rattle.bpf_insn.specs.declared.code.TheConstants.{WORD_LIMIT}
+use Rattle.bpf_insn.specs.declared.code.TheConstants.{MAX_WORDS}
 use Rattle.bpf_insn.specs.declared.instruction.Insn.{Insn}
 use Rattle.bpf_insn.specs.declared.instruction.Insn.TheVariants.{JumpIf, Jump}
 use Rattle.bpf_insn.specs.declared.instruction.JumpDistance.TheVariants.{Short, Long}
-use Rattle.bpf_assembler.specs.declared.fault.TextFlaw.{TextFlaw}
-use Rattle.bpf_assembler.specs.declared.fault.TextFlaw.TheVariants.{DoubleLabel, TooLong, NoInstruction, UnknownLabel, LabelTooFar}
+use Rattle.bpf_assembler.specs.declared.fault.TextFaultKind.{TextFaultKind}
+use Rattle.bpf_assembler.specs.declared.fault.TextFaultKind.TheVariants.{DoubleLabel, TooLong, NoInstruction, UnknownLabel, LabelTooFar}
 use Rattle.bpf_assembler.specs.declared.fault.TextFault.{TextFault}
 use Rattle.bpf_assembler.specs.declared.fault.TextFault.TheVariants.{InLine, Memory}
 use Rattle.bpf_assembler.specs.Statement.{Statement, Blank, Label, Instruction, statement_in}
@@ -32,10 +32,10 @@ abbrev pub label_place : List ℕ → List Statement → Option ℕ
 label_place name statements = label_from 0 name statements
 
 -- the fault of a statement that follows others: a label is defined only once, and a program has up to WORD_LIMIT words
-abbrev pub fault_after : List Statement → Statement → Option TextFlaw
+abbrev pub fault_after : List Statement → Statement → Option TextFaultKind
 fault_after before Blank = None
 fault_after before (Label name) = if is_some (label_place name before) then Some DoubleLabel else None
-fault_after before (Instruction insn target) = if nat_lt WORD_LIMIT (words_of before + length (spelling insn)) then Some TooLong else None
+fault_after before (Instruction insn target) = if nat_lt MAX_WORDS (words_of before + length (spelling insn)) then Some TooLong else None
 
 -- no statement has a fault, each following those before it
 abbrev pub FaultlessAfter : List Statement → List Statement → Type 0
@@ -74,23 +74,23 @@ at_distance distance (Jump (Long offset)) = if fits_32_bits distance then Some (
 at_distance distance insn = Some insn
 
 -- An instruction whose label is looked up among the statements. The distance counts from the word after the jump, which is one word long.
-abbrev pub jump_by : Option Insn → Result Insn TextFlaw
+abbrev pub jump_by : Option Insn → Result Insn TextFaultKind
 jump_by (Some insn) = Ok insn
 jump_by None = Err LabelTooFar
 
-abbrev pub jump_to : ℕ → Insn → Option ℕ → Result Insn TextFlaw
+abbrev pub jump_to : ℕ → Insn → Option ℕ → Result Insn TextFaultKind
 jump_to place insn (Some target) = jump_by (at_distance (pos target -ℤ pos (place + 1)) insn)
 jump_to place insn None = Err UnknownLabel
 
-abbrev pub resolve_at : List Statement → ℕ → Insn → Option (List ℕ) → Result Insn TextFlaw
+abbrev pub resolve_at : List Statement → ℕ → Insn → Option (List ℕ) → Result Insn TextFaultKind
 resolve_at statements place insn None = Ok insn
 resolve_at statements place insn (Some name) = jump_to place insn (label_place name statements)
 
-abbrev pub resolve : List Statement → Item → Result Insn TextFlaw
+abbrev pub resolve : List Statement → Item → Result Insn TextFaultKind
 resolve statements item = resolve_at statements item.place item.insn item.target
 
 -- the instructions of the items, or the first fault, with its line
-abbrev pub onto_code : ℕ → Result Insn TextFlaw → Result (List Insn) TextFault → Result (List Insn) TextFault
+abbrev pub onto_code : ℕ → Result Insn TextFaultKind → Result (List Insn) TextFault → Result (List Insn) TextFault
 onto_code line (Ok insn) (Ok code) = Ok (insn ∷ code)
 onto_code line (Ok insn) (Err fault) = Err fault
 onto_code line (Err fault) code = Err (InLine line fault)
@@ -115,12 +115,12 @@ pub record Means (text : List ℕ) (code : List Insn) : Type 0 where
   pub some : 1 ≤ length code
 
 -- why a line is refused that follows statements: it has no meaning, or its statement has a fault
-abbrev pub refusal_after : List Statement → Result Statement TextFlaw → Option TextFlaw
+abbrev pub refusal_after : List Statement → Result Statement TextFaultKind → Option TextFaultKind
 refusal_after before (Ok statement) = fault_after before statement
 refusal_after before (Err fault) = Some fault
 
 -- the lines before this one are statements without a fault, and this line has this fault
-pub record HasFirstFaultAt (text : List ℕ) (line : ℕ) (fault : TextFlaw) : Type 0 where
+pub record HasFirstFaultAt (text : List ℕ) (line : ℕ) (fault : TextFaultKind) : Type 0 where
   pub before : List Statement
   pub front : List (List ℕ)
   pub faulty : List ℕ
@@ -132,12 +132,12 @@ pub record HasFirstFaultAt (text : List ℕ) (line : ℕ) (fault : TextFlaw) : T
   pub refused : refusal_after before (statement_in faulty) ≡ Some fault
 
 -- no line has a fault, and there is no instruction
-abbrev pub HasNoInstruction : List ℕ → ℕ → TextFlaw → Type 0
+abbrev pub HasNoInstruction : List ℕ → ℕ → TextFaultKind → Type 0
 HasNoInstruction text line fault =
     (statements : List Statement) × HasStatements text statements × (code_of statements ≡ Ok []) × (line ≡ 1) × (fault ≡ NoInstruction)
 
 -- no line has a fault, and this is the first line whose label has no place, or one too far away
-abbrev pub HasBadTarget : List ℕ → ℕ → TextFlaw → Type 0
+abbrev pub HasBadTarget : List ℕ → ℕ → TextFaultKind → Type 0
 HasBadTarget text line fault =
     (statements : List Statement) × HasStatements text statements × (code_of statements ≡ Err (InLine line fault))
 

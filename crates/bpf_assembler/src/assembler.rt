@@ -6,10 +6,10 @@ ghost use Rattle.bpf_assembler.specs.View.{name_view};
 ghost use Rattle.bpf_assembler.specs.Text.{Means, IsFirstFault, at_distance, resolve, code_of, label_place};
 ghost use Rattle.bpf_assembler.specs.Notes.{item_view, AreNotesOf, places_in, NotesLine, HasNotes, ReadsNotes, PushesItem};
 
-use crate::fault::{TextFault, TextFlaw};
+use crate::fault::{TextFault, TextFaultKind};
 use crate::statement::Statement;
 use crate::text_lines::first_line;
-use bpf_insn::{Code, CodeBuilder, Insn, JumpDistance, WORD_LIMIT};
+use bpf_insn::{Code, CodeBuilder, Insn, JumpDistance, MAX_WORDS};
 use std::alloc::Allocator;
 use std::collections::BTreeMap;
 
@@ -58,7 +58,7 @@ fn assemble_bytes<A: Allocator + Copy>(alloc: A, text: &[u8]) -> Result<Code<A>,
         Ok(code) => Ok(code),
         Err(_) => Err(TextFault::InLine {
             line: 1,
-            flaw: TextFlaw::NoInstruction,
+            flaw: TextFaultKind::NoInstruction,
         }),
     }
 }
@@ -87,8 +87,8 @@ impl<'a, A: Allocator + Copy> Notes<'a, A> {
 
     /// Notes the next line.
     fn add(&mut self, number: usize, line: &'a [u8]) -> Result<(), TextFault>
-        requires { self.old.words ≤ WORD_LIMIT }
-        ensures within { self.new.words ≤ WORD_LIMIT }
+        requires { self.old.words ≤ MAX_WORDS }
+        ensures within { self.new.words ≤ MAX_WORDS }
         ensures noted { (before : List Meaning) → AreNotesOf self.old.items.items (places_in self.old.labels) self.old.words before
             → number ≡ suc (length before)
             → NotesLine before (statement_in line.now) number (AreNotesOf self.new.items.items (places_in self.new.labels) self.new.words) result }
@@ -104,15 +104,15 @@ impl<'a, A: Allocator + Copy> Notes<'a, A> {
     }
 
     fn add_label(&mut self, line: usize, name: &'a [u8]) -> Result<(), TextFault>
-        requires { self.old.words ≤ WORD_LIMIT }
-        ensures within { self.new.words ≤ WORD_LIMIT }
+        requires { self.old.words ≤ MAX_WORDS }
+        ensures within { self.new.words ≤ MAX_WORDS }
         ensures noted { (before : List Meaning) → AreNotesOf self.old.items.items (places_in self.old.labels) self.old.words before → line ≡ suc (length before)
             → NotesLine before (Ok (Label name.now)) line (AreNotesOf self.new.items.items (places_in self.new.labels) self.new.words) result }
     {
         if self.labels.contains_key(&name) {
             return Err(TextFault::InLine {
                 line,
-                flaw: TextFlaw::DoubleLabel,
+                flaw: TextFaultKind::DoubleLabel,
             });
         }
         self.labels.insert(name, self.words as u32)?;
@@ -125,17 +125,17 @@ impl<'a, A: Allocator + Copy> Notes<'a, A> {
         insn: Insn,
         target: Option<&'a [u8]>,
     ) -> Result<(), TextFault>
-        requires { self.old.words ≤ WORD_LIMIT }
-        ensures within { self.new.words ≤ WORD_LIMIT }
+        requires { self.old.words ≤ MAX_WORDS }
+        ensures within { self.new.words ≤ MAX_WORDS }
         ensures noted { (before : List Meaning) → AreNotesOf self.old.items.items (places_in self.old.labels) self.old.words before → line ≡ suc (length before)
             → NotesLine before (Ok (Instruction insn (name_view target.entry))) line
             (AreNotesOf self.new.items.items (places_in self.new.labels) self.new.words) result }
     {
         let words = insn.words();
-        if WORD_LIMIT - self.words < words {
+        if MAX_WORDS - self.words < words {
             return Err(TextFault::InLine {
                 line,
-                flaw: TextFlaw::TooLong,
+                flaw: TextFaultKind::TooLong,
             });
         }
         let place = self.words as u32;
@@ -180,7 +180,7 @@ impl<'a, A: Allocator + Copy> Notes<'a, A> {
     }
 
     /// Returns an item's instruction, with its jump distance resolved.
-    fn resolve(&self, item: Item<'a>) -> Result<Insn, TextFlaw>
+    fn resolve(&self, item: Item<'a>) -> Result<Insn, TextFaultKind>
         ensures { (statements : List Meaning) → ((name : List ℕ) → places_in self.now.labels name ≡ label_place name statements)
             → result ≡ resolve statements (item_view item.entry) }
     {
@@ -188,11 +188,11 @@ impl<'a, A: Allocator + Copy> Notes<'a, A> {
             return Ok(item.insn);
         };
         let Some(target) = self.labels.get(&name) else {
-            return Err(TextFlaw::UnknownLabel);
+            return Err(TextFaultKind::UnknownLabel);
         };
         match at_distance(distance(item.place, *target), item.insn) {
             Some(insn) => Ok(insn),
-            None => Err(TextFlaw::LabelTooFar),
+            None => Err(TextFaultKind::LabelTooFar),
         }
     }
 }

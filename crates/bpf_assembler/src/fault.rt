@@ -1,8 +1,8 @@
 //! Why program text is refused.
 ghost use Rattle.std.specs.Prelude.{◌≡◌};
 ghost use Rattle.bpf_assembler.specs.declared.fault.TextFault.TheVariants.{Memory};
-ghost use Rattle.bpf_assembler.specs.TextFlaw as text_flaw;
-ghost use Rattle.bpf_assembler.specs.TextFlaw.{of_code};
+ghost use Rattle.bpf_assembler.specs.TextFaultKind as text_flaw;
+ghost use Rattle.bpf_assembler.specs.TextFaultKind.{of_code};
 ghost use Rattle.bpf_assembler.specs.TextFault as text_fault;
 ghost use Rattle.refusals.specs.Refusal.{line as refusal_line};
 
@@ -14,7 +14,7 @@ use thiserror::Error;
 
 /// The flaw of a line of program text.
 #[derive(Clone, Copy, Debug, PartialEq, Eq, Error)]
-pub enum TextFlaw {
+pub enum TextFaultKind {
     #[error("no label, and no mnemonic with its operands")]
     Syntax,
     #[error("no mnemonic has this name")]
@@ -42,7 +42,7 @@ pub enum TextFault {
     InLine {
         /// The line, counted from 1.
         line: usize,
-        flaw: TextFlaw,
+        flaw: TextFaultKind,
     },
     #[error("out of memory")]
     Memory,
@@ -64,21 +64,21 @@ impl<T: Drop> From<AllocFailed<T>> for TextFault {
     }
 }
 
-impl TextFlaw {
+impl TextFaultKind {
     /// Returns the flaw as a refusal, without its line. For a flaw of the code that the text means, the detail is the number of the code's refusal.
     pub fn refusal(self) -> Refusal
         ensures { result ≡ text_flaw.refusal self }
     {
         match self {
-            TextFlaw::Syntax => Refusal::refused(20, "Syntax"),
-            TextFlaw::UnknownMnemonic => Refusal::refused(21, "UnknownMnemonic"),
-            TextFlaw::NumberRange => Refusal::refused(22, "NumberRange"),
-            TextFlaw::UnknownLabel => Refusal::refused(23, "UnknownLabel"),
-            TextFlaw::DoubleLabel => Refusal::refused(24, "DoubleLabel"),
-            TextFlaw::LabelTooFar => Refusal::refused(25, "LabelTooFar"),
-            TextFlaw::NoInstruction => of_code(&CodeFault::Empty.refusal()),
-            TextFlaw::TooLong => of_code(&CodeFault::TooLong.refusal()),
-            TextFlaw::WritesFramePointer => of_code(&WordFault::WritesFramePointer.refusal()),
+            TextFaultKind::Syntax => Refusal::refused(20, "Syntax"),
+            TextFaultKind::UnknownMnemonic => Refusal::refused(21, "UnknownMnemonic"),
+            TextFaultKind::NumberRange => Refusal::refused(22, "NumberRange"),
+            TextFaultKind::UnknownLabel => Refusal::refused(23, "UnknownLabel"),
+            TextFaultKind::DoubleLabel => Refusal::refused(24, "DoubleLabel"),
+            TextFaultKind::LabelTooFar => Refusal::refused(25, "LabelTooFar"),
+            TextFaultKind::NoInstruction => of_code(&CodeFault::Empty.refusal()),
+            TextFaultKind::TooLong => of_code(&CodeFault::TooLong.refusal()),
+            TextFaultKind::WritesFramePointer => of_code(&WordFault::WritesFramePointer.refusal()),
         }
     }
 }

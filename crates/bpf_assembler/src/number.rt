@@ -3,7 +3,7 @@ ghost use Rattle.std.specs.Prelude.{◌≡◌, ◌≤◌, ◌<◌, ◌^◌, true
 ghost use Rattle.bpf_assembler.specs.Number.{IsWithin, number_in, decimal_in, positive, negative, signed_in, is_hexadecimal, immediate_in, wide_in};
 ghost use Rattle.bpf_assembler.specs.Number.{limit_of_16_bits, limit_of_32_bits};
 
-use crate::fault::TextFlaw;
+use crate::fault::TextFaultKind;
 
 /// The number just past the greatest one in 16 bits of two's complement.
 pub(crate) const LIMIT_OF_16_BITS: u64 = 1 << 15;
@@ -11,32 +11,32 @@ pub(crate) const LIMIT_OF_16_BITS: u64 = 1 << 15;
 pub(crate) const LIMIT_OF_32_BITS: u64 = 1 << 31;
 
 /// Returns the number that digits denote: at least one digit, and at most `most`.
-fn number_in(digits: &[u8], radix: u32, most: usize) -> Result<u128, TextFlaw>
+fn number_in(digits: &[u8], radix: u32, most: usize) -> Result<u128, TextFaultKind>
     requires radixes { (2 ≤ radix) × (radix ≤ 16) }
     requires few { most ≤ 20 }
     ensures value { result ≡ number_in radix most digits.now }
     ensures small { IfOk result (λ number. number < radix ^ most) }
 {
     if digits.is_empty() || digits.len() > most {
-        return Err(TextFlaw::Syntax);
+        return Err(TextFaultKind::Syntax);
     }
     let mut number = 0u128;
     for byte in digits {
         let Some(digit) = (*byte as char).to_digit(radix) else {
-            return Err(TextFlaw::Syntax);
+            return Err(TextFaultKind::Syntax);
         };
         number = number * u128::from(radix) + u128::from(digit);
     }
     Ok(number)
 }
 
-fn decimal_in(digits: &[u8]) -> Result<u128, TextFlaw>
+fn decimal_in(digits: &[u8]) -> Result<u128, TextFaultKind>
     ensures { result ≡ decimal_in digits.now }
 {
     number_in(digits, 10, 20)
 }
 
-fn positive(amount: u128, limit: u64) -> Result<i32, TextFlaw>
+fn positive(amount: u128, limit: u64) -> Result<i32, TextFaultKind>
     requires { limit ≤ 2 ^ 31 }
     ensures value { result ≡ positive limit amount }
     ensures within { IfOk result (λ value. IsWithin limit value) }
@@ -44,11 +44,11 @@ fn positive(amount: u128, limit: u64) -> Result<i32, TextFlaw>
     if amount < u128::from(limit) {
         Ok(amount as i32)
     } else {
-        Err(TextFlaw::NumberRange)
+        Err(TextFaultKind::NumberRange)
     }
 }
 
-fn negative(amount: u128, limit: u64) -> Result<i32, TextFlaw>
+fn negative(amount: u128, limit: u64) -> Result<i32, TextFaultKind>
     requires { (0 < limit) × (limit ≤ 2 ^ 31) }
     ensures value { result ≡ negative limit amount }
     ensures within { IfOk result (λ value. IsWithin limit value) }
@@ -56,12 +56,12 @@ fn negative(amount: u128, limit: u64) -> Result<i32, TextFlaw>
     if amount <= u128::from(limit) {
         Ok(-(amount as i64) as i32)
     } else {
-        Err(TextFlaw::NumberRange)
+        Err(TextFaultKind::NumberRange)
     }
 }
 
 /// Reads a decimal number with its sign, within the limit in two's complement.
-fn signed_in(text: &[u8], limit: u64) -> Result<i32, TextFlaw>
+fn signed_in(text: &[u8], limit: u64) -> Result<i32, TextFaultKind>
     requires { (0 < limit) × (limit ≤ 2 ^ 31) }
     ensures value { result ≡ signed_in limit text.now }
     ensures within { IfOk result (λ value. IsWithin limit value) }
@@ -69,19 +69,19 @@ fn signed_in(text: &[u8], limit: u64) -> Result<i32, TextFlaw>
     match text {
         [b'+', digits @ ..] => positive(decimal_in(digits)?, limit),
         [b'-', digits @ ..] => negative(decimal_in(digits)?, limit),
-        _ => Err(TextFlaw::Syntax),
+        _ => Err(TextFaultKind::Syntax),
     }
 }
 
 /// Reads a decimal number of 16 bits with its sign.
-pub(crate) fn signed_16(text: &[u8]) -> Result<i16, TextFlaw>
+pub(crate) fn signed_16(text: &[u8]) -> Result<i16, TextFaultKind>
     ensures { result ≡ signed_in limit_of_16_bits text.now }
 {
     Ok(signed_in(text, LIMIT_OF_16_BITS)? as i16)
 }
 
 /// Reads a decimal number of 32 bits with its sign.
-pub(crate) fn signed_32(text: &[u8]) -> Result<i32, TextFlaw>
+pub(crate) fn signed_32(text: &[u8]) -> Result<i32, TextFaultKind>
     ensures { result ≡ signed_in limit_of_32_bits text.now }
 {
     signed_in(text, LIMIT_OF_32_BITS)
@@ -98,7 +98,7 @@ fn hexadecimal_digits(text: &[u8]) -> Option<&[u8]>
 }
 
 /// Reads the 32 bits of an immediate.
-pub(crate) fn immediate_in(text: &[u8]) -> Result<i32, TextFlaw>
+pub(crate) fn immediate_in(text: &[u8]) -> Result<i32, TextFaultKind>
     ensures { result ≡ immediate_in text.now }
 {
     if let Some(digits) = hexadecimal_digits(text) {
@@ -111,7 +111,7 @@ pub(crate) fn immediate_in(text: &[u8]) -> Result<i32, TextFlaw>
 }
 
 /// Reads the number of a wide load.
-pub(crate) fn wide_in(text: &[u8]) -> Result<u64, TextFlaw>
+pub(crate) fn wide_in(text: &[u8]) -> Result<u64, TextFaultKind>
     ensures { result ≡ wide_in text.now }
 {
     if let Some(digits) = hexadecimal_digits(text) {
@@ -121,6 +121,6 @@ pub(crate) fn wide_in(text: &[u8]) -> Result<u64, TextFlaw>
     if number < 1 << 64 {
         Ok(number as u64)
     } else {
-        Err(TextFlaw::NumberRange)
+        Err(TextFaultKind::NumberRange)
     }
 }

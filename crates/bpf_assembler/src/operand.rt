@@ -8,7 +8,7 @@ ghost use Rattle.bpf_assembler.specs.Operand.{address_in, memory_in, target_in};
 ghost use Rattle.bpf_assembler.specs.Number.{limit_of_16_bits, limit_of_32_bits};
 ghost use Rattle.bpf_assembler.specs.View.{target_view};
 
-use crate::fault::TextFlaw;
+use crate::fault::TextFaultKind;
 use crate::number::{immediate_in, signed_16, signed_32};
 use crate::words::{find_sign, is_label};
 use bpf_insn::{Register, Source, WritableRegister};
@@ -20,9 +20,9 @@ const REGISTER_NAMES: [&str; 11] = [
 
 /// Combines two operands. A syntax flaw in either one takes precedence over a number out of range.
 pub(crate) fn both<T: Copy, U: Copy>(
-    left: Result<T, TextFlaw>,
-    right: Result<U, TextFlaw>,
-) -> Result<(T, U), TextFlaw>
+    left: Result<T, TextFaultKind>,
+    right: Result<U, TextFaultKind>,
+) -> Result<(T, U), TextFaultKind>
     ensures { result ≡ both left right }
 {
     match left {
@@ -37,11 +37,11 @@ pub(crate) fn both<T: Copy, U: Copy>(
     }
 }
 
-fn form_first(flaw: TextFlaw, other: TextFlaw) -> TextFlaw
+fn form_first(flaw: TextFaultKind, other: TextFaultKind) -> TextFaultKind
     ensures { result ≡ form_first flaw other }
 {
     match flaw {
-        TextFlaw::NumberRange => other,
+        TextFaultKind::NumberRange => other,
         _ => flaw,
     }
 }
@@ -74,28 +74,28 @@ fn register_named(word: &[u8]) -> Option<Register>
     Some(Register { number })
 }
 
-pub(crate) fn register_in(word: &[u8]) -> Result<Register, TextFlaw>
+pub(crate) fn register_in(word: &[u8]) -> Result<Register, TextFaultKind>
     ensures { result ≡ register_in word.now }
 {
     match register_named(word) {
         Some(register) => Ok(register),
-        None => Err(TextFlaw::Syntax),
+        None => Err(TextFaultKind::Syntax),
     }
 }
 
 /// Refuses register 10, which no instruction writes.
-pub(crate) fn destination_of(register: Register) -> Result<WritableRegister, TextFlaw>
+pub(crate) fn destination_of(register: Register) -> Result<WritableRegister, TextFaultKind>
     ensures { result ≡ destination_of register }
 {
     let number = register.number;
     if number > 9 {
-        return Err(TextFlaw::WritesFramePointer);
+        return Err(TextFaultKind::WritesFramePointer);
     }
     Ok(WritableRegister { number })
 }
 
 /// Reads a register, or else an immediate.
-pub(crate) fn source_in(word: &[u8]) -> Result<Source, TextFlaw>
+pub(crate) fn source_in(word: &[u8]) -> Result<Source, TextFaultKind>
     ensures { result ≡ source_in word.now }
 {
     match register_named(word) {
@@ -105,7 +105,7 @@ pub(crate) fn source_in(word: &[u8]) -> Result<Source, TextFlaw>
 }
 
 /// Reads an offset; an empty text is the offset 0.
-fn offset_in(text: &[u8]) -> Result<i16, TextFlaw>
+fn offset_in(text: &[u8]) -> Result<i16, TextFaultKind>
     ensures { result ≡ offset_in text.now }
 {
     if text.is_empty() {
@@ -115,7 +115,7 @@ fn offset_in(text: &[u8]) -> Result<i16, TextFlaw>
 }
 
 /// Reads a base register and an offset.
-fn address_in(text: &[u8]) -> Result<(Register, i16), TextFlaw>
+fn address_in(text: &[u8]) -> Result<(Register, i16), TextFaultKind>
     ensures { result ≡ address_in text.now }
 {
     match find_sign(text) {
@@ -125,17 +125,17 @@ fn address_in(text: &[u8]) -> Result<(Register, i16), TextFlaw>
 }
 
 /// Reads a base register and an offset, in brackets.
-pub(crate) fn memory_in(word: &[u8]) -> Result<(Register, i16), TextFlaw>
+pub(crate) fn memory_in(word: &[u8]) -> Result<(Register, i16), TextFaultKind>
     ensures { result ≡ memory_in word.now }
 {
     match word {
         [b'[', inner @ .., b']'] => address_in(inner),
-        _ => Err(TextFlaw::Syntax),
+        _ => Err(TextFaultKind::Syntax),
     }
 }
 
 /// Reads a jump's target: a distance, or a label, with distance 0 until the label is resolved.
-pub(crate) fn target_16(word: &[u8]) -> Result<(i16, Option<&[u8]>), TextFlaw>
+pub(crate) fn target_16(word: &[u8]) -> Result<(i16, Option<&[u8]>), TextFaultKind>
     ensures { target_view result ≡ target_in limit_of_16_bits word.now }
 {
     if is_label(word) {
@@ -145,7 +145,7 @@ pub(crate) fn target_16(word: &[u8]) -> Result<(i16, Option<&[u8]>), TextFlaw>
 }
 
 /// Reads a jump's target, with a distance of 32 bits.
-pub(crate) fn target_32(word: &[u8]) -> Result<(i32, Option<&[u8]>), TextFlaw>
+pub(crate) fn target_32(word: &[u8]) -> Result<(i32, Option<&[u8]>), TextFaultKind>
     ensures { target_view result ≡ target_in limit_of_32_bits word.now }
 {
     if is_label(word) {

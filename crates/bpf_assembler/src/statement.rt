@@ -6,7 +6,7 @@ ghost use Rattle.bpf_assembler.specs.Number.{immediate_in, wide_in, limit_of_16_
 ghost use Rattle.bpf_assembler.specs.Statement.{instruction_in, instruction_of, label_of, statement_in, two, plain, low_half, high_half};
 ghost use Rattle.bpf_assembler.specs.View.{statement_view, comparand_view, parts_view};
 
-use crate::fault::TextFlaw;
+use crate::fault::TextFaultKind;
 use crate::mnemonic_form::MnemonicForm;
 use crate::number::{immediate_in, wide_in};
 use crate::operand::{
@@ -31,7 +31,7 @@ pub(crate) enum Statement<'a> {
 
 impl<'a> Statement<'a> {
     /// Reads a line, given without its line end.
-    pub(crate) fn read(line: &'a [u8]) -> Result<Statement<'a>, TextFlaw>
+    pub(crate) fn read(line: &'a [u8]) -> Result<Statement<'a>, TextFaultKind>
         ensures { statement_view result ≡ statement_in line.now }
     {
         let content = content_of(line);
@@ -46,30 +46,30 @@ impl<'a> Statement<'a> {
     }
 }
 
-fn label_of(name: &[u8]) -> Result<Statement<'_>, TextFlaw>
+fn label_of(name: &[u8]) -> Result<Statement<'_>, TextFaultKind>
     ensures { statement_view result ≡ label_of name.now }
 {
     if is_label(name) {
         Ok(Statement::Label(name))
     } else {
-        Err(TextFlaw::Syntax)
+        Err(TextFaultKind::Syntax)
     }
 }
 
-fn instruction_of(content: &[u8]) -> Result<Statement<'_>, TextFlaw>
+fn instruction_of(content: &[u8]) -> Result<Statement<'_>, TextFaultKind>
     ensures { statement_view result ≡ instruction_of content.now }
 {
     let (word, operands) = split_word(content);
     if !is_mnemonic(word) {
-        return Err(TextFlaw::Syntax);
+        return Err(TextFaultKind::Syntax);
     }
     match MnemonicForm::named(word) {
         Some(form) => instruction_in(form, operands),
-        None => Err(TextFlaw::UnknownMnemonic),
+        None => Err(TextFaultKind::UnknownMnemonic),
     }
 }
 
-fn instruction_in(form: MnemonicForm, operands: &[u8]) -> Result<Statement<'_>, TextFlaw>
+fn instruction_in(form: MnemonicForm, operands: &[u8]) -> Result<Statement<'_>, TextFaultKind>
     ensures { statement_view result ≡ instruction_in form operands.now }
 {
     match form {
@@ -90,37 +90,37 @@ fn instruction_in(form: MnemonicForm, operands: &[u8]) -> Result<Statement<'_>, 
 }
 
 /// Returns an instruction that names no label.
-fn plain<'a>(insn: Insn) -> Result<Statement<'a>, TextFlaw>
+fn plain<'a>(insn: Insn) -> Result<Statement<'a>, TextFaultKind>
     ensures { statement_view result ≡ plain insn }
 {
     Ok(Statement::Instruction { insn, target: None })
 }
 
 /// Returns the operands on both sides of the first comma.
-fn split(operands: &[u8]) -> Result<(&[u8], &[u8]), TextFlaw>
-    ensures { parts_view result ≡ or_fault TextFlaw.Syntax (split_operand operands.now) }
+fn split(operands: &[u8]) -> Result<(&[u8], &[u8]), TextFaultKind>
+    ensures { parts_view result ≡ or_fault TextFaultKind.Syntax (split_operand operands.now) }
 {
     match split_operand(operands) {
         Some(parts) => Ok(parts),
-        None => Err(TextFlaw::Syntax),
+        None => Err(TextFaultKind::Syntax),
     }
 }
 
-fn register_and_source(operands: &[u8]) -> Result<(Register, Source), TextFlaw>
+fn register_and_source(operands: &[u8]) -> Result<(Register, Source), TextFaultKind>
     ensures { result ≡ two register_in source_in operands.now }
 {
     let (left, right) = split(operands)?;
     both(register_in(left), source_in(right))
 }
 
-fn two_registers(operands: &[u8]) -> Result<(Register, Register), TextFlaw>
+fn two_registers(operands: &[u8]) -> Result<(Register, Register), TextFaultKind>
     ensures { result ≡ two register_in register_in operands.now }
 {
     let (left, right) = split(operands)?;
     both(register_in(left), register_in(right))
 }
 
-fn alu(operation: Operation, width: Width, operands: &[u8]) -> Result<Statement<'_>, TextFlaw>
+fn alu(operation: Operation, width: Width, operands: &[u8]) -> Result<Statement<'_>, TextFaultKind>
     ensures { statement_view result ≡ instruction_in (MnemonicForm.Alu operation width) operands.now }
 {
     let (register, source) = register_and_source(operands)?;
@@ -133,7 +133,10 @@ fn alu(operation: Operation, width: Width, operands: &[u8]) -> Result<Statement<
     })
 }
 
-fn move_sign_extended(extension: SignExtension, operands: &[u8]) -> Result<Statement<'_>, TextFlaw>
+fn move_sign_extended(
+    extension: SignExtension,
+    operands: &[u8],
+) -> Result<Statement<'_>, TextFaultKind>
     ensures { statement_view result ≡ instruction_in (MnemonicForm.MoveSignExtended extension) operands.now }
 {
     let (register, source) = two_registers(operands)?;
@@ -145,7 +148,7 @@ fn move_sign_extended(extension: SignExtension, operands: &[u8]) -> Result<State
     })
 }
 
-fn negate(width: Width, operands: &[u8]) -> Result<Statement<'_>, TextFlaw>
+fn negate(width: Width, operands: &[u8]) -> Result<Statement<'_>, TextFaultKind>
     ensures { statement_view result ≡ instruction_in (MnemonicForm.Negate width) operands.now }
 {
     let register = register_in(operands)?;
@@ -153,7 +156,11 @@ fn negate(width: Width, operands: &[u8]) -> Result<Statement<'_>, TextFlaw>
     plain(Insn::Negate { width, destination })
 }
 
-fn byte_swap(order: ByteOrder, width: SwapWidth, operands: &[u8]) -> Result<Statement<'_>, TextFlaw>
+fn byte_swap(
+    order: ByteOrder,
+    width: SwapWidth,
+    operands: &[u8],
+) -> Result<Statement<'_>, TextFaultKind>
     ensures { statement_view result ≡ instruction_in (MnemonicForm.ByteSwap order width) operands.now }
 {
     let register = register_in(operands)?;
@@ -166,14 +173,18 @@ fn byte_swap(order: ByteOrder, width: SwapWidth, operands: &[u8]) -> Result<Stat
 }
 
 /// Reads the second operand of a comparison, and the target.
-fn source_and_target(operands: &[u8]) -> Result<(Source, (i16, Option<&[u8]>)), TextFlaw>
+fn source_and_target(operands: &[u8]) -> Result<(Source, (i16, Option<&[u8]>)), TextFaultKind>
     ensures { comparand_view result ≡ two source_in (target_in limit_of_16_bits) operands.now }
 {
     let (left, right) = split(operands)?;
     both(source_in(left), target_16(right))
 }
 
-fn jump_if(condition: Condition, width: Width, operands: &[u8]) -> Result<Statement<'_>, TextFlaw>
+fn jump_if(
+    condition: Condition,
+    width: Width,
+    operands: &[u8],
+) -> Result<Statement<'_>, TextFaultKind>
     ensures { statement_view result ≡ instruction_in (MnemonicForm.JumpIf condition width) operands.now }
 {
     let (left, rest) = split(operands)?;
@@ -190,7 +201,7 @@ fn jump_if(condition: Condition, width: Width, operands: &[u8]) -> Result<Statem
     })
 }
 
-fn jump(operands: &[u8]) -> Result<Statement<'_>, TextFlaw>
+fn jump(operands: &[u8]) -> Result<Statement<'_>, TextFaultKind>
     ensures { statement_view result ≡ instruction_in MnemonicForm.ShortJump operands.now }
 {
     let (distance, target) = target_16(operands)?;
@@ -198,7 +209,7 @@ fn jump(operands: &[u8]) -> Result<Statement<'_>, TextFlaw>
     Ok(Statement::Instruction { insn, target })
 }
 
-fn long_jump(operands: &[u8]) -> Result<Statement<'_>, TextFlaw>
+fn long_jump(operands: &[u8]) -> Result<Statement<'_>, TextFaultKind>
     ensures { statement_view result ≡ instruction_in MnemonicForm.LongJump operands.now }
 {
     let (distance, target) = target_32(operands)?;
@@ -206,51 +217,51 @@ fn long_jump(operands: &[u8]) -> Result<Statement<'_>, TextFlaw>
     Ok(Statement::Instruction { insn, target })
 }
 
-fn call(operands: &[u8]) -> Result<Statement<'_>, TextFlaw>
+fn call(operands: &[u8]) -> Result<Statement<'_>, TextFaultKind>
     ensures { statement_view result ≡ instruction_in MnemonicForm.Call operands.now }
 {
     let immediate = immediate_in(operands)?;
     plain(Insn::Call { immediate })
 }
 
-fn exit(operands: &[u8]) -> Result<Statement<'_>, TextFlaw>
+fn exit(operands: &[u8]) -> Result<Statement<'_>, TextFaultKind>
     ensures { statement_view result ≡ instruction_in MnemonicForm.Exit operands.now }
 {
     if !operands.is_empty() {
-        return Err(TextFlaw::Syntax);
+        return Err(TextFaultKind::Syntax);
     }
     plain(Insn::Exit)
 }
 
-fn register_and_memory(operands: &[u8]) -> Result<(Register, (Register, i16)), TextFlaw>
+fn register_and_memory(operands: &[u8]) -> Result<(Register, (Register, i16)), TextFaultKind>
     ensures { result ≡ two register_in memory_in operands.now }
 {
     let (left, right) = split(operands)?;
     both(register_in(left), memory_in(right))
 }
 
-fn memory_and_register(operands: &[u8]) -> Result<((Register, i16), Register), TextFlaw>
+fn memory_and_register(operands: &[u8]) -> Result<((Register, i16), Register), TextFaultKind>
     ensures { result ≡ two memory_in register_in operands.now }
 {
     let (left, right) = split(operands)?;
     both(memory_in(left), register_in(right))
 }
 
-fn memory_and_immediate(operands: &[u8]) -> Result<((Register, i16), i32), TextFlaw>
+fn memory_and_immediate(operands: &[u8]) -> Result<((Register, i16), i32), TextFaultKind>
     ensures { result ≡ two memory_in immediate_in operands.now }
 {
     let (left, right) = split(operands)?;
     both(memory_in(left), immediate_in(right))
 }
 
-fn register_and_wide(operands: &[u8]) -> Result<(Register, u64), TextFlaw>
+fn register_and_wide(operands: &[u8]) -> Result<(Register, u64), TextFaultKind>
     ensures { result ≡ two register_in wide_in operands.now }
 {
     let (left, right) = split(operands)?;
     both(register_in(left), wide_in(right))
 }
 
-fn load(format: LoadFormat, operands: &[u8]) -> Result<Statement<'_>, TextFlaw>
+fn load(format: LoadFormat, operands: &[u8]) -> Result<Statement<'_>, TextFaultKind>
     ensures { statement_view result ≡ instruction_in (MnemonicForm.Load format) operands.now }
 {
     let (register, (base, offset)) = register_and_memory(operands)?;
@@ -263,7 +274,7 @@ fn load(format: LoadFormat, operands: &[u8]) -> Result<Statement<'_>, TextFlaw>
     })
 }
 
-fn store_immediate(size: StoreSize, operands: &[u8]) -> Result<Statement<'_>, TextFlaw>
+fn store_immediate(size: StoreSize, operands: &[u8]) -> Result<Statement<'_>, TextFaultKind>
     ensures { statement_view result ≡ instruction_in (MnemonicForm.StoreImmediate size) operands.now }
 {
     let ((base, offset), immediate) = memory_and_immediate(operands)?;
@@ -275,7 +286,7 @@ fn store_immediate(size: StoreSize, operands: &[u8]) -> Result<Statement<'_>, Te
     })
 }
 
-fn store(size: StoreSize, operands: &[u8]) -> Result<Statement<'_>, TextFlaw>
+fn store(size: StoreSize, operands: &[u8]) -> Result<Statement<'_>, TextFaultKind>
     ensures { statement_view result ≡ instruction_in (MnemonicForm.Store size) operands.now }
 {
     let ((base, offset), source) = memory_and_register(operands)?;
@@ -287,7 +298,7 @@ fn store(size: StoreSize, operands: &[u8]) -> Result<Statement<'_>, TextFlaw>
     })
 }
 
-fn wide_load(operands: &[u8]) -> Result<Statement<'_>, TextFlaw>
+fn wide_load(operands: &[u8]) -> Result<Statement<'_>, TextFaultKind>
     ensures { statement_view result ≡ instruction_in MnemonicForm.WideLoad operands.now }
 {
     let (register, number) = register_and_wide(operands)?;

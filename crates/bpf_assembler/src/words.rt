@@ -4,7 +4,7 @@ ghost use Rattle.std.specs.List.{list_all, position};
 ghost use Rattle.bpf_assembler.specs.Words.{is_blank, is_semicolon, is_comma, is_sign, trim_start, trim, content_of, first_word, after_word, is_mnemonic_byte};
 ghost use Rattle.bpf_assembler.specs.Words.{is_label_byte, is_label, split_operand};
 
-const LABEL_LIMIT: usize = 32;
+const MAX_LABEL_LENGTH: usize = 32;
 
 fn is_blank(byte: u8) -> bool
     ensures { result ≡ is_blank byte }
@@ -110,7 +110,7 @@ pub(crate) fn is_mnemonic(word: &[u8]) -> bool
 pub(crate) fn is_label(name: &[u8]) -> bool
     ensures { result ≡ is_label name.now }
 {
-    if name.is_empty() || name.len() > LABEL_LIMIT {
+    if name.is_empty() || name.len() > MAX_LABEL_LENGTH {
         return false;
     }
     if name[0].is_ascii_digit() {

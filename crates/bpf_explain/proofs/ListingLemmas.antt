@@ -14,11 +14,11 @@ use Rattle.bpf_insn.specs.declared.instruction.Insn.{Insn}
 use Rattle.bpf_meaning.specs.declared.cause.Cause.{Cause}
 use Rattle.bpf_assembler.proofs.WordLemmas.{position-missing}
 use Rattle.bpf_verify.proofs.StateLaws as laws
-use Rattle.bpf_verify.specs.AbstractState.{AbstractState, Unreached, Reached}
+use Rattle.bpf_verify.specs.LiftedState.{LiftedState, Unreached, Reached}
 use Rattle.bpf_verify.specs.Annotation.{Annotation, IsLeastUpTo, IsRefusedAt}
 use Rattle.bpf_verify.specs.Transfer.{transfer}
 use Rattle.bpf_verify.specs.Visit.{Visit, IsShownUpTo, visit_at, visited_all, visits_from}
-use Rattle.bpf_verify.specs.declared.known.Known.{Known}
+use Rattle.bpf_verify.specs.declared.abstract_state.AbstractState.{AbstractState}
 use Rattle.bpf_notes.specs.Facts.{note_text, noted, prefix_text}
 use Rattle.bpf_explain.specs.Explanation.{ExplainsRefusal}
 use Rattle.bpf_explain.specs.Listing.{ListingParts, empty, known_after, lines_after, lines_until, listing, refusal_line, refused_text, source_text}
@@ -64,7 +64,7 @@ after-dropped lines count place counted =
     ∙ ap (λ (n : ℕ). drop n (map line_of lines)) counted
 
 -- two listings with the same state and instruction are equal if their other parts are
-pub same-parts : {known : Known} {insn : Option Insn} {text other : List ℕ} {remaining more : List SourceLine} → text ≡ other → remaining ≡ more
+pub same-parts : {known : AbstractState} {insn : Option Insn} {text other : List ℕ} {remaining more : List SourceLine} → text ≡ other → remaining ≡ more
     → ◌≡◌ {A = ListingParts} (record { text = text; known = known; insn = insn; remaining = remaining })
     (record { text = other; known = known; insn = insn; remaining = more })
 same-parts texts lines = cc
@@ -78,11 +78,11 @@ pushed old place insn note = record {
   remaining = lines_after place old.remaining;
 }
 
-with-known : (x y : ListingParts) (known now : Known) → x ≡ y → known ≡ now → record x { known = known } ≡ record y { known = now }
+with-known : (x y : ListingParts) (known now : AbstractState) → x ≡ y → known ≡ now → record x { known = known } ≡ record y { known = now }
 with-known x y known now same knowns =
-    ap (λ (k : Known). record x { known = k }) knowns ∙ ap (λ (z : ListingParts). record z { known = now }) same
+    ap (λ (k : AbstractState). record x { known = k }) knowns ∙ ap (λ (z : ListingParts). record z { known = now }) same
 
-pub reached-is : (old new : ListingParts) (place : ℕ) (insn : Insn) (known copy : Known)
+pub reached-is : (old new : ListingParts) (place : ℕ) (insn : Insn) (known copy : AbstractState)
     → new ≡ pushed old place insn (note_text old.known (Reached known) insn) → copy ≡ known
     → record new { known = copy } ≡ visited old (record { place = place; insn = insn; state = Reached known })
 unfolding visit_text
@@ -131,14 +131,14 @@ one-least code end x y least other =
     (other.least x least.good end (omega arith))
 
 -- an instruction whose check fails is reached
-reached-state : (state : AbstractState) (insn : Insn) (cause : Cause) → transfer state insn ≡ Err cause → (known : Known) × (state ≡ Reached known)
+reached-state : (state : LiftedState) (insn : Insn) (cause : Cause) → transfer state insn ≡ Err cause → (known : AbstractState) × (state ≡ Reached known)
 reached-state Unreached insn cause fails = absurd (search rules)
 reached-state (Reached known) insn cause fails = (known, refl)
 
-refused-last : (before : ListingParts) (visit : Visit) (known : Known) (cause : Cause) → visit.state ≡ Reached known
+refused-last : (before : ListingParts) (visit : Visit) (known : AbstractState) (cause : Cause) → visit.state ≡ Reached known
     → refused_text (visited before visit) cause ≡ (visited before visit).text ++ refusal_line known cause visit.insn
 refused-last before visit known cause is =
-    ap (λ (state : AbstractState). (visited before visit).text ++ refusal_line (known_after before.known state) cause visit.insn) is
+    ap (λ (state : LiftedState). (visited before visit).text ++ refusal_line (known_after before.known state) cause visit.insn) is
 
 pub refuses : (code : List Insn) (lines : List SourceLine) (new : ListingParts) (place : ℕ) (cause : Cause)
     → IsRefusedAt code place cause → IsShownUpTo visited code place (empty lines) new → ExplainsRefusal code lines place cause (refused_text new cause)
@@ -146,12 +146,12 @@ refuses code lines new place cause refused shown =
     let a : Annotation = shown.annotation in
     let insn : Insn = refused.insn in
     let same : refused.annotation place ≡ a place = one-least code place refused.annotation a refused.is_least shown.is_least in
-    let fails : transfer (a place) insn ≡ Err cause = ap (λ (state : AbstractState). transfer state insn) (sym same) ∙ refused.fails in
+    let fails : transfer (a place) insn ≡ Err cause = ap (λ (state : LiftedState). transfer state insn) (sym same) ∙ refused.fails in
     let reached = reached-state (a place) insn cause fails in
     let before : ListingParts = listing lines (visits_from a 0 (take shown.index code)) in
     let there : 0 + word_count (take shown.index code) ≡ place = omega (arith, shown.at) in
     let last : visits_from a 0 (take (shown.index + 1) code) ≡ visits_from a 0 (take shown.index code) ++ visit_at a place insn ∷ [] =
-    ap (visits_from a 0) (take-one code shown.index place insn shown.at refused.stands) ∙ visits-more a 0 (take shown.index code) insn
+    ap (visits_from a 0) (take-one code shown.index place insn shown.at refused.is_insn) ∙ visits-more a 0 (take shown.index code) insn
     ∙ ap (λ (p : ℕ). visits_from a 0 (take shown.index code) ++ visit_at a p insn ∷ []) there in
     let all : listing lines (visits_from a 0 (take (shown.index + 1) code)) ≡ visited before (visit_at a place insn) =
     ap (listing lines) last ∙ visited-more (empty lines) (visits_from a 0 (take shown.index code)) (visit_at a place insn) in
@@ -162,7 +162,7 @@ refuses code lines new place cause refused shown =
       index = shown.index;
       at = shown.at;
       insn = insn;
-      insn_is = refused.stands;
+      insn_is = refused.is_insn;
       known = reached.0;
       state = reached.1;
       fails = fails;

@@ -24,7 +24,7 @@ use Rattle.bpf_assembler.specs.Number.{IsWithin, limit_of_16_bits, limit_of_32_b
 use Rattle.bpf_assembler.specs.Operand.{register_name, register_names}
 use Rattle.bpf_text.specs.CodeText.{NumbersFit, SourceFits, form_of, line_text, memory_text, operands_text, signed_text, source_text, three, two, wide_text}
 use Rattle.bpf_notes.specs.Facts.{prefix_text}
-use Rattle.bpf_source_lines.specs.declared.source_lines.TheConstants.{GREATEST_PLACE}
+use Rattle.bpf_source_lines.specs.declared.source_lines.TheConstants.{MAX_PLACE}
 
 -- registers
 find-short : (names : List (List ℕ)) (number : ℕ) → list_all (λ name. nat_le (length name) 3) names ≡ true → length (get_or names number []) ≤ 3
@@ -123,7 +123,7 @@ line-short x fits =
     let operands = operands-short x fits in
     let form = form-short (form_of x) in omega arith
 
-pub prefix-short : (place : ℕ) (x : Insn) → place ≤ GREATEST_PLACE → NumbersFit x → length (prefix_text place x) ≤ 38
+pub prefix-short : (place : ℕ) (x : Insn) → place ≤ MAX_PLACE → NumbersFit x → length (prefix_text place x) ≤ 38
 prefix-short place x within fits =
     let digits = length-decimal-le 5 place (omega arith) (omega arith) (omega arith) in
     let line = line-short x fits in

@@ -4,7 +4,7 @@ use Rattle.std.specs.Fmt.{signed_decimal}
 use Rattle.bpf_insn.specs.Memory.{load_length, store_length}
 use Rattle.bpf_insn.specs.declared.instruction.Insn.{Insn}
 use Rattle.bpf_insn.specs.declared.instruction.Insn.TheVariants.{Load, StoreImmediate, Store}
-use Rattle.bpf_verify.specs.declared.known.Known.{Known}
+use Rattle.bpf_verify.specs.declared.abstract_state.AbstractState.{AbstractState}
 use Rattle.bpf_notes.specs.Notation.{fact_text}
 use Rattle.bpf_explain.specs.declared.access.Access.{Access}
 use Rattle.bpf_notes.specs.declared.notation.Part.TheVariants.{Register}
@@ -21,21 +21,21 @@ text_if text None = []
 text_if text (Some value) = text value
 
 -- what is known about a register
-unfoldable pub register_fact : Known → ℕ → List ℕ
+unfoldable pub register_fact : AbstractState → ℕ → List ℕ
 register_fact known register = fact_text known (Register register)
 
 unfoldable pub offset_text : Access → List ℕ
 offset_text access = codes ", offset " ++ signed_decimal access.offset
 
 -- what is known about a base, and the offset that is added
-unfoldable pub access_facts : Known → Access → List ℕ
+unfoldable pub access_facts : AbstractState → Access → List ℕ
 access_facts known access = register_fact known access.base.number ++ offset_text access
 
 -- what is known about the base of a load or a store; nothing for other instructions
-unfoldable pub base_text : Known → Insn → List ℕ
+unfoldable pub base_text : AbstractState → Insn → List ℕ
 base_text known insn = text_if (λ access. register_fact known access.base.number) (access_of insn)
 
-unfoldable pub access_text : Known → Insn → List ℕ
+unfoldable pub access_text : AbstractState → Insn → List ℕ
 access_text known insn = text_if (access_facts known) (access_of insn)
 
 unfoldable pub offset_if : Insn → List ℕ

@@ -3,13 +3,13 @@ use Rattle.std.specs.Prelude.{◌≡◌, ℕ, ◌+◌, List, ◌++◌, take, Som
 use Rattle.bpf_insn.specs.Code.{instruction_at, word_count}
 use Rattle.bpf_insn.specs.declared.instruction.Insn.{Insn}
 use Rattle.bpf_meaning.specs.declared.cause.Cause.{Cause}
-use Rattle.bpf_verify.specs.AbstractState.{Reached}
+use Rattle.bpf_verify.specs.LiftedState.{Reached}
 use Rattle.bpf_verify.specs.Annotation.{Annotation, IsLeastUpTo}
 use Rattle.bpf_verify.specs.Transfer.{transfer}
 use Rattle.bpf_verify.specs.Visit.{visits_from}
 use Rattle.bpf_verify.specs.declared.fault.VerifyFault.{VerifyFault}
 use Rattle.bpf_verify.specs.declared.fault.VerifyFault.TheVariants.{Refused, Memory}
-use Rattle.bpf_verify.specs.declared.known.Known.{Known}
+use Rattle.bpf_verify.specs.declared.abstract_state.AbstractState.{AbstractState}
 use Rattle.bpf_source_lines.specs.SourceLines.{SourceLine}
 use Rattle.bpf_explain.specs.Listing.{accepted_text, listing, refusal_line}
 use Rattle.bpf_verify.specs.Annotation.{HasGoodAnnotation, IsRefusedAt}
@@ -29,7 +29,7 @@ pub record ExplainsRefusal (code : List Insn) (lines : List SourceLine) (place :
   pub at : place ≡ word_count (take index code)
   pub insn : Insn
   pub insn_is : instruction_at code place ≡ Some insn
-  pub known : Known
+  pub known : AbstractState
   pub state : annotation place ≡ Reached known
   pub fails : transfer (annotation place) insn ≡ Err cause
   pub is : text ≡ (listing lines (visits_from annotation 0 (take (index + 1) code))).text ++ refusal_line known cause insn

@@ -10,7 +10,7 @@ use Rattle.bpf_insn.specs.declared.instruction.Insn.{Insn}
 use Rattle.bpf_insn.specs.declared.instruction.Insn.TheVariants.{Call}
 use Rattle.bpf_meaning.specs.declared.cause.Cause.{Cause}
 use Rattle.bpf_meaning.specs.declared.cause.Cause.TheVariants as cause
-use Rattle.bpf_verify.specs.declared.known.Known.{Known}
+use Rattle.bpf_verify.specs.declared.abstract_state.AbstractState.{AbstractState}
 use Rattle.bpf_notes.specs.Facts.{facts_text}
 use Rattle.bpf_notes.specs.Notation.{fact_text}
 use Rattle.bpf_notes.specs.Reads.{helper_of, registers_read, slots_read}
@@ -19,13 +19,13 @@ use Rattle.bpf_explain.specs.Access.{access_text, base_text, offset_if, register
 use Rattle.bpf_explain.specs.Reach.{outside, unwritten}
 
 -- further facts, each after a comma
-unfoldable pub more_facts : Known → List Part → List ℕ
+unfoldable pub more_facts : AbstractState → List Part → List ℕ
 more_facts known parts = flat_map (λ part. codes ", " ++ fact_text known part) parts
 
-unfoldable pub registers_text : Known → Insn → List ℕ
+unfoldable pub registers_text : AbstractState → Insn → List ℕ
 registers_text known insn = facts_text known (registers_read known insn)
 
-unfoldable pub slots_text : Known → Insn → List ℕ
+unfoldable pub slots_text : AbstractState → Insn → List ℕ
 slots_text known insn = more_facts known (slots_read known insn)
 
 -- the number of the helper function that is called
@@ -48,7 +48,7 @@ requirement_text (argument.Number x) = codes "a number from " ++ decimal x.low +
 requirement_text argument.Frame = codes "a pointer into the frame"
 
 -- an argument that doesn't meet the helper function's signature
-unfoldable pub argument_text : Known → Insn → ℕ → List ℕ
+unfoldable pub argument_text : AbstractState → Insn → ℕ → List ℕ
 argument_text known insn number =
     decimal number ++ codes " must be " ++ requirement_text (requirement insn number) ++ codes ": " ++ register_fact known number
 
@@ -71,7 +71,7 @@ failure_words (cause.BadArgument number) = codes "argument "
 failure_words cause.ExitNotNumber = codes "exits with a pointer: "
 
 -- the facts that follow the words
-abbrev pub failure_facts : Known → Insn → Cause → List ℕ
+abbrev pub failure_facts : AbstractState → Insn → Cause → List ℕ
 failure_facts known insn cause.OutOfProgram = []
 failure_facts known insn cause.IntoWide = []
 failure_facts known insn (cause.ReadsNothing register) = decimal register ++ codes ", of which nothing is known"
@@ -87,5 +87,5 @@ failure_facts known insn cause.UnknownHelper = called_number insn
 failure_facts known insn (cause.BadArgument number) = argument_text known insn number
 failure_facts known insn cause.ExitNotNumber = register_fact known 0
 
-unfoldable pub failure_text : Known → Insn → Cause → List ℕ
+unfoldable pub failure_text : AbstractState → Insn → Cause → List ℕ
 failure_text known insn cause = failure_words cause ++ failure_facts known insn cause

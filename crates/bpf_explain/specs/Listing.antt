@@ -3,9 +3,9 @@ use Rattle.std.specs.Prelude.{ℕ, nat_lt, List, [], ◌++◌, drop, codes, Opti
 use Rattle.std.specs.List.{before_first, flat_map, position_or_len}
 use Rattle.bpf_insn.specs.declared.instruction.Insn.{Insn}
 use Rattle.bpf_meaning.specs.declared.cause.Cause.{Cause}
-use Rattle.bpf_verify.specs.AbstractState.{AbstractState, Unreached, Reached, unknown}
+use Rattle.bpf_verify.specs.LiftedState.{LiftedState, Unreached, Reached, unknown}
 use Rattle.bpf_verify.specs.Visit.{Visit, visited_all}
-use Rattle.bpf_verify.specs.declared.known.Known.{Known}
+use Rattle.bpf_verify.specs.declared.abstract_state.AbstractState.{AbstractState}
 use Rattle.bpf_notes.specs.Facts.{instruction_line}
 use Rattle.bpf_explain.specs.Access.{text_if}
 use Rattle.bpf_explain.specs.Failure.{failure_text}
@@ -14,7 +14,7 @@ use Rattle.bpf_source_lines.specs.SourceLines.{SourceLine}
 -- a listing so far: its text, what was known before the last instruction that was reached, the last instruction, and the remaining source lines
 pub record ListingParts : Type 0 where
   pub text : List ℕ
-  pub known : Known
+  pub known : AbstractState
   pub insn : Option Insn
   pub remaining : List SourceLine
 
@@ -36,7 +36,7 @@ unfoldable pub sources_text : List SourceLine → List ℕ
 sources_text lines = flat_map source_text lines
 
 -- what was known last, after a visit in this state
-abbrev pub known_after : Known → AbstractState → Known
+abbrev pub known_after : AbstractState → LiftedState → AbstractState
 known_after last Unreached = last
 known_after last (Reached known) = known
 
@@ -63,7 +63,7 @@ abbrev pub accepted_text : ListingParts → List ℕ
 accepted_text listing = listing.text ++ (sources_text listing.remaining ++ codes "accepted\n")
 
 -- the line of a refusal
-abbrev pub refusal_line : Known → Cause → Insn → List ℕ
+abbrev pub refusal_line : AbstractState → Cause → Insn → List ℕ
 refusal_line known cause insn = codes "refused: " ++ failure_text known insn cause ++ codes "\n"
 
 -- the text of a listing whose last instruction is refused

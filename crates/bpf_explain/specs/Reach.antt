@@ -13,9 +13,9 @@ use Rattle.bpf_insn.specs.declared.value.Area.TheVariants as area
 use Rattle.bpf_kinds.specs.declared.kind.Kind.{Kind}
 use Rattle.bpf_kinds.specs.declared.kind.Kind.TheVariants.{Record, Frame}
 use Rattle.bpf_kinds.specs.declared.offsets.Offsets.{Offsets}
-use Rattle.bpf_verify.specs.AbstractState.{kind_of}
+use Rattle.bpf_verify.specs.LiftedState.{kind_of}
 use Rattle.bpf_verify.specs.Transfer.{area_length}
-use Rattle.bpf_verify.specs.declared.known.Known.{Known}
+use Rattle.bpf_verify.specs.declared.abstract_state.AbstractState.{AbstractState}
 use Rattle.bpf_notes.specs.Reads.{bytes_from, helper_of, lent_bytes}
 use Rattle.bpf_explain.specs.declared.access.Access.{Access}
 use Rattle.bpf_notes.specs.declared.reads.Bytes.{Bytes}
@@ -52,20 +52,20 @@ unfoldable pub unwritten_text : Bytes → List ℕ
 unwritten_text bytes = bytes_text false area.Frame bytes ++ codes ", not all of which are written: "
 
 -- what is known about registers 2 and 3, the pointer and the number of the bytes that a call reads or writes
-unfoldable pub lent_facts : Known → List ℕ
+unfoldable pub lent_facts : AbstractState → List ℕ
 lent_facts known = register_fact known 2 ++ codes ", " ++ register_fact known 3
 
 -- a load or a store outside its area
-unfoldable pub outside_from : Known → Access → Area → Offsets → List ℕ
+unfoldable pub outside_from : AbstractState → Access → Area → Offsets → List ℕ
 outside_from known access of_area x =
     outside_text access.writes of_area (bytes_from x access.offset access.count) ++ access_facts known access
 
-abbrev pub outside_of : Known → Access → Kind → List ℕ
+abbrev pub outside_of : AbstractState → Access → Kind → List ℕ
 outside_of known access (Record x) = outside_from known access area.Record x
 outside_of known access (Frame x) = outside_from known access area.Frame x
 outside_of known access kind = []
 
-unfoldable pub access_outside : Known → Access → List ℕ
+unfoldable pub access_outside : AbstractState → Access → List ℕ
 access_outside known access = outside_of known access (kind_of known access.base.number)
 
 -- a call writes to the frame
@@ -79,35 +79,35 @@ writes_frame None = false
 writes_frame (Some helper) = is_write (frame_use (signature helper).shape)
 
 -- a call that reads or writes outside the frame
-unfoldable pub lent_outside : Known → Bool → Bytes → List ℕ
+unfoldable pub lent_outside : AbstractState → Bool → Bytes → List ℕ
 lent_outside known writes bytes = outside_text writes area.Frame bytes ++ lent_facts known
 
-unfoldable pub call_outside : Known → ℤ → List ℕ
+unfoldable pub call_outside : AbstractState → ℤ → List ℕ
 call_outside known immediate =
     text_if (lent_outside known (writes_frame (helper_of immediate))) (lent_bytes (kind_of known 2) (kind_of known 3))
 
-unfoldable pub outside : Known → Insn → List ℕ
+unfoldable pub outside : AbstractState → Insn → List ℕ
 outside known (Call immediate) = call_outside known immediate
 outside known insn = text_if (access_outside known) (access_of insn)
 
 -- a load of bytes that aren't written
-unfoldable pub unwritten_from : Known → Access → Offsets → List ℕ
+unfoldable pub unwritten_from : AbstractState → Access → Offsets → List ℕ
 unwritten_from known access x = unwritten_text (bytes_from x access.offset access.count) ++ access_facts known access
 
-abbrev pub unwritten_of : Known → Access → Kind → List ℕ
+abbrev pub unwritten_of : AbstractState → Access → Kind → List ℕ
 unwritten_of known access (Frame x) = unwritten_from known access x
 unwritten_of known access kind = []
 
-unfoldable pub access_unwritten : Known → Access → List ℕ
+unfoldable pub access_unwritten : AbstractState → Access → List ℕ
 access_unwritten known access = unwritten_of known access (kind_of known access.base.number)
 
 -- a call that reads bytes that aren't written
-unfoldable pub lent_unwritten : Known → Bytes → List ℕ
+unfoldable pub lent_unwritten : AbstractState → Bytes → List ℕ
 lent_unwritten known bytes = unwritten_text bytes ++ lent_facts known
 
-unfoldable pub call_unwritten : Known → List ℕ
+unfoldable pub call_unwritten : AbstractState → List ℕ
 call_unwritten known = text_if (lent_unwritten known) (lent_bytes (kind_of known 2) (kind_of known 3))
 
-unfoldable pub unwritten : Known → Insn → List ℕ
+unfoldable pub unwritten : AbstractState → Insn → List ℕ
 unwritten known (Call immediate) = call_unwritten known
 unwritten known insn = text_if (access_unwritten known) (access_of insn)

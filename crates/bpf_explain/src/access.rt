@@ -3,13 +3,13 @@ ghost use Rattle.std.specs.Prelude.{◌≡◌, ◌++◌, true, OnOk, decimal};
 ghost use Rattle.std.specs.Fmt.{signed_decimal};
 ghost use Rattle.std.specs.String.{string_bytes};
 ghost use Rattle.bpf_insn.specs.Memory.{store_length};
-ghost use Rattle.bpf_verify.specs.AbstractState.{IsProperKnown, kind_of};
+ghost use Rattle.bpf_verify.specs.LiftedState.{IsProperState, kind_of};
 ghost use Rattle.bpf_explain.specs.Access.{access_facts, access_of, access_text, base_text, offset_if, offset_text, register_fact};
 
 use bpf_insn::{Insn, Register, StoreSize, load_length, store_length};
 use bpf_kinds::Kind;
 use bpf_notes::push_kind;
-use bpf_verify::Known;
+use bpf_verify::AbstractState;
 use itoa::Buffer;
 use std::alloc::{AllocError, Allocator};
 
@@ -27,10 +27,10 @@ pub struct Access {
 #[tactic(auto, unfolding(crate::specs::Access::base_text))]
 pub(crate) fn push_base<A: Allocator>(
     text: &mut String<A>,
-    known: &Known,
+    known: &AbstractState,
     insn: Insn,
 ) -> Result<(), AllocError>
-    requires { IsProperKnown known.now }
+    requires { IsProperState known.now }
     ensures { OnOk result (string_bytes text.new ≡ string_bytes text.old ++ base_text known.now insn) }
 {
     match access_of(insn) {
@@ -42,10 +42,10 @@ pub(crate) fn push_base<A: Allocator>(
 #[tactic(auto, unfolding(crate::specs::Access::access_text))]
 pub(crate) fn push_access_if<A: Allocator>(
     text: &mut String<A>,
-    known: &Known,
+    known: &AbstractState,
     insn: Insn,
 ) -> Result<(), AllocError>
-    requires { IsProperKnown known.now }
+    requires { IsProperState known.now }
     ensures { OnOk result (string_bytes text.new ≡ string_bytes text.old ++ access_text known.now insn) }
 {
     match access_of(insn) {
@@ -115,10 +115,10 @@ pub(crate) fn store_access(size: StoreSize, base: Register, offset: i16) -> Acce
 #[tactic(auto, unfolding(crate::specs::Access::access_facts))]
 pub(crate) fn push_access<A: Allocator>(
     text: &mut String<A>,
-    known: &Known,
+    known: &AbstractState,
     access: Access,
 ) -> Result<(), AllocError>
-    requires { IsProperKnown known.now }
+    requires { IsProperState known.now }
     ensures { OnOk result (string_bytes text.new ≡ string_bytes text.old ++ access_facts known.now access) }
 {
     push_register(text, known, access.base.number)?;
@@ -140,10 +140,10 @@ pub(crate) fn push_offset<A: Allocator>(
 #[tactic(auto, unfolding(crate::specs::Access::register_fact))]
 pub(crate) fn push_register<A: Allocator>(
     text: &mut String<A>,
-    known: &Known,
+    known: &AbstractState,
     register: u8,
 ) -> Result<(), AllocError>
-    requires { IsProperKnown known.now }
+    requires { IsProperState known.now }
     ensures { OnOk result (string_bytes text.new ≡ string_bytes text.old ++ register_fact known.now register) }
 {
     text.push_str("r")?;
@@ -152,8 +152,8 @@ pub(crate) fn push_register<A: Allocator>(
     push_kind(text, kind_of(known, register))
 }
 
-pub(crate) fn kind_of(known: &Known, register: u8) -> Kind
-    requires { IsProperKnown known.now }
+pub(crate) fn kind_of(known: &AbstractState, register: u8) -> Kind
+    requires { IsProperState known.now }
     ensures { result ≡ kind_of known.now register }
 {
     if register > 10 {

@@ -2,7 +2,7 @@
 ghost use Rattle.std.specs.Prelude.{◌≡◌, ◌++◌, OnOk, codes, decimal};
 ghost use Rattle.std.specs.List.{All};
 ghost use Rattle.std.specs.String.{string_bytes};
-ghost use Rattle.bpf_verify.specs.AbstractState.{IsProperKnown};
+ghost use Rattle.bpf_verify.specs.LiftedState.{IsProperState};
 ghost use Rattle.bpf_explain.specs.Failure.{argument_text, called_number, failure_facts, failure_text, failure_words, more_facts, registers_text, slots_text};
 ghost use Rattle.bpf_explain.specs.Failure.{requirement, requirement_of, requirement_text};
 ghost use Rattle.bpf_notes.specs.Notation.{IsPart};
@@ -13,7 +13,7 @@ use bpf_helpers::{Argument, Helper};
 use bpf_insn::Insn;
 use bpf_meaning::Cause;
 use bpf_notes::{Part, helper_of, push_fact, push_facts, registers_read, slots_read};
-use bpf_verify::Known;
+use bpf_verify::AbstractState;
 use std::alloc::{AllocError, Allocator};
 
 /// Pushes why an instruction is refused, given what is known before it and the check that fails.
@@ -21,11 +21,11 @@ use std::alloc::{AllocError, Allocator};
 pub(crate) fn push_failure<A: Allocator + Copy>(
     alloc: A,
     text: &mut String<A>,
-    known: &Known,
+    known: &AbstractState,
     insn: Insn,
     cause: Cause,
 ) -> Result<(), AllocError>
-    requires { IsProperKnown known.now }
+    requires { IsProperState known.now }
     ensures { OnOk result (string_bytes text.new ≡ string_bytes text.old ++ failure_text known.now insn cause) }
 {
     text.push_str(failure_words(cause))?;
@@ -59,11 +59,11 @@ fn failure_words(cause: Cause) -> &'static str
 fn push_failure_facts<A: Allocator + Copy>(
     alloc: A,
     text: &mut String<A>,
-    known: &Known,
+    known: &AbstractState,
     insn: Insn,
     cause: Cause,
 ) -> Result<(), AllocError>
-    requires { IsProperKnown known.now }
+    requires { IsProperState known.now }
     ensures { OnOk result (string_bytes text.new ≡ string_bytes text.old ++ failure_facts known.now insn cause) }
 {
     match cause {
@@ -100,11 +100,11 @@ fn push_nothing<A: Allocator>(text: &mut String<A>, register: u8) -> Result<(), 
 #[tactic(auto, unfolding(crate::specs::Failure::argument_text))]
 fn push_argument<A: Allocator>(
     text: &mut String<A>,
-    known: &Known,
+    known: &AbstractState,
     insn: Insn,
     number: u8,
 ) -> Result<(), AllocError>
-    requires { IsProperKnown known.now }
+    requires { IsProperState known.now }
     ensures { OnOk result (string_bytes text.new ≡ string_bytes text.old ++ argument_text known.now insn number) }
 {
     push_number(text, u64::from(number))?;
@@ -119,10 +119,10 @@ fn push_argument<A: Allocator>(
 fn push_registers<A: Allocator + Copy>(
     alloc: A,
     text: &mut String<A>,
-    known: &Known,
+    known: &AbstractState,
     insn: Insn,
 ) -> Result<(), AllocError>
-    requires { IsProperKnown known.now }
+    requires { IsProperState known.now }
     ensures { OnOk result (string_bytes text.new ≡ string_bytes text.old ++ registers_text known.now insn) }
 {
     let parts = registers_read(alloc, known, insn)?;
@@ -134,10 +134,10 @@ fn push_registers<A: Allocator + Copy>(
 fn push_slots<A: Allocator + Copy>(
     alloc: A,
     text: &mut String<A>,
-    known: &Known,
+    known: &AbstractState,
     insn: Insn,
 ) -> Result<(), AllocError>
-    requires { IsProperKnown known.now }
+    requires { IsProperState known.now }
     ensures { OnOk result (string_bytes text.new ≡ string_bytes text.old ++ slots_text known.now insn) }
 {
     let parts = slots_read(alloc, known, insn)?;
@@ -147,10 +147,10 @@ fn push_slots<A: Allocator + Copy>(
 #[tactic(auto, unfolding(crate::specs::Failure::more_facts))]
 fn push_more_facts<A: Allocator>(
     text: &mut String<A>,
-    known: &Known,
+    known: &AbstractState,
     parts: &[Part],
 ) -> Result<(), AllocError>
-    requires known { IsProperKnown known.now }
+    requires known { IsProperState known.now }
     requires parts { All IsPart parts.now }
     ensures { OnOk result (string_bytes text.new ≡ string_bytes text.old ++ more_facts known.now parts.now) }
 {

@@ -2,7 +2,7 @@
 ghost use Rattle.std.specs.Prelude.{◌≤◌, ℕ, length};
 ghost use Rattle.bpf_insn.specs.declared.instruction.Insn.{Insn};
 ghost use Rattle.bpf_notes.specs.Facts.{prefix_text};
-ghost use Rattle.bpf_source_lines.specs.declared.source_lines.TheConstants.{GREATEST_PLACE};
+ghost use Rattle.bpf_source_lines.specs.declared.source_lines.TheConstants.{MAX_PLACE};
 ghost use Rattle.bpf_text.specs.CodeText.{NumbersFit};
 
 pub use bpf_notes::laws::{
@@ -13,5 +13,5 @@ pub use bpf_source_lines::laws::place_limits;
 
 /// A place and its instruction have at most 38 columns, so a note always begins at its column.
 pub fn prefixes_are_short()
-    ensures { (place : ℕ) (insn : Insn) → place ≤ GREATEST_PLACE → NumbersFit insn → length (prefix_text place insn) ≤ 38 }
+    ensures { (place : ℕ) (insn : Insn) → place ≤ MAX_PLACE → NumbersFit insn → length (prefix_text place insn) ≤ 38 }
 {}

@@ -9,5 +9,5 @@ mod listing;
 mod reach;
 
 pub use bpf_notes::Part;
-pub use bpf_source_lines::{LineFlaw, LinesFault, SourceLines};
+pub use bpf_source_lines::{LinesFault, SourceLineFaultKind, SourceLines};
 pub use explanation::{Explanation, explain};

@@ -3,7 +3,7 @@ ghost use Rattle.std.specs.Prelude.{◌≡◌, ◌≤◌, ◌++◌, Some, nat_lt
 ghost use Rattle.std.specs.List.{position, position_or_len};
 ghost use Rattle.std.specs.String.{string_bytes};
 ghost use Rattle.bpf_explain.specs.Listing.{accepted_text, empty, lines_after, lines_until, refusal_line, refused_text, source_text, sources_text};
-ghost use Rattle.bpf_verify.specs.AbstractState.{IsProperKnown};
+ghost use Rattle.bpf_verify.specs.LiftedState.{IsProperState};
 ghost use Rattle.bpf_notes.specs.Facts.{noted, prefix_text};
 ghost use Rattle.std.specs.Prelude.{codes, map};
 ghost use Rattle.bpf_source_lines.specs.SourceLines.{line_of};
@@ -13,7 +13,7 @@ use bpf_insn::Insn;
 use bpf_meaning::Cause;
 use bpf_notes::{note, push_instruction_line};
 use bpf_source_lines::PlacedLine;
-use bpf_verify::{Known, Visitor};
+use bpf_verify::{AbstractState, Visitor};
 use std::alloc::{AllocError, Allocator};
 use std::marker::Model;
 
@@ -23,7 +23,7 @@ pub(crate) struct Listing<'a, A: Allocator> {
     alloc: A,
     text: String<A>,
     /// What was known before the last instruction that was reached.
-    known: Known,
+    known: AbstractState,
     /// The last instruction.
     insn: Option<Insn>,
     /// The remaining source lines.
@@ -32,7 +32,7 @@ pub(crate) struct Listing<'a, A: Allocator> {
 
 impl<'a, A: Allocator> Model for Listing<'a, A> {
     ghost use Rattle.std.specs.String.{string_bytes};
-    ghost use Rattle.bpf_verify.specs.AbstractState.{IsProperKnown};
+    ghost use Rattle.bpf_verify.specs.LiftedState.{IsProperState};
     ghost use Rattle.std.specs.Prelude.{map};
     ghost use Rattle.bpf_explain.specs.Listing.{ListingParts};
     ghost use Rattle.bpf_source_lines.specs.SourceLines.{line_of};
@@ -46,7 +46,7 @@ impl<'a, A: Allocator> Model for Listing<'a, A> {
       remaining = map line_of listing.remaining.now;
     } };
 
-    ghost invariant = { λ listing. IsProperKnown listing.known };
+    ghost invariant = { λ listing. IsProperState listing.known };
 }
 
 impl<'a, A: Allocator + Copy> Listing<'a, A> {
@@ -57,7 +57,7 @@ impl<'a, A: Allocator + Copy> Listing<'a, A> {
         Listing {
             alloc,
             text: String::new(alloc),
-            known: Known::unknown(),
+            known: AbstractState::unknown(),
             insn: None,
             remaining: lines,
         }
@@ -107,7 +107,12 @@ impl<'a, A: Allocator + Copy> Visitor for Listing<'a, A> {
 
     ghost visited = { visited };
 
-    fn reached(&mut self, place: usize, insn: Insn, known: &Known) -> Result<(), AllocError> {
+    fn reached(
+        &mut self,
+        place: usize,
+        insn: Insn,
+        known: &AbstractState,
+    ) -> Result<(), AllocError> {
         let note = note(self.alloc, &self.known, known, insn)?;
         self.push_visit(place, insn, &note)?;
         self.known = known.duplicate();
@@ -162,11 +167,11 @@ fn push_source<A: Allocator>(text: &mut String<A>, line: &PlacedLine<'_>) -> Res
 fn push_refusal<A: Allocator + Copy>(
     alloc: A,
     text: &mut String<A>,
-    known: &Known,
+    known: &AbstractState,
     insn: Insn,
     cause: Cause,
 ) -> Result<(), AllocError>
-    requires { IsProperKnown known.now }
+    requires { IsProperState known.now }
     ensures { OnOk result (string_bytes text.new ≡ string_bytes text.old ++ refusal_line known.now cause insn) }
 {
     text.push_str("refused: ")?;

@@ -1,7 +1,7 @@
 //! Accesses to bytes that are outside an area or aren't written.
 ghost use Rattle.std.specs.Prelude.{◌≡◌, ◌++◌, OnOk, decimal};
 ghost use Rattle.std.specs.String.{string_bytes};
-ghost use Rattle.bpf_verify.specs.AbstractState.{IsProperKnown};
+ghost use Rattle.bpf_verify.specs.LiftedState.{IsProperState};
 ghost use Rattle.bpf_explain.specs.Reach.{access_outside, access_unwritten, area_name, bytes_text, call_outside, call_unwritten, ends_text, is_write, last_of};
 ghost use Rattle.bpf_explain.specs.Reach.{lent_facts, lent_outside, lent_unwritten, limit_text, outside, outside_from, outside_text, unwritten, unwritten_from};
 ghost use Rattle.bpf_explain.specs.Reach.{unwritten_text, verb, writes_frame};
@@ -11,7 +11,7 @@ use bpf_helpers::{FrameUse, Helper};
 use bpf_insn::{Area, FRAME_LENGTH, Insn};
 use bpf_kinds::{Kind, Offsets};
 use bpf_notes::{Bytes, bytes_from, helper_of, lent_bytes};
-use bpf_verify::Known;
+use bpf_verify::AbstractState;
 use std::alloc::{AllocError, Allocator};
 use tl_segments::RECORD_LENGTH;
 
@@ -19,10 +19,10 @@ use tl_segments::RECORD_LENGTH;
 #[tactic(auto, unfolding(crate::specs::Reach::outside))]
 pub(crate) fn push_outside<A: Allocator>(
     text: &mut String<A>,
-    known: &Known,
+    known: &AbstractState,
     insn: Insn,
 ) -> Result<(), AllocError>
-    requires { IsProperKnown known.now }
+    requires { IsProperState known.now }
     ensures { OnOk result (string_bytes text.new ≡ string_bytes text.old ++ outside known.now insn) }
 {
     if let Insn::Call { immediate } = insn {
@@ -37,10 +37,10 @@ pub(crate) fn push_outside<A: Allocator>(
 #[tactic(auto, unfolding(crate::specs::Reach::call_outside))]
 fn push_call_outside<A: Allocator>(
     text: &mut String<A>,
-    known: &Known,
+    known: &AbstractState,
     immediate: i32,
 ) -> Result<(), AllocError>
-    requires { IsProperKnown known.now }
+    requires { IsProperState known.now }
     ensures { OnOk result (string_bytes text.new ≡ string_bytes text.old ++ call_outside known.now immediate) }
 {
     let writes = writes_frame(helper_of(immediate));
@@ -53,11 +53,11 @@ fn push_call_outside<A: Allocator>(
 #[tactic(auto, unfolding(crate::specs::Reach::lent_outside))]
 fn push_lent_outside<A: Allocator>(
     text: &mut String<A>,
-    known: &Known,
+    known: &AbstractState,
     writes: bool,
     bytes: Bytes,
 ) -> Result<(), AllocError>
-    requires { IsProperKnown known.now }
+    requires { IsProperState known.now }
     ensures { OnOk result (string_bytes text.new ≡ string_bytes text.old ++ lent_outside known.now writes bytes) }
 {
     push_outside_bytes(text, writes, Area::Frame, bytes)?;
@@ -67,10 +67,10 @@ fn push_lent_outside<A: Allocator>(
 #[tactic(auto, unfolding(crate::specs::Reach::access_outside))]
 fn push_access_outside<A: Allocator>(
     text: &mut String<A>,
-    known: &Known,
+    known: &AbstractState,
     access: Access,
 ) -> Result<(), AllocError>
-    requires { IsProperKnown known.now }
+    requires { IsProperState known.now }
     ensures { OnOk result (string_bytes text.new ≡ string_bytes text.old ++ access_outside known.now access) }
 {
     match known.registers[usize::from(access.base.number)] {
@@ -83,12 +83,12 @@ fn push_access_outside<A: Allocator>(
 #[tactic(auto, unfolding(crate::specs::Reach::outside_from))]
 fn push_outside_from<A: Allocator>(
     text: &mut String<A>,
-    known: &Known,
+    known: &AbstractState,
     access: Access,
     area: Area,
     x: Offsets,
 ) -> Result<(), AllocError>
-    requires { IsProperKnown known.now }
+    requires { IsProperState known.now }
     ensures { OnOk result (string_bytes text.new ≡ string_bytes text.old ++ outside_from known.now access area x) }
 {
     let bytes = bytes_from(x, access.offset, access.count as u64);
@@ -100,10 +100,10 @@ fn push_outside_from<A: Allocator>(
 #[tactic(auto, unfolding(crate::specs::Reach::unwritten))]
 pub(crate) fn push_unwritten<A: Allocator>(
     text: &mut String<A>,
-    known: &Known,
+    known: &AbstractState,
     insn: Insn,
 ) -> Result<(), AllocError>
-    requires { IsProperKnown known.now }
+    requires { IsProperState known.now }
     ensures { OnOk result (string_bytes text.new ≡ string_bytes text.old ++ unwritten known.now insn) }
 {
     if let Insn::Call { .. } = insn {
@@ -116,8 +116,11 @@ pub(crate) fn push_unwritten<A: Allocator>(
 }
 
 #[tactic(auto, unfolding(crate::specs::Reach::call_unwritten))]
-fn push_call_unwritten<A: Allocator>(text: &mut String<A>, known: &Known) -> Result<(), AllocError>
-    requires { IsProperKnown known.now }
+fn push_call_unwritten<A: Allocator>(
+    text: &mut String<A>,
+    known: &AbstractState,
+) -> Result<(), AllocError>
+    requires { IsProperState known.now }
     ensures { OnOk result (string_bytes text.new ≡ string_bytes text.old ++ call_unwritten known.now) }
 {
     match lent_bytes(known) {
@@ -129,10 +132,10 @@ fn push_call_unwritten<A: Allocator>(text: &mut String<A>, known: &Known) -> Res
 #[tactic(auto, unfolding(crate::specs::Reach::lent_unwritten))]
 fn push_lent_unwritten<A: Allocator>(
     text: &mut String<A>,
-    known: &Known,
+    known: &AbstractState,
     bytes: Bytes,
 ) -> Result<(), AllocError>
-    requires { IsProperKnown known.now }
+    requires { IsProperState known.now }
     ensures { OnOk result (string_bytes text.new ≡ string_bytes text.old ++ lent_unwritten known.now bytes) }
 {
     push_unwritten_bytes(text, bytes)?;
@@ -142,10 +145,10 @@ fn push_lent_unwritten<A: Allocator>(
 #[tactic(auto, unfolding(crate::specs::Reach::access_unwritten))]
 fn push_access_unwritten<A: Allocator>(
     text: &mut String<A>,
-    known: &Known,
+    known: &AbstractState,
     access: Access,
 ) -> Result<(), AllocError>
-    requires { IsProperKnown known.now }
+    requires { IsProperState known.now }
     ensures { OnOk result (string_bytes text.new ≡ string_bytes text.old ++ access_unwritten known.now access) }
 {
     match known.registers[usize::from(access.base.number)] {
@@ -157,11 +160,11 @@ fn push_access_unwritten<A: Allocator>(
 #[tactic(auto, unfolding(crate::specs::Reach::unwritten_from))]
 fn push_unwritten_from<A: Allocator>(
     text: &mut String<A>,
-    known: &Known,
+    known: &AbstractState,
     access: Access,
     x: Offsets,
 ) -> Result<(), AllocError>
-    requires { IsProperKnown known.now }
+    requires { IsProperState known.now }
     ensures { OnOk result (string_bytes text.new ≡ string_bytes text.old ++ unwritten_from known.now access x) }
 {
     push_unwritten_bytes(text, bytes_from(x, access.offset, access.count as u64))?;
@@ -275,8 +278,8 @@ fn is_write(frame_use: FrameUse) -> bool
 
 /// Pushes what is known about registers 2 and 3, the pointer and the number of the bytes that a call reads or writes.
 #[tactic(auto, unfolding(crate::specs::Reach::lent_facts))]
-fn push_lent<A: Allocator>(text: &mut String<A>, known: &Known) -> Result<(), AllocError>
-    requires { IsProperKnown known.now }
+fn push_lent<A: Allocator>(text: &mut String<A>, known: &AbstractState) -> Result<(), AllocError>
+    requires { IsProperState known.now }
     ensures { OnOk result (string_bytes text.new ≡ string_bytes text.old ++ lent_facts known.now) }
 {
     push_register(text, known, 2)?;

@@ -49,11 +49,11 @@ found_place (insn ∷ code) (suc place) index is =
     by_test true test nothing found = absurd (let no : ⊥ = cc in no)
     by_test false test some found =
         let past = past_words (suc place) (length (spelling insn)) test in
-        let behind = mapped (index_at code (suc place - length (spelling insn))) index some in
-        let rest = found behind.0 behind.1 in
-        let sum = word_count-cons insn (take behind.0 code) in
-        let whole : place_of (insn ∷ code) (suc behind.0) ≡ suc place = omega arith in
-        ap (place_of (insn ∷ code)) behind.2 ∙ whole
+        let found_index = mapped (index_at code (suc place - length (spelling insn))) index some in
+        let rest = found found_index.0 found_index.1 in
+        let sum = word_count-cons insn (take found_index.0 code) in
+        let whole : place_of (insn ∷ code) (suc found_index.0) ≡ suc place = omega arith in
+        ap (place_of (insn ∷ code)) found_index.2 ∙ whole
 
 -- the target of the jump at a place
 
@@ -75,7 +75,7 @@ nothing_found code place none some =
 pub forms_grow : {code : List Insn} {areas : List (Option Area)} {count : ℕ} {flats more : List FlatInsn} {insn : Insn} (flat : FlatInsn)
     → AreFlatForms code areas count flats → more ≡ flats ++ flat ∷ [] → insn ≡ get_or code count insn → count < length code
     → IsFlatForm code (place_of code count) insn (get_or areas count None) flat → AreFlatForms code areas (count + 1) more
-forms_grow {code} {areas} {count} {flats} {more} {insn} flat are grown stands within form = record {
+forms_grow {code} {areas} {count} {flats} {more} {insn} flat are grown is_insn within form = record {
   count_is = let long = are.count_is in ap length grown ∙ length-append flats (flat ∷ []) ∙ omega arith;
   each = λ index other last below there is. by_place index other last below there is (cases_lt index count);
 }
@@ -87,7 +87,7 @@ forms_grow {code} {areas} {count} {flats} {more} {insn} flat are grown stands wi
     at_end last = let long = are.count_is in ap (λ (l : List FlatInsn). get_or l count last) grown ∙ grind (arith, common_steps)
 
     same_insn : (other : Insn) → other ≡ get_or code count other → other ≡ insn
-    same_insn other there = there ∙ get_or_default code count other insn within ∙ sym stands
+    same_insn other there = there ∙ get_or_default code count other insn within ∙ sym is_insn
 
     by_place : (index : ℕ) (other : Insn) (last : FlatInsn) → index < count + 1 → other ≡ get_or code index other
         → last ≡ get_or more index last → (index < count) ⊎ (count ≤ index)
@@ -105,12 +105,12 @@ pub form_at : {code : List Insn} {place : ℕ} (index target : ℕ) {insn : Insn
     → place ≡ place_of code index → instruction_at code place ≡ Some insn
     → IfSome (instruction_at code place) (λ insn. JumpsTo code place insn target) → insn_of flat ≡ without_distance insn
     → HasImmediates insn → Keeps insn area target flat → IsFlatForm code (place_of code index) insn area flat
-form_at {code} {place} index target {insn} at stands jumps is immediates keeps = record {
-  stands_for = is;
+form_at {code} {place} index target {insn} at is_insn jumps is immediates keeps = record {
+  represents = is;
   immediates = immediates;
   target = target;
   jumps = subst (λ (p : ℕ). JumpsTo code p insn target) at
-      (subst (λ (o : Option Insn). IfSome o (λ insn. JumpsTo code place insn target)) stands jumps);
+      (subst (λ (o : Option Insn). IfSome o (λ insn. JumpsTo code place insn target)) is_insn jumps);
   keeps = keeps;
 }
 
@@ -138,15 +138,15 @@ place_found (first ∷ code) (suc index) within =
 -- an instruction that begins at the place of an index has this index
 
 pub within_code : (code : List Insn) (index : ℕ) (insn : Insn) → instruction_at code (place_of code index) ≡ Some insn → index < length code
-within_code code index insn stands = elim (cases_lt index (length code)) as (λ _. index < length code) [
+within_code code index insn is_insn = elim (cases_lt index (length code)) as (λ _. index < length code) [
   | inl below ↦ below
   | inr past ↦
       let all : place_of code index ≡ word_count code = ap word_count (take_all index code past) in
-      let inside = instruction_within code (place_of code index) (ap is_some stands) in absurd (omega arith)
+      let inside = instruction_within code (place_of code index) (ap is_some is_insn) in absurd (omega arith)
 ]
 
-pub stands_there : (code : List Insn) (index : ℕ) (insn : Insn) → instruction_at code (place_of code index) ≡ Some insn
+pub instruction_at-place_of : (code : List Insn) (index : ℕ) (insn : Insn) → instruction_at code (place_of code index) ≡ Some insn
     → insn ≡ get_or code index insn
-stands_there code index insn stands =
-    let begins = begins_at_its_place code index (get_or code index insn) (within_code code index insn stands)
-    (get_or_default code index insn (get_or code index insn) (within_code code index insn stands)) in cc
+instruction_at-place_of code index insn is_insn =
+    let begins = begins_at_its_place code index (get_or code index insn) (within_code code index insn is_insn)
+    (get_or_default code index insn (get_or code index insn) (within_code code index insn is_insn)) in cc

@@ -253,7 +253,7 @@ JumpsTo code place insn target = (distance : ℤ) → jump_distance insn ≡ Som
 
 -- the flat form of the instruction at a place of a code; `area` is the one that its base points into, if that's known
 pub record IsFlatForm (code : List Insn) (place : ℕ) (insn : Insn) (area : Option Area) (flat : FlatInsn) : Type 0 where
-  pub stands_for : insn_of flat ≡ without_distance insn
+  pub represents : insn_of flat ≡ without_distance insn
   pub immediates : HasImmediates insn
   pub target : ℕ
   pub jumps : JumpsTo code place insn target

@@ -89,7 +89,7 @@ macro_rules! flat_form {
 #[tactic(auto, unfolding(crate::specs::Flat::parts_of))]
 pub fn flatten(insn: Insn, area: Option<Area>, target: u32) -> FlatInsn
     ensures insn { insn_of result ≡ without_distance insn }
-    ensures kept { Keeps insn area target result }
+    ensures keeps { Keeps insn area target result }
     ensures immediates { HasImmediates insn }
 {
     instruction_rows!(flat_form!(insn, area, target))

@@ -13,51 +13,51 @@ use Rattle.bpf_insn.specs.declared.instruction.Insn.{Insn}
 use Rattle.bpf_insn.specs.declared.instruction.Insn.TheVariants.{Exit, WideLoad}
 use Rattle.bpf_insn.proofs.PlaceLemmas.{instruction_within}
 use Rattle.bpf_insn.proofs.SpanLemmas.{begins_at_its_place, place_of-more, nothing_within, ends_within, lies_within, next_begins}
-use Rattle.bpf_flow.specs.Flow.{target_of, LeadsOn, JumpsLeadOn, LeadOnBefore, JumpsBy, IsSecondWord, LeadsIntoWide, IsFirstJump}
+use Rattle.bpf_flow.specs.Flow.{target_of, IsForwardJump, JumpsAreForward, JumpsAreForwardBefore, JumpsBy, IsSecondWord, LeadsIntoWide, IsFirstJump}
 use Rattle.bpf_flow.specs.Flow.{EndsInExit, IsForward, IsFirstFault}
 use Rattle.bpf_flow.specs.declared.fault.FlowFault.{FlowFault}
 use Rattle.bpf_flow.specs.declared.fault.FlowFault.TheVariants.{BackwardJump, OutOfProgram, IntoWide, LastNotExit}
 
 -- one more instruction, which leads on if it's a jump
 pub lead_more : (code : List Insn) (place words : ℕ) (insn : Insn) → instruction_at code place ≡ Some insn → words ≡ length (spelling insn)
-    → LeadOnBefore code place → ((distance : ℤ) → jump_distance insn ≡ Some distance → LeadsOn code place distance)
-    → LeadOnBefore code (place + words)
-lead_more code place words insn stands long before here = λ earlier other distance below is jumps.
-    elim (cases_lt earlier place) as (λ _. LeadsOn code earlier distance) [
+    → JumpsAreForwardBefore code place → ((distance : ℤ) → jump_distance insn ≡ Some distance → IsForwardJump code place distance)
+    → JumpsAreForwardBefore code (place + words)
+lead_more code place words insn is_insn long before here = λ earlier other distance below is jumps.
+    elim (cases_lt earlier place) as (λ _. IsForwardJump code earlier distance) [
       | inl h ↦ before earlier other distance h is jumps
-      | inr from ↦ elim (cases_lt place earlier) as (λ _. LeadsOn code earlier distance) [
-        | inl above ↦ absurd (none-some other (sym (nothing_within code place insn earlier stands above (omega arith)) ∙ is))
+      | inr from ↦ elim (cases_lt place earlier) as (λ _. IsForwardJump code earlier distance) [
+        | inl above ↦ absurd (none-some other (sym (nothing_within code place insn earlier is_insn above (omega arith)) ∙ is))
         | inr to ↦
             let same : earlier ≡ place = omega arith in
-            let both : Some other ≡ Some insn = sym is ∙ ap (instruction_at code) same ∙ stands in
+            let both : Some other ≡ Some insn = sym is ∙ ap (instruction_at code) same ∙ is_insn in
             let one : other ≡ insn = cc in
-            subst (λ (p : ℕ). LeadsOn code p distance) (sym same) (here distance (sym (ap jump_distance one) ∙ jumps))
+            subst (λ (p : ℕ). IsForwardJump code p distance) (sym same) (here distance (sym (ap jump_distance one) ∙ jumps))
       ]
     ]
 
 -- all of them
-pub lead_all : (code : List Insn) (end : ℕ) → word_count code ≤ end → LeadOnBefore code end → JumpsLeadOn code
-lead_all code end whole before = λ place insn distance stands jumps.
-    let within = instruction_within code place (ap is_some stands) in before place insn distance (omega arith) stands jumps
+pub all_jumps_forward : (code : List Insn) (end : ℕ) → word_count code ≤ end → JumpsAreForwardBefore code end → JumpsAreForward code
+all_jumps_forward code end whole before = λ place insn distance is_insn jumps.
+    let within = instruction_within code place (ap is_some is_insn) in before place insn distance (omega arith) is_insn jumps
 
 -- a jump is within the code
 pub jump_within : (code : List Insn) (place : ℕ) (distance : ℤ) → JumpsBy code place distance → place < word_count code
-jump_within code place distance jump = instruction_within code place (ap is_some jump.stands)
+jump_within code place distance jump = instruction_within code place (ap is_some jump.is_insn)
 
 -- a place within an instruction's words is the second one of a wide load
 second_word : (code : List Insn) (place first : ℕ) (insn : Insn) → instruction_at code first ≡ Some insn → first < place
     → place < first + length (spelling insn) → IsSecondWord code place
-second_word code place first (WideLoad destination immediate next_immediate) stands above below =
+second_word code place first (WideLoad destination immediate next_immediate) is_insn above below =
     record {
       first = first;
       destination = destination;
       immediate = immediate;
       next_immediate = next_immediate;
-      stands = stands;
-      behind =
+      is_insn = is_insn;
+      follows =
           omega arith;
     }
-second_word code place first insn stands above below = absurd (omega arith)
+second_word code place first insn is_insn above below = absurd (omega arith)
 
 pub leads_into_wide : (code : List Insn) (place target : ℕ) (distance : ℤ) → target_of place distance ≡ pos target → place < target
     → target < word_count code → instruction_at code target ≡ None → LeadsIntoWide code place distance
@@ -68,37 +68,37 @@ leads_into_wide code place target distance is later within none =
       is_target = is;
       later = later;
       inside =
-          second_word code target around.first around.insn around.stands around.above around.below;
+          second_word code target around.first around.insn around.is_insn around.above around.below;
     }
 
 -- the next instruction begins after an instruction other than EXIT
-pub goes_on : (code : List Insn) (place : ℕ) (insn : Insn) → EndsInExit code → instruction_at code place ≡ Some insn
+pub continues : (code : List Insn) (place : ℕ) (insn : Insn) → EndsInExit code → instruction_at code place ≡ Some insn
     → instruction_at code place ≢ Some Exit → IsSome (instruction_at code (place + length (spelling insn)))
-goes_on code place insn (before, ends) stands other =
+continues code place insn (before, ends) is_insn other =
     subst (λ (c : List Insn). IsSome (instruction_at c (place + length (spelling insn)))) (sym ends)
-    (next_begins before Exit place insn (ap (λ (c : List Insn). instruction_at c place) (sym ends) ∙ stands)
-    (λ e. other (stands ∙ ap Some e)))
+    (next_begins before Exit place insn (ap (λ (c : List Insn). instruction_at c place) (sym ends) ∙ is_insn)
+    (λ e. other (is_insn ∙ ap Some e)))
 
 -- A jump with a flaw doesn't lead on.
 
 same_target : (a b : ℕ) (z : ℤ) → z ≡ pos a → z ≡ pos b → a ≡ b
 same_target a b z is are = omega (arith, ints)
 
-backward : (code : List Insn) (place : ℕ) (distance : ℤ) → LeadsOn code place distance → distance <ℤ pos 0 → ⊥
+backward : (code : List Insn) (place : ℕ) (distance : ℤ) → IsForwardJump code place distance → distance <ℤ pos 0 → ⊥
 backward code place distance leads below = let is = leads.is_target in let later = leads.later in absurd (omega (arith, ints))
 
-out_of_program : (code : List Insn) (place : ℕ) (distance : ℤ) → LeadsOn code place distance
+out_of_program : (code : List Insn) (place : ℕ) (distance : ℤ) → IsForwardJump code place distance
     → pos (word_count code) ≤ℤ target_of place distance → ⊥
 out_of_program code place distance leads past =
     let is = leads.is_target in let within = instruction_within code leads.target leads.begins in absurd (omega (arith, ints))
 
 nothing_inside : (code : List Insn) (place : ℕ) → IsSecondWord code place → instruction_at code place ≡ None
 nothing_inside code place wide =
-    let behind = wide.behind in
-    nothing_within code wide.first (WideLoad wide.destination wide.immediate wide.next_immediate) place wide.stands (omega arith)
+    let follows = wide.follows in
+    nothing_within code wide.first (WideLoad wide.destination wide.immediate wide.next_immediate) place wide.is_insn (omega arith)
     (omega arith)
 
-into_wide : (code : List Insn) (place : ℕ) (distance : ℤ) → LeadsOn code place distance → LeadsIntoWide code place distance → ⊥
+into_wide : (code : List Insn) (place : ℕ) (distance : ℤ) → IsForwardJump code place distance → LeadsIntoWide code place distance → ⊥
 into_wide code place distance leads wide =
     let same = same_target leads.target wide.target (target_of place distance) leads.is_target wide.is_target in
     let none = nothing_inside code wide.target wide.inside in
@@ -107,9 +107,9 @@ into_wide code place distance leads wide =
 
 -- flaws exclude each other
 
-backward_stays : (code : List Insn) (place : ℕ) (distance : ℤ) → JumpsBy code place distance → distance <ℤ pos 0
+backward_is_within : (code : List Insn) (place : ℕ) (distance : ℤ) → JumpsBy code place distance → distance <ℤ pos 0
     → pos (word_count code) ≤ℤ target_of place distance → ⊥
-backward_stays code place distance jump below past = let within = jump_within code place distance jump in absurd (omega (arith, ints))
+backward_is_within code place distance jump below past = let within = jump_within code place distance jump in absurd (omega (arith, ints))
 
 backward_is_not_later : (code : List Insn) (place : ℕ) (distance : ℤ) → distance <ℤ pos 0 → LeadsIntoWide code place distance → ⊥
 backward_is_not_later code place distance below wide = let is = wide.is_target in let later = wide.later in absurd (omega (arith, ints))
@@ -119,14 +119,14 @@ wide_is_within : (code : List Insn) (place : ℕ) (distance : ℤ) → pos (word
 wide_is_within code place distance past wide =
     let is = wide.is_target in
     let inside = wide.inside in
-    let behind = inside.behind in
-    let ends = ends_within code inside.first (WideLoad inside.destination inside.immediate inside.next_immediate) inside.stands in
+    let follows = inside.follows in
+    let ends = ends_within code inside.first (WideLoad inside.destination inside.immediate inside.next_immediate) inside.is_insn in
     absurd (omega (arith, ints))
 
 -- a forward code has no fault
 
-leads_on : (code : List Insn) (place : ℕ) (distance : ℤ) → JumpsLeadOn code → JumpsBy code place distance → LeadsOn code place distance
-leads_on code place distance leads jump = leads place jump.insn distance jump.stands jump.jumps
+forward_jump : (code : List Insn) (place : ℕ) (distance : ℤ) → JumpsAreForward code → JumpsBy code place distance → IsForwardJump code place distance
+forward_jump code place distance leads jump = leads place jump.insn distance jump.is_insn jump.jumps
 
 same_last : (xs ys : List Insn) (x y : Insn) → xs ++ x ∷ [] ≡ ys ++ y ∷ [] → (xs ≡ ys) × (x ≡ y)
 same_last [] [] x y e = (refl, (let same : x ≡ y = cc in same))
@@ -137,9 +137,9 @@ same_last (a ∷ xs) (b ∷ ys) x y e =
     let rest = same_last xs ys x y (let tails : xs ++ x ∷ [] ≡ ys ++ y ∷ [] = cc in tails) in
     ((let both : a ∷ xs ≡ b ∷ ys = ap (λ (z : Insn). z ∷ xs) first ∙ ap (λ (zs : List Insn). b ∷ zs) rest.0 in both), rest.1)
 
-no_jump_fault : (code : List Insn) (place : ℕ) (Flaw : ℤ → Type 0) → ((distance : ℤ) → LeadsOn code place distance → Flaw distance → ⊥)
-    → JumpsLeadOn code → IsFirstJump code place Flaw → ⊥
-no_jump_fault code place Flaw excluded leads fault = excluded fault.distance (leads_on code place fault.distance leads fault.jumps)
+no_jump_fault : (code : List Insn) (place : ℕ) (Flaw : ℤ → Type 0) → ((distance : ℤ) → IsForwardJump code place distance → Flaw distance → ⊥)
+    → JumpsAreForward code → IsFirstJump code place Flaw → ⊥
+no_jump_fault code place Flaw excluded leads fault = excluded fault.distance (forward_jump code place fault.distance leads fault.jumps)
     fault.flaw
 
 pub has_no_fault : (code : List Insn) (fault : FlowFault) → IsForward code → IsFirstFault code fault → ⊥
@@ -158,12 +158,12 @@ is_accepted code (Err fault) faulty forward = absurd (has_no_fault code fault fo
 
 -- a jump that leads on doesn't have the flaw
 abbrev Excludes : List Insn → (ℕ → ℤ → Type 0) → Type 0
-Excludes code Flaw = (place : ℕ) (distance : ℤ) → LeadsOn code place distance → Flaw place distance → ⊥
+Excludes code Flaw = (place : ℕ) (distance : ℤ) → IsForwardJump code place distance → Flaw place distance → ⊥
 
 not_earlier : {code : List Insn} {a b : ℕ} (F : ℕ → ℤ → Type 0) {G : ℤ → Type 0} → Excludes code F → IsFirstJump code a (F a)
     → IsFirstJump code b G → a < b → ⊥
 not_earlier {a} F excluded first other below =
-    let jump = first.jumps in excluded a first.distance (other.before a jump.insn first.distance below jump.stands jump.jumps) first.flaw
+    let jump = first.jumps in excluded a first.distance (other.before a jump.insn first.distance below jump.is_insn jump.jumps) first.flaw
 
 same_place : {code : List Insn} {a b : ℕ} (F G : ℕ → ℤ → Type 0) → Excludes code F → Excludes code G → IsFirstJump code a (F a)
     → IsFirstJump code b (G b) → a ≡ b
@@ -177,7 +177,7 @@ same_place {a} {b} F G no_f no_g first other = elim (cases_lt a b) as (λ _. a �
 
 same_distance : (code : List Insn) (place : ℕ) (x y : ℤ) → JumpsBy code place x → JumpsBy code place y → x ≡ y
 same_distance code place x y jump other =
-    let both : Some jump.insn ≡ Some other.insn = sym jump.stands ∙ other.stands in
+    let both : Some jump.insn ≡ Some other.insn = sym jump.is_insn ∙ other.is_insn in
     let one : jump.insn ≡ other.insn = cc in
     let distances : Some x ≡ Some y = sym jump.jumps ∙ ap jump_distance one ∙ other.jumps in
     cc
@@ -212,10 +212,10 @@ one_fault_lem code (LastNotExit a) (LastNotExit b) (leads, last) (others, other)
     let same = (same_last last.before other.before last.last other.last (sym last.ends ∙ other.ends)).0 in
     ap LastNotExit (last.at ∙ ap word_count same ∙ sym other.at)
 one_fault_lem code (BackwardJump a) (OutOfProgram b) f g =
-    absurd (backward_stays code a f.distance f.jumps f.flaw
+    absurd (backward_is_within code a f.distance f.jumps f.flaw
     (both_flaws (Backward code) (Leaves code) (backward code) (out_of_program code) f g))
 one_fault_lem code (OutOfProgram a) (BackwardJump b) f g =
-    absurd (backward_stays code b g.distance g.jumps g.flaw
+    absurd (backward_is_within code b g.distance g.jumps g.flaw
     (both_flaws (Backward code) (Leaves code) (backward code) (out_of_program code) g f))
 one_fault_lem code (BackwardJump a) (IntoWide b) f g =
     absurd (backward_is_not_later code a f.distance f.flaw
@@ -238,17 +238,17 @@ one_fault_lem code (IntoWide a) (LastNotExit b) f (leads, last) = absurd (no_jum
 
 pub jumps_by : (code : List Insn) (place : ℕ) (insn : Insn) (distance : ℤ) → FitsSigned w32 distance → instruction_at code place ≡ Some insn
     → Some distance ≡ jump_distance insn → JumpsBy code place (to_z w32 (of_z w32 distance))
-jumps_by code place insn distance fits stands jumps =
-    subst (JumpsBy code place) (sym (to_z-of_z w32 distance fits)) (record { insn = insn; stands = stands; jumps = sym jumps })
+jumps_by code place insn distance fits is_insn jumps =
+    subst (JumpsBy code place) (sym (to_z-of_z w32 distance fits)) (record { insn = insn; is_insn = is_insn; jumps = sym jumps })
 
 pub jump_leads : (code : List Insn) (place : ℕ) (insn : Insn) (distance : ℤ) → IsForward code → Some insn ≡ instruction_at code place
-    → Some distance ≡ jump_distance insn → LeadsOn code place distance
+    → Some distance ≡ jump_distance insn → IsForwardJump code place distance
 jump_leads code place insn distance forward is jumps = forward.jumps place insn distance (sym is) (sym jumps)
 
-pub is_forward : (code : List Insn) (place : ℕ) (distance : ℤ) → LeadsOn code place distance → pos 0 ≤ℤ distance
+pub is_forward : (code : List Insn) (place : ℕ) (distance : ℤ) → IsForwardJump code place distance → pos 0 ≤ℤ distance
 is_forward code place distance leads = let is = leads.is_target in let later = leads.later in omega (arith, ints)
 
-pub target_begins : (code : List Insn) (place target : ℕ) (distance : ℤ) → LeadsOn code place distance
+pub target_begins : (code : List Insn) (place target : ℕ) (distance : ℤ) → IsForwardJump code place distance
     → pos target ≡ target_of place distance → IsSome (instruction_at code target)
 target_begins code place target distance leads is =
     subst (λ (t : ℕ). IsSome (instruction_at code t)) (same_target leads.target target (target_of place distance) leads.is_target (sym is))
@@ -268,9 +268,9 @@ pub record IsAtIndex (items code : List Insn) (index : ℕ) (insn : Insn) : Type
   pub is : insn ≡ get_or items index insn
 
 -- it is at its place, and the next place is after it
-pub stands_at : {items code : List Insn} (index place : ℕ) {insn : Insn} → IsAtIndex items code index insn → place ≡ place_of code index
+pub instruction_at_index : {items code : List Insn} (index place : ℕ) {insn : Insn} → IsAtIndex items code index insn → place ≡ place_of code index
     → instruction_at code place ≡ Some insn
-stands_at {items} {code} index place {insn} item at =
+instruction_at_index {items} {code} index place {insn} item at =
     ap (instruction_at code) (at ∙ ap (λ (c : List Insn). place_of c index) (sym item.same))
     ∙ subst (λ (c : List Insn). instruction_at c (place_of items index) ≡ Some insn) item.same
     (begins_at_its_place items index insn item.within item.is)
@@ -283,11 +283,11 @@ next_place {items} index place words {insn} item at long =
     ∙ ap (λ (c : List Insn). place_of c (index + 1)) item.same
 
 pub leads_by : {code : List Insn} {place : ℕ} (insn : Insn) {distance : ℤ} → FitsSigned w32 distance → Some distance ≡ jump_distance insn
-    → LeadsOn code place (to_z w32 (of_z w32 distance)) → (other : ℤ) → jump_distance insn ≡ Some other → LeadsOn code place other
+    → IsForwardJump code place (to_z w32 (of_z w32 distance)) → (other : ℤ) → jump_distance insn ≡ Some other → IsForwardJump code place other
 leads_by {code} {place} insn {distance} fits jumps leads = λ other is.
     let both : Some distance ≡ Some other = jumps ∙ is in
     let same : distance ≡ other = cc in
-    subst (LeadsOn code place) (to_z-of_z w32 distance fits ∙ same) leads
+    subst (IsForwardJump code place) (to_z-of_z w32 distance fits ∙ same) leads
 
 pub is_nothing : {X : Type 0} (o : Option X) → is_some o ≡ false → o ≡ None
 is_nothing None none = refl

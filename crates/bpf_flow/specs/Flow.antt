@@ -18,17 +18,17 @@ abbrev pub target_of : ℕ → ℤ → ℤ
 target_of place distance = pos (place + 1) +ℤ distance
 
 -- a jump from a place leads on: to a later place, at which an instruction begins
-pub record LeadsOn (code : List Insn) (place : ℕ) (distance : ℤ) : Type 0 where
+pub record IsForwardJump (code : List Insn) (place : ℕ) (distance : ℤ) : Type 0 where
   pub target : ℕ
   pub is_target : target_of place distance ≡ pos target
   pub later : place < target
   pub begins : IsSome (instruction_at code target)
 
 -- each jump leads on
-abbrev pub JumpsLeadOn : List Insn → Type 0
-JumpsLeadOn code =
+abbrev pub JumpsAreForward : List Insn → Type 0
+JumpsAreForward code =
     (place : ℕ) (insn : Insn) (distance : ℤ)
-    → instruction_at code place ≡ Some insn → jump_distance insn ≡ Some distance → LeadsOn code place distance
+    → instruction_at code place ≡ Some insn → jump_distance insn ≡ Some distance → IsForwardJump code place distance
 
 -- the last instruction is EXIT
 abbrev pub EndsInExit : List Insn → Type 0
@@ -36,19 +36,19 @@ EndsInExit code = (before : List Insn) × (code ≡ before ++ Exit ∷ [])
 
 -- each jump goes forward to the beginning of an instruction, and the last instruction is EXIT
 pub record IsForward (code : List Insn) : Type 0 where
-  pub jumps : JumpsLeadOn code
+  pub jumps : JumpsAreForward code
   pub last : EndsInExit code
 
 -- each jump before a place leads on
-abbrev pub LeadOnBefore : List Insn → ℕ → Type 0
-LeadOnBefore code end =
+abbrev pub JumpsAreForwardBefore : List Insn → ℕ → Type 0
+JumpsAreForwardBefore code end =
     (place : ℕ) (insn : Insn) (distance : ℤ) → place < end
-    → instruction_at code place ≡ Some insn → jump_distance insn ≡ Some distance → LeadsOn code place distance
+    → instruction_at code place ≡ Some insn → jump_distance insn ≡ Some distance → IsForwardJump code place distance
 
 -- the instruction at a place is a jump by a distance
 pub record JumpsBy (code : List Insn) (place : ℕ) (distance : ℤ) : Type 0 where
   pub insn : Insn
-  pub stands : instruction_at code place ≡ Some insn
+  pub is_insn : instruction_at code place ≡ Some insn
   pub jumps : jump_distance insn ≡ Some distance
 
 -- a place is the second word of a wide load (section 5.4)
@@ -57,8 +57,8 @@ pub record IsSecondWord (code : List Insn) (place : ℕ) : Type 0 where
   pub destination : WritableRegister
   pub immediate : ℤ
   pub next_immediate : ℤ
-  pub stands : instruction_at code first ≡ Some (WideLoad destination immediate next_immediate)
-  pub behind : place ≡ first + 1
+  pub is_insn : instruction_at code first ≡ Some (WideLoad destination immediate next_immediate)
+  pub follows : place ≡ first + 1
 
 -- a jump leads to a later place, the second word of a wide load
 pub record LeadsIntoWide (code : List Insn) (place : ℕ) (distance : ℤ) : Type 0 where
@@ -69,7 +69,7 @@ pub record LeadsIntoWide (code : List Insn) (place : ℕ) (distance : ℤ) : Typ
 
 -- each jump before a place leads on, and the instruction at this place is a jump whose distance has a flaw
 pub record IsFirstJump (code : List Insn) (place : ℕ) (Flaw : ℤ → Type 0) : Type 0 where
-  pub before : LeadOnBefore code place
+  pub before : JumpsAreForwardBefore code place
   pub distance : ℤ
   pub jumps : JumpsBy code place distance
   pub flaw : Flaw distance
@@ -88,4 +88,4 @@ abbrev pub IsFirstFault : List Insn → FlowFault → Type 0
 IsFirstFault code (BackwardJump place) = IsFirstJump code place (λ distance. distance <ℤ pos 0)
 IsFirstFault code (OutOfProgram place) = IsFirstJump code place (λ distance. pos (word_count code) ≤ℤ target_of place distance)
 IsFirstFault code (IntoWide place) = IsFirstJump code place (LeadsIntoWide code place)
-IsFirstFault code (LastNotExit place) = JumpsLeadOn code × IsLastNotExit code place
+IsFirstFault code (LastNotExit place) = JumpsAreForward code × IsLastNotExit code place

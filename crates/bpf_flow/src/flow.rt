@@ -3,9 +3,9 @@ ghost use Rattle.std.specs.Prelude.{◌≡◌, ◌≢◌, ◌<◌, ◌+◌, ◌�
 ghost use Rattle.bpf_insn.specs.Code.{instruction_at};
 ghost use Rattle.bpf_insn.specs.Form.{spelling};
 ghost use Rattle.bpf_insn.specs.Jump.{jump_distance};
-ghost use Rattle.bpf_insn.specs.declared.code.TheConstants.{WORD_LIMIT};
+ghost use Rattle.bpf_insn.specs.declared.code.TheConstants.{MAX_WORDS};
 ghost use Rattle.bpf_insn.specs.declared.instruction.Insn.{Insn};
-ghost use Rattle.bpf_flow.specs.Flow.{target_of, LeadsOn, JumpsLeadOn, JumpsBy, LeadOnBefore, EndsInExit, IsForward, IsFirstFault};
+ghost use Rattle.bpf_flow.specs.Flow.{target_of, IsForwardJump, JumpsAreForward, JumpsBy, JumpsAreForwardBefore, EndsInExit, IsForward, IsFirstFault};
 
 use crate::fault::FlowFault;
 use bpf_insn::{Code, Insn};
@@ -86,7 +86,7 @@ impl<A: Allocator> Flow<A> {
 
 /// Checks that each jump goes forward to an instruction, in order.
 fn check_jumps<A: Allocator>(code: &Code<A>) -> Result<(), FlowFault>
-    ensures ok { OnOk result (JumpsLeadOn code.now) }
+    ensures ok { OnOk result (JumpsAreForward code.now) }
     ensures err { IfErr result (IsFirstFault code.now) }
 {
     let instructions = code.instructions();
@@ -102,9 +102,9 @@ fn check_jumps<A: Allocator>(code: &Code<A>) -> Result<(), FlowFault>
 
 /// Checks that a jump goes forward to an instruction, given that those before it do.
 fn check_jump<A: Allocator>(code: &Code<A>, place: usize, distance: i32) -> Result<(), FlowFault>
-    requires before { LeadOnBefore code.now place }
+    requires before { JumpsAreForwardBefore code.now place }
     requires jump { JumpsBy code.now place distance }
-    ensures ok { OnOk result (LeadsOn code.now place distance) }
+    ensures ok { OnOk result (IsForwardJump code.now place distance) }
     ensures err { IfErr result (IsFirstFault code.now) }
 {
     if distance < 0 {
@@ -123,7 +123,7 @@ fn check_jump<A: Allocator>(code: &Code<A>, place: usize, distance: i32) -> Resu
 
 /// Returns the target of a jump that goes forward.
 fn target_of(place: usize, distance: i32) -> usize
-    requires within { place < WORD_LIMIT }
+    requires within { place < MAX_WORDS }
     requires forward { pos 0 ≤ℤ distance }
     ensures { pos result ≡ target_of place distance }
 {
@@ -132,7 +132,7 @@ fn target_of(place: usize, distance: i32) -> usize
 
 /// Checks that the last instruction is EXIT, after all jumps were checked.
 fn check_last<A: Allocator>(code: &Code<A>) -> Result<(), FlowFault>
-    requires { JumpsLeadOn code.now }
+    requires { JumpsAreForward code.now }
     ensures ok { OnOk result (EndsInExit code.now) }
     ensures err { IfErr result (IsFirstFault code.now) }
 {

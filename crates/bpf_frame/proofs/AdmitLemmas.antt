@@ -75,11 +75,11 @@ module _ {map : Contents} {before : FrameContents} (after : FrameContents) (prop
       ]
 
   -- it is still possible if no written byte becomes unwritten and each slot keeps its contents
-  pub admits_stays : ((at : ℕ) → IsTrue (is_written before.bytes at) → IsTrue (is_written after.bytes at))
+  pub admits_unchanged : ((at : ℕ) → IsTrue (is_written before.bytes at) → IsTrue (is_written after.bytes at))
       → ((slot : ℕ) → slot < SLOTS → slot_value after slot ≡ slot_value before slot) → Admits map after
-  admits_stays stay kept = record {
-    written = λ at marked. stay at (admitted.written at marked);
-    slots = λ slot. still_admits slot (kept slot);
+  admits_unchanged still_written slots_preserved = record {
+    written = λ at marked. still_written at (admitted.written at marked);
+    slots = λ slot. still_admits slot (slots_preserved slot);
   }
 
   -- it is after bytes were touched, if none became unwritten
@@ -87,10 +87,10 @@ module _ {map : Contents} {before : FrameContents} (after : FrameContents) (prop
       → ((at : ℕ) → IsTrue (is_written before.bytes at) → IsTrue (is_written after.bytes at))
       → ((slot : ℕ) → slot < SLOTS → IsApart slot from (to + 1 - from) → slot_value after slot ≡ slot_value before slot)
       → Admits (touch map from to) after
-  touch_admits from to ordered within stay kept = record {
-    written = λ at marked. stay at (admitted.written at marked);
+  touch_admits from to ordered within still_written slots_preserved = record {
+    written = λ at marked. still_written at (admitted.written at marked);
     slots = touch_each from to proper ordered within (λ slot k. kind.Admits k (slot_value after slot)) (λ slot at above below same. tt)
-        (λ slot apart. still_admits slot (λ inside. kept slot inside apart));
+        (λ slot apart. still_admits slot (λ inside. slots_preserved slot inside apart));
   }
 
   -- and after bytes that were written are marked
@@ -99,14 +99,14 @@ module _ {map : Contents} {before : FrameContents} (after : FrameContents) (prop
       → ((at : ℕ) → from ≤ at → at < from + len → IsTrue (is_written after.bytes at))
       → ((slot : ℕ) → slot < SLOTS → IsApart slot from len → slot_value after slot ≡ slot_value before slot)
       → Admits (mark map from len) after
-  mark_admits from len within stay new kept = record {
+  mark_admits from len within still_written new slots_preserved = record {
     written = λ at marked.
         elim (marked_before_or_inside map.marks from len at (in_frame map (from + len) proper within) marked) [
-          | inl old ↦ stay at (admitted.written at old)
+          | inl old ↦ still_written at (admitted.written at old)
           | inr inside ↦ new at inside.0 inside.1
         ];
     slots = mark_each from len proper within (λ slot k. kind.Admits k (slot_value after slot)) (λ slot at above below same. tt)
-        (λ slot apart. still_admits slot (λ inside. kept slot inside apart));
+        (λ slot apart. still_admits slot (λ inside. slots_preserved slot inside apart));
   }
 
   -- a byte of a slot that is marked because of the slot's kind is written
@@ -124,7 +124,7 @@ module _ {map : Contents} {before : FrameContents} (after : FrameContents) (prop
       → ((at : ℕ) → at / SLOT_LENGTH ≢ slot → IsTrue (is_written before.bytes at) → IsTrue (is_written after.bytes at))
       → ((other : ℕ) → other < SLOTS → other ≢ slot → slot_value after other ≡ slot_value before other)
       → kind.Admits k (slot_value after slot) → Admits (set_slot map slot k) after
-  set_slot_admits slot k within whole known others kept holds = record {
+  set_slot_admits slot k within whole known others slots_preserved holds = record {
     written = λ at marked.
         elim (cases_eq (at / SLOT_LENGTH) slot) [
           | inl same ↦ written_here k at within whole known holds same marked
@@ -133,7 +133,7 @@ module _ {map : Contents} {before : FrameContents} (after : FrameContents) (prop
               (admitted.written at (sym (get_or-unfit_marks k map.marks slot at (slot_in_frame map slot proper within) other) ∙ marked))
         ];
     slots = set_kind_each map.kinds slot k (omega (arith, proper.slots)) (λ other l. kind.Admits l (slot_value after other)) holds
-        (λ other apart. still_admits other (λ inside. kept other inside apart));
+        (λ other apart. still_admits other (λ inside. slots_preserved other inside apart));
   }
 
 pub unwritten_admits : (frame : FrameContents) → Admits unwritten frame

@@ -4,5 +4,5 @@ pub mod MarkLemmas
 pub mod ProperLemmas
 pub mod RangeLemmas
 pub mod ReadLemmas
-pub mod RiseLemmas
+pub mod MonotoneLemmas
 pub mod SlotLemmas

@@ -4,7 +4,7 @@ use Rattle.std.proofs.Common.{◌∙◌, sym, arith}
 use Rattle.std.proofs.lemmas.Bool.{cases_lt}
 use Rattle.std.proofs.lemmas.List.{append-nil, take-append-drop}
 use Rattle.bpf_frame.specs.FrameMap.{Contents, IsMarked, AllWritten, with_marks, fit_marks, IsWithin}
-use Rattle.bpf_frame.proofs.SlotLemmas.{length-filled, get_or-filled_before, get_or-filled_inside, get_or-filled_behind}
+use Rattle.bpf_frame.proofs.SlotLemmas.{length-filled, get_or-filled_before, get_or-filled_inside, get_or-filled_after}
 use Rattle.bpf_insn.specs.declared.memory.TheConstants.{SLOT_LENGTH}
 use Rattle.bpf_kinds.specs.declared.kind.Kind.{Kind}
 use Rattle.bpf_kinds.specs.declared.kind.Kind.TheVariants.{Number, Nothing}
@@ -28,7 +28,7 @@ get_or-other_marks b marks from len at within outside =
       | inr above ↦
           elim (cases_lt at (from + len)) [
             | inl below ↦ absurd (outside above below)
-            | inr behind ↦ get_or-filled_behind b marks from len (from + len) false at refl within behind
+            | inr beyond ↦ get_or-filled_after b marks from len (from + len) false at refl within beyond
           ]
     ]
 
@@ -44,7 +44,7 @@ inside_or_not from end at =
       | inl before ↦ inr (λ above below. absurd (omega arith))
       | inr above ↦ elim (cases_lt at end) [
         | inl below ↦ inl (above, below)
-        | inr behind ↦ inr (λ first below. absurd (omega arith))
+        | inr beyond ↦ inr (λ first below. absurd (omega arith))
       ]
     ]
 
@@ -58,9 +58,9 @@ marked_before_or_inside marks from len at within marked =
     ]
 
 -- no mark is removed
-pub mark_keeps : (marks : List Bool) (from len at : ℕ) → from + len ≤ length marks → IsMarked marks at
+pub mark_preserves : (marks : List Bool) (from len at : ℕ) → from + len ≤ length marks → IsMarked marks at
     → IsMarked (with_marks true marks from len) at
-mark_keeps marks from len at within marked =
+mark_preserves marks from len at within marked =
     elim (inside_or_not from (from + len) at) [
       | inl inside ↦ marked_inside marks from len at within inside.0 inside.1
       | inr outside ↦ get_or-other_marks true marks from len at within outside ∙ marked

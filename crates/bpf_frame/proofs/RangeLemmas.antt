@@ -13,7 +13,7 @@ use Rattle.std.proofs.lemmas.Nat.Bits.{ones_shr}
 use Rattle.bpf_frame.specs.FrameMap.{IsMarked, with_marks}
 use Rattle.bpf_frame.specs.Lanes.{AreLanes, has_bit, marks_of}
 use Rattle.bpf_frame.specs.OrderLaws.{same_tests}
-use Rattle.bpf_frame.proofs.MarkLemmas.{marked_inside, mark_keeps, marked_before_or_inside, length-with_marks, get_or-with_marks}
+use Rattle.bpf_frame.proofs.MarkLemmas.{marked_inside, mark_preserves, marked_before_or_inside, length-with_marks, get_or-with_marks}
 use Rattle.bpf_frame.proofs.MarkLemmas.{get_or-other_marks}
 use Rattle.bpf_frame.proofs.LaneLemmas.{length-marks_of, get_or-marks_of, marked_within, has_bit-and, has_bit-or, same_from_bits}
 use Rattle.bpf_frame.proofs.LaneLemmas.{mark_of_bit, both_are_lanes, mark_of_both}
@@ -151,7 +151,7 @@ marks_of-or lanes range from len are_lanes others short inside =
     ])
     (λ marked.
     elim (marked_or_cases lanes range at are_lanes others marked) [
-      | inl old ↦ mark_keeps (marks_of lanes) from len at within old
+      | inl old ↦ mark_preserves (marks_of lanes) from len at within old
       | inr new ↦ let place = (inside at).0 new in marked_inside (marks_of lanes) from len at within place.0 place.1
     ]))
 
@@ -168,10 +168,10 @@ marks_of-without lanes range without from len short inside is =
       | inl taken ↦
           let place = (inside at).0 taken in
           and_right _ _ (ap not taken) ∙ sym (get_or-with_marks false (marks_of lanes) from len at within place.0 place.1)
-      | inr kept ↦
-          ap (λ (other : Bool). get_or (marks_of lanes) at false && not other) kept ∙ and_true _
+      | inr not_cleared ↦
+          ap (λ (other : Bool). get_or (marks_of lanes) at false && not other) not_cleared ∙ and_true _
           ∙ sym (get_or-other_marks false (marks_of lanes) from len at within
-          (λ above below. both_ways _ kept ((inside at).1 (above, below))))
+          (λ above below. both_ways _ not_cleared ((inside at).1 (above, below))))
     ])
   where
     and_true : (mark : Bool) → (mark && true) ≡ mark

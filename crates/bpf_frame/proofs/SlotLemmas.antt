@@ -23,8 +23,8 @@ module _ {X : Type 0} (x : X) (xs : List X) (first count end : ℕ) (d : X) (at 
   pub get_or-filled_inside : first ≤ at → at < end → get_or (take first xs ++ replicate count x ++ drop end xs) at d ≡ x
   get_or-filled_inside above below = grind (arith, places)
 
-  pub get_or-filled_behind : end ≤ at → get_or (take first xs ++ replicate count x ++ drop end xs) at d ≡ get_or xs at d
-  get_or-filled_behind behind = grind (arith, places)
+  pub get_or-filled_after : end ≤ at → get_or (take first xs ++ replicate count x ++ drop end xs) at d ≡ get_or xs at d
+  get_or-filled_after beyond = grind (arith, places)
 
 -- the slots of a nonempty range of bytes
 pub overwrite_some : {X : Type 0} (nothing : X) (slots : List X) (from len : ℕ) → 0 < len
@@ -52,26 +52,26 @@ module _ {map : Contents} (from to : ℕ) (proper : IsProper map) (ordered : fro
       (to / SLOT_LENGTH + 1) Nothing slot
       (omega arith) (omega (arith, proper.slots)) before
 
-  pub slot_kind-behind_touched : (slot : ℕ) → to / SLOT_LENGTH < slot → slot_kind (touch map from to) slot ≡ slot_kind map slot
-  slot_kind-behind_touched slot behind =
-      get_or-filled_behind Nothing map.kinds (from / SLOT_LENGTH) (to / SLOT_LENGTH + 1 - from / SLOT_LENGTH)
+  pub slot_kind-after_touched : (slot : ℕ) → to / SLOT_LENGTH < slot → slot_kind (touch map from to) slot ≡ slot_kind map slot
+  slot_kind-after_touched slot beyond =
+      get_or-filled_after Nothing map.kinds (from / SLOT_LENGTH) (to / SLOT_LENGTH + 1 - from / SLOT_LENGTH)
       (to / SLOT_LENGTH + 1) Nothing slot
       (omega arith) (omega (arith, proper.slots)) (omega arith)
 
   -- a fact about Nothing in touched slots, and about the kinds of all other slots, holds of every kind after touching
-  pub touch_each : (Such : ℕ → Kind → Type 0) → ((slot at : ℕ) → from ≤ at → at ≤ to → at / SLOT_LENGTH ≡ slot → Such slot Nothing)
-      → ((slot : ℕ) → IsApart slot from (to + 1 - from) → Such slot (slot_kind map slot))
-      → (slot : ℕ) → Such slot (slot_kind (touch map from to) slot)
-  touch_each Such inside outside slot =
+  pub touch_each : (Property : ℕ → Kind → Type 0) → ((slot at : ℕ) → from ≤ at → at ≤ to → at / SLOT_LENGTH ≡ slot → Property slot Nothing)
+      → ((slot : ℕ) → IsApart slot from (to + 1 - from) → Property slot (slot_kind map slot))
+      → (slot : ℕ) → Property slot (slot_kind (touch map from to) slot)
+  touch_each Property inside outside slot =
       elim (cases_lt slot (from / SLOT_LENGTH)) [
         | inl before ↦
-            subst (Such slot) (sym (slot_kind-before_touched slot before)) (outside slot (λ at first last same. absurd (omega arith)))
+            subst (Property slot) (sym (slot_kind-before_touched slot before)) (outside slot (λ at first last same. absurd (omega arith)))
         | inr above ↦
             elim (cases_lt (to / SLOT_LENGTH) slot) [
-              | inl behind ↦
-                  subst (Such slot) (sym (slot_kind-behind_touched slot behind)) (outside slot (λ at first last same. absurd (omega arith)))
+              | inl beyond ↦
+                  subst (Property slot) (sym (slot_kind-after_touched slot beyond)) (outside slot (λ at first last same. absurd (omega arith)))
               | inr below ↦
-                  subst (Such slot) (sym (slot_kind-touched slot above below))
+                  subst (Property slot) (sym (slot_kind-touched slot above below))
                   (elim (cases_lt (SLOT_LENGTH * slot) from) [
                     | inl early ↦ inside slot from (omega arith) ordered (omega arith)
                     | inr late ↦ inside slot (SLOT_LENGTH * slot) late (omega arith) (omega arith)
@@ -80,12 +80,12 @@ module _ {map : Contents} (from to : ℕ) (proper : IsProper map) (ordered : fro
       ]
 
 -- the same after marking bytes
-pub mark_each : {map : Contents} (from len : ℕ) → IsProper map → from + len ≤ FRAME_LENGTH → (Such : ℕ → Kind → Type 0)
-    → ((slot at : ℕ) → from ≤ at → at < from + len → at / SLOT_LENGTH ≡ slot → Such slot Nothing)
-    → ((slot : ℕ) → IsApart slot from len → Such slot (slot_kind map slot)) → (slot : ℕ) → Such slot (slot_kind (mark map from len) slot)
-mark_each from zero proper within Such inside outside slot = outside slot (λ at first last same. absurd (omega arith))
-mark_each from (suc more) proper within Such inside outside slot =
-    touch_each from (from + more) proper (omega arith) (omega arith) Such
+pub mark_each : {map : Contents} (from len : ℕ) → IsProper map → from + len ≤ FRAME_LENGTH → (Property : ℕ → Kind → Type 0)
+    → ((slot at : ℕ) → from ≤ at → at < from + len → at / SLOT_LENGTH ≡ slot → Property slot Nothing)
+    → ((slot : ℕ) → IsApart slot from len → Property slot (slot_kind map slot)) → (slot : ℕ) → Property slot (slot_kind (mark map from len) slot)
+mark_each from zero proper within Property inside outside slot = outside slot (λ at first last same. absurd (omega arith))
+mark_each from (suc more) proper within Property inside outside slot =
+    touch_each from (from + more) proper (omega arith) (omega arith) Property
     (λ touched at first last same. inside touched at first (omega arith) same)
     (λ other apart. outside other (λ at first last same. apart at first (omega arith) same))
     slot
@@ -121,12 +121,12 @@ mark_leaves map from len slot proper within apart =
     slot refl
 
 -- a fact about a kind that is set, and about the kinds of all other slots, holds of every kind afterwards
-pub set_kind_each : (kinds : List Kind) (slot : ℕ) (k : Kind) → slot < length kinds → (Such : ℕ → Kind → Type 0) → Such slot k
-    → ((other : ℕ) → other ≢ slot → Such other (get_or kinds other Nothing)) → (other : ℕ)
-    → Such other (get_or (set kinds slot k) other Nothing)
-set_kind_each kinds slot k within Such here others other =
+pub set_kind_each : (kinds : List Kind) (slot : ℕ) (k : Kind) → slot < length kinds → (Property : ℕ → Kind → Type 0) → Property slot k
+    → ((other : ℕ) → other ≢ slot → Property other (get_or kinds other Nothing)) → (other : ℕ)
+    → Property other (get_or (set kinds slot k) other Nothing)
+set_kind_each kinds slot k within Property here others other =
     elim (cases_eq other slot) [
-      | inl same ↦ subst (λ (n : ℕ). Such n (get_or (set kinds slot k) n Nothing)) (sym same)
-          (subst (Such slot) (sym (get_or-set_same kinds slot k Nothing within)) here)
-      | inr apart ↦ subst (Such other) (sym (get_or-set_other kinds slot other k Nothing apart)) (others other apart)
+      | inl same ↦ subst (λ (n : ℕ). Property n (get_or (set kinds slot k) n Nothing)) (sym same)
+          (subst (Property slot) (sym (get_or-set_same kinds slot k Nothing within)) here)
+      | inr apart ↦ subst (Property other) (sym (get_or-set_other kinds slot other k Nothing apart)) (others other apart)
     ]

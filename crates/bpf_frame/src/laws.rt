@@ -72,7 +72,7 @@ pub fn unwritten_admits_all()
 
 /// A map within another stays within it if the same happens to both, marks every byte that the other one marks, and has a kind within the other's
 /// in each slot. The other map's slot must be set to a known kind: `Nothing` would keep its marks, while a pointer in the first map removes them.
-pub fn marks_go_upwards()
+pub fn marks_are_monotone()
     ensures mark { (map other : Contents) (from len : ℕ) → IsProper map → IsProper other → from + len ≤ FRAME_LENGTH → IsWithin map other
         → IsWithin (mark map from len) (mark other from len) }
     ensures touch { (map other : Contents) (from to : ℕ) → IsProper map → IsProper other → from ≤ to → to < FRAME_LENGTH → IsWithin map other
@@ -87,7 +87,7 @@ pub fn marks_go_upwards()
 /// If one map is within another, it marks every part of a range that the other one marks completely. It stays within the other one if bytes are
 /// touched there, and at most some of them are touched or marked in itself, or a number is set among them. It also stays within if some of the
 /// bytes touched in both are marked afterwards, at least as many in itself.
-pub fn marks_rise()
+pub fn marks_within_touched()
     ensures all_written { (x a : Contents) (from to low high : ℕ) → IsProper x → IsProper a → IsWithin x a → low ≤ from → to ≤ high
         → IsTrue (all_written a.marks low high) → IsTrue (all_written x.marks from to) }
     ensures widens { (x a : Contents) (low high : ℕ) → IsProper a → low ≤ high → high < FRAME_LENGTH → IsWithin x a
@@ -106,7 +106,7 @@ pub fn marks_rise()
 
 /// A frame that was possible remains possible after a change to it: no written byte becomes unwritten, the bytes that are marked were written, and
 /// each slot that stays known keeps its contents. A slot that is set holds a value of its kind.
-pub fn possible_frames_stay_so()
+pub fn possible_frames_are_preserved()
     ensures mark { (map : Contents) (from len : ℕ) (before after : FrameContents) → IsProper map → from + len ≤ FRAME_LENGTH → Admits map before
         → ((at : ℕ) → IsTrue (is_written before.bytes at) → IsTrue (is_written after.bytes at))
         → ((at : ℕ) → from ≤ at → at < from + len → IsTrue (is_written after.bytes at))

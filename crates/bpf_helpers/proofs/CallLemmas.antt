@@ -13,19 +13,19 @@ use Rattle.decimal.proofs.NumeralLemmas.{decimal_in-lt}
 use Rattle.tl_fields.specs.Number.{number_of, trim}
 use Rattle.tl_fields.specs.Field.{field_of}
 use Rattle.tl_segments.specs.Range.{AreBytes, lies_on}
-use Rattle.tl_segments.specs.Segment.{Contents, IsSegment, names_of, ranges_of}
+use Rattle.tl_segments.specs.Segment.{SegmentParts, IsSegment, names_of, ranges_of}
 use Rattle.tl_segments.specs.declared.range.RangeFields.{RangeFields}
 use Rattle.tl_segments.proofs.SegmentLemmas.{AreBytes-field_of, below-take}
 use Rattle.bpf_kinds.specs.Interval.{Admits, between, single}
 use Rattle.bpf_kinds.specs.declared.interval.Interval.{Interval}
 use Rattle.bpf_helpers.specs.Call.{Meaning, MeetsSignature, call, does, first, meaning, second, shape_of, third, written_length}
-use Rattle.bpf_helpers.specs.Call.Meaning.{TellsRecord, TellsSegment, ComparesFrame, CopiesIntoFrame, SetsScore}
-use Rattle.bpf_helpers.specs.Helper.{any, by_number, signature}
+use Rattle.bpf_helpers.specs.Call.Meaning.{ReadsRecord, ReadsSegment, ComparesFrame, CopiesIntoFrame, SetsScore}
+use Rattle.bpf_helpers.specs.Helper.{any_number, by_number, signature}
 use Rattle.bpf_helpers.specs.Meaning.{truth, bytes_at, field_number, or_zero, sides, first_bytes, coordinate_word}
 use Rattle.bpf_helpers.specs.Shape.{frame_use}
 use Rattle.bpf_helpers.specs.declared.fields.TheConstants.{FIELDS, COORDINATES}
 use Rattle.bpf_helpers.specs.declared.helper.Helper.{Helper}
-use Rattle.bpf_helpers.specs.declared.helper.Helper.TheVariants.{Field, Has, Names, Ranges, InRange, NameCopy, NameIs, Emit, Coord}
+use Rattle.bpf_helpers.specs.declared.helper.Helper.TheVariants.{Field, HasField, NameCount, RangeCount, InRange, NameCopy, NameIs, Emit, Coord}
 use Rattle.bpf_helpers.specs.declared.helper.TheConstants.{HELPERS}
 use Rattle.bpf_helpers.specs.declared.signature.Argument.TheVariants.{Unused, Number, Frame}
 use Rattle.bpf_helpers.specs.declared.signature.FrameUse.TheVariants.{Nothing, Writes}
@@ -61,10 +61,10 @@ frame_length Field uses = absurd (uses refl)
 frame_length otherwise uses = grind arith
 
 -- there are three arguments
-pub three-wanted : (helper : Helper) → get_or (signature helper).arguments 0 Unused ∷ get_or (signature helper).arguments 1 Unused ∷ get_or
+pub three-required : (helper : Helper) → get_or (signature helper).arguments 0 Unused ∷ get_or (signature helper).arguments 1 Unused ∷ get_or
     (signature helper).arguments 2 Unused ∷ [] ≡ (signature helper).arguments
-three-wanted Field = refl
-three-wanted otherwise = refl
+three-required Field = refl
+three-required otherwise = refl
 
 -- the shape in the table is that of the helper function's meaning
 pub shape-is : (helper : Helper) → shape_of (meaning helper) ≡ (signature helper).shape
@@ -72,9 +72,9 @@ shape-is Field = refl
 shape-is otherwise = refl
 
 -- all answers are words
-below-any : (helper : Helper) → (signature helper).answer.high < 2 ^ 64
-below-any Field = omega arith
-below-any otherwise = omega arith
+below-any_number : (helper : Helper) → (signature helper).answer.high < 2 ^ 64
+below-any_number Field = omega arith
+below-any_number otherwise = omega arith
 
 truth-bit : (b : Bool) → Admits (between 0 1) (truth b)
 truth-bit true = record { above = omega arith; below = omega arith }
@@ -99,28 +99,28 @@ sides-bits house (Some range) =
     let right = truth-bit (lies_on house range.fraddr range.toaddr) in
     record { above = omega arith; below = omega (arith, left.below, right.below) }
 
-positive-fits : (amount : Option ℕ) → IfSome amount (λ n. n < 10 ^ 9) → Admits any (coordinate_word (option_map pos amount))
+positive-fits : (amount : Option ℕ) → IfSome amount (λ n. n < 10 ^ 9) → Admits any_number (coordinate_word (option_map pos amount))
 positive-fits None small = record { above = omega arith; below = omega arith }
 positive-fits (Some n) small = record { above = omega arith; below = omega arith }
 
-negative-fits : (amount : Option ℕ) → Admits any (coordinate_word (option_map negative amount))
+negative-fits : (amount : Option ℕ) → Admits any_number (coordinate_word (option_map negative amount))
 negative-fits None = record { above = omega arith; below = omega arith }
 negative-fits (Some zero) = record { above = omega arith; below = omega arith }
 negative-fits (Some (suc n)) = record { above = omega arith; below = omega arith }
 
-signed-fits : (text : List ℕ) (minus plus : Bool) → Admits any
+signed-fits : (text : List ℕ) (minus plus : Bool) → Admits any_number
     (coordinate_word (if minus then option_map negative (decimal_in 9 (drop 1 text)) else
     (if plus then option_map pos (decimal_in 9 (drop 1 text)) else option_map pos (decimal_in 9 text))))
 signed-fits text true plus = negative-fits (decimal_in 9 (drop 1 text))
 signed-fits text false true = positive-fits (decimal_in 9 (drop 1 text)) (decimal_in-lt 9 (drop 1 text))
 signed-fits text false false = positive-fits (decimal_in 9 text) (decimal_in-lt 9 text)
 
-coordinate-fits : (field : List ℕ) → Admits any (coordinate_word (coordinate_of field))
+coordinate-fits : (field : List ℕ) → Admits any_number (coordinate_word (coordinate_of field))
 unfolding coordinate_of
 coordinate-fits field = signed-fits (trim field) (slice_index (trim field) 0 == 45) (slice_index (trim field) 0 == 43)
 
 -- the names of a segment are 30 bytes each
-names-bytes : (segment : Contents) → IsSegment segment → All (AreBytes 30) (names_of segment)
+names-bytes : (segment : SegmentParts) → IsSegment segment → All (AreBytes 30) (names_of segment)
 names-bytes segment is = All-cons (AreBytes 30) (field_of segment.bytes 20 49) segment.names
     (AreBytes-field_of segment.bytes 228 20 49 is.bytes (omega arith) (omega arith) (omega arith)) is.names
 
@@ -145,19 +145,19 @@ AreBytes-first count (Some name) are few = let long = are.length in
 -- What a helper function does stays within bounds: its answer, what it copies, and the score that it sets.
 
 abbrev IsBounded : Meaning → Interval → List ℕ → Type 0
-IsBounded (TellsRecord told) answer arguments = (segment : Contents) → IsSegment segment → Admits answer (told segment.bytes arguments)
-IsBounded (TellsSegment told) answer arguments = (segment : Contents) → IsSegment segment → Admits answer (told segment arguments)
+IsBounded (ReadsRecord computed) answer arguments = (segment : SegmentParts) → IsSegment segment → Admits answer (computed segment.bytes arguments)
+IsBounded (ReadsSegment computed) answer arguments = (segment : SegmentParts) → IsSegment segment → Admits answer (computed segment arguments)
 IsBounded (ComparesFrame equal) answer arguments = answer ≡ between 0 1
 IsBounded (CopiesIntoFrame copied) answer arguments = (answer ≡ between 0 1) × (third arguments ≤ 30)
-    × ((segment : Contents) → IsSegment segment → IfSome (copied segment arguments) (AreBytes 30))
+    × ((segment : SegmentParts) → IsSegment segment → IfSome (copied segment arguments) (AreBytes 30))
 IsBounded (SetsScore set) answer arguments = (answer ≡ single 0) × (set arguments < 2 ^ 64)
 
 is-bounded : (helper : Helper) (arguments : List ℕ) → MeetsSignature helper arguments
     → IsBounded (meaning helper) (signature helper).answer arguments
 is-bounded Field arguments meets = λ segment is. number-digits (bytes_at segment.bytes (slice_get FIELDS (first arguments)))
-is-bounded Has arguments meets = λ segment is. truth-bit (is_some (field_number segment.bytes (first arguments)))
-is-bounded Names arguments meets = λ segment is. record { above = omega arith; below = is.few_names }
-is-bounded Ranges arguments meets = λ segment is. let few = is.few_ranges in record { above = omega arith; below = omega arith }
+is-bounded HasField arguments meets = λ segment is. truth-bit (is_some (field_number segment.bytes (first arguments)))
+is-bounded NameCount arguments meets = λ segment is. record { above = omega arith; below = is.few_names }
+is-bounded RangeCount arguments meets = λ segment is. let few = is.few_ranges in record { above = omega arith; below = omega arith }
 is-bounded InRange arguments meets = λ segment is. sides-bits (second arguments) (slice_get (ranges_of segment) (first arguments))
 is-bounded NameCopy arguments meets = record {
   0 = refl;
@@ -171,38 +171,38 @@ is-bounded Coord arguments meets = λ segment is. coordinate-fits (bytes_at segm
 
 -- the answer of a call is a number of the table's interval
 
-does-admits : (m : Meaning) (answer : Interval) (segment : Contents) (arguments bytes : List ℕ) (score : ℕ) → IsSegment segment
+does-admits : (m : Meaning) (answer : Interval) (segment : SegmentParts) (arguments bytes : List ℕ) (score : ℕ) → IsSegment segment
     → IsBounded m answer arguments → Admits answer (does m segment arguments bytes score).answer
-does-admits (TellsRecord told) answer segment arguments bytes score is bounded = bounded segment is
-does-admits (TellsSegment told) answer segment arguments bytes score is bounded = bounded segment is
+does-admits (ReadsRecord computed) answer segment arguments bytes score is bounded = bounded segment is
+does-admits (ReadsSegment computed) answer segment arguments bytes score is bounded = bounded segment is
 does-admits (ComparesFrame equal) answer segment arguments bytes score is bounded = rw bounded (truth-bit (equal segment arguments bytes))
 does-admits (CopiesIntoFrame copied) answer segment arguments bytes score is bounded =
     rw bounded.0 (truth-bit (is_some (copied segment arguments)))
 does-admits (SetsScore set) answer segment arguments bytes score is bounded =
     rw bounded.0 (record { above = omega arith; below = omega arith })
 
-pub answer-admits : (helper : Helper) (segment : Contents) (arguments bytes : List ℕ) (score : ℕ) → IsSegment segment
+pub answer-admits : (helper : Helper) (segment : SegmentParts) (arguments bytes : List ℕ) (score : ℕ) → IsSegment segment
     → MeetsSignature helper arguments → Admits (signature helper).answer (call helper segment arguments bytes score).answer
 answer-admits helper segment arguments bytes score is meets =
     does-admits (meaning helper) (signature helper).answer segment arguments bytes score is (is-bounded helper arguments meets)
 
 -- the answer is a word
-pub answer-fits : (helper : Helper) (segment : Contents) (arguments bytes : List ℕ) (score : ℕ) → IsSegment segment
+pub answer-fits : (helper : Helper) (segment : SegmentParts) (arguments bytes : List ℕ) (score : ℕ) → IsSegment segment
     → MeetsSignature helper arguments → (call helper segment arguments bytes score).answer < 2 ^ 64
 answer-fits helper segment arguments bytes score is meets =
     let admits = answer-admits helper segment arguments bytes score is meets in
-    omega (arith, admits.below, below-any helper)
+    omega (arith, admits.below, below-any_number helper)
 
 -- a call that writes to the frame writes the number of bytes given by its third argument
 
-does-bytes : (m : Meaning) (answer : Interval) (segment : Contents) (arguments bytes : List ℕ) (score : ℕ) → IsSegment segment
+does-bytes : (m : Meaning) (answer : Interval) (segment : SegmentParts) (arguments bytes : List ℕ) (score : ℕ) → IsSegment segment
     → IsBounded m answer arguments → AreBytes (written_length (frame_use (shape_of m)) arguments)
     (does m segment arguments bytes score).written
 does-bytes (CopiesIntoFrame copied) answer segment arguments bytes score is bounded =
     AreBytes-first (third arguments) (copied segment arguments) (bounded.2 segment is) bounded.1
 does-bytes otherwise answer segment arguments bytes score is bounded = AreBytes-none
 
-pub written-bytes : (helper : Helper) (segment : Contents) (arguments bytes : List ℕ) (score : ℕ) → IsSegment segment
+pub written-bytes : (helper : Helper) (segment : SegmentParts) (arguments bytes : List ℕ) (score : ℕ) → IsSegment segment
     → MeetsSignature helper arguments → AreBytes (written_length (frame_use (signature helper).shape) arguments)
     (call helper segment arguments bytes score).written
 written-bytes helper segment arguments bytes score is meets =
@@ -210,19 +210,19 @@ written-bytes helper segment arguments bytes score is meets =
     (shape-is helper)
     (does-bytes (meaning helper) (signature helper).answer segment arguments bytes score is (is-bounded helper arguments meets))
 
-pub written-length : (helper : Helper) (segment : Contents) (arguments bytes : List ℕ) (score : ℕ) → IsSegment segment
+pub written-length : (helper : Helper) (segment : SegmentParts) (arguments bytes : List ℕ) (score : ℕ) → IsSegment segment
     → MeetsSignature helper arguments → length (call helper segment arguments bytes score).written ≡ written_length
     (frame_use (signature helper).shape) arguments
 written-length helper segment arguments bytes score is meets = (written-bytes helper segment arguments bytes score is meets).length
 
 -- other calls write nothing
 
-does-write-nothing : (m : Meaning) (segment : Contents) (arguments bytes : List ℕ) (score : ℕ) → frame_use (shape_of m) ≢ Writes
+does-write-nothing : (m : Meaning) (segment : SegmentParts) (arguments bytes : List ℕ) (score : ℕ) → frame_use (shape_of m) ≢ Writes
     → (does m segment arguments bytes score).written ≡ []
 does-write-nothing (CopiesIntoFrame copied) segment arguments bytes score not = absurd (not refl)
 does-write-nothing otherwise segment arguments bytes score not = refl
 
-pub written-nothing : (helper : Helper) (segment : Contents) (arguments bytes : List ℕ) (score : ℕ)
+pub written-nothing : (helper : Helper) (segment : SegmentParts) (arguments bytes : List ℕ) (score : ℕ)
     → frame_use (signature helper).shape ≢ Writes → (call helper segment arguments bytes score).written ≡ []
 written-nothing helper segment arguments bytes score not =
     does-write-nothing (meaning helper) segment arguments bytes score (λ writes. not (ap frame_use (sym (shape-is helper)) ∙ writes))

@@ -30,9 +30,9 @@ pub get_or-write_before : {A : Type 0} (memory bytes : List A) (at index : ℕ) 
 get_or-write_before memory bytes at index d within before = grind (arith, common_steps)
 
 -- the bytes after them
-pub get_or-write_behind : {A : Type 0} (memory bytes : List A) (at index : ℕ) (d : A) → at + length bytes ≤ length memory
+pub get_or-write_after : {A : Type 0} (memory bytes : List A) (at index : ℕ) (d : A) → at + length bytes ≤ length memory
     → at + length bytes ≤ index → get_or (write memory at bytes) index d ≡ get_or memory index d
-get_or-write_behind memory bytes at index d within behind = grind (arith, common_steps)
+get_or-write_after memory bytes at index d within beyond = grind (arith, common_steps)
 
 -- a part of memory that was written in place
 put_mid-write : {A : Type 0} (memory bytes : List A) (at count : ℕ) → count ≡ length bytes
@@ -44,7 +44,7 @@ put_mid-write {A} memory bytes at count same = put_mid-paste at count memory byt
 pub put_mid-first_bytes : {bytes : List ℕ} (memory : List ℕ) (name : Option (List ℕ)) (at count : ℕ) → at + count ≤ length memory
     → length bytes ≡ length (mid_of at (at + count - at) memory) → bytes ≡ first_bytes (length (mid_of at (at + count - at) memory)) name
     → put_mid at (at + count - at) memory bytes ≡ write memory at (first_bytes count name)
-put_mid-first_bytes {bytes} memory name at count within kept is =
+put_mid-first_bytes {bytes} memory name at count within fits is =
     let all : at + count - at ≡ count = omega arith in
     let long : length (mid_of at (at + count - at) memory) ≡ count = rw all (grind (arith, common_steps)) in
-    put_mid-write memory bytes at (at + count - at) (all ∙ sym long ∙ sym kept) ∙ ap (write memory at) (is ∙ ap (λ (n : ℕ). first_bytes n name) long)
+    put_mid-write memory bytes at (at + count - at) (all ∙ sym long ∙ sym fits) ∙ ap (write memory at) (is ∙ ap (λ (n : ℕ). first_bytes n name) long)

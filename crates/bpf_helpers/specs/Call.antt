@@ -1,14 +1,14 @@
 -- Calls of helper functions: what their arguments must be, and what they return, write and set. Arguments are words; a pointer into the frame is
 -- its offset.
 use Rattle.std.specs.Prelude.{◌≡◌, ℕ, ◌+◌, ◌≤◌, Bool, List, [], ◌++◌, Option, length, take, drop, slice_get, get_or, is_some}
-use Rattle.tl_segments.specs.Segment.{Contents, names_of, ranges_of}
+use Rattle.tl_segments.specs.Segment.{SegmentParts, names_of, ranges_of}
 use Rattle.bpf_insn.specs.declared.memory.TheConstants.{FRAME_LENGTH}
 use Rattle.bpf_kinds.specs.Interval.{Admits}
 use Rattle.bpf_helpers.specs.Helper.{signature}
 use Rattle.bpf_helpers.specs.Meaning.{truth, field_number, or_zero, sides, is_name, first_bytes, coordinate}
 use Rattle.bpf_helpers.specs.Shape.{frame_use}
 use Rattle.bpf_helpers.specs.declared.helper.Helper.{Helper}
-use Rattle.bpf_helpers.specs.declared.helper.Helper.TheVariants.{Field, Has, Names, Ranges, InRange, NameCopy, NameIs, Emit, Coord}
+use Rattle.bpf_helpers.specs.declared.helper.Helper.TheVariants.{Field, HasField, NameCount, RangeCount, InRange, NameCopy, NameIs, Emit, Coord}
 use Rattle.bpf_helpers.specs.declared.signature.Argument.{Argument}
 use Rattle.bpf_helpers.specs.declared.signature.Argument.TheVariants.{Unused, Number, Frame}
 use Rattle.bpf_helpers.specs.declared.signature.FrameUse.{FrameUse}
@@ -71,35 +71,35 @@ answers score answer = record { answer = answer; written = []; score = score }
 -- The meaning of a helper function, by its shape: a number computed from the record's bytes or from the segment, and the arguments; whether a part
 -- of the segment equals bytes of the frame; what is copied into the frame, if the segment has it; the new score.
 pub data Meaning : Type 0 where
-  TellsRecord : (told : List ℕ → List ℕ → ℕ) → Meaning
-  TellsSegment : (told : Contents → List ℕ → ℕ) → Meaning
-  ComparesFrame : (equal : Contents → List ℕ → List ℕ → Bool) → Meaning
-  CopiesIntoFrame : (copied : Contents → List ℕ → Option (List ℕ)) → Meaning
+  ReadsRecord : (computed : List ℕ → List ℕ → ℕ) → Meaning
+  ReadsSegment : (computed : SegmentParts → List ℕ → ℕ) → Meaning
+  ComparesFrame : (equal : SegmentParts → List ℕ → List ℕ → Bool) → Meaning
+  CopiesIntoFrame : (copied : SegmentParts → List ℕ → Option (List ℕ)) → Meaning
   SetsScore : (set : List ℕ → ℕ) → Meaning
 
 abbrev pub shape_of : Meaning → Shape
-shape_of (TellsRecord told) = shape.TellsRecord
-shape_of (TellsSegment told) = shape.TellsSegment
+shape_of (ReadsRecord computed) = shape.ReadsRecord
+shape_of (ReadsSegment computed) = shape.ReadsSegment
 shape_of (ComparesFrame equal) = shape.ComparesFrame
 shape_of (CopiesIntoFrame copied) = shape.CopiesIntoFrame
 shape_of (SetsScore set) = shape.SetsScore
 
 -- the meaning of each helper function
 abbrev pub meaning : Helper → Meaning
-meaning Field = TellsRecord (λ line arguments. or_zero (field_number line (first arguments)))
-meaning Has = TellsRecord (λ line arguments. truth (is_some (field_number line (first arguments))))
-meaning Names = TellsSegment (λ segment arguments. length segment.names)
-meaning Ranges = TellsSegment (λ segment arguments. length (ranges_of segment))
-meaning InRange = TellsSegment (λ segment arguments. sides (second arguments) (slice_get (ranges_of segment) (first arguments)))
+meaning Field = ReadsRecord (λ line arguments. or_zero (field_number line (first arguments)))
+meaning HasField = ReadsRecord (λ line arguments. truth (is_some (field_number line (first arguments))))
+meaning NameCount = ReadsSegment (λ segment arguments. length segment.names)
+meaning RangeCount = ReadsSegment (λ segment arguments. length (ranges_of segment))
+meaning InRange = ReadsSegment (λ segment arguments. sides (second arguments) (slice_get (ranges_of segment) (first arguments)))
 meaning NameCopy = CopiesIntoFrame (λ segment arguments. slice_get (names_of segment) (first arguments))
 meaning NameIs = ComparesFrame (λ segment arguments bytes. is_name bytes (slice_get (names_of segment) (first arguments)))
 meaning Emit = SetsScore (λ arguments. first arguments)
-meaning Coord = TellsRecord (λ line arguments. coordinate line (first arguments))
+meaning Coord = ReadsRecord (λ line arguments. coordinate line (first arguments))
 
 -- the effect of a call of a helper function with this meaning
-abbrev pub does : Meaning → Contents → List ℕ → List ℕ → ℕ → Called
-does (TellsRecord told) segment arguments bytes score = answers score (told segment.bytes arguments)
-does (TellsSegment told) segment arguments bytes score = answers score (told segment arguments)
+abbrev pub does : Meaning → SegmentParts → List ℕ → List ℕ → ℕ → Called
+does (ReadsRecord computed) segment arguments bytes score = answers score (computed segment.bytes arguments)
+does (ReadsSegment computed) segment arguments bytes score = answers score (computed segment arguments)
 does (ComparesFrame equal) segment arguments bytes score = answers score (truth (equal segment arguments bytes))
 does (CopiesIntoFrame copied) segment arguments bytes score = record {
   answer = truth (is_some (copied segment arguments));
@@ -109,5 +109,5 @@ does (CopiesIntoFrame copied) segment arguments bytes score = record {
 does (SetsScore set) segment arguments bytes score = answers (set arguments) 0
 
 -- the effect of a call with these arguments on a segment, given the bytes of the frame that it reads and the score before it
-abbrev pub call : Helper → Contents → List ℕ → List ℕ → ℕ → Called
+abbrev pub call : Helper → SegmentParts → List ℕ → List ℕ → ℕ → Called
 call helper segment arguments bytes score = does (meaning helper) segment arguments bytes score

@@ -5,42 +5,42 @@ use Rattle.bpf_kinds.specs.Interval.{between, single}
 use Rattle.bpf_kinds.specs.declared.interval.Interval.{Interval}
 use Rattle.bpf_helpers.specs.Shape as shape
 use Rattle.bpf_helpers.specs.declared.helper.Helper.{Helper}
-use Rattle.bpf_helpers.specs.declared.helper.Helper.TheVariants.{Field, Has, Names, Ranges, InRange, NameCopy, NameIs, Emit, Coord}
+use Rattle.bpf_helpers.specs.declared.helper.Helper.TheVariants.{Field, HasField, NameCount, RangeCount, InRange, NameCopy, NameIs, Emit, Coord}
 use Rattle.bpf_helpers.specs.declared.helper.TheConstants.{HELPERS}
 use Rattle.bpf_helpers.specs.declared.signature.Argument.{Argument}
 use Rattle.bpf_helpers.specs.declared.signature.Argument.TheVariants.{Unused, Number, Frame}
-use Rattle.bpf_helpers.specs.declared.signature.Shape.TheVariants.{TellsRecord, TellsSegment, ComparesFrame, CopiesIntoFrame, SetsScore}
+use Rattle.bpf_helpers.specs.declared.signature.Shape.TheVariants.{ReadsRecord, ReadsSegment, ComparesFrame, CopiesIntoFrame, SetsScore}
 use Rattle.bpf_helpers.specs.declared.signature.Signature.{Signature}
 
 -- any 64-bit number
-abbrev pub any : Interval
-any = between 0 (2 ^ 64 - 1)
+abbrev pub any_number : Interval
+any_number = between 0 (2 ^ 64 - 1)
 
 -- no arguments, one, and two, each a number of an interval
-abbrev pub none : List Argument
-none = Unused ∷ Unused ∷ Unused ∷ []
+abbrev pub no_arguments : List Argument
+no_arguments = Unused ∷ Unused ∷ Unused ∷ []
 
-abbrev pub one : Interval → List Argument
-one x = Number x ∷ Unused ∷ Unused ∷ []
+abbrev pub unary : Interval → List Argument
+unary x = Number x ∷ Unused ∷ Unused ∷ []
 
-abbrev pub two : Interval → Interval → List Argument
-two x y = Number x ∷ Number y ∷ Unused ∷ []
+abbrev pub binary : Interval → Interval → List Argument
+binary x y = Number x ∷ Number y ∷ Unused ∷ []
 
 -- a name's number, a pointer into the frame, and a byte count of at most the length of a name
 abbrev pub name_and_bytes : List Argument
-name_and_bytes = Number any ∷ Frame ∷ Number (between 1 30) ∷ []
+name_and_bytes = Number any_number ∷ Frame ∷ Number (between 1 30) ∷ []
 
 -- the table of prototypes
 abbrev pub signature : Helper → Signature
-signature Field = record { number = 1; arguments = one (between 0 16); shape = TellsRecord; answer = between 0 99999999999 }
-signature Has = record { number = 2; arguments = one (between 0 16); shape = TellsRecord; answer = between 0 1 }
-signature Names = record { number = 3; arguments = none; shape = TellsSegment; answer = between 0 5000 }
-signature Ranges = record { number = 4; arguments = none; shape = TellsSegment; answer = between 1 1001 }
-signature InRange = record { number = 5; arguments = two any any; shape = TellsSegment; answer = between 0 3 }
+signature Field = record { number = 1; arguments = unary (between 0 16); shape = ReadsRecord; answer = between 0 99999999999 }
+signature HasField = record { number = 2; arguments = unary (between 0 16); shape = ReadsRecord; answer = between 0 1 }
+signature NameCount = record { number = 3; arguments = no_arguments; shape = ReadsSegment; answer = between 0 5000 }
+signature RangeCount = record { number = 4; arguments = no_arguments; shape = ReadsSegment; answer = between 1 1001 }
+signature InRange = record { number = 5; arguments = binary any_number any_number; shape = ReadsSegment; answer = between 0 3 }
 signature NameCopy = record { number = 6; arguments = name_and_bytes; shape = CopiesIntoFrame; answer = between 0 1 }
 signature NameIs = record { number = 7; arguments = name_and_bytes; shape = ComparesFrame; answer = between 0 1 }
-signature Emit = record { number = 8; arguments = one any; shape = SetsScore; answer = single 0 }
-signature Coord = record { number = 9; arguments = one (between 0 3); shape = TellsRecord; answer = any }
+signature Emit = record { number = 8; arguments = unary any_number; shape = SetsScore; answer = single 0 }
+signature Coord = record { number = 9; arguments = unary (between 0 3); shape = ReadsRecord; answer = any_number }
 
 -- the helper function with a number, if there is one
 abbrev pub by_number : ℕ → Option Helper
@@ -53,9 +53,9 @@ reads_record_alone helper = shape.reads_record_alone (signature helper).shape
 -- the helper's name in the documentation
 abbrev pub name : Helper → List ℕ
 name Field = codes "field"
-name Has = codes "has"
-name Names = codes "names"
-name Ranges = codes "ranges"
+name HasField = codes "has"
+name NameCount = codes "names"
+name RangeCount = codes "ranges"
 name InRange = codes "in_range"
 name NameCopy = codes "name_copy"
 name NameIs = codes "name_is"

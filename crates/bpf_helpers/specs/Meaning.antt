@@ -36,8 +36,8 @@ sides house (Some range) = truth (lies_on house range.fraddl range.toaddl) + 2 *
 
 -- a name equals some bytes; a missing name equals none
 abbrev pub is_name : List ℕ → Option (List ℕ) → Bool
-is_name wanted None = false
-is_name wanted (Some name) = name_equals name wanted
+is_name required None = false
+is_name required (Some name) = name_equals name required
 
 -- the first `count` bytes of a name, or blanks if the name is missing
 abbrev pub first_bytes : ℕ → Option (List ℕ) → List ℕ

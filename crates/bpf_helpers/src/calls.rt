@@ -35,9 +35,9 @@ pub fn call<A: Allocator>(
     let [first, second, third] = arguments;
     match helper {
         Helper::Field => field_number(segment, first).unwrap_or(0),
-        Helper::Has => u64::from(field_number(segment, first).is_some()),
-        Helper::Names => segment.names(),
-        Helper::Ranges => segment.ranges(),
+        Helper::HasField => u64::from(field_number(segment, first).is_some()),
+        Helper::NameCount => segment.names(),
+        Helper::RangeCount => segment.ranges(),
         Helper::InRange => sides(segment, first, second),
         Helper::NameCopy => {
             let at = second as usize;
@@ -87,13 +87,13 @@ fn name_copy<A: Allocator>(segment: &Segment<A>, number: u64, bytes: &mut [u8]) 
 }
 
 /// Returns whether a name equals some bytes; a missing name equals none.
-fn is_name<A: Allocator>(segment: &Segment<A>, number: u64, wanted: &[u8]) -> bool
-    requires some { 1 ≤ length wanted.now }
-    requires few { length wanted.now ≤ NAME_LENGTH }
-    ensures { result ≡ is_name wanted.now (slice_get (names_of segment.now) number) }
+fn is_name<A: Allocator>(segment: &Segment<A>, number: u64, required: &[u8]) -> bool
+    requires some { 1 ≤ length required.now }
+    requires few { length required.now ≤ NAME_LENGTH }
+    ensures { result ≡ is_name required.now (slice_get (names_of segment.now) number) }
 {
     match segment.name(number) {
-        Some(name) => name_equals(name, wanted),
+        Some(name) => name_equals(name, required),
         None => false,
     }
 }

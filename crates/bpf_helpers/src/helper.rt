@@ -1,11 +1,11 @@
 //! The helper functions by number: the table of prototypes.
 ghost use Rattle.std.specs.Prelude.{◌≡◌};
-ghost use Rattle.bpf_helpers.specs.Helper.{by_number, name, one, reads_record_alone, signature, two};
+ghost use Rattle.bpf_helpers.specs.Helper.{by_number, name, unary, reads_record_alone, signature, binary};
 ghost use Rattle.bpf_kinds.specs.Interval.{between};
 
 use crate::signature::{Argument, Shape, Signature};
 use bpf_kinds::Interval;
-use tl_segments::{NAME_LIMIT, RANGE_LIMIT};
+use tl_segments::{MAX_NAMES, MAX_RANGES};
 
 /// A helper function.
 #[derive(Clone, Copy, PartialEq, Eq)]
@@ -13,11 +13,11 @@ pub enum Helper {
     /// Returns the number in a field of the segment's type 1 record.
     Field,
     /// Returns whether a field holds a number.
-    Has,
+    HasField,
     /// Returns the number of alternate names of the segment.
-    Names,
+    NameCount,
     /// Returns the number of address ranges of the segment.
-    Ranges,
+    RangeCount,
     /// Returns the sides of a range on which a house number lies.
     InRange,
     /// Copies a name's first bytes into the frame.
@@ -33,9 +33,9 @@ pub enum Helper {
 /// All helper functions, in the order of their numbers.
 pub const HELPERS: [Helper; 9] = [
     Helper::Field,
-    Helper::Has,
-    Helper::Names,
-    Helper::Ranges,
+    Helper::HasField,
+    Helper::NameCount,
+    Helper::RangeCount,
     Helper::InRange,
     Helper::NameCopy,
     Helper::NameIs,
@@ -44,23 +44,23 @@ pub const HELPERS: [Helper; 9] = [
 ];
 
 /// No arguments.
-const NONE: [Argument; 3] = [Argument::Unused; 3];
+const NO_ARGUMENTS: [Argument; 3] = [Argument::Unused; 3];
 
 /// The ids of fields.
-const IDS: Interval = Interval { low: 0, high: 16 };
+const FIELD_IDS: Interval = Interval { low: 0, high: 16 };
 
 /// The numbers of coordinates.
-const ENDS: Interval = Interval { low: 0, high: 3 };
+const COORDINATE_IDS: Interval = Interval { low: 0, high: 3 };
 
 /// Any 64-bit number.
-const ANY: Interval = Interval {
+const ANY_NUMBER: Interval = Interval {
     low: 0,
     high: u64::MAX,
 };
 
 /// A name's number, a pointer into the frame, and a byte count.
 const NAME_AND_BYTES: [Argument; 3] = [
-    Argument::Number(ANY),
+    Argument::Number(ANY_NUMBER),
     Argument::Frame,
     Argument::Number(Interval { low: 1, high: 30 }),
 ];
@@ -82,9 +82,9 @@ impl Helper {
     {
         match self {
             Helper::Field => "field",
-            Helper::Has => "has",
-            Helper::Names => "names",
-            Helper::Ranges => "ranges",
+            Helper::HasField => "has",
+            Helper::NameCount => "names",
+            Helper::RangeCount => "ranges",
             Helper::InRange => "in_range",
             Helper::NameCopy => "name_copy",
             Helper::NameIs => "name_is",
@@ -105,27 +105,33 @@ impl Helper {
         ensures { result ≡ signature self }
     {
         match self {
-            Helper::Field => row(1, one(IDS), Shape::TellsRecord, 0, 99_999_999_999),
-            Helper::Has => row(2, one(IDS), Shape::TellsRecord, 0, 1),
-            Helper::Names => row(3, NONE, Shape::TellsSegment, 0, NAME_LIMIT as u64),
-            Helper::Ranges => row(4, NONE, Shape::TellsSegment, 1, RANGE_LIMIT as u64 + 1),
-            Helper::InRange => row(5, two(ANY, ANY), Shape::TellsSegment, 0, 3),
+            Helper::Field => row(1, unary(FIELD_IDS), Shape::ReadsRecord, 0, 99_999_999_999),
+            Helper::HasField => row(2, unary(FIELD_IDS), Shape::ReadsRecord, 0, 1),
+            Helper::NameCount => row(3, NO_ARGUMENTS, Shape::ReadsSegment, 0, MAX_NAMES as u64),
+            Helper::RangeCount => row(
+                4,
+                NO_ARGUMENTS,
+                Shape::ReadsSegment,
+                1,
+                MAX_RANGES as u64 + 1,
+            ),
+            Helper::InRange => row(5, binary(ANY_NUMBER, ANY_NUMBER), Shape::ReadsSegment, 0, 3),
             Helper::NameCopy => row(6, NAME_AND_BYTES, Shape::CopiesIntoFrame, 0, 1),
             Helper::NameIs => row(7, NAME_AND_BYTES, Shape::ComparesFrame, 0, 1),
-            Helper::Emit => row(8, one(ANY), Shape::SetsScore, 0, 0),
-            Helper::Coord => row(9, one(ENDS), Shape::TellsRecord, 0, u64::MAX),
+            Helper::Emit => row(8, unary(ANY_NUMBER), Shape::SetsScore, 0, 0),
+            Helper::Coord => row(9, unary(COORDINATE_IDS), Shape::ReadsRecord, 0, u64::MAX),
         }
     }
 }
 
-fn one(x: Interval) -> [Argument; 3]
-    ensures { result ≡ one x }
+fn unary(x: Interval) -> [Argument; 3]
+    ensures { result ≡ unary x }
 {
     [Argument::Number(x), Argument::Unused, Argument::Unused]
 }
 
-fn two(x: Interval, y: Interval) -> [Argument; 3]
-    ensures { result ≡ two x y }
+fn binary(x: Interval, y: Interval) -> [Argument; 3]
+    ensures { result ≡ binary x y }
 {
     [Argument::Number(x), Argument::Number(y), Argument::Unused]
 }

@@ -4,16 +4,16 @@ ghost use Rattle.bpf_helpers.specs.Call.{MeetsSignature, call, first, meaning, s
 ghost use Rattle.bpf_helpers.specs.Helper.{by_number, reads_record_alone, signature};
 ghost use Rattle.bpf_helpers.specs.Shape.{frame_use};
 ghost use Rattle.bpf_helpers.specs.declared.helper.Helper.{Helper};
-ghost use Rattle.bpf_helpers.specs.declared.helper.Helper.TheVariants.{Field, Has, Names, Ranges, InRange, NameCopy, NameIs, Emit, Coord};
+ghost use Rattle.bpf_helpers.specs.declared.helper.Helper.TheVariants.{Field, HasField, NameCount, RangeCount, InRange, NameCopy, NameIs, Emit, Coord};
 ghost use Rattle.bpf_helpers.specs.declared.signature.Argument.TheVariants.{Unused, Number, Frame};
 ghost use Rattle.bpf_helpers.specs.declared.signature.FrameUse.TheVariants.{Nothing, Writes};
 ghost use Rattle.bpf_kinds.specs.Interval.{Admits, between};
 ghost use Rattle.tl_fields.specs.Number.{number_of};
 ghost use Rattle.tl_records.specs.Layout.{places};
-ghost use Rattle.tl_segments.specs.Segment.{Contents, IsSegment};
+ghost use Rattle.tl_segments.specs.Segment.{SegmentParts, IsSegment};
 
 use crate::fields::{COORDINATES, FIELDS};
-use tl_segments::{NAME_LENGTH, NAME_LIMIT, RANGE_LIMIT};
+use tl_segments::{MAX_NAMES, MAX_RANGES, NAME_LENGTH};
 
 /// Each helper function is found by its own number and by no other; any other number finds none.
 #[tactic(auto, using(crate::proofs::CallLemmas::by_number_own))]
@@ -22,9 +22,9 @@ pub fn numbers()
     ensures only { (number : ℕ) (helper : Helper) → by_number number ≡ Some helper → (signature helper).number ≡ number }
     ensures none { by_number 0 ≡ None }
     ensures field { by_number 1 ≡ Some Field }
-    ensures has { by_number 2 ≡ Some Has }
-    ensures names { by_number 3 ≡ Some Names }
-    ensures ranges { by_number 4 ≡ Some Ranges }
+    ensures has { by_number 2 ≡ Some HasField }
+    ensures names { by_number 3 ≡ Some NameCount }
+    ensures ranges { by_number 4 ≡ Some RangeCount }
     ensures in_range { by_number 5 ≡ Some InRange }
     ensures name_copy { by_number 6 ≡ Some NameCopy }
     ensures name_is { by_number 7 ≡ Some NameIs }
@@ -70,12 +70,12 @@ pub fn coordinates()
 #[tactic(auto, using(crate::proofs::CallLemmas::number_below), unfolding(tl_fields::specs::Number::number_of))]
 pub fn bounds()
     ensures ids { get_or (signature Field).arguments 0 Unused ≡ Number (between 0 (length FIELDS - 1)) }
-    ensures same_ids { (signature Has).arguments ≡ (signature Field).arguments }
+    ensures same_ids { (signature HasField).arguments ≡ (signature Field).arguments }
     ensures ends { get_or (signature Coord).arguments 0 Unused ≡ Number (between 0 (length COORDINATES - 1)) }
     ensures copied { get_or (signature NameCopy).arguments 2 Unused ≡ Number (between 1 NAME_LENGTH) }
     ensures compared { (signature NameIs).arguments ≡ (signature NameCopy).arguments }
-    ensures names { (signature Names).answer ≡ between 0 NAME_LIMIT }
-    ensures ranges { (signature Ranges).answer ≡ between 1 (RANGE_LIMIT + 1) }
+    ensures names { (signature NameCount).answer ≡ between 0 MAX_NAMES }
+    ensures ranges { (signature RangeCount).answer ≡ between 1 (MAX_RANGES + 1) }
     ensures numbers { (field : List ℕ) (n : ℕ) → number_of field ≡ Some n → n ≤ (signature Field).answer.high }
     ensures greatest_number { number_of (codes "99999999999") ≡ Some (signature Field).answer.high }
 {}
@@ -96,37 +96,37 @@ pub fn frame_uses()
 
 /// A call whose arguments meet the signature returns a number within the table's interval, and this number is a word.
 pub fn answers()
-    ensures interval { (helper : Helper) (segment : Contents) (arguments bytes : List ℕ) (score : ℕ) → IsSegment segment
+    ensures interval { (helper : Helper) (segment : SegmentParts) (arguments bytes : List ℕ) (score : ℕ) → IsSegment segment
         → MeetsSignature helper arguments → Admits (signature helper).answer (call helper segment arguments bytes score).answer }
-    ensures word { (helper : Helper) (segment : Contents) (arguments bytes : List ℕ) (score : ℕ) → IsSegment segment
+    ensures word { (helper : Helper) (segment : SegmentParts) (arguments bytes : List ℕ) (score : ℕ) → IsSegment segment
         → MeetsSignature helper arguments → (call helper segment arguments bytes score).answer < 2 ^ 64 }
 {}
 
 /// Such a call writes the number of bytes given by its third argument; a call that doesn't write the frame writes none.
 pub fn written_bytes()
-    ensures length { (helper : Helper) (segment : Contents) (arguments bytes : List ℕ) (score : ℕ) → IsSegment segment
+    ensures length { (helper : Helper) (segment : SegmentParts) (arguments bytes : List ℕ) (score : ℕ) → IsSegment segment
         → MeetsSignature helper arguments
         → length (call helper segment arguments bytes score).written ≡ written_length (frame_use (signature helper).shape) arguments }
-    ensures bytes { (helper : Helper) (segment : Contents) (arguments bytes : List ℕ) (score i : ℕ) → IsSegment segment
+    ensures bytes { (helper : Helper) (segment : SegmentParts) (arguments bytes : List ℕ) (score i : ℕ) → IsSegment segment
         → MeetsSignature helper arguments → slice_index (call helper segment arguments bytes score).written i < 2 ^ 8 }
-    ensures none { (helper : Helper) (segment : Contents) (arguments bytes : List ℕ) (score : ℕ) → frame_use (signature helper).shape ≢ Writes
+    ensures none { (helper : Helper) (segment : SegmentParts) (arguments bytes : List ℕ) (score : ℕ) → frame_use (signature helper).shape ≢ Writes
         → (call helper segment arguments bytes score).written ≡ [] }
 {}
 
 /// One helper function sets the score; the others leave it unchanged.
 pub fn scores()
-    ensures set { (segment : Contents) (arguments bytes : List ℕ) (score : ℕ)
+    ensures set { (segment : SegmentParts) (arguments bytes : List ℕ) (score : ℕ)
         → (call Emit segment arguments bytes score).score ≡ first arguments }
-    ensures kept { (helper : Helper) (segment : Contents) (arguments bytes : List ℕ) (score : ℕ) → helper ≢ Emit
+    ensures score_unchanged { (helper : Helper) (segment : SegmentParts) (arguments bytes : List ℕ) (score : ℕ) → helper ≢ Emit
         → (call helper segment arguments bytes score).score ≡ score }
-    ensures word { (helper : Helper) (segment : Contents) (arguments bytes : List ℕ) (score : ℕ) → MeetsSignature helper arguments
+    ensures word { (helper : Helper) (segment : SegmentParts) (arguments bytes : List ℕ) (score : ℕ) → MeetsSignature helper arguments
         → score < 2 ^ 64 → (call helper segment arguments bytes score).score < 2 ^ 64 }
 {}
 
 /// A helper function that reads only the record has the same effect on all segments with the same record.
 #[tactic(auto, using(crate::proofs::RecordLemmas::calls_alike))]
 pub fn record_alone()
-    ensures { (helper : Helper) (segment other : Contents) (arguments bytes : List ℕ) (score : ℕ) → IsTrue (reads_record_alone helper)
+    ensures { (helper : Helper) (segment other : SegmentParts) (arguments bytes : List ℕ) (score : ℕ) → IsTrue (reads_record_alone helper)
         → segment.bytes ≡ other.bytes → call helper segment arguments bytes score ≡ call helper other arguments bytes score }
 {}
 
@@ -138,7 +138,7 @@ pub fn writes<T>()
         → get_or (write memory at bytes) (at + i) other ≡ get_or bytes i other }
     ensures before { (memory bytes : List T) (at i : ℕ) (other : T) → at + length bytes ≤ length memory → i < at
         → get_or (write memory at bytes) i other ≡ get_or memory i other }
-    ensures behind { (memory bytes : List T) (at i : ℕ) (other : T) → at + length bytes ≤ length memory
+    ensures after { (memory bytes : List T) (at i : ℕ) (other : T) → at + length bytes ≤ length memory
         → at + length bytes ≤ i → get_or (write memory at bytes) i other ≡ get_or memory i other }
     ensures nothing { (memory : List T) (at : ℕ) → write memory at [] ≡ memory }
 {}

@@ -32,9 +32,9 @@ pub enum Argument {
 #[derive(Clone, Copy, PartialEq, Eq)]
 pub enum Shape {
     /// Returns a number read from the segment's type 1 record.
-    TellsRecord,
+    ReadsRecord,
     /// Returns a number read from the segment.
-    TellsSegment,
+    ReadsSegment,
     /// Compares bytes of the frame with a part of the segment.
     ComparesFrame,
     /// Copies a part of the segment into the frame.
@@ -49,7 +49,7 @@ impl Shape {
         ensures { result ≡ frame_use self }
     {
         match self {
-            Shape::TellsRecord | Shape::TellsSegment | Shape::SetsScore => FrameUse::Nothing,
+            Shape::ReadsRecord | Shape::ReadsSegment | Shape::SetsScore => FrameUse::Nothing,
             Shape::ComparesFrame => FrameUse::Reads,
             Shape::CopiesIntoFrame => FrameUse::Writes,
         }
@@ -60,8 +60,8 @@ impl Shape {
         ensures { result ≡ reads_record_alone self }
     {
         match self {
-            Shape::TellsRecord | Shape::SetsScore => true,
-            Shape::TellsSegment | Shape::ComparesFrame | Shape::CopiesIntoFrame => false,
+            Shape::ReadsRecord | Shape::SetsScore => true,
+            Shape::ReadsSegment | Shape::ComparesFrame | Shape::CopiesIntoFrame => false,
         }
     }
 }

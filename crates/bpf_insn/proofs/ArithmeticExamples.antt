@@ -1,6 +1,6 @@
 -- The definitions of arithmetic on worked examples: their results are computed.
 use Rattle.std.proofs.Common.{◌≡◌, pos, negsuc, true, false, refl}
-use Rattle.bpf_insn.specs.Arithmetic.{result_of, negate, extension_of, byte_swap, is_met, wide_number, load_extension}
+use Rattle.bpf_insn.specs.Arithmetic.{result_of, negate, extension_of, byte_swap, condition_holds, wide_number, load_extension}
 use Rattle.bpf_insn.specs.declared.instruction.Operation.TheVariants.{Subtract, Multiply, Divide, SignedDivide, ShiftLeft, ShiftRight}
 use Rattle.bpf_insn.specs.declared.instruction.Operation.TheVariants.{Modulo, SignedModulo, Move, ArithmeticShiftRight}
 use Rattle.bpf_insn.specs.declared.instruction.Width.TheVariants.{Bits32, Bits64}
@@ -68,8 +68,8 @@ byte_to_32 = refl
 pub half_word_to_64 : extension_of Bits16To64 0x1_7fff ≡ 0x7fff
 half_word_to_64 = refl
 
-pub kept : byte_swap LittleEndian swap_width.Bits16 0x1_0203 ≡ 0x0203
-kept = refl
+pub low_bytes_unchanged : byte_swap LittleEndian swap_width.Bits16 0x1_0203 ≡ 0x0203
+low_bytes_unchanged = refl
 
 pub reversed : byte_swap BigEndian swap_width.Bits32 0x9_0102_0304 ≡ 0x0403_0201
 reversed = refl
@@ -78,13 +78,13 @@ pub swapped : byte_swap Swapped swap_width.Bits64 0x0102_0304_0506_0708 ≡ 0x08
 swapped = refl
 
 -- -1 and 1: greater unsigned, less signed, and with a bit in common
-pub greater : is_met Greater Bits32 0xffff_ffff 1 ≡ true
+pub greater : condition_holds Greater Bits32 0xffff_ffff 1 ≡ true
 greater = refl
 
-pub not_signed_greater : is_met SignedGreater Bits32 0xffff_ffff 1 ≡ false
+pub not_signed_greater : condition_holds SignedGreater Bits32 0xffff_ffff 1 ≡ false
 not_signed_greater = refl
 
-pub shares_bit : is_met SharesBit Bits64 0xffff_ffff_ffff_ffff 1 ≡ true
+pub shares_bit : condition_holds SharesBit Bits64 0xffff_ffff_ffff_ffff 1 ≡ true
 shares_bit = refl
 
 pub wide : wide_number (negsuc 0) (pos 2) ≡ 0x2_ffff_ffff

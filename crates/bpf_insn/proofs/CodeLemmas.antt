@@ -30,9 +30,9 @@ has_no_fault : (insn : Insn) (after rest : List Word) (first : Word) (fault : Wo
 has_no_fault insn after rest first fault e h =
     let words : first_word insn ∷ (further_words insn ++ after) ≡ first ∷ rest = e in
     let begins = same_first (first_word insn) first (further_words insn ++ after) rest words in
-    let goes_on = same_others (first_word insn) first (further_words insn ++ after) rest words in
+    let continues = same_others (first_word insn) first (further_words insn ++ after) rest words in
     none-some fault (sym (no_fault insn after) ∙ ap (λ (w : Word). first_fault w (further_words insn ++ after)) begins
-    ∙ ap (first_fault first) goes_on ∙ h)
+    ∙ ap (first_fault first) continues ∙ h)
 
 -- words have at most one code
 pub one_code : (a b : List Insn) → code_words a ≡ code_words b → a ≡ b
@@ -70,11 +70,11 @@ memory_alone bytes code (code_fault.InWord place fault) is f =
 memory_alone bytes code code_fault.Memory is f = refl
 
 -- so a reader that returns a code or the first fault returns that one code
-pub gives_the_code : (bytes : List ℕ) (result : Result (List Insn) CodeFault) → IfOk result (IsCodeOf bytes)
+pub decodes_to_code : (bytes : List ℕ) (result : Result (List Insn) CodeFault) → IfOk result (IsCodeOf bytes)
     → IfErr result (IsFirstFault bytes) → (code : List Insn) → IsCodeOf bytes code
     → MatchResult result (λ decoded. decoded ≡ code) (λ fault. fault ≡ code_fault.Memory)
-gives_the_code bytes (Ok decoded) ok err code is = one_code decoded code (sym ok.words ∙ is.words)
-gives_the_code bytes (Err fault) ok err code is = memory_alone bytes code fault is err
+decodes_to_code bytes (Ok decoded) ok err code is = one_code decoded code (sym ok.words ∙ is.words)
+decodes_to_code bytes (Err fault) ok err code is = memory_alone bytes code fault is err
 
 -- words that begin with a fault
 record Faulty : Type 0 where

@@ -13,7 +13,7 @@ use Rattle.bpf_insn.specs.declared.opcode_form.OpcodeForm.{OpcodeForm}
 use Rattle.bpf_insn.specs.declared.opcode_form.OpcodeForm.TheVariants.{WideLoad}
 use Rattle.bpf_insn.specs.Reading.{Begins, BeginsAt, IsFaultAt}
 use Rattle.bpf_insn.specs.Code.{code_words, HasFaultAt, IsFirstFault, IsPushFault}
-use Rattle.bpf_insn.specs.declared.code.TheConstants.{WORD_LIMIT}
+use Rattle.bpf_insn.specs.declared.code.TheConstants.{MAX_WORDS}
 use Rattle.bpf_insn.specs.declared.fault.CodeFault.{CodeFault}
 use Rattle.bpf_insn.specs.declared.fault.CodeFault.TheVariants as code_fault
 use Rattle.bpf_insn.proofs.WordLemmas.{length-first_words}
@@ -38,10 +38,10 @@ from_place : (bytes : List ℕ) (place : ℕ) → place < length bytes / 8
 unfolding first_words
 from_place bytes place below =
     let count : length bytes / 8 - place ≡ suc (length bytes / 8 - suc place) = omega arith in
-    let behind : drop 8 (drop (place * 8) bytes) ≡ drop (suc place * 8) bytes =
+    let rest_words : drop 8 (drop (place * 8) bytes) ≡ drop (suc place * 8) bytes =
     drop-drop 8 (place * 8) bytes ∙ ap (λ n. drop n bytes) (let p : place * 8 + 8 ≡ suc place * 8 = omega arith in p) in
     ap (λ n. first_words n (drop (place * 8) bytes)) count ∙ ap
-    (λ (bs : List ℕ). word_of (drop (place * 8) bytes) ∷ first_words (length bytes / 8 - suc place) bs) behind
+    (λ (bs : List ℕ). word_of (drop (place * 8) bytes) ∷ first_words (length bytes / 8 - suc place) bs) rest_words
 
 next_is_head : (bytes : List ℕ) (place : ℕ) (next : Option Word) → IsNext bytes place next
     → IsHead next (first_words (length bytes / 8 - suc place) (drop (suc place * 8) bytes))
@@ -157,7 +157,7 @@ module _ (bytes : List ℕ) (place : ℕ) (code : List Insn) (insn : Insn) (belo
       ∙ ap (λ (ws : List Word). code_words code ++ ws) front ∙ flat_map_more spelling [] code insn
 
   -- instructions of at most the maximum number of bytes fit, so only an allocation can fail
-  pub push_fault : (fault : CodeFault) → length bytes ≤ 8 * WORD_LIMIT → IsPushFault code insn fault → IsFirstFault bytes fault
+  pub push_fault : (fault : CodeFault) → length bytes ≤ 8 * MAX_WORDS → IsPushFault code insn fault → IsFirstFault bytes fault
   push_fault fault small (inl (late, long)) =
       let fits = within bytes place insn below begins in
       let counted = sym (length-first_words place bytes) ∙ ap length so_far in

@@ -22,9 +22,9 @@ drop-front : (xs ys : List ℕ) → 8 ≤ length xs → drop 8 (xs ++ ys) ≡ dr
 drop-front (a ∷ b ∷ c ∷ d ∷ e ∷ f ∷ g ∷ h ∷ rest) ys long = refl
 drop-front xs ys long = absurd (omega arith)
 
-length-behind : (xs : List ℕ) → 8 ≤ length xs → length xs ≡ 8 + length (drop 8 xs)
-length-behind (a ∷ b ∷ c ∷ d ∷ e ∷ f ∷ g ∷ h ∷ rest) long = omega arith
-length-behind xs long = absurd (omega arith)
+length-drop_word : (xs : List ℕ) → 8 ≤ length xs → length xs ≡ 8 + length (drop 8 xs)
+length-drop_word (a ∷ b ∷ c ∷ d ∷ e ∷ f ∷ g ∷ h ∷ rest) long = omega arith
+length-drop_word xs long = absurd (omega arith)
 
 -- the words of bytes, with more bytes after them
 words-joined : (n m : ℕ) (xs ys : List ℕ) → length xs ≡ n * 8 → first_words (n + m) (xs ++ ys) ≡ first_words n xs ++ first_words m ys
@@ -33,7 +33,7 @@ words-joined zero m [] ys e = ap (λ k. first_words k ys) (let p : 0 + m ≡ m =
 words-joined zero m (x ∷ xs) ys e = absurd (omega arith)
 words-joined (suc n) m xs ys e =
     let long : 8 ≤ length xs = omega arith in
-    let behind = length-behind xs long in
+    let behind = length-drop_word xs long in
     ap (λ k. first_words k (xs ++ ys)) (let p : suc n + m ≡ suc (n + m) = omega arith in p)
     ∙ ap (λ (w : Word). w ∷ first_words (n + m) (drop 8 (xs ++ ys))) (word_of-front xs ys long)
     ∙ ap (λ (ws : List Word). word_of xs ∷ ws) (ap (first_words (n + m)) (drop-front xs ys long)

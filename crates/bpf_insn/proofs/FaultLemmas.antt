@@ -2,7 +2,7 @@
 use Rattle.std.proofs.Common.{◌≡◌, ◌==◌, nat_lt, Bool, true, false, ℤ, pos, List, ◌++◌, None, Some, Option, refl, ap, ◌∙◌, arith}
 use Rattle.std.proofs.lemmas.Bool.Decides.{nat_tests}
 use Rattle.bpf_insn.specs.Form.{word, swap_bits, operation_offset, first_word, further_words}
-use Rattle.bpf_insn.specs.Row.{uses, fault, is_bad_width, is_out_of_use}
+use Rattle.bpf_insn.specs.Row.{uses, fault, is_bad_width, is_disallowed}
 use Rattle.bpf_insn.specs.Opcode.{offset_use}
 use Rattle.bpf_insn.specs.Fault.{form_fault, first_fault}
 use Rattle.bpf_insn.proofs.FormLemmas.{insn_form, unsigned, has_form}
@@ -38,7 +38,7 @@ no_bad_operand r = let h = r.in_range in grind (arith, nat_tests)
 
 -- the values that a field may have
 abbrev Fits : Use → ℤ → Type 0
-Fits usage z = (is_bad_width usage z ≡ false) × (is_out_of_use usage z ≡ false)
+Fits usage z = (is_bad_width usage z ≡ false) × (is_disallowed usage z ≡ false)
 
 -- the rows that write a register, and those that read it; what they say of a word doesn't depend on its opcode
 writes : (offset immediate : Use) (d : WritableRegister) (z v : ℤ) → Fits offset z → Fits immediate v

@@ -14,7 +14,7 @@ use Rattle.bpf_insn.specs.Form.{further_words, spelling}
 use Rattle.bpf_insn.specs.Code.{code_words, word_count, instruction_at, index_at, place_of}
 use Rattle.bpf_insn.specs.Table.{places_from, indexes_in, indexes_from}
 use Rattle.bpf_insn.specs.declared.word.Word.{Word}
-use Rattle.bpf_insn.specs.declared.code.TheConstants.{WORD_LIMIT}
+use Rattle.bpf_insn.specs.declared.code.TheConstants.{MAX_WORDS}
 use Rattle.bpf_insn.specs.declared.instruction.Insn.{Insn}
 
 -- the number of words that instructions take
@@ -86,8 +86,8 @@ starts_not place words h = grind (arith, nat_tests)
 is_within : (place words : ℕ) → place < words → nat_lt place words ≡ true
 is_within place words h = grind (arith, nat_tests)
 
-is_behind : (place words : ℕ) → words ≤ place → nat_lt place words ≡ false
-is_behind place words h = grind (arith, nat_tests)
+is_past : (place words : ℕ) → words ≤ place → nat_lt place words ≡ false
+is_past place words h = grind (arith, nat_tests)
 
 pub instruction_at-inside : (insn : Insn) (code : List Insn) (place : ℕ) → 0 < place → place < length (spelling insn)
     → instruction_at (insn ∷ code) place ≡ None
@@ -99,15 +99,15 @@ index_at-inside : (insn : Insn) (code : List Insn) (place : ℕ) → 0 < place �
 index_at-inside insn code place above below =
     rw (starts_not place (length (spelling insn)) above, is_within place (length (spelling insn)) below) refl
 
-pub instruction_at-behind : (insn : Insn) (code : List Insn) (place : ℕ) → length (spelling insn) ≤ place
+pub instruction_at-after : (insn : Insn) (code : List Insn) (place : ℕ) → length (spelling insn) ≤ place
     → instruction_at (insn ∷ code) place ≡ instruction_at code (place - length (spelling insn))
-instruction_at-behind insn code place past =
-    rw (starts_not place (length (spelling insn)) (omega arith), is_behind place (length (spelling insn)) past) refl
+instruction_at-after insn code place past =
+    rw (starts_not place (length (spelling insn)) (omega arith), is_past place (length (spelling insn)) past) refl
 
-index_at-behind : (insn : Insn) (code : List Insn) (place : ℕ) → length (spelling insn) ≤ place
+index_at-after : (insn : Insn) (code : List Insn) (place : ℕ) → length (spelling insn) ≤ place
     → index_at (insn ∷ code) place ≡ option_map (λ (i : ℕ). suc i) (index_at code (place - length (spelling insn)))
-index_at-behind insn code place past =
-    rw (starts_not place (length (spelling insn)) (omega arith), is_behind place (length (spelling insn)) past) refl
+index_at-after insn code place past =
+    rw (starts_not place (length (spelling insn)) (omega arith), is_past place (length (spelling insn)) past) refl
 
 -- the instruction at a place, from its index
 next_index : (insn : Insn) (code : List Insn) (o : Option ℕ)
@@ -125,9 +125,9 @@ instruction_at-index (insn ∷ code) (suc place) = elim (cases_lt (suc place) (l
           instruction_at-inside insn code (suc place) (omega arith) below
           ∙ ap (option_and_then (slice_get (insn ∷ code))) (sym (index_at-inside insn code (suc place) (omega arith) below))
       | inr past ↦
-          instruction_at-behind insn code (suc place) past ∙ instruction_at-index code (suc place - length (spelling insn))
+          instruction_at-after insn code (suc place) past ∙ instruction_at-index code (suc place - length (spelling insn))
           ∙ next_index insn code (index_at code (suc place - length (spelling insn)))
-          ∙ ap (option_and_then (slice_get (insn ∷ code))) (sym (index_at-behind insn code (suc place) past))
+          ∙ ap (option_and_then (slice_get (insn ∷ code))) (sym (index_at-after insn code (suc place) past))
     ]
 
 -- an index that is found is an index of the code
@@ -141,7 +141,7 @@ index_within (insn ∷ code) zero = let h : 0 < length (insn ∷ code) = omega a
 index_within (insn ∷ code) (suc place) = elim (cases_lt (suc place) (length (spelling insn))) as
     (λ _. IfSome (index_at (insn ∷ code) (suc place)) (λ index. index < length (insn ∷ code))) [
       | inl below ↦ rw (index_at-inside insn code (suc place) (omega arith) below) tt
-      | inr past ↦ rw (index_at-behind insn code (suc place) past)
+      | inr past ↦ rw (index_at-after insn code (suc place) past)
           (below_one_more (index_at code (suc place - length (spelling insn))) (length code)
           (index_within code (suc place - length (spelling insn))))
     ]
@@ -153,7 +153,7 @@ instruction_within (insn ∷ code) place found = elim (cases_lt place (length (s
   | inl below ↦ let sum = word_count-cons insn code in omega arith
   | inr past ↦
       let there = instruction_within code (place - length (spelling insn))
-      (sym (ap is_some (instruction_at-behind insn code place past)) ∙ found) in
+      (sym (ap is_some (instruction_at-after insn code place past)) ∙ found) in
       let sum = word_count-cons insn code in omega arith
 ]
 
@@ -202,7 +202,7 @@ indexes_from-at index (insn ∷ code) (suc place) = elim (cases_lt (suc place) (
           ∙ ap (slice_get (indexes_from (suc index) code)) same)
           ∙ indexes_from-at (suc index) code (suc place - length (spelling insn))
           ∙ one_further index (index_at code (suc place - length (spelling insn)))
-          ∙ ap (option_map (λ (i : ℕ). index + i)) (sym (index_at-behind insn code (suc place) past))
+          ∙ ap (option_map (λ (i : ℕ). index + i)) (sym (index_at-after insn code (suc place) past))
     ]
 
 -- the instruction after others
@@ -213,7 +213,7 @@ instruction_at-middle (first ∷ before) insn after =
     let sum = word_count-cons first before in
     let past : length (spelling first) ≤ word_count (first ∷ before) = omega arith in
     let there : word_count (first ∷ before) - length (spelling first) ≡ word_count before = omega arith in
-    instruction_at-behind first (before ++ insn ∷ after) (word_count (first ∷ before)) past
+    instruction_at-after first (before ++ insn ∷ after) (word_count (first ∷ before)) past
     ∙ ap (instruction_at (before ++ insn ∷ after)) there ∙ instruction_at-middle before insn after
 
 -- a nonempty code has at least one word
@@ -237,15 +237,15 @@ indexes_find indexes code place e =
     ap (λ (xs : List (Option ℕ)). option_flatten (slice_get xs place)) e ∙ indexes_from-at 0 code place ∙ none_further (index_at code place)
 
 -- the place that is kept for an index
-pub place_kept : (places : List ℕ) (kept code : List Insn) (index default : ℕ) → places ≡ places_from 0 kept → kept ≡ code
+pub place_of_index : (places : List ℕ) (built code : List Insn) (index default : ℕ) → places ≡ places_from 0 built → built ≡ code
     → index < length code → get_or places index default ≡ place_of code index
-place_kept places kept code index default are same within =
+place_of_index places built code index default are same within =
     ap (λ (ps : List ℕ). get_or ps index default) (are ∙ ap (places_from 0) same) ∙ places_from-at 0 code index default within
     ∙ (let e : 0 + place_of code index ≡ place_of code index = omega arith in e)
 
-pub places_enough : (places : List ℕ) (kept code : List Insn) (index : ℕ) → places ≡ places_from 0 kept → kept ≡ code → index < length code
+pub places_enough : (places : List ℕ) (built code : List Insn) (index : ℕ) → places ≡ places_from 0 built → built ≡ code → index < length code
     → index < length places
-places_enough places kept code index are same within =
+places_enough places built code index are same within =
     let counted = ap length (are ∙ ap (places_from 0) same) ∙ length-places_from 0 code in omega arith
 
 pub found_at : (code : List Insn) (place index : ℕ) (insn : Insn) → Some index ≡ index_at code place → index < length code
@@ -274,14 +274,14 @@ indexes_grow indexes indexes' more code insn are here grown =
 
 -- a list that is unchanged and then grows
 abbrev pub Grows : {X : Type 0} → List X → List X → List X → List X → Type 0
-Grows old kept more new = (kept ≡ old) × (new ≡ kept ++ more)
+Grows old built more new = (built ≡ old) × (new ≡ built ++ more)
 
-pub grown : {X : Type 0} {old kept new : List X} (more : List X) → Grows old kept more new → new ≡ old ++ more
+pub grown : {X : Type 0} {old built new : List X} (more : List X) → Grows old built more new → new ≡ old ++ more
 grown more (stayed, put) = put ∙ ap (λ xs. xs ++ more) stayed
 
 -- what is kept in addition to a code
 abbrev pub AreBeside : List Insn → List ℕ → List (Option ℕ) → Type 0
-AreBeside code places indexes = (places ≡ places_from 0 code) × (indexes ≡ indexes_from 0 code) × (word_count code ≤ WORD_LIMIT)
+AreBeside code places indexes = (places ≡ places_from 0 code) × (indexes ≡ indexes_from 0 code) × (word_count code ≤ MAX_WORDS)
 
 -- a code and what is kept in addition to it
 pub record KeptParts : Type 0 where
@@ -296,13 +296,13 @@ pub record GrowBy (old : KeptParts) (insn : Insn) (new : KeptParts) : Type 0 whe
   pub indexes : new.indexes ≡ old.indexes ++ indexes_in (length old.code) (spelling insn)
 
 pub all_grow : {old new : KeptParts} (insn : Insn) → AreBeside old.code old.places old.indexes → GrowBy old insn new
-    → word_count old.code + length (spelling insn) ≤ WORD_LIMIT → AreBeside new.code new.places new.indexes
+    → word_count old.code + length (spelling insn) ≤ MAX_WORDS → AreBeside new.code new.places new.indexes
 all_grow {old} {new} insn are grow fits =
     let sum = word_count-append old.code (insn ∷ []) in
     let one = word_count-one insn in
-    let whole : word_count (old.code ++ insn ∷ []) ≤ WORD_LIMIT = omega arith in (
+    let whole : word_count (old.code ++ insn ∷ []) ≤ MAX_WORDS = omega arith in (
       places_grow old.places new.places old.code (word_count old.code) insn are.0 refl grow.places ∙ ap (places_from 0) (sym grow.code),
       indexes_grow old.indexes new.indexes (indexes_in (length old.code) (spelling insn)) old.code insn are.1 refl grow.indexes
           ∙ ap (indexes_from 0) (sym grow.code),
-      subst (λ (c : List Insn). word_count c ≤ WORD_LIMIT) (sym grow.code) whole,
+      subst (λ (c : List Insn). word_count c ≤ MAX_WORDS) (sym grow.code) whole,
     )

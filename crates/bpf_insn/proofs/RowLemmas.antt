@@ -6,7 +6,7 @@ use Rattle.std.specs.Bool.{⊤, Decides}
 use Rattle.std.proofs.lemmas.Bool.{true≢false}
 use Rattle.std.proofs.lemmas.Option.{none-some}
 use Rattle.bpf_insn.specs.Row.{fault, names_bad_register, writes_frame_pointer, has_bad_width, has_unused_field, is_bad_width}
-use Rattle.bpf_insn.specs.Row.{is_out_of_use, is_used, is_written, IsInUse, Fits}
+use Rattle.bpf_insn.specs.Row.{is_disallowed, is_used, is_written, IsAllowed, Fits}
 use Rattle.bpf_insn.specs.declared.row.Row.{Row}
 use Rattle.bpf_insn.specs.declared.row.Use.{Use}
 use Rattle.bpf_insn.specs.declared.row.Use.TheVariants.{Unused, Any, ZeroOrOne, MoveBits, SwapBits}
@@ -42,16 +42,16 @@ holds : {P : Type 0} (test : Bool) → Decides test P → not test ≡ false →
 holds true decides e = decides.0 refl
 holds false decides e = absurd (true≢false e)
 
-in_use : (role : Use) (z : ℤ) → is_bad_width role z ≡ false → is_out_of_use role z ≡ false → IsInUse role z
-in_use Unused z wide out = holds _ (Decides-int_eq z (pos 0)) out
-in_use Any z wide out = tt
-in_use ZeroOrOne z wide out = holds _ (Decides-or _ _ (Decides-int_eq z (pos 0)) (Decides-int_eq z (pos 1))) out
-in_use (MoveBits Bits32) z wide out =
+allowed : (role : Use) (z : ℤ) → is_bad_width role z ≡ false → is_disallowed role z ≡ false → IsAllowed role z
+allowed Unused z wide out = holds _ (Decides-int_eq z (pos 0)) out
+allowed Any z wide out = tt
+allowed ZeroOrOne z wide out = holds _ (Decides-or _ _ (Decides-int_eq z (pos 0)) (Decides-int_eq z (pos 1))) out
+allowed (MoveBits Bits32) z wide out =
     holds _ (Decides-or _ _ (Decides-or _ _ (Decides-int_eq z (pos 0)) (Decides-int_eq z (pos 8))) (Decides-int_eq z (pos 16))) wide
-in_use (MoveBits Bits64) z wide out =
+allowed (MoveBits Bits64) z wide out =
     holds _ (Decides-or _ _ (Decides-or _ _ (Decides-or _ _ (Decides-int_eq z (pos 0)) (Decides-int_eq z (pos 8)))
     (Decides-int_eq z (pos 16))) (Decides-int_eq z (pos 32))) wide
-in_use SwapBits z wide out =
+allowed SwapBits z wide out =
     holds _ (Decides-or _ _ (Decides-or _ _ (Decides-int_eq z (pos 16)) (Decides-int_eq z (pos 32))) (Decides-int_eq z (pos 64))) wide
 
 -- a word without a fault fits
@@ -70,6 +70,6 @@ fits row word e =
       destination = names_register (is_used row.destination) word.destination named.0 first.0;
       written = names_writable (is_used row.destination) (is_written row.destination) word.destination named.0 written.0 first.0;
       source = names_register row.uses_source word.source named.1 first.1;
-      offset = in_use row.offset word.offset wide.0 third.1;
-      immediate = in_use row.immediate word.immediate wide.1 last.1;
+      offset = allowed row.offset word.offset wide.0 third.1;
+      immediate = allowed row.immediate word.immediate wide.1 last.1;
     }

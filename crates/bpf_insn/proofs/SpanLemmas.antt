@@ -7,7 +7,7 @@ use Rattle.std.proofs.lemmas.Option.{none-some}
 use Rattle.bpf_insn.specs.Form.{spelling}
 use Rattle.bpf_insn.specs.Code.{word_count, instruction_at, place_of}
 use Rattle.bpf_insn.specs.declared.instruction.Insn.{Insn}
-use Rattle.bpf_insn.proofs.PlaceLemmas.{word_count-cons, word_count-append, word_count-one, instruction_at-inside, instruction_at-behind}
+use Rattle.bpf_insn.proofs.PlaceLemmas.{word_count-cons, word_count-append, word_count-one, instruction_at-inside, instruction_at-after}
 use Rattle.bpf_insn.proofs.PlaceLemmas.{instruction_at-middle}
 
 -- the instruction with an index, with what surrounds it
@@ -35,43 +35,43 @@ place_of-more code i insn within is =
 -- an instruction after the first one's start begins after the first one's words
 not_inside : (first : Insn) (code : List Insn) (place : ℕ) (insn : Insn) → 0 < place → instruction_at (first ∷ code) place ≡ Some insn
     → length (spelling first) ≤ place
-not_inside first code place insn above stands = elim (cases_lt place (length (spelling first))) as (λ _. length (spelling first) ≤ place) [
-  | inl below ↦ absurd (none-some insn (sym (instruction_at-inside first code place above below) ∙ stands))
+not_inside first code place insn above is_insn = elim (cases_lt place (length (spelling first))) as (λ _. length (spelling first) ≤ place) [
+  | inl below ↦ absurd (none-some insn (sym (instruction_at-inside first code place above below) ∙ is_insn))
   | inr past ↦ past
 ]
 
 -- no instruction begins within the words of another
 pub nothing_within : (code : List Insn) (place : ℕ) (insn : Insn) (inner : ℕ) → instruction_at code place ≡ Some insn → place < inner
     → inner < place + length (spelling insn) → instruction_at code inner ≡ None
-nothing_within [] place insn inner stands above below = refl
-nothing_within (first ∷ code) zero insn inner stands above below =
+nothing_within [] place insn inner is_insn above below = refl
+nothing_within (first ∷ code) zero insn inner is_insn above below =
     let same : first ≡ insn = cc in
     let long = ap (λ (x : Insn). length (spelling x)) same in
     instruction_at-inside first code inner above (omega arith)
-nothing_within (first ∷ code) (suc place) insn inner stands above below =
-    let past = not_inside first code (suc place) insn (omega arith) stands in
-    instruction_at-behind first code inner (omega arith)
+nothing_within (first ∷ code) (suc place) insn inner is_insn above below =
+    let past = not_inside first code (suc place) insn (omega arith) is_insn in
+    instruction_at-after first code inner (omega arith)
     ∙ nothing_within code (suc place - length (spelling first)) insn (inner - length (spelling first))
-    (sym (instruction_at-behind first code (suc place) past) ∙ stands) (omega arith) (omega arith)
+    (sym (instruction_at-after first code (suc place) past) ∙ is_insn) (omega arith) (omega arith)
 
 -- an instruction ends within the code
 pub ends_within : (code : List Insn) (place : ℕ) (insn : Insn) → instruction_at code place ≡ Some insn
     → place + length (spelling insn) ≤ word_count code
-ends_within [] place insn stands = absurd (none-some insn stands)
-ends_within (first ∷ code) zero insn stands =
+ends_within [] place insn is_insn = absurd (none-some insn is_insn)
+ends_within (first ∷ code) zero insn is_insn =
     let same : first ≡ insn = cc in
     let long = ap (λ (x : Insn). length (spelling x)) same in let sum = word_count-cons first code in omega arith
-ends_within (first ∷ code) (suc place) insn stands =
-    let past = not_inside first code (suc place) insn (omega arith) stands in
+ends_within (first ∷ code) (suc place) insn is_insn =
+    let past = not_inside first code (suc place) insn (omega arith) is_insn in
     let rest = ends_within code (suc place - length (spelling first)) insn
-    (sym (instruction_at-behind first code (suc place) past) ∙ stands) in
+    (sym (instruction_at-after first code (suc place) past) ∙ is_insn) in
     let sum = word_count-cons first code in omega arith
 
 -- a place lies within the words of an instruction, after its first word
 pub record IsWithin (code : List Insn) (place : ℕ) : Type 0 where
   pub first : ℕ
   pub insn : Insn
-  pub stands : instruction_at code first ≡ Some insn
+  pub is_insn : instruction_at code first ≡ Some insn
   pub above : first < place
   pub below : place < first + length (spelling insn)
 
@@ -81,19 +81,19 @@ lies_within [] place below none = absurd (let nothing : word_count [] ≡ 0 = re
 lies_within (first ∷ code) zero below none = absurd (none-some first (sym none))
 lies_within (first ∷ code) (suc place) below none = elim (cases_lt (suc place) (length (spelling first))) as
     (λ _. IsWithin (first ∷ code) (suc place)) [
-      | inl inside ↦ record { first = 0; insn = first; stands = refl; above = omega arith; below = omega arith }
+      | inl inside ↦ record { first = 0; insn = first; is_insn = refl; above = omega arith; below = omega arith }
       | inr past ↦
           let sum = word_count-cons first code in
           let there = lies_within code (suc place - length (spelling first)) (omega arith)
-          (sym (instruction_at-behind first code (suc place) past) ∙ none) in
+          (sym (instruction_at-after first code (suc place) past) ∙ none) in
           let back : there.first + length (spelling first) - length (spelling first) ≡ there.first = omega arith in
           let above = there.above in
           let below' = there.below in
           record {
             first = there.first + length (spelling first);
             insn = there.insn;
-            stands = instruction_at-behind first code (there.first + length (spelling first)) (omega arith) ∙ ap (instruction_at code) back
-                ∙ there.stands;
+            is_insn = instruction_at-after first code (there.first + length (spelling first)) (omega arith) ∙ ap (instruction_at code) back
+                ∙ there.is_insn;
             above = omega arith;
             below = omega arith;
           }
@@ -107,23 +107,23 @@ begins_somewhere (first ∷ before) last = refl
 -- the next instruction begins after an instruction other than the last one
 pub next_begins : (before : List Insn) (last : Insn) (place : ℕ) (insn : Insn) → instruction_at (before ++ last ∷ []) place ≡ Some insn
     → insn ≢ last → IsSome (instruction_at (before ++ last ∷ []) (place + length (spelling insn)))
-next_begins [] last zero insn stands other = absurd (other (let e : insn ≡ last = cc in e))
-next_begins [] last (suc place) insn stands other =
-    let past = not_inside last [] (suc place) insn (omega arith) stands in
-    absurd (none-some insn (sym (instruction_at-behind last [] (suc place) past) ∙ stands))
-next_begins (first ∷ before) last zero insn stands other =
+next_begins [] last zero insn is_insn other = absurd (other (let e : insn ≡ last = cc in e))
+next_begins [] last (suc place) insn is_insn other =
+    let past = not_inside last [] (suc place) insn (omega arith) is_insn in
+    absurd (none-some insn (sym (instruction_at-after last [] (suc place) past) ∙ is_insn))
+next_begins (first ∷ before) last zero insn is_insn other =
     let same : first ≡ insn = cc in
     let long = ap (λ (x : Insn). length (spelling x)) same in
     let start : 0 + length (spelling insn) - length (spelling first) ≡ 0 = omega arith in
-    ap is_some (instruction_at-behind first (before ++ last ∷ []) (0 + length (spelling insn)) (omega arith)
+    ap is_some (instruction_at-after first (before ++ last ∷ []) (0 + length (spelling insn)) (omega arith)
     ∙ ap (instruction_at (before ++ last ∷ [])) start)
     ∙ begins_somewhere before last
-next_begins (first ∷ before) last (suc place) insn stands other =
+next_begins (first ∷ before) last (suc place) insn is_insn other =
     let rest = before ++ last ∷ [] in
-    let past = not_inside first rest (suc place) insn (omega arith) stands in
+    let past = not_inside first rest (suc place) insn (omega arith) is_insn in
     let there = next_begins before last (suc place - length (spelling first)) insn
-    (sym (instruction_at-behind first rest (suc place) past) ∙ stands) other in
+    (sym (instruction_at-after first rest (suc place) past) ∙ is_insn) other in
     let shift : suc place + length (spelling insn) - length (spelling first) ≡ suc place - length (spelling first) + length
     (spelling insn) = omega arith in
-    ap is_some (instruction_at-behind first rest (suc place + length (spelling insn)) (omega arith) ∙ ap (instruction_at rest) shift)
+    ap is_some (instruction_at-after first rest (suc place + length (spelling insn)) (omega arith) ∙ ap (instruction_at rest) shift)
     ∙ there

@@ -82,22 +82,22 @@ byte_swap BigEndian width x = swap_bytes (swap_bits width) (low_bits (swap_bits 
 byte_swap Swapped width x = swap_bytes (swap_bits width) (low_bits (swap_bits width) x)
 
 -- whether numbers of w bits meet a condition (section 4.3)
-abbrev pub is_met_on : Condition → Bits → ℕ → ℕ → Bool
-is_met_on Equal w x y = x == y
-is_met_on Greater w x y = nat_lt y x
-is_met_on GreaterOrEqual w x y = nat_le y x
-is_met_on SharesBit w x y = not (bit_and x y == 0)
-is_met_on NotEqual w x y = not (x == y)
-is_met_on SignedGreater w x y = int_lt (cast_signed w y) (cast_signed w x)
-is_met_on SignedGreaterOrEqual w x y = int_le (cast_signed w y) (cast_signed w x)
-is_met_on Less w x y = nat_lt x y
-is_met_on LessOrEqual w x y = nat_le x y
-is_met_on SignedLess w x y = int_lt (cast_signed w x) (cast_signed w y)
-is_met_on SignedLessOrEqual w x y = int_le (cast_signed w x) (cast_signed w y)
+abbrev pub condition_holds_on : Condition → Bits → ℕ → ℕ → Bool
+condition_holds_on Equal w x y = x == y
+condition_holds_on Greater w x y = nat_lt y x
+condition_holds_on GreaterOrEqual w x y = nat_le y x
+condition_holds_on SharesBit w x y = not (bit_and x y == 0)
+condition_holds_on NotEqual w x y = not (x == y)
+condition_holds_on SignedGreater w x y = int_lt (cast_signed w y) (cast_signed w x)
+condition_holds_on SignedGreaterOrEqual w x y = int_le (cast_signed w y) (cast_signed w x)
+condition_holds_on Less w x y = nat_lt x y
+condition_holds_on LessOrEqual w x y = nat_le x y
+condition_holds_on SignedLess w x y = int_lt (cast_signed w x) (cast_signed w y)
+condition_holds_on SignedLessOrEqual w x y = int_le (cast_signed w x) (cast_signed w y)
 
 -- whether a conditional jump is taken, with the destination as the first operand and the source as the second
-abbrev pub is_met : Condition → Width → ℕ → ℕ → Bool
-is_met condition width x y = is_met_on condition (operand_bits width) (low_bits (operand_bits width) x) (low_bits (operand_bits width) y)
+abbrev pub condition_holds : Condition → Width → ℕ → ℕ → Bool
+condition_holds condition width x y = condition_holds_on condition (operand_bits width) (low_bits (operand_bits width) x) (low_bits (operand_bits width) y)
 
 -- an immediate as a 64-bit operand, sign-extended (section 4.1)
 abbrev pub immediate_operand : ℤ → ℕ

@@ -9,7 +9,7 @@ use Rattle.bpf_insn.specs.declared.fault.CodeFault.{CodeFault}
 use Rattle.bpf_insn.specs.declared.fault.CodeFault.TheVariants as code_fault
 use Rattle.bpf_insn.specs.declared.fault.WordFault.{WordFault}
 use Rattle.bpf_insn.specs.declared.instruction.Insn.{Insn}
-use Rattle.bpf_insn.specs.declared.code.TheConstants.{WORD_LIMIT}
+use Rattle.bpf_insn.specs.declared.code.TheConstants.{MAX_WORDS}
 
 -- the words of consecutive instructions
 abbrev pub code_words : List Insn → List Word
@@ -21,7 +21,7 @@ word_count code = length (code_words code)
 
 -- a program has 1 to WORD_LIMIT words
 abbrev pub HasProgramSize : ℕ → Type 0
-HasProgramSize words = (1 ≤ words) × (words ≤ WORD_LIMIT)
+HasProgramSize words = (1 ≤ words) × (words ≤ MAX_WORDS)
 
 -- the bytes are exactly these instructions, one directly after the other
 pub record IsCodeOf (bytes : List ℕ) (code : List Insn) : Type 0 where
@@ -45,7 +45,7 @@ index_at (insn ∷ code) place =
 
 -- why an instruction can't be appended to others: it doesn't fit, or memory runs out
 abbrev pub IsPushFault : List Insn → Insn → CodeFault → Type 0
-IsPushFault code insn fault = ((fault ≡ code_fault.TooLong) × (WORD_LIMIT < word_count code + length (spelling insn))) ⊎ (fault ≡ code_fault.Memory)
+IsPushFault code insn fault = ((fault ≡ code_fault.TooLong) × (MAX_WORDS < word_count code + length (spelling insn))) ⊎ (fault ≡ code_fault.Memory)
 
 -- the place of the instruction with an index, which counts instructions from 0
 abbrev pub place_of : List Insn → ℕ → ℕ
@@ -62,7 +62,7 @@ HasFaultAt bytes place fault =
 abbrev pub IsFirstFault : List ℕ → CodeFault → Type 0
 IsFirstFault bytes code_fault.Empty = length bytes ≡ 0
 IsFirstFault bytes code_fault.NotWhole = length bytes % 8 ≢ 0
-IsFirstFault bytes code_fault.TooLong = (length bytes % 8 ≡ 0) × (8 * WORD_LIMIT < length bytes)
+IsFirstFault bytes code_fault.TooLong = (length bytes % 8 ≡ 0) × (8 * MAX_WORDS < length bytes)
 IsFirstFault bytes (code_fault.InWord place fault) =
-    (length bytes % 8 ≡ 0) × (length bytes ≤ 8 * WORD_LIMIT) × HasFaultAt bytes place fault
+    (length bytes % 8 ≡ 0) × (length bytes ≤ 8 * MAX_WORDS) × HasFaultAt bytes place fault
 IsFirstFault bytes code_fault.Memory = Unit {0}

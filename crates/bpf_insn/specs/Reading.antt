@@ -2,7 +2,7 @@
 use Rattle.std.specs.Prelude.{◌≡◌, ℕ, ◌-◌, ◌*◌, ◌/◌, ◌≤◌, MatchBool, ℤ, Bool, false, List, [], ◌∷◌, ◌++◌, length, drop, ◌⊎◌, Option, Some}
 use Rattle.bpf_insn.specs.Form.{spelling, form_opcode, is_register, source_field, source_immediate}
 use Rattle.bpf_insn.specs.Word.{first_words}
-use Rattle.bpf_insn.specs.Row.{Fits, IsInUse}
+use Rattle.bpf_insn.specs.Row.{Fits, IsAllowed}
 use Rattle.bpf_insn.specs.Opcode.{row, offset_use, immediate_use}
 use Rattle.bpf_insn.specs.Fault.{first_fault}
 use Rattle.bpf_insn.specs.declared.fault.WordFault.{WordFault}
@@ -31,11 +31,11 @@ IsSource from_register word source =
 -- the fields of the second operand
 pub record HasOperand (from_register : Bool) (word : Word) : Type 0 where
   pub source : MatchBool from_register (word.source ≤ 10) (word.source ≡ 0)
-  pub immediate : IsInUse (immediate_use from_register) word.immediate
+  pub immediate : IsAllowed (immediate_use from_register) word.immediate
 
 -- an offset of an operation: 0 or 1 for division and its remainder, otherwise 0
 abbrev pub HasOffset : Operation → ℤ → Type 0
-HasOffset operation offset = IsInUse (offset_use operation Bits32 false) offset
+HasOffset operation offset = IsAllowed (offset_use operation Bits32 false) offset
 
 -- an instruction begins with the word at a place
 abbrev pub BeginsAt : List ℕ → ℕ → Insn → Type 0

@@ -44,10 +44,10 @@ is_bad_width SwapBits z = not (int_eq z (pos 16) || int_eq z (pos 32) || int_eq 
 is_bad_width role z = false
 
 -- a number other than zero if only zero is allowed, or other than 0 and 1 if only these two are
-abbrev pub is_out_of_use : Use → ℤ → Bool
-is_out_of_use Unused z = not (int_eq z (pos 0))
-is_out_of_use ZeroOrOne z = not (int_eq z (pos 0) || int_eq z (pos 1))
-is_out_of_use role z = false
+abbrev pub is_disallowed : Use → ℤ → Bool
+is_disallowed Unused z = not (int_eq z (pos 0))
+is_disallowed ZeroOrOne z = not (int_eq z (pos 0) || int_eq z (pos 1))
+is_disallowed role z = false
 
 abbrev pub has_bad_width : Row → Word → Bool
 has_bad_width row word = is_bad_width row.offset word.offset || is_bad_width row.immediate word.immediate
@@ -56,7 +56,7 @@ has_bad_width row word = is_bad_width row.offset word.offset || is_bad_width row
 abbrev pub has_unused_field : Row → Word → Bool
 has_unused_field row word =
     (not (is_used row.destination) && not (word.destination == 0)) || (not row.uses_source && not (word.source == 0))
-    || is_out_of_use row.offset word.offset || is_out_of_use row.immediate word.immediate
+    || is_disallowed row.offset word.offset || is_disallowed row.immediate word.immediate
 
 -- the first fault of a word whose opcode has this row
 abbrev pub fault : Row → Word → Option WordFault
@@ -67,18 +67,18 @@ fault row word =
     else (if has_unused_field row word then Some UnusedNotZero else None)))
 
 -- a number that a use allows
-abbrev pub IsInUse : Use → ℤ → Type 0
-IsInUse Unused z = z ≡ pos 0
-IsInUse Any z = ⊤
-IsInUse ZeroOrOne z = (z ≡ pos 0) ⊎ (z ≡ pos 1)
-IsInUse (MoveBits Bits32) z = ((z ≡ pos 0) ⊎ (z ≡ pos 8)) ⊎ (z ≡ pos 16)
-IsInUse (MoveBits Bits64) z = (((z ≡ pos 0) ⊎ (z ≡ pos 8)) ⊎ (z ≡ pos 16)) ⊎ (z ≡ pos 32)
-IsInUse SwapBits z = ((z ≡ pos 16) ⊎ (z ≡ pos 32)) ⊎ (z ≡ pos 64)
+abbrev pub IsAllowed : Use → ℤ → Type 0
+IsAllowed Unused z = z ≡ pos 0
+IsAllowed Any z = ⊤
+IsAllowed ZeroOrOne z = (z ≡ pos 0) ⊎ (z ≡ pos 1)
+IsAllowed (MoveBits Bits32) z = ((z ≡ pos 0) ⊎ (z ≡ pos 8)) ⊎ (z ≡ pos 16)
+IsAllowed (MoveBits Bits64) z = (((z ≡ pos 0) ⊎ (z ≡ pos 8)) ⊎ (z ≡ pos 16)) ⊎ (z ≡ pos 32)
+IsAllowed SwapBits z = ((z ≡ pos 16) ⊎ (z ≡ pos 32)) ⊎ (z ≡ pos 64)
 
 -- a word that a row allows: what a word without a fault satisfies, field by field
 pub record Fits (row : Row) (word : Word) : Type 0 where
   pub destination : MatchBool (is_used row.destination) (word.destination ≤ 10) (word.destination ≡ 0)
   pub written : MatchBool (is_written row.destination) (word.destination ≤ 9) ⊤
   pub source : MatchBool row.uses_source (word.source ≤ 10) (word.source ≡ 0)
-  pub offset : IsInUse row.offset word.offset
-  pub immediate : IsInUse row.immediate word.immediate
+  pub offset : IsAllowed row.offset word.offset
+  pub immediate : IsAllowed row.immediate word.immediate

@@ -2,7 +2,7 @@
 ghost use Rattle.std.specs.Prelude.{◌≡◌, ◌<◌, ◌%◌, ◌^◌};
 ghost use Rattle.std.specs.Int.{w8, w16, w32, w64, cast_signed, cast_unsigned, swap_bytes};
 ghost use mir.Val.{bits};
-ghost use Rattle.bpf_insn.specs.Arithmetic.{operand_bits, low_bits, result_of, negate, extension_of, swap_bits, byte_swap, is_met, immediate_operand, wide_number, load_extension};
+ghost use Rattle.bpf_insn.specs.Arithmetic.{operand_bits, low_bits, result_of, negate, extension_of, swap_bits, byte_swap, condition_holds, immediate_operand, wide_number, load_extension};
 
 use crate::instruction::{
     ByteOrder, Condition, LoadFormat, Operation, SignExtension, SwapWidth, Width,
@@ -53,7 +53,7 @@ impl Condition {
     /// Returns whether the jump is taken, with the destination's value as the first operand and the source's as the second (RFC 9669, section 4.3).
     #[inline(always)]
     pub fn holds(self, width: Width, x: u64, y: u64) -> bool
-        ensures { result ≡ is_met self width x y }
+        ensures { result ≡ condition_holds self width x y }
     {
         let (x, y) = (width.low_bits(x), width.low_bits(y));
         match self {

@@ -12,9 +12,9 @@ use std::alloc::{AllocError, Allocator};
 use std::marker::Model;
 
 /// The maximum number of words in a program, of eight bytes each.
-pub const WORD_LIMIT: usize = 65_536;
+pub const MAX_WORDS: usize = 65_536;
 
-/// A code that is built instruction by instruction, up to `WORD_LIMIT` words. Contracts see the instructions as a list. It keeps the allocator that
+/// A code that is built instruction by instruction, up to `MAX_WORDS` words. Contracts see the instructions as a list. It keeps the allocator that
 /// it was made with.
 #[derive(Drop)]
 pub struct CodeBuilder<A: Allocator> {
@@ -30,7 +30,7 @@ impl<A: Allocator> Model for CodeBuilder<A> {
     ghost use Rattle.bpf_insn.specs.Code.{word_count};
     ghost use Rattle.bpf_insn.specs.Table.{places_from, indexes_from};
     ghost use Rattle.bpf_insn.specs.declared.instruction.Insn.{Insn};
-    ghost use Rattle.bpf_insn.specs.declared.code.TheConstants.{WORD_LIMIT};
+    ghost use Rattle.bpf_insn.specs.declared.code.TheConstants.{MAX_WORDS};
 
     ghost Value = { List Insn };
 
@@ -38,7 +38,7 @@ impl<A: Allocator> Model for CodeBuilder<A> {
 
     ghost invariant = { λ b. (b.places.items ≡ places_from 0 b.instructions.items)
         × (b.indexes.items ≡ indexes_from 0 b.instructions.items)
-        × (word_count b.instructions.items ≤ WORD_LIMIT) };
+        × (word_count b.instructions.items ≤ MAX_WORDS) };
 }
 
 impl<A: Allocator + Copy> CodeBuilder<A> {
@@ -91,10 +91,10 @@ impl<A: Allocator> CodeBuilder<A> {
     pub fn push(&mut self, insn: Insn) -> Result<(), CodeFault>
         ensures result { MatchResult result (λ _. self.new ≡ self.old ++ insn ∷ []) (IsPushFault self.old insn) }
         ensures refused { OnErr result (self.new ≡ self.old) }
-        ensures too_long { WORD_LIMIT < word_count self.old + length (spelling insn) → result ≡ Err CodeFault.TooLong }
+        ensures too_long { MAX_WORDS < word_count self.old + length (spelling insn) → result ≡ Err CodeFault.TooLong }
     {
         let place = self.words();
-        if WORD_LIMIT - place < insn.words() {
+        if MAX_WORDS - place < insn.words() {
             return Err(CodeFault::TooLong);
         }
         self.instructions.reserve(1)?;
@@ -136,7 +136,7 @@ fn push_indexes<A: Allocator>(
     Ok(())
 }
 
-/// The instructions of a program, in order: 1 to `WORD_LIMIT` words. Contracts see them as a list. A place counts words from 0, an index counts
+/// The instructions of a program, in order: 1 to `MAX_WORDS` words. Contracts see them as a list. A place counts words from 0, an index counts
 /// instructions from 0.
 #[derive(Drop)]
 pub struct Code<A: Allocator> {
@@ -202,7 +202,7 @@ impl<A: Allocator> Code<A> {
     #[inline(always)]
     pub fn at(&self, place: usize) -> Option<Insn>
         ensures value { result ≡ instruction_at self.now place }
-        ensures within { IsSome result → place < WORD_LIMIT }
+        ensures within { IsSome result → place < MAX_WORDS }
     {
         let index = self.index_at(place)?;
         Some(self.built.instructions[index])

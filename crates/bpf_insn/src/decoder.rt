@@ -6,7 +6,7 @@ ghost use Rattle.bpf_insn.specs.Reading.{BeginsAt, IsFaultAt};
 ghost use Rattle.bpf_insn.specs.declared.fault.CodeFault.{CodeFault};
 ghost use Rattle.bpf_insn.specs.declared.instruction.Insn.{Insn};
 
-use crate::code::{Code, CodeBuilder, WORD_LIMIT};
+use crate::code::{Code, CodeBuilder, MAX_WORDS};
 use crate::fault::{CodeFault, WordFault};
 use crate::instruction::Insn;
 use crate::word::Word;
@@ -43,13 +43,13 @@ fn read_code<A: Allocator + Copy>(alloc: A, bytes: &[u8]) -> Result<Code<A>, Cod
 /// Checks that the bytes have the length of a program.
 fn check_length(bytes: &[u8]) -> Result<(), CodeFault>
     ensures ok { OnOk result
-        ((length bytes.now % 8 ≡ 0) × (0 < length bytes.now) × (length bytes.now ≤ 8 * WORD_LIMIT)) }
+        ((length bytes.now % 8 ≡ 0) × (0 < length bytes.now) × (length bytes.now ≤ 8 * MAX_WORDS)) }
     ensures err { IfErr result (IsFirstFault bytes.now) }
 {
     match bytes.len() {
         0 => Err(CodeFault::Empty),
         length if length % WORD_BYTES != 0 => Err(CodeFault::NotWhole),
-        length if length > WORD_BYTES * WORD_LIMIT => Err(CodeFault::TooLong),
+        length if length > WORD_BYTES * MAX_WORDS => Err(CodeFault::TooLong),
         _ => Ok(()),
     }
 }
@@ -59,7 +59,7 @@ fn read_instructions<A: Allocator + Copy>(
     bytes: &[u8],
 ) -> Result<CodeBuilder<A>, CodeFault>
     requires whole { length bytes.now % 8 ≡ 0 }
-    requires within { length bytes.now ≤ 8 * WORD_LIMIT }
+    requires within { length bytes.now ≤ 8 * MAX_WORDS }
     ensures ok { IfOk result (λ code. words_of bytes.now ≡ code_words code) }
     ensures err { IfErr result (IsFirstFault bytes.now) }
 {

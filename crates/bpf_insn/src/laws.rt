@@ -4,7 +4,7 @@ ghost use Rattle.std.specs.List.{range_with_len};
 ghost use Rattle.bpf_insn.specs.Code.{IsCodeOf, IsFirstFault};
 ghost use Rattle.bpf_insn.specs.Frame.{slot_at};
 ghost use Rattle.bpf_insn.specs.Opcode.{form_of, opcodes};
-ghost use Rattle.bpf_insn.specs.declared.code.TheConstants.{WORD_LIMIT};
+ghost use Rattle.bpf_insn.specs.declared.code.TheConstants.{MAX_WORDS};
 ghost use Rattle.bpf_insn.specs.declared.fault.CodeFault.{CodeFault};
 ghost use Rattle.bpf_insn.specs.declared.instruction.Insn.{Insn};
 ghost use Rattle.bpf_insn.specs.declared.memory.TheConstants.{FRAME_LENGTH, SLOT_LENGTH, SLOTS};
@@ -27,7 +27,7 @@ pub fn opcodes()
 
 /// A program has at most 65,536 words.
 pub fn word_limit()
-    ensures { WORD_LIMIT ≡ 65536 }
+    ensures { MAX_WORDS ≡ 65536 }
 {}
 
 /// The frame has 512 bytes, in 64 slots of eight.

@@ -19,7 +19,7 @@ mod value;
 mod word;
 
 pub use arithmetic::{immediate_operand, negate, wide_number};
-pub use code::{Code, CodeBuilder, WORD_LIMIT};
+pub use code::{Code, CodeBuilder, MAX_WORDS};
 pub use decoder::decode;
 pub use encoder::encode;
 pub use fault::{CodeFault, WordFault};

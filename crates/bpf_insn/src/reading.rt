@@ -1,7 +1,7 @@
 //! The instruction that begins with a word.
 ghost use Rattle.std.specs.Prelude.{◌≡◌, ◌≢◌, ◌≤◌, ◌∷◌, [], IfOk, IfErr, Some, option_to_list};
 ghost use Rattle.bpf_insn.specs.Form.{spelling, swap_bits, operation_code, operation_offset};
-ghost use Rattle.bpf_insn.specs.Row.{IsInUse};
+ghost use Rattle.bpf_insn.specs.Row.{IsAllowed};
 ghost use Rattle.bpf_insn.specs.Fault.{first_fault};
 ghost use Rattle.bpf_insn.specs.Reading.{Begins, HasForm, HasOffset, HasOperand, IsSource};
 ghost use Rattle.bpf_insn.specs.declared.row.Use.TheVariants.{SwapBits};
@@ -207,7 +207,7 @@ fn with_offset(operation: Operation, offset: i16) -> Operation
 
 /// Returns the number of bits that a byte swap keeps.
 fn swap_width(bits: i32) -> SwapWidth
-    requires { IsInUse SwapBits bits }
+    requires { IsAllowed SwapBits bits }
     ensures { swap_bits result ≡ bits }
 {
     match bits {

@@ -1,6 +1,6 @@
 //! The fields that a row of the instruction table uses, and how (RFC 9669, section 3.1).
 ghost use Rattle.std.specs.Prelude.{◌≡◌};
-ghost use Rattle.bpf_insn.specs.Row.{uses, is_used, is_bad_width, is_out_of_use, has_bad_width, has_unused_field, fault};
+ghost use Rattle.bpf_insn.specs.Row.{uses, is_used, is_bad_width, is_disallowed, has_bad_width, has_unused_field, fault};
 
 use crate::fault::WordFault;
 use crate::instruction::Width;
@@ -58,8 +58,8 @@ impl Use {
     }
 
     /// Returns whether a number is outside the row's allowed values.
-    fn is_out_of_use(self, number: i32) -> bool
-        ensures { result ≡ is_out_of_use self number }
+    fn is_disallowed(self, number: i32) -> bool
+        ensures { result ≡ is_disallowed self number }
     {
         match self {
             Use::Unused => number != 0,
@@ -115,7 +115,7 @@ impl Row {
     {
         (!self.destination.is_used() && word.destination != 0)
             || (!self.uses_source && word.source != 0)
-            || self.offset.is_out_of_use(i32::from(word.offset))
-            || self.immediate.is_out_of_use(word.immediate)
+            || self.offset.is_disallowed(i32::from(word.offset))
+            || self.immediate.is_disallowed(word.immediate)
     }
 }

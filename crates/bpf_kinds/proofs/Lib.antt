@@ -7,11 +7,11 @@ pub mod ExactLemmas
 pub mod AluLemmas
 pub mod ResultLemmas
 pub mod LowerLemmas
-mod RiseLemmas
-pub mod ResultsRise
+mod MonotoneLemmas
+pub mod ResultsMonotone
 pub mod NarrowingLaws
-pub mod NarrowingRises
+pub mod NarrowingMonotone
 mod MovingLemmas
 pub mod MovingLaws
-pub mod MovingRises
+pub mod MovingMonotone
 pub mod ListLemmas

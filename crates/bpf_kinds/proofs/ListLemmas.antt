@@ -30,21 +30,21 @@ is_join_kinds xs ys joined count length-xs length-ys length-joined same =
     (λ place below. same place (omega arith) ∙ sym (get_or-join_kinds xs ys place same-length))
 
 -- a fact about a list's elements still holds after one is written, if it holds of that one
-pub set_each : {X : Type 0} (Such : ℕ → X → Type 0) (none : X) (xs : List X) (at : ℕ) (x : X) → Such at x
-    → ((n : ℕ) → Such n (get_or xs n none)) → (n : ℕ) → Such n (get_or (slice_set xs at x) n none)
-set_each Such none [] at x here all n = all n
-set_each Such none (y ∷ xs) zero x here all zero = here
-set_each Such none (y ∷ xs) zero x here all (suc n) = all (suc n)
-set_each Such none (y ∷ xs) (suc at) x here all zero = all zero
-set_each Such none (y ∷ xs) (suc at) x here all (suc n) = set_each (λ k. Such (suc k)) none xs at x here (λ k. all (suc k)) n
+pub set_each : {X : Type 0} (Property : ℕ → X → Type 0) (none : X) (xs : List X) (at : ℕ) (x : X) → Property at x
+    → ((n : ℕ) → Property n (get_or xs n none)) → (n : ℕ) → Property n (get_or (slice_set xs at x) n none)
+set_each Property none [] at x here all n = all n
+set_each Property none (y ∷ xs) zero x here all zero = here
+set_each Property none (y ∷ xs) zero x here all (suc n) = all (suc n)
+set_each Property none (y ∷ xs) (suc at) x here all zero = all zero
+set_each Property none (y ∷ xs) (suc at) x here all (suc n) = set_each (λ k. Property (suc k)) none xs at x here (λ k. all (suc k)) n
 
-module _ {X Y : Type 0} (Such : X → Y → Type 0) (none : X) (nothing : Y) where
+module _ {X Y : Type 0} (Property : X → Y → Type 0) (none : X) (nothing : Y) where
   -- a fact holds of the elements of two lists, one by one
   abbrev pub EachTwo : List X → List Y → Type 0
-  EachTwo xs ys = (n : ℕ) → Such (get_or xs n none) (get_or ys n nothing)
+  EachTwo xs ys = (n : ℕ) → Property (get_or xs n none) (get_or ys n nothing)
 
   -- a fact about two lists' elements, one by one, still holds after one of each is written, if it holds of those
-  pub set_both : (xs : List X) (ys : List Y) (at : ℕ) (x : X) (y : Y) → length xs ≡ length ys → Such x y → EachTwo xs ys
+  pub set_both : (xs : List X) (ys : List Y) (at : ℕ) (x : X) (y : Y) → length xs ≡ length ys → Property x y → EachTwo xs ys
       → EachTwo (slice_set xs at x) (slice_set ys at y)
   set_both [] [] at x y same here all n = all n
   set_both [] (b ∷ ys) at x y same here all n = absurd (omega arith)

@@ -9,7 +9,7 @@ use Rattle.std.proofs.lemmas.Int.{to_z_pos}
 use Rattle.std.proofs.Math.Nat.{mod-eq_of_lt}
 use mathlib.Core.Bool.{beq}
 use mir.Val.{bits}
-use Rattle.bpf_insn.specs.Arithmetic.{operand_bits, low_bits, is_met, is_met_on}
+use Rattle.bpf_insn.specs.Arithmetic.{operand_bits, low_bits, condition_holds, condition_holds_on}
 use Rattle.bpf_insn.specs.declared.instruction.Condition.{Condition}
 use Rattle.bpf_insn.specs.declared.instruction.Condition.TheVariants.{Equal, Greater, GreaterOrEqual, SharesBit, NotEqual, SignedGreater}
 use Rattle.bpf_insn.specs.declared.instruction.Condition.TheVariants.{SignedGreaterOrEqual, Less, LessOrEqual, SignedLess}
@@ -27,17 +27,17 @@ use Rattle.bpf_kinds.specs.declared.narrowing.Relation.TheVariants.{Same, Differ
 
 -- the relations of two numbers
 
-abbrev Stand : Relation → ℕ → ℕ → Type 0
-Stand Same m n = m ≡ n
-Stand Different m n = m ≢ n
-Stand Above m n = n < m
-Stand AtLeast m n = n ≤ m
-Stand Below m n = m < n
-Stand AtMost m n = m ≤ n
+abbrev AreRelated : Relation → ℕ → ℕ → Type 0
+AreRelated Same m n = m ≡ n
+AreRelated Different m n = m ≢ n
+AreRelated Above m n = n < m
+AreRelated AtLeast m n = n ≤ m
+AreRelated Below m n = m < n
+AreRelated AtMost m n = m ≤ n
 
-abbrev StandIf : Option Relation → ℕ → ℕ → Type 0
-StandIf None m n = Unit {0}
-StandIf (Some relation) m n = Stand relation m n
+abbrev AreRelatedIf : Option Relation → ℕ → ℕ → Type 0
+AreRelatedIf None m n = Unit {0}
+AreRelatedIf (Some relation) m n = AreRelated relation m n
 
 -- numbers that are compared unchanged
 
@@ -55,60 +55,60 @@ limit_fits false Bits64 = omega arith
 under : (n high limit : ℕ) → n ≤ high → nat_lt high limit ≡ true → n < limit
 under n high limit most is = let below = ltb-true high limit is in omega arith
 
-whole : (n limit bound : ℕ) → n < limit → limit ≤ bound → n < bound
-whole n limit bound below most = omega arith
+below_bound : (n limit bound : ℕ) → n < limit → limit ≤ bound → n < bound
+below_bound n limit bound below most = omega arith
 
 compared : (condition : Condition) (width : Width) (m n : ℕ) → m < 2 ^ bits (operand_bits width) → n < 2 ^ bits (operand_bits width)
-    → is_met condition width m n ≡ is_met_on condition (operand_bits width) m n
+    → condition_holds condition width m n ≡ condition_holds_on condition (operand_bits width) m n
 compared condition width m n below-m below-n =
     let e-m : low_bits (operand_bits width) m ≡ m = mod-eq_of_lt below-m in
     let e-n : low_bits (operand_bits width) n ≡ n = mod-eq_of_lt below-n in
     rw (e-m, e-n) refl
 
-stand_where : (condition : Condition) (taken : Bool) (width : Width) (m n : ℕ) → m < plain_limit condition width
-    → n < plain_limit condition width → is_met_on condition (operand_bits width) m n ≡ taken → StandIf (relation_of condition taken) m n
-stand_where Equal true width m n a b is = eqb-true m n is
-stand_where Equal false width m n a b is = eqb-false m n is
-stand_where NotEqual true width m n a b is = eqb-false m n (not-true (m == n) is)
-stand_where NotEqual false width m n a b is = eqb-true m n (not-false (m == n) is)
-stand_where Greater true width m n a b is = ltb-true n m is
-stand_where Greater false width m n a b is = ltb-false n m is
-stand_where GreaterOrEqual true width m n a b is = leb-true n m is
-stand_where GreaterOrEqual false width m n a b is = leb-false n m is
-stand_where Less true width m n a b is = ltb-true m n is
-stand_where Less false width m n a b is = ltb-false m n is
-stand_where LessOrEqual true width m n a b is = leb-true m n is
-stand_where LessOrEqual false width m n a b is = leb-false m n is
-stand_where SignedGreater true width m n a b is = ltb-true n m (rw (signed_number width n b, signed_number width m a) at is)
-stand_where SignedGreater false width m n a b is = ltb-false n m (rw (signed_number width n b, signed_number width m a) at is)
-stand_where SignedGreaterOrEqual true width m n a b is = leb-true n m (rw (signed_number width n b, signed_number width m a) at is)
-stand_where SignedGreaterOrEqual false width m n a b is = leb-false n m (rw (signed_number width n b, signed_number width m a) at is)
-stand_where SignedLess true width m n a b is = ltb-true m n (rw (signed_number width m a, signed_number width n b) at is)
-stand_where SignedLess false width m n a b is = ltb-false m n (rw (signed_number width m a, signed_number width n b) at is)
-stand_where SignedLessOrEqual true width m n a b is = leb-true m n (rw (signed_number width m a, signed_number width n b) at is)
-stand_where SignedLessOrEqual false width m n a b is = leb-false m n (rw (signed_number width m a, signed_number width n b) at is)
-stand_where SharesBit taken width m n a b is = tt
+condition_relates : (condition : Condition) (taken : Bool) (width : Width) (m n : ℕ) → m < plain_limit condition width
+    → n < plain_limit condition width → condition_holds_on condition (operand_bits width) m n ≡ taken → AreRelatedIf (relation_of condition taken) m n
+condition_relates Equal true width m n a b is = eqb-true m n is
+condition_relates Equal false width m n a b is = eqb-false m n is
+condition_relates NotEqual true width m n a b is = eqb-false m n (not-true (m == n) is)
+condition_relates NotEqual false width m n a b is = eqb-true m n (not-false (m == n) is)
+condition_relates Greater true width m n a b is = ltb-true n m is
+condition_relates Greater false width m n a b is = ltb-false n m is
+condition_relates GreaterOrEqual true width m n a b is = leb-true n m is
+condition_relates GreaterOrEqual false width m n a b is = leb-false n m is
+condition_relates Less true width m n a b is = ltb-true m n is
+condition_relates Less false width m n a b is = ltb-false m n is
+condition_relates LessOrEqual true width m n a b is = leb-true m n is
+condition_relates LessOrEqual false width m n a b is = leb-false m n is
+condition_relates SignedGreater true width m n a b is = ltb-true n m (rw (signed_number width n b, signed_number width m a) at is)
+condition_relates SignedGreater false width m n a b is = ltb-false n m (rw (signed_number width n b, signed_number width m a) at is)
+condition_relates SignedGreaterOrEqual true width m n a b is = leb-true n m (rw (signed_number width n b, signed_number width m a) at is)
+condition_relates SignedGreaterOrEqual false width m n a b is = leb-false n m (rw (signed_number width n b, signed_number width m a) at is)
+condition_relates SignedLess true width m n a b is = ltb-true m n (rw (signed_number width m a, signed_number width n b) at is)
+condition_relates SignedLess false width m n a b is = ltb-false m n (rw (signed_number width m a, signed_number width n b) at is)
+condition_relates SignedLessOrEqual true width m n a b is = leb-true m n (rw (signed_number width m a, signed_number width n b) at is)
+condition_relates SignedLessOrEqual false width m n a b is = leb-false m n (rw (signed_number width m a, signed_number width n b) at is)
+condition_relates SharesBit taken width m n a b is = tt
 
 -- two numbers in intervals, and the answer of their comparison
 pub record IsAnswer (condition : Condition) (width : Width) (x y : Interval) (taken : Bool) (m n : ℕ) : Type 0 where
   pub left : Admits x m
   pub right : Admits y n
-  pub answer : is_met condition width m n ≡ taken
+  pub answer : condition_holds condition width m n ≡ taken
 
-stand_plain : (condition : Condition) (width : Width) {x y : Interval} {taken : Bool} {m n : ℕ} → IsAnswer condition width x y taken m n
-    → is_plain condition width x y ≡ true → StandIf (relation_of condition taken) m n
-stand_plain condition width {taken = taken} {m} {n} is plain =
+plain_condition_relates : (condition : Condition) (width : Width) {x y : Interval} {taken : Bool} {m n : ℕ} → IsAnswer condition width x y taken m n
+    → is_plain condition width x y ≡ true → AreRelatedIf (relation_of condition taken) m n
+plain_condition_relates condition width {taken = taken} {m} {n} is plain =
     let limits = and_parts _ _ plain in
     let below-m : m < plain_limit condition width = under m _ _ is.left.below limits.0 in
     let below-n : n < plain_limit condition width = under n _ _ is.right.below limits.1 in
     let fits = limit_fits (is_signed condition) width in
-    let same = compared condition width m n (whole m _ _ below-m fits) (whole n _ _ below-n fits) in
-    stand_where condition taken width m n below-m below-n (sym same ∙ is.answer)
+    let same = compared condition width m n (below_bound m _ _ below-m fits) (below_bound n _ _ below-n fits) in
+    condition_relates condition taken width m n below-m below-n (sym same ∙ is.answer)
 
 -- two numbers are admitted on an edge
 
-abbrev Keeps : Option Narrowed → ℕ → ℕ → Type 0
-Keeps narrower m n = (both : Narrowed) × (narrower ≡ Some both) × Admits both.left m × Admits both.right n
+abbrev StillAdmits : Option Narrowed → ℕ → ℕ → Type 0
+StillAdmits narrower m n = (both : Narrowed) × (narrower ≡ Some both) × Admits both.left m × Admits both.right n
 
 pub some_of : (a b : Bool) (both : Narrowed) → a ≡ true → b ≡ true → (if a && b then Some both else None) ≡ Some both
 some_of a b both first second = rw (first, second) refl
@@ -116,7 +116,7 @@ some_of a b both first second = rw (first, second) refl
 le_test : (x : Interval) (n : ℕ) → Admits x n → nat_le x.low x.high ≡ true
 le_test x n here = grind (arith, nat_tests, here.above, here.below)
 
-reached : (left right : Interval) (m n : ℕ) → Admits left m → Admits right n → Keeps (if_reached left right) m n
+reached : (left right : Interval) (m n : ℕ) → Admits left m → Admits right n → StillAdmits (if_reached left right) m n
 reached left right m n here there = (
   narrowed left right,
   some_of _ _ (narrowed left right) (le_test left m here) (le_test right n there),
@@ -146,24 +146,24 @@ without-admits x y m n here there other =
     record { above = low_above x.low m y.low here.above differs; below = high_below x.high m y.low here.below differs })
     here
 
-narrow-keeps : (relation : Relation) (x y : Interval) (m n : ℕ) → Admits x m → Admits y n → Stand relation m n
-    → Keeps (narrow relation x y) m n
-narrow-keeps Same x y m n here there stand =
+narrow-still_admits : (relation : Relation) (x y : Interval) (m n : ℕ) → Admits x m → Admits y n → AreRelated relation m n
+    → StillAdmits (narrow relation x y) m n
+narrow-still_admits Same x y m n here there related =
     reached (common x y) (common x y) m n (record { above = omega arith; below = omega arith })
     (record { above = omega arith; below = omega arith })
-narrow-keeps Different x y m n here there stand =
-    reached (without x y) (without y x) m n (without-admits x y m n here there stand)
-    (without-admits y x n m there here (λ (same : n ≡ m). stand (sym same)))
-narrow-keeps Above x y m n here there stand =
+narrow-still_admits Different x y m n here there related =
+    reached (without x y) (without y x) m n (without-admits x y m n here there related)
+    (without-admits y x n m there here (λ (same : n ≡ m). related (sym same)))
+narrow-still_admits Above x y m n here there related =
     reached (at_least x (y.low + 1)) (at_most y (x.high - 1)) m n (record { above = omega arith; below = omega arith })
     (record { above = omega arith; below = omega arith })
-narrow-keeps AtLeast x y m n here there stand =
+narrow-still_admits AtLeast x y m n here there related =
     reached (at_least x y.low) (at_most y x.high) m n (record { above = omega arith; below = omega arith })
     (record { above = omega arith; below = omega arith })
-narrow-keeps Below x y m n here there stand =
+narrow-still_admits Below x y m n here there related =
     reached (at_most x (y.high - 1)) (at_least y (x.low + 1)) m n (record { above = omega arith; below = omega arith })
     (record { above = omega arith; below = omega arith })
-narrow-keeps AtMost x y m n here there stand =
+narrow-still_admits AtMost x y m n here there related =
     reached (at_most x y.high) (at_least y x.low) m n (record { above = omega arith; below = omega arith })
     (record { above = omega arith; below = omega arith })
 
@@ -175,35 +175,35 @@ edge_of false false is = refl
 
 pub decided : (single edge : Bool) (both : Narrowed) → (single ≡ true → edge ≡ true)
     → (if single then (if edge then Some both else None) else Some both) ≡ Some both
-decided true edge both met = rw (met refl) refl
-decided false edge both met = refl
+decided true edge both holds = rw (holds refl) refl
+decided false edge both holds = refl
 
-decide-keeps : (condition : Condition) (width : Width) {x y : Interval} {taken : Bool} {m n : ℕ} → IsAnswer condition width x y taken m n
-    → Keeps (decide condition width x y taken) m n
-decide-keeps condition width {x} {y} {taken} {m} {n} is =
-    let met : (is_single x && is_single y) ≡ true → beq (is_met condition width x.low y.low) taken ≡ true = λ single.
+decide-still_admits : (condition : Condition) (width : Width) {x y : Interval} {taken : Bool} {m n : ℕ} → IsAnswer condition width x y taken m n
+    → StillAdmits (decide condition width x y taken) m n
+decide-still_admits condition width {x} {y} {taken} {m} {n} is =
+    let holds : (is_single x && is_single y) ≡ true → beq (condition_holds condition width x.low y.low) taken ≡ true = λ single.
     let singles = and_parts (is_single x) (is_single y) single in
     let e-m : x.low ≡ m = sym (only x m is.left singles.0) in
     let e-n : y.low ≡ n = sym (only y n is.right singles.1) in
     edge_of _ taken (rw (e-m, e-n) is.answer) in
-    (narrowed x y, decided (is_single x && is_single y) _ (narrowed x y) met, is.left, is.right)
+    (narrowed x y, decided (is_single x && is_single y) _ (narrowed x y) holds, is.left, is.right)
 
-keeps_if : (test : Bool) (a b : Option Narrowed) (m n : ℕ) → (test ≡ true → Keeps a m n) → Keeps b m n → Keeps (if test then a else b) m n
-keeps_if true a b m n first second = first refl
-keeps_if false a b m n first second = second
+still_admits_if : (test : Bool) (a b : Option Narrowed) (m n : ℕ) → (test ≡ true → StillAdmits a m n) → StillAdmits b m n → StillAdmits (if test then a else b) m n
+still_admits_if true a b m n first second = first refl
+still_admits_if false a b m n first second = second
 
-refine_by-keeps : (relation : Option Relation) (condition : Condition) (width : Width) {x y : Interval} {taken : Bool} {m n : ℕ}
-    → IsAnswer condition width x y taken m n → (is_plain condition width x y ≡ true → StandIf relation m n)
-    → Keeps (refine_by relation condition width x y taken) m n
-refine_by-keeps None condition width is stand = decide-keeps condition width is
-refine_by-keeps (Some relation) condition width {x} {y} is stand =
-    keeps_if (is_plain condition width x y) (narrow relation x y) _ _ _
-    (λ plain. narrow-keeps relation x y _ _ is.left is.right (stand plain)) (decide-keeps condition width is)
+refine_by-still_admits : (relation : Option Relation) (condition : Condition) (width : Width) {x y : Interval} {taken : Bool} {m n : ℕ}
+    → IsAnswer condition width x y taken m n → (is_plain condition width x y ≡ true → AreRelatedIf relation m n)
+    → StillAdmits (refine_by relation condition width x y taken) m n
+refine_by-still_admits None condition width is related = decide-still_admits condition width is
+refine_by-still_admits (Some relation) condition width {x} {y} is related =
+    still_admits_if (is_plain condition width x y) (narrow relation x y) _ _ _
+    (λ plain. narrow-still_admits relation x y _ _ is.left is.right (related plain)) (decide-still_admits condition width is)
 
 -- two compared numbers remain admitted on the edge that their comparison takes
-pub refine-keeps : (condition : Condition) (width : Width) {x y : Interval} (taken : Bool) {m n : ℕ} → IsAnswer condition width x y taken m n
+pub refine-still_admits : (condition : Condition) (width : Width) {x y : Interval} (taken : Bool) {m n : ℕ} → IsAnswer condition width x y taken m n
     → (both : Narrowed) × (refine condition width x y taken ≡ Some both) × Admits both.left m × Admits both.right n
-refine-keeps condition width taken is = refine_by-keeps (relation_of condition taken) condition width is (stand_plain condition width is)
+refine-still_admits condition width taken is = refine_by-still_admits (relation_of condition taken) condition width is (plain_condition_relates condition width is)
 
 -- narrowed intervals are proper, and lie within the original ones
 
@@ -295,12 +295,12 @@ refine-within condition width taken proper-x proper-y is =
 
 -- the same for any result of two intervals
 
-pub refined-keeps : (condition : Condition) (width : Width) {x y : Interval} {taken : Bool} {result : Option Narrowed}
-    → result ≡ refine condition width x y taken → (m n : ℕ) → Admits x m → Admits y n → is_met condition width m n ≡ taken
+pub refined-still_admits : (condition : Condition) (width : Width) {x y : Interval} {taken : Bool} {result : Option Narrowed}
+    → result ≡ refine condition width x y taken → (m n : ℕ) → Admits x m → Admits y n → condition_holds condition width m n ≡ taken
     → IsSomeAnd result (λ both. Admits both.left m × Admits both.right n)
-refined-keeps condition width {taken = taken} is = λ m n left right answer.
-    let kept = refine-keeps condition width taken (record { left = left; right = right; answer = answer }) in
-    subst (λ (o : Option Narrowed). IsSomeAnd o (λ both. Admits both.left m × Admits both.right n)) (sym (is ∙ kept.1)) (kept.2, kept.3)
+refined-still_admits condition width {taken = taken} is = λ m n left right answer.
+    let admitted = refine-still_admits condition width taken (record { left = left; right = right; answer = answer }) in
+    subst (λ (o : Option Narrowed). IsSomeAnd o (λ both. Admits both.left m × Admits both.right n)) (sym (is ∙ admitted.1)) (admitted.2, admitted.3)
 
 pub refined-within : (condition : Condition) (width : Width) (x y : Interval) (taken : Bool) (result : Option Narrowed)
     → result ≡ refine condition width x y taken → IfSome result (λ both. IsWithin both.left x × IsWithin both.right y)

@@ -3,7 +3,7 @@
 use Rattle.std.specs.Prelude.{ℕ, ◌+◌, ◌-◌, ◌^◌, ◌&&◌, ◌==◌, nat_lt, nat_le, min, max, Bool, true, false, Option, Some, None, if◌then◌else◌}
 use mathlib.Core.Bool.{beq}
 use mir.Val.{bits}
-use Rattle.bpf_insn.specs.Arithmetic.{operand_bits, is_met}
+use Rattle.bpf_insn.specs.Arithmetic.{operand_bits, condition_holds}
 use Rattle.bpf_insn.specs.declared.instruction.Condition.{Condition}
 use Rattle.bpf_insn.specs.declared.instruction.Condition.TheVariants.{Equal, Greater, GreaterOrEqual, SharesBit, NotEqual, SignedGreater, SignedGreaterOrEqual, Less, LessOrEqual, SignedLess, SignedLessOrEqual}
 use Rattle.bpf_insn.specs.declared.instruction.Width.{Width}
@@ -89,7 +89,7 @@ narrow AtMost x y = if_reached (at_most x y.high) (at_least y x.low)
 abbrev pub decide : Condition → Width → Interval → Interval → Bool → Option Narrowed
 decide condition width x y taken =
     if is_single x && is_single y
-    then (if beq (is_met condition width x.low y.low) taken then Some (narrowed x y) else None)
+    then (if beq (condition_holds condition width x.low y.low) taken then Some (narrowed x y) else None)
     else Some (narrowed x y)
 
 -- narrowing by the relation of the numbers, if they are compared unchanged

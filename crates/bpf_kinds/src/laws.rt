@@ -48,7 +48,7 @@ pub fn results_are_proper()
 {}
 
 /// Results are monotone: the result of an instruction on intervals lies within its result on wider ones.
-pub fn results_rise()
+pub fn results_are_monotone()
     ensures low_bits { (w : Bits) (x a : Interval) → IsProper x → IsProper a → IsWithin x a → IsWithin (cut w x) (cut w a) }
     ensures alu { (operation : Operation) (width : Width) (x y a b : Interval) → IsProper x → IsProper y → IsProper a
         → IsProper b → IsWithin x a → IsWithin y b → IsWithin (alu operation width x y) (alu operation width a b) }

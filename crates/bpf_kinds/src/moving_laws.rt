@@ -37,7 +37,7 @@ pub fn move_back_by_admits()
 
 /// Moves are monotone: distances within near distances are near, and a move of lower offsets by lower distances yields lower offsets, and isn't
 /// refused if the move of the higher ones isn't.
-pub fn moves_rise()
+pub fn moves_are_monotone()
     ensures near { (x a : Interval) (distances : Offsets)
         → interval.IsProper x → interval.IsWithin x a → near_distances a ≡ Some distances
         → (nearer : Offsets) × (near_distances x ≡ Some nearer) × IsWithin nearer distances }

@@ -1,6 +1,6 @@
 //! Narrowing at conditional jumps (RFC 9669, section 4.3).
 ghost use Rattle.std.specs.Prelude.{◌≡◌, ◌+◌, ◌-◌, ◌^◌, ℕ, min, IfSome, IsSomeAnd};
-ghost use Rattle.bpf_insn.specs.Arithmetic.{is_met};
+ghost use Rattle.bpf_insn.specs.Arithmetic.{condition_holds};
 ghost use Rattle.bpf_kinds.specs.Interval.{IsProper, Admits, IsWithin};
 ghost use Rattle.bpf_kinds.specs.Narrowing.{relation_of, is_signed, plain_limit, is_plain, at_least, at_most, common, without, if_reached, narrow, decide, refine_by, refine};
 
@@ -36,7 +36,7 @@ pub fn refine(
 ) -> Option<Narrowed>
     ensures value { result ≡ refine condition width x y taken }
     // Numbers that take the edge remain admitted.
-    ensures keeps { (m n : ℕ) → Admits x m → Admits y n → is_met condition width m n ≡ taken
+    ensures keeps { (m n : ℕ) → Admits x m → Admits y n → condition_holds condition width m n ≡ taken
         → IsSomeAnd result (λ both. Admits both.left m × Admits both.right n) }
     ensures within { IfSome result (λ both. IsWithin both.left x × IsWithin both.right y) }
     ensures proper { IsProper x → IsProper y → IfSome result (λ both. IsProper both.left × IsProper both.right) }

@@ -6,13 +6,13 @@ use Rattle.byteorder.specs.Endian.{little_from, little_number}
 use Rattle.bpf_machine.specs.Words.{number_of}
 
 -- bytes after the first one
-behind : (count at byte : ℕ) (bytes : List ℕ) → little_from (suc at) count (byte ∷ bytes) ≡ little_from at count bytes
-behind zero at byte bytes = refl
-behind (suc count) at byte bytes = ap (λ (n : ℕ). slice_index bytes at + 256 * n) (behind count (suc at) byte bytes)
+little_from-cons : (count at byte : ℕ) (bytes : List ℕ) → little_from (suc at) count (byte ∷ bytes) ≡ little_from at count bytes
+little_from-cons zero at byte bytes = refl
+little_from-cons (suc count) at byte bytes = ap (λ (n : ℕ). slice_index bytes at + 256 * n) (little_from-cons count (suc at) byte bytes)
 
 all_of : (count : ℕ) (bytes : List ℕ) → length bytes ≡ count → number_of bytes ≡ little_number count bytes
 all_of zero [] same = refl
-all_of (suc count) (byte ∷ bytes) same = ap (λ (n : ℕ). byte + 256 * n) (all_of count bytes (omega arith) ∙ sym (behind count 0 byte bytes))
+all_of (suc count) (byte ∷ bytes) same = ap (λ (n : ℕ). byte + 256 * n) (all_of count bytes (omega arith) ∙ sym (little_from-cons count 0 byte bytes))
 all_of count bytes same = absurd (omega arith)
 
 pub some_bytes : (bytes : List ℕ) (at count : ℕ) → at + count ≤ length bytes

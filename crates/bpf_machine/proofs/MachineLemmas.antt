@@ -2,7 +2,7 @@
 use Rattle.std.proofs.Common.{◌≡◌, ℕ, ◌≤◌, List, [], ◌∷◌, length, Some, None, refl, sym, ap, subst, arith}
 use Rattle.bpf_insn.specs.Code.{place_of}
 use Rattle.bpf_insn.specs.declared.instruction.Insn.{Insn}
-use Rattle.tl_segments.specs.Segment.{Contents}
+use Rattle.tl_segments.specs.Segment.{SegmentParts}
 use Rattle.bpf_meaning.specs.State.{start}
 use Rattle.bpf_meaning.specs.Step.{Configuration, Running, Exited, Stuck, after}
 use Rattle.bpf_meaning.specs.Run.{FollowSteps, last_of, Answers, IsNeverStuck, Exits}
@@ -13,9 +13,9 @@ use Rattle.bpf_machine.specs.Machine.{Does, HoldsState, IsReached}
 use Rattle.bpf_machine.specs.Words.{Holds, words_of}
 use Rattle.bpf_machine.specs.declared.bare.Answer.{Answer}
 use Rattle.bpf_machine.specs.declared.bare.Bare.{Bare}
-use Rattle.bpf_meaning.proofs.RunLemmas.{goes_on, one_next, ends_there, IsOnItsWay, comes_to}
+use Rattle.bpf_meaning.proofs.RunLemmas.{continues, one_next, ends_there, IsReachable, comes_to}
 
-module _ (code : List Insn) (segment : Contents) where
+module _ (code : List Insn) (segment : SegmentParts) where
   -- a run that exits is longer than every run that is still in progress
   pub exits_first : (from : Configuration) (run others : List Configuration) {answer score : ℕ} {state : State}
       → FollowSteps code segment from run → FollowSteps code segment from others → last_of from run ≡ Exited answer score
@@ -33,21 +33,21 @@ module _ (code : List Insn) (segment : Contents) where
 
   -- what a run in progress leads to
 
-  pub comes_to_answer : (steps : ℕ) (state : State) (answer score : ℕ) → IsOnItsWay code segment steps state
+  pub comes_to_answer : (steps : ℕ) (state : State) (answer score : ℕ) → IsReachable code segment steps state
       → Exited answer score ≡ after code segment state → Answers code segment answer score
-  comes_to_answer steps state answer score way is =
-      let end = comes_to code segment steps state (Exited answer score) way is in
+  comes_to_answer steps state answer score reachable is =
+      let end = comes_to code segment steps state (Exited answer score) reachable is in
       record { run = end.run; is_run = end.is_run; exits = end.ends }
 
   pub is_never_stuck : (steps : ℕ) (state : State) (place : ℕ) (cause : Cause) → IsNeverStuck code segment
-      → IsOnItsWay code segment steps state → Stuck place cause ≡ after code segment state → ⊥
-  is_never_stuck steps state place cause never way is =
-      let end = comes_to code segment steps state (Stuck place cause) way is in never end.run end.is_run place cause end.ends
+      → IsReachable code segment steps state → Stuck place cause ≡ after code segment state → ⊥
+  is_never_stuck steps state place cause never reachable is =
+      let end = comes_to code segment steps state (Stuck place cause) reachable is in never end.run end.is_run place cause end.ends
 
-  pub has_exited : (steps : ℕ) (state : State) → Exits code segment → IsOnItsWay code segment steps state → length code ≤ steps → ⊥
-  has_exited steps state exits way late =
-      let short = exits.short in let long = way.long in
-      exits_first (Running start) exits.run way.run exits.is_run way.is_run exits.exits way.ends (omega arith)
+  pub has_exited : (steps : ℕ) (state : State) → Exits code segment → IsReachable code segment steps state → length code ≤ steps → ⊥
+  has_exited steps state exits reachable late =
+      let short = exits.short in let long = reachable.long in
+      exits_first (Running start) exits.run reachable.run exits.is_run reachable.is_run exits.exits reachable.ends (omega arith)
 
 -- what a step that goes on, or ends, says of the next configuration
 
@@ -63,29 +63,29 @@ has_ended code (Exited r0 score) answer old new does = let first = does.0 in let
 has_ended code (Running state) answer old new does = absurd does
 has_ended code (Stuck place cause) answer old new does = absurd does
 
-pub reached_by : (code : List Insn) (segment : Contents) (steps : ℕ) (state : State) → IsOnItsWay code segment steps state
+pub reached_by : (code : List Insn) (segment : SegmentParts) (steps : ℕ) (state : State) → IsReachable code segment steps state
     → IsReached code segment state
-reached_by code segment steps state way = record { run = way.run; is_run = way.is_run; ends = way.ends }
+reached_by code segment steps state reachable = record { run = reachable.run; is_run = reachable.is_run; ends = reachable.ends }
 
 -- a step that goes on leaves the machine with a run in progress
 
-stays_reached : (code : List Insn) (segment : Contents) (state next : State) → IsReached code segment state
+next_is_reached : (code : List Insn) (segment : SegmentParts) (state next : State) → IsReached code segment state
     → after code segment state ≡ Running next → IsReached code segment next
-stays_reached code segment state next reached is =
-    let way = goes_on code segment (length reached.run) state next
+next_is_reached code segment state next reached is =
+    let reachable = continues code segment (length reached.run) state next
     (record { run = reached.run; is_run = reached.is_run; ends = reached.ends; long = refl }) (sym is) in
-    record { run = way.run; is_run = way.is_run; ends = way.ends }
+    record { run = reachable.run; is_run = reachable.is_run; ends = reachable.ends }
 
-pub stays_on : (code : List Insn) (segment : Contents) (state : State) (old new : Bare) → IsReached code segment state
-    → Does code (after code segment state) None old new → machine.IsOnItsWay code segment new
-stays_on code segment state old new reached does =
+pub next_is_reachable : (code : List Insn) (segment : SegmentParts) (state : State) (old new : Bare) → IsReached code segment state
+    → Does code (after code segment state) None old new → machine.IsReachable code segment new
+next_is_reachable code segment state old new reached does =
     let on = went_on code (after code segment state) old new does in
-    record { state = on.0; reached = stays_reached code segment state on.0 reached on.1; holds = on.2 }
+    record { state = on.0; reached = next_is_reached code segment state on.0 reached on.1; holds = on.2 }
 
 -- and so does the start
 
-pub begins : (code : List Insn) (segment : Contents) (bare : Bare) → bare.at ≡ 0 → Holds start (words_of bare)
-    → machine.IsOnItsWay code segment bare
+pub begins : (code : List Insn) (segment : SegmentParts) (bare : Bare) → bare.at ≡ 0 → Holds start (words_of bare)
+    → machine.IsReachable code segment bare
 begins code segment bare at holds = record {
   state = start;
   reached = record { run = []; is_run = tt; ends = refl };

@@ -6,8 +6,8 @@ use Rattle.std.proofs.lemmas.Grind.{common_steps}
 use Rattle.bpf_insn.specs.declared.memory.TheConstants.{FRAME_LENGTH, SLOTS}
 use Rattle.bpf_meaning.specs.State.{register_value, start}
 use Rattle.bpf_machine.specs.Words.{Holds, IsWordOf}
-use Rattle.bpf_machine.proofs.WordMemory.{unwritten-stands}
-use Rattle.bpf_machine.proofs.WordSlots.{none-stands}
+use Rattle.bpf_machine.proofs.WordMemory.{unwritten-bytes_of}
+use Rattle.bpf_machine.proofs.WordSlots.{none-words_of}
 
 first_set : (words : List ℕ) → length words ≡ 11 → get_or (slice_set (slice_set words 1 0) 10 512) 1 0 ≡ 0
 first_set words count = grind (arith, common_steps)
@@ -27,7 +27,7 @@ start_held words frame count whole = record {
   count = length-set (slice_set words 1 0) 10 512 ∙ length-set words 1 0 ∙ count;
   registers = registers_hold words count;
   whole = whole;
-  frame = unwritten-stands FRAME_LENGTH frame;
-  slots = none-stands SLOTS frame;
+  frame = unwritten-bytes_of FRAME_LENGTH frame;
+  slots = none-words_of SLOTS frame;
   score = refl;
 }

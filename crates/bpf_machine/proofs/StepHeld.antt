@@ -16,8 +16,8 @@ use Rattle.bpf_helpers.specs.Helper.{by_number, signature}
 use Rattle.bpf_helpers.specs.declared.helper.Helper.{Helper}
 use Rattle.bpf_flat.specs.Flat.{AreFlatForms, JumpsTo, Keeps, area_of, insn_of, target_of, without_distance}
 use Rattle.bpf_flat.specs.declared.flat.FlatInsn.{FlatInsn}
-use Rattle.bpf_flat.proofs.FormLemmas.{place_found, stands_there, within_code}
-use Rattle.tl_segments.specs.Segment.{Contents, IsSegment}
+use Rattle.bpf_flat.proofs.FormLemmas.{place_found, instruction_at-place_of, within_code}
+use Rattle.tl_segments.specs.Segment.{SegmentParts, IsSegment}
 use Rattle.bpf_meaning.specs.Checks.{◌>>=◌, Sound}
 use Rattle.bpf_meaning.specs.Effect as effect
 use Rattle.bpf_meaning.specs.Run.{IsSafe}
@@ -27,11 +27,11 @@ use Rattle.bpf_meaning.specs.declared.cause.Cause.{Cause}
 use Rattle.bpf_meaning.specs.declared.effect.Effect.{Effect}
 use Rattle.bpf_meaning.specs.declared.state.State.{State}
 use Rattle.bpf_meaning.proofs.CallLemmas.{IfPasses}
-use Rattle.bpf_meaning.proofs.WholeLemmas.{run_bytes, run_whole}
+use Rattle.bpf_meaning.proofs.WellFormedLemmas.{run_bytes, run_well_formed}
 use Rattle.bpf_verify.specs.Verified.{HasBaseAreas}
 use Rattle.bpf_verify.specs.Verified as verified
 use Rattle.bpf_machine.specs.Machine.{Does, HoldsState, IsReached, StepsTo}
-use Rattle.bpf_machine.specs.Words.{Goes, Ends, Holds, HoldsEffect, HoldsNext, MeetsCall, Next, PointsOnlyInto, Words, argument_words}
+use Rattle.bpf_machine.specs.Words.{Continues, Ends, Holds, HoldsEffect, HoldsNext, MeetsCall, Next, PointsOnlyInto, Words, argument_words}
 use Rattle.bpf_machine.specs.Words.{next_of, next_words, words_of}
 use Rattle.bpf_machine.specs.declared.bare.Answer.{Answer}
 use Rattle.bpf_machine.specs.declared.bare.Bare.{Bare}
@@ -62,7 +62,7 @@ knows_base held area points = points.into ∙ ap (λ (v : Value). Some (pointed_
 
 -- the flat form of an instruction leads where the instruction does
 
-module _ (segment : Contents) (areas : ℕ → Area) (words : Words) (next : ℕ) where
+module _ (segment : SegmentParts) (areas : ℕ → Area) (words : Words) (next : ℕ) where
   flat_leads : (target : ℕ) (insn : Insn) (area : Option Area) (flat : FlatInsn) → Keeps insn area target flat → KnowsBase areas insn area
       → next_words segment areas words next target insn ≡ next_words segment (λ register. area_of flat) words next (target_of flat)
       (without_distance insn)
@@ -91,13 +91,13 @@ CallsMeet state words =
     → IfPasses (λ change. MeetsSignature helper (argument_words words (signature helper).arguments)) (effect.call_helper state helper)
 
 meets_call : (code : List Insn) (state : State) (words : Words) (next : ℕ) (found : Option Helper) {does : Effect}
-    → CallsMeet state words → effect.call_change state found >>= effect.go_on code next ≡ Ok does
+    → CallsMeet state words → effect.call_change state found >>= effect.continue_with code next ≡ Ok does
     → IfSome found (λ helper. MeetsSignature helper (argument_words words (signature helper).arguments))
 meets_call code state words next None meets is = tt
 meets_call code state words next (Some helper) {does} meets is =
-    passes_first _ (effect.call_helper state helper) (effect.go_on code next) does (meets helper) is
+    passes_first _ (effect.call_helper state helper) (effect.continue_with code next) does (meets helper) is
 
-calls_meet : (code : List Insn) (segment : Contents) (state : State) (words : Words) (next : ℕ) (insn : Insn) {does : Effect}
+calls_meet : (code : List Insn) (segment : SegmentParts) (state : State) (words : Words) (next : ℕ) (insn : Insn) {does : Effect}
     → CallsMeet state words → effect.instruction_effect code segment state next insn ≡ Ok does → MeetsCall words (without_distance insn)
 calls_meet code segment state words next (Call immediate) meets is =
     meets_call code state words next (by_number (cast_unsigned w32 immediate)) meets is
@@ -109,11 +109,11 @@ sound_passes Holds (Ok first) (Ok y) x sound is = (y, refl, let same : first ≡
 sound_passes Holds (Ok first) (Err cause) x sound is = absurd sound
 sound_passes Holds (Err cause) other x sound is = absurd (let no : ⊥ = cc in no)
 
-module _ (code : List Insn) (segment : Contents) (is : IsSegment segment) (safe : IsSafe code) where
+module _ (code : List Insn) (segment : SegmentParts) (is : IsSegment segment) (safe : IsSafe code) where
   -- the instruction at the place of a state that a run reaches passes all its checks
-  record Stands (state : State) : Type 0 where
+  record IsExecuted (state : State) : Type 0 where
     insn : Insn
-    stands : instruction_at code state.place ≡ Some insn
+    is_insn : instruction_at code state.place ≡ Some insn
     does : Effect
     passes : effect.instruction_effect code segment state (state.place + length (spelling insn)) insn ≡ Ok does
     leads : after code segment state ≡ apply segment state does
@@ -125,19 +125,19 @@ module _ (code : List Insn) (segment : Contents) (is : IsSegment segment) (safe 
       (record { run = reached.run; is_run = reached.is_run; ends = reached.ends; long = refl })
       (sym (ap (next_configuration segment state) fails))
 
-  stands_with : (state : State) (does : Effect) → effect.effect code segment state ≡ Ok does → (found : Option Insn)
-      → instruction_at code state.place ≡ found → effect.effect_of code segment state found ≡ Ok does → Stands state
+  written_with : (state : State) (does : Effect) → effect.effect code segment state ≡ Ok does → (found : Option Insn)
+      → instruction_at code state.place ≡ found → effect.effect_of code segment state found ≡ Ok does → IsExecuted state
   unfolding after
-  stands_with state does all None stands passes = absurd (let no : ⊥ = cc in no)
-  stands_with state does all (Some insn) stands passes = record
-      { insn = insn; stands = stands; does = does; passes = passes; leads = ap (next_configuration segment state) all }
+  written_with state does all None is_insn passes = absurd (let no : ⊥ = cc in no)
+  written_with state does all (Some insn) is_insn passes = record
+      { insn = insn; is_insn = is_insn; does = does; passes = passes; leads = ap (next_configuration segment state) all }
 
-  stands_at : (state : State) → IsReached code segment state → Stands state
-  stands_at state reached = by_result (effect.effect code segment state) refl
+  instruction_at_index : (state : State) → IsReached code segment state → IsExecuted state
+  instruction_at_index state reached = by_result (effect.effect code segment state) refl
     where
-      by_result : (result : Result Effect Cause) → effect.effect code segment state ≡ result → Stands state
+      by_result : (result : Result Effect Cause) → effect.effect code segment state ≡ result → IsExecuted state
       by_result (Err cause) fails = absurd (stuck state reached cause fails)
-      by_result (Ok does) all = stands_with state does all (instruction_at code state.place) refl all
+      by_result (Ok does) all = written_with state does all (instruction_at code state.place) refl all
 
   module _ (areas : List (Option Area)) (flats : List FlatInsn) (known : HasBaseAreas code areas)
       (forms : AreFlatForms code areas (length code) flats) where
@@ -154,68 +154,68 @@ module _ (code : List Insn) (segment : Contents) (is : IsSegment segment) (safe 
 
     base_known : (state : State) → IsReached code segment state → (index : ℕ) (insn : Insn) → index_at code state.place ≡ Some index
         → instruction_at code state.place ≡ Some insn → KnowsBase (areas_in state) insn (get_or areas index None)
-    base_known state reached index (Load format destination base offset) at stands =
+    base_known state reached index (Load format destination base offset) at is_insn =
         knows_base _ _ (known.bases segment is reached.run reached.is_run state reached.ends index
-        (Load format destination base offset) base.number at stands refl)
-    base_known state reached index insn at stands = tt
+        (Load format destination base offset) base.number at is_insn refl)
+    base_known state reached index insn at is_insn = tt
 
     leads_with : (state : State) (bare : Bare) (flat : FlatInsn) → IsReached code segment state → HoldsState code state bare
-        → flat ≡ get_or flats bare.at flat → Stands state → Leads state bare flat
-    leads_with state bare flat reached holds there stands =
-        let begins = subst (λ (place : ℕ). instruction_at code place ≡ Some stands.insn) holds.at stands.stands in
-        let within = within_code code bare.at stands.insn begins in
-        let insn_is = stands_there code bare.at stands.insn begins in
-        let form = forms.each bare.at stands.insn flat within insn_is there in
+        → flat ≡ get_or flats bare.at flat → IsExecuted state → Leads state bare flat
+    leads_with state bare flat reached holds there is_insn =
+        let begins = subst (λ (place : ℕ). instruction_at code place ≡ Some is_insn.insn) holds.at is_insn.is_insn in
+        let within = within_code code bare.at is_insn.insn begins in
+        let insn_is = instruction_at-place_of code bare.at is_insn.insn begins in
+        let form = forms.each bare.at is_insn.insn flat within insn_is there in
         let at = subst (λ (place : ℕ). index_at code place ≡ Some bare.at) (sym holds.at) (place_found code bare.at within) in
-        let next_place = ap (λ (place : ℕ). place + length (spelling stands.insn)) holds.at
-        ∙ sym (place_of-more code bare.at stands.insn within insn_is) in
-        let whole = run_whole code segment reached.run state reached.is_run reached.ends in
+        let next_place = ap (λ (place : ℕ). place + length (spelling is_insn.insn)) holds.at
+        ∙ sym (place_of-more code bare.at is_insn.insn within insn_is) in
+        let whole = run_well_formed code segment reached.run state reached.is_run reached.ends in
         let bytes = run_bytes code segment reached.run state is reached.is_run reached.ends in
-        let jumps = subst (λ (place : ℕ). JumpsTo code place stands.insn form.target) (sym holds.at) form.jumps in
+        let jumps = subst (λ (place : ℕ). JumpsTo code place is_insn.insn form.target) (sym holds.at) form.jumps in
         let sound =
-        walk_held code segment state (words_of bare) holds.words (state.place + length (spelling stands.insn)) (bare.at + 1) form.target
-        next_place (areas_in state) stands.insn is whole bytes form.immediates
+        walk_held code segment state (words_of bare) holds.words (state.place + length (spelling is_insn.insn)) (bare.at + 1) form.target
+        next_place (areas_in state) is_insn.insn is whole bytes form.immediates
         (λ register. points_there (register_value state register)) jumps in
-        let found = sound_passes (HoldsEffect code segment state) _ _ stands.does sound stands.passes in
-        let as_flat = flat_leads segment (areas_in state) (words_of bare) (bare.at + 1) form.target stands.insn
-        (get_or areas bare.at None) flat form.keeps (base_known state reached bare.at stands.insn at stands.stands) in
+        let found = sound_passes (HoldsEffect code segment state) _ _ is_insn.does sound is_insn.passes in
+        let as_flat = flat_leads segment (areas_in state) (words_of bare) (bare.at + 1) form.target is_insn.insn
+        (get_or areas bare.at None) flat form.keeps (base_known state reached bare.at is_insn.insn at is_insn.is_insn) in
         record {
           next = found.0;
           leads = ap (λ (insn : Insn). next_words segment (λ register. area_of flat) (words_of bare) (bare.at + 1) (target_of flat) insn)
-              form.stands_for ∙ sym as_flat ∙ found.1;
-          holds = subst (λ (configuration : Configuration). HoldsNext code configuration found.0) (sym stands.leads) found.2;
-          meets = subst (MeetsCall (words_of bare)) (sym form.stands_for)
-              (calls_meet code segment state (words_of bare) _ stands.insn
-              (call_meets segment state (words_of bare) is whole holds.words) stands.passes);
+              form.represents ∙ sym as_flat ∙ found.1;
+          holds = subst (λ (configuration : Configuration). HoldsNext code configuration found.0) (sym is_insn.leads) found.2;
+          meets = subst (MeetsCall (words_of bare)) (sym form.represents)
+              (calls_meet code segment state (words_of bare) _ is_insn.insn
+              (call_meets segment state (words_of bare) is whole holds.words) is_insn.passes);
           within = within;
         }
 
-    pub leads_on : (state : State) (bare : Bare) (flat : FlatInsn) → IsReached code segment state → HoldsState code state bare
+    pub forward_jump : (state : State) (bare : Bare) (flat : FlatInsn) → IsReached code segment state → HoldsState code state bare
         → flat ≡ get_or flats bare.at flat → Leads state bare flat
-    leads_on state bare flat reached holds there = leads_with state bare flat reached holds there (stands_at state reached)
+    forward_jump state bare flat reached holds there = leads_with state bare flat reached holds there (instruction_at_index state reached)
 
     pub within_on : (state : State) (bare : Bare) → IsReached code segment state → HoldsState code state bare → bare.at < length code
     within_on state bare reached holds =
-        let stands = stands_at state reached in within_code code bare.at stands.insn
-        (subst (λ (place : ℕ). instruction_at code place ≡ Some stands.insn) holds.at stands.stands)
+        let is_insn = instruction_at_index state reached in within_code code bare.at is_insn.insn
+        (subst (λ (place : ℕ). instruction_at code place ≡ Some is_insn.insn) holds.at is_insn.is_insn)
 
 -- the machine has gone on, or has ended
 
-pub goes_on : (code : List Insn) (configuration : Configuration) (bare : Bare) (next : Next) → HoldsNext code configuration next
-    → next ≡ Goes (words_of bare) bare.at → (old : Bare) → Does code configuration None old bare
-goes_on code (Running state) bare (Goes words at) held same old = record {
+pub continues : (code : List Insn) (configuration : Configuration) (bare : Bare) (next : Next) → HoldsNext code configuration next
+    → next ≡ Continues (words_of bare) bare.at → (old : Bare) → Does code configuration None old bare
+continues code (Running state) bare (Continues words at) held same old = record {
   at = held.0 ∙ ap (place_of code) (let there : at ≡ bare.at = cc in there);
   words = subst (Holds state) (let there : words ≡ words_of bare = cc in there) held.1;
 }
-goes_on code ended bare (Goes words at) held same old = absurd held
-goes_on code configuration bare (Ends r0 score) held same old = absurd (let no : ⊥ = cc in no)
+continues code ended bare (Continues words at) held same old = absurd held
+continues code configuration bare (Ends r0 score) held same old = absurd (let no : ⊥ = cc in no)
 
 pub ends : (code : List Insn) (configuration : Configuration) (answer : Answer) (next : Next) → HoldsNext code configuration next
     → next ≡ Ends answer.r0 answer.score → {old new : Bare} → new ≡ old → Does code configuration (Some answer) old new
-ends code (Exited r0 score) answer (Ends word word_score) held same kept =
-    (let there : answer.r0 ≡ word = cc in there ∙ held.0, let there : answer.score ≡ word_score = cc in there ∙ held.1, kept)
-ends code configuration answer (Ends word word_score) held same kept = absurd held
-ends code configuration answer (Goes words at) held same kept = absurd (let no : ⊥ = cc in no)
+ends code (Exited r0 score) answer (Ends word word_score) held same unchanged =
+    (let there : answer.r0 ≡ word = cc in there ∙ held.0, let there : answer.score ≡ word_score = cc in there ∙ held.1, unchanged)
+ends code configuration answer (Ends word word_score) held same unchanged = absurd held
+ends code configuration answer (Continues words at) held same unchanged = absurd (let no : ⊥ = cc in no)
 
 pub same_next : (first second : Result Next Cause) (one other : Next) → first ≡ Ok one → second ≡ Ok other → first ≡ second → one ≡ other
 same_next first second one other is there same = let both : Ok one ≡ second = sym is ∙ same in cc
@@ -223,6 +223,6 @@ same_next first second one other is there same = let both : Ok one ≡ second = 
 -- an instruction leads to an entry, or to the end, as the next configuration says
 pub steps_to : (code : List Insn) (configuration : Configuration) (to : Option ℕ) (old new : Bare) {next : Next}
     → HoldsNext code configuration next → next ≡ next_of to (words_of new) → (to ≡ None → new ≡ old) → StepsTo code configuration to old new
-steps_to code configuration (Some at) old new held is kept = goes_on code configuration (record new { at = at }) _ held is old
-steps_to code configuration None old new held is kept = λ answer says.
-    ends code configuration answer _ held (is ∙ sym says) (kept refl)
+steps_to code configuration (Some at) old new held is unchanged = continues code configuration (record new { at = at }) _ held is old
+steps_to code configuration None old new held is unchanged = λ answer says.
+    ends code configuration answer _ held (is ∙ sym says) (unchanged refl)

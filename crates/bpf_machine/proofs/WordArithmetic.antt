@@ -120,15 +120,15 @@ operate_held operation width v w m n left right = tt
 
 -- moves
 
-pub offset_kept : (offset : ℤ) (word : ℕ) → word ≡ cast_unsigned w64 offset → IsTrue (is_offset offset)
+pub offset_unchanged : (offset : ℤ) (word : ℕ) → word ≡ cast_unsigned w64 offset → IsTrue (is_offset offset)
     → word % 2 ^ 64 ≡ cast_unsigned w64 offset
-offset_kept (pos a) word is near = grind (arith, ints, nat_tests)
-offset_kept (negsuc a) word is near = grind (arith, ints, nat_tests)
+offset_unchanged (pos a) word is near = grind (arith, ints, nat_tests)
+offset_unchanged (negsuc a) word is near = grind (arith, ints, nat_tests)
 
 pub move_held : (width : Width) (v : Value) (word : ℕ) → IsWordOf v word
     → Sound IsWordOf (tags.move effect.value_tags width v) (Ok (low_bits (operand_bits width) word))
 move_held Bits64 (value.Number n) word held = let same = held.0 in let fits = held.1 in (omega arith, fits)
-move_held Bits64 (value.Pointer pointer) word held = (offset_kept pointer.offset word held.0 held.1, held.1)
+move_held Bits64 (value.Pointer pointer) word held = (offset_unchanged pointer.offset word held.0 held.1, held.1)
 move_held Bits32 (value.Number n) word held = (ap (low_bits w32) held.0, omega arith)
 move_held Bits64 v word held = tt
 move_held Bits32 v word held = tt

@@ -22,12 +22,12 @@ use Rattle.bpf_helpers.specs.declared.signature.FrameUse.{FrameUse}
 use Rattle.bpf_helpers.specs.declared.signature.FrameUse.TheVariants as frame_use
 use Rattle.bpf_helpers.proofs.CallLemmas.{answer-fits, written-length}
 use Rattle.bpf_helpers.proofs.WriteLemmas.{length-write, write-nothing}
-use Rattle.tl_segments.specs.Segment.{Contents, IsSegment}
+use Rattle.tl_segments.specs.Segment.{SegmentParts, IsSegment}
 use Rattle.bpf_meaning.specs.Checks.{◌>>=◌, Sound}
 use Rattle.bpf_meaning.specs.Effect as effect
 use Rattle.bpf_insn.specs.Frame.{FrameByte, FrameContents, Unwritten, Byte}
 use Rattle.bpf_meaning.specs.Memory.{all_written, write_bytes, written_bytes}
-use Rattle.bpf_meaning.specs.State.{IsWhole}
+use Rattle.bpf_meaning.specs.State.{IsWellFormed}
 use Rattle.bpf_meaning.specs.Step as step
 use Rattle.bpf_meaning.specs.declared.cause.Cause.{Cause}
 use Rattle.bpf_meaning.specs.declared.cause.Cause.TheVariants.{BadArgument, OutOfBounds, UnwrittenFrame}
@@ -35,8 +35,8 @@ use Rattle.bpf_meaning.specs.declared.effect.Change.TheVariants.{CallHelper}
 use Rattle.bpf_meaning.specs.declared.state.State.{State}
 use Rattle.bpf_meaning.proofs.CallLemmas.{IfPasses, called_can_be_made, then_keeps}
 use Rattle.bpf_machine.specs.Words.{Holds, IsWordOf, Words, argument_word, argument_words, call_helper, called, words_after}
-use Rattle.bpf_machine.proofs.WordMemory.{HoldsChange, StandFor, write-stands}
-use Rattle.bpf_machine.proofs.WordSlots.{SlotsStandFor, overwrite-stands}
+use Rattle.bpf_machine.proofs.WordMemory.{HoldsChange, AreBytesOf, write-bytes_of}
+use Rattle.bpf_machine.proofs.WordSlots.{AreWordsOfSlots, overwrite-words_of}
 
 -- arguments
 
@@ -65,23 +65,23 @@ frame_read : (number : ℕ) (v : Value) (word : ℕ) → IsWordOf v word
 frame_read number (value.Pointer pointer) word held = frame_argument number pointer.area pointer.offset word held.0
 frame_read number v word held = tt
 
-argument_held : (state : State) (words : Words) → Holds state words → (number : ℕ) (wanted : Argument)
-    → IfPasses (λ argument. argument ≡ argument_word words number wanted) (effect.argument_in state number wanted)
+argument_held : (state : State) (words : Words) → Holds state words → (number : ℕ) (required : Argument)
+    → IfPasses (λ argument. argument ≡ argument_word words number required) (effect.argument_in state number required)
 argument_held state words holds number argument.Unused = refl
 argument_held state words holds number (argument.Number allowed) = number_read number allowed _ _ (holds.registers number)
 argument_held state words holds number argument.Frame = frame_read number _ _ (holds.registers number)
 
-arguments_held : (state : State) (words : Words) → Holds state words → (wanted : List Argument)
-    → IfPasses (λ arguments. arguments ≡ argument_words words wanted) (effect.arguments_in state wanted)
-arguments_held state words holds wanted =
-    let a = get_or wanted 0 argument.Unused in
-    let b = get_or wanted 1 argument.Unused in
-    let c = get_or wanted 2 argument.Unused in
-    then_keeps (λ x. x ≡ argument_word words 1 a) (λ arguments. arguments ≡ argument_words words wanted) (effect.argument_in state 1 a) _
+arguments_held : (state : State) (words : Words) → Holds state words → (required : List Argument)
+    → IfPasses (λ arguments. arguments ≡ argument_words words required) (effect.arguments_in state required)
+arguments_held state words holds required =
+    let a = get_or required 0 argument.Unused in
+    let b = get_or required 1 argument.Unused in
+    let c = get_or required 2 argument.Unused in
+    then_keeps (λ x. x ≡ argument_word words 1 a) (λ arguments. arguments ≡ argument_words words required) (effect.argument_in state 1 a) _
     (argument_held state words holds 1 a) (λ x one.
-    then_keeps (λ y. y ≡ argument_word words 2 b) (λ arguments. arguments ≡ argument_words words wanted) (effect.argument_in state 2 b) _
+    then_keeps (λ y. y ≡ argument_word words 2 b) (λ arguments. arguments ≡ argument_words words required) (effect.argument_in state 2 b) _
     (argument_held state words holds 2 b) (λ y two.
-    then_keeps (λ z. z ≡ argument_word words 3 c) (λ arguments. arguments ≡ argument_words words wanted) (effect.argument_in state 3 c) _
+    then_keeps (λ z. z ≡ argument_word words 3 c) (λ arguments. arguments ≡ argument_words words required) (effect.argument_in state 3 c) _
     (argument_held state words holds 3 c) (λ z three. cc)))
 
 -- lending bytes of the frame keeps the arguments as they are
@@ -106,45 +106,45 @@ lend_frame_held state frame_use.Reads words arguments same =
 
 -- what a call reads: written bytes equal the bytes that represent them
 
-front_read : (memory : List FrameByte) (bytes : List ℕ) (count : ℕ) → StandFor memory bytes → length bytes ≡ length memory
+front_read : (memory : List FrameByte) (bytes : List ℕ) (count : ℕ) → AreBytesOf memory bytes → length bytes ≡ length memory
     → all_written (take count memory) ≡ true → take count bytes ≡ written_bytes (take count memory)
-front_read memory bytes zero stand same all = refl
-front_read [] [] (suc count) stand same all = refl
-front_read (Unwritten ∷ memory) (byte ∷ bytes) (suc count) stand same all = absurd (false≢true all)
-front_read (Byte written ∷ memory) (byte ∷ bytes) (suc count) stand same all =
-    let first = stand 0 in let rest = front_read memory bytes count (λ i. stand (suc i)) (omega arith) all in
+front_read memory bytes zero represent same all = refl
+front_read [] [] (suc count) represent same all = refl
+front_read (Unwritten ∷ memory) (byte ∷ bytes) (suc count) represent same all = absurd (false≢true all)
+front_read (Byte written ∷ memory) (byte ∷ bytes) (suc count) represent same all =
+    let first = represent 0 in let rest = front_read memory bytes count (λ i. represent (suc i)) (omega arith) all in
     ap (λ (b : ℕ). b ∷ take count bytes) first ∙ ap (λ (l : List ℕ). written ∷ l) rest
-front_read memory bytes count stand same all = absurd (omega arith)
+front_read memory bytes count represent same all = absurd (omega arith)
 
-part_read : (memory : List FrameByte) (bytes : List ℕ) (at count : ℕ) → StandFor memory bytes → length bytes ≡ length memory
+part_read : (memory : List FrameByte) (bytes : List ℕ) (at count : ℕ) → AreBytesOf memory bytes → length bytes ≡ length memory
     → all_written (take count (drop at memory)) ≡ true → take count (drop at bytes) ≡ written_bytes (take count (drop at memory))
-part_read memory bytes zero count stand same all = front_read memory bytes count stand same all
-part_read [] [] (suc at) count stand same all = front_read [] [] count stand same all
-part_read (other ∷ memory) (byte ∷ bytes) (suc at) count stand same all =
-    part_read memory bytes at count (λ i. stand (suc i)) (omega arith) all
-part_read memory bytes at count stand same all = absurd (omega arith)
+part_read memory bytes zero count represent same all = front_read memory bytes count represent same all
+part_read [] [] (suc at) count represent same all = front_read [] [] count represent same all
+part_read (other ∷ memory) (byte ∷ bytes) (suc at) count represent same all =
+    part_read memory bytes at count (λ i. represent (suc i)) (omega arith) all
+part_read memory bytes at count represent same all = absurd (omega arith)
 
-bytes_read_held : (memory : List FrameByte) (bytes : List ℕ) (frame : FrameUse) (arguments : List ℕ) → StandFor memory bytes
+bytes_read_held : (memory : List FrameByte) (bytes : List ℕ) (frame : FrameUse) (arguments : List ℕ) → AreBytesOf memory bytes
     → length bytes ≡ length memory → all_written (bytes_read frame arguments memory) ≡ true
     → bytes_read frame arguments bytes ≡ written_bytes (bytes_read frame arguments memory)
-bytes_read_held memory bytes frame_use.Reads arguments stand same all =
-    part_read memory bytes (second arguments) (third arguments) stand same all
-bytes_read_held memory bytes frame arguments stand same all = refl
+bytes_read_held memory bytes frame_use.Reads arguments represent same all =
+    part_read memory bytes (second arguments) (third arguments) represent same all
+bytes_read_held memory bytes frame arguments represent same all = refl
 
 -- what a call writes, if anything, lies within the frame
 
 record HoldFrame (frame : FrameContents) (bytes : List ℕ) : Type 0 where
   whole : length bytes ≡ FRAME_LENGTH
-  stand : StandFor frame.bytes bytes
-  slots : SlotsStandFor frame.slots bytes
+  represent : AreBytesOf frame.bytes bytes
+  slots : AreWordsOfSlots frame.slots bytes
 
 module _ (frame : FrameContents) (bytes : List ℕ) (hold : HoldFrame frame bytes) where
   nothing_written : (new : List ℕ) (at : ℕ) → length new ≡ 0 → HoldFrame (write_bytes frame at new) (write bytes at new)
   nothing_written [] at none = record {
     whole = ap length (write-nothing bytes at) ∙ hold.whole;
-    stand = subst (λ (m : List FrameByte). StandFor m (write bytes at [])) (sym (write-nothing frame.bytes at))
-        (subst (StandFor frame.bytes) (sym (write-nothing bytes at)) hold.stand);
-    slots = subst (SlotsStandFor frame.slots) (sym (write-nothing bytes at)) hold.slots;
+    represent = subst (λ (m : List FrameByte). AreBytesOf m (write bytes at [])) (sym (write-nothing frame.bytes at))
+        (subst (AreBytesOf frame.bytes) (sym (write-nothing bytes at)) hold.represent);
+    slots = subst (AreWordsOfSlots frame.slots) (sym (write-nothing bytes at)) hold.slots;
   }
   nothing_written (byte ∷ new) at none = absurd (omega arith)
 
@@ -155,8 +155,8 @@ module _ (frame : FrameContents) (bytes : List ℕ) (hold : HoldFrame frame byte
       let whole = hold.whole in
       record {
         whole = length-write bytes new (second arguments) (omega arith) ∙ hold.whole;
-        stand = write-stands frame.bytes bytes new (second arguments) (omega arith) (omega arith) hold.stand;
-        slots = overwrite-stands frame.slots bytes new (second arguments) (omega arith) (omega arith) hold.slots;
+        represent = write-bytes_of frame.bytes bytes new (second arguments) (omega arith) (omega arith) hold.represent;
+        slots = overwrite-words_of frame.slots bytes new (second arguments) (omega arith) (omega arith) hold.slots;
       }
   bytes_written new lent arguments long many within count = nothing_written new (second arguments) count
 
@@ -177,7 +177,7 @@ registers_held values (word ∷ words) answer some fits all register = tt
 
 -- a call whose checks have passed
 
-module _ (segment : Contents) (state : State) (words : Words) (is : IsSegment segment) (whole : IsWhole state) (holds : Holds state words)
+module _ (segment : SegmentParts) (state : State) (words : Words) (is : IsSegment segment) (whole : IsWellFormed state) (holds : Holds state words)
     (helper : Helper) where
   called_alike : (arguments : List ℕ) → effect.CanBeCalled state helper arguments
       → called segment words helper arguments ≡ step.called segment state helper arguments
@@ -195,7 +195,7 @@ module _ (segment : Contents) (state : State) (words : Words) (is : IsSegment se
       let read = written_bytes (bytes_read (frame_use (signature helper).shape) arguments state.frame.bytes) in
       let done = step.called segment state helper arguments in
       let frame =
-      bytes_written state.frame words.frame (record { whole = holds.whole; stand = holds.frame; slots = holds.slots }) done.written
+      bytes_written state.frame words.frame (record { whole = holds.whole; represent = holds.frame; slots = holds.slots }) done.written
       (frame_use (signature helper).shape) arguments whole.frame whole.slots can.meets.within
       (written-length helper segment arguments read state.score is can.meets) in
       let registers = whole.registers in
@@ -205,7 +205,7 @@ module _ (segment : Contents) (state : State) (words : Words) (is : IsSegment se
         registers = registers_held state.registers words.registers done.answer (omega arith)
             (answer-fits helper segment arguments read state.score is can.meets) holds.registers;
         whole = frame.whole;
-        frame = frame.stand;
+        frame = frame.represent;
         slots = frame.slots;
         score = refl;
       }

@@ -19,13 +19,13 @@ use Rattle.bpf_insn.specs.declared.value.Value.TheVariants as value
 use Rattle.bpf_kinds.specs.Results.{load}
 use Rattle.bpf_kinds.proofs.ResultLemmas.{load-admits, load-proper}
 use Rattle.bpf_helpers.specs.Call.{write}
-use Rattle.bpf_helpers.proofs.WriteLemmas.{get_or-write, get_or-write_before, get_or-write_behind, length-write}
-use Rattle.tl_segments.specs.Segment.{Contents, IsSegment}
+use Rattle.bpf_helpers.proofs.WriteLemmas.{get_or-write, get_or-write_before, get_or-write_after, length-write}
+use Rattle.tl_segments.specs.Segment.{SegmentParts, IsSegment}
 use Rattle.bpf_meaning.specs.Checks.{Sound}
 use Rattle.bpf_meaning.specs.Effect as effect
 use Rattle.bpf_insn.specs.Frame as frame
 use Rattle.bpf_insn.specs.Frame.{FrameByte, Unwritten, Byte, overwrite_slots, slot_at, slot_bytes, slot_value, value_of}
-use Rattle.bpf_meaning.specs.State.{HoldsBytes, IsWhole}
+use Rattle.bpf_meaning.specs.State.{HoldsBytes, IsWellFormed}
 use Rattle.bpf_meaning.specs.Step.{carry_out}
 use Rattle.bpf_meaning.specs.declared.cause.Cause.{Cause}
 use Rattle.bpf_meaning.specs.declared.cause.Cause.TheVariants.{OutOfBounds}
@@ -36,24 +36,24 @@ use Rattle.bpf_meaning.proofs.FrameLemmas.{HoldBytes, bytes-map}
 use Rattle.bpf_meaning.proofs.MemoryLemmas.{fits_more, length-bytes_low_first, store_is_write}
 use Rattle.bpf_insn.proofs.SlotLemmas.{slot_at-is}
 use Rattle.bpf_meaning.proofs.SlotLemmas.{store_pointer-none, store_pointer-slot, whole_slot_is_loaded}
-use Rattle.bpf_meaning.proofs.WholeLemmas.{inside_ends}
+use Rattle.bpf_meaning.proofs.WellFormedLemmas.{inside_ends}
 use Rattle.bpf_machine.specs.Words.{Holds, IsByteOf, IsWordOf, IsWordOfSlot, Words, area_bytes, load_bytes, loaded, number_of, store_at}
 use Rattle.bpf_machine.specs.Words.{stored}
 use Rattle.bpf_machine.proofs.WordArithmetic.{admitted_fits}
-use Rattle.bpf_machine.proofs.WordSlots.{SlotsStandFor, all_alike, keep-stands, overwrite-stands}
+use Rattle.bpf_machine.proofs.WordSlots.{AreWordsOfSlots, all_alike, set_pointer-words_of, overwrite-words_of}
 
 -- bytes represent memory, one by one
-abbrev pub StandFor : List FrameByte → List ℕ → Type 0
-StandFor memory bytes = (at : ℕ) → IsByteOf (get_or memory at Unwritten) (get_or bytes at 0)
+abbrev pub AreBytesOf : List FrameByte → List ℕ → Type 0
+AreBytesOf memory bytes = (at : ℕ) → IsByteOf (get_or memory at Unwritten) (get_or bytes at 0)
 
-pub map-stands : (bytes : List ℕ) → StandFor (map Byte bytes) bytes
-map-stands [] at = tt
-map-stands (byte ∷ bytes) zero = refl
-map-stands (byte ∷ bytes) (suc at) = map-stands bytes at
+pub map-bytes_of : (bytes : List ℕ) → AreBytesOf (map Byte bytes) bytes
+map-bytes_of [] at = tt
+map-bytes_of (byte ∷ bytes) zero = refl
+map-bytes_of (byte ∷ bytes) (suc at) = map-bytes_of bytes at
 
 -- any bytes represent unwritten ones
-pub unwritten-stands : (count : ℕ) (bytes : List ℕ) → StandFor (replicate count Unwritten) bytes
-unwritten-stands count bytes at = subst (λ (byte : FrameByte). IsByteOf byte (get_or bytes at 0)) (sym (all_alike count at Unwritten)) tt
+pub unwritten-bytes_of : (count : ℕ) (bytes : List ℕ) → AreBytesOf (replicate count Unwritten) bytes
+unwritten-bytes_of count bytes at = subst (λ (byte : FrameByte). IsByteOf byte (get_or bytes at 0)) (sym (all_alike count at Unwritten)) tt
 
 -- loads
 
@@ -71,24 +71,24 @@ one_more count byte bytes (Some n) small is = (
       subst (λ (k : ℕ). byte + 256 * n < 256 ^ k) (omega arith) below,
 )
 
-front_number : (memory : List FrameByte) (bytes : List ℕ) (count : ℕ) → StandFor memory bytes → HoldBytes memory → count ≤ length memory
+front_number : (memory : List FrameByte) (bytes : List ℕ) (count : ℕ) → AreBytesOf memory bytes → HoldBytes memory → count ≤ length memory
     → length bytes ≡ length memory → IsNumberOf count (take count bytes) (frame.number_of (take count memory))
-front_number memory bytes zero stand small within same = (refl, omega arith)
-front_number (Unwritten ∷ memory) bytes (suc count) stand small within same = tt
-front_number (Byte written ∷ memory) (byte ∷ bytes) (suc count) stand small within same =
+front_number memory bytes zero represent small within same = (refl, omega arith)
+front_number (Unwritten ∷ memory) bytes (suc count) represent small within same = tt
+front_number (Byte written ∷ memory) (byte ∷ bytes) (suc count) represent small within same =
     subst (λ (b : ℕ). IsNumberOf (suc count) (b ∷ take count bytes)
-    (option_map (λ rest. written + 256 * rest) (frame.number_of (take count memory)))) (sym (stand 0))
+    (option_map (λ rest. written + 256 * rest) (frame.number_of (take count memory)))) (sym (represent 0))
     (one_more count written (take count bytes) (frame.number_of (take count memory)) (small 0)
-    (front_number memory bytes count (λ i. stand (suc i)) (λ i. small (suc i)) (omega arith) (omega arith)))
-front_number memory bytes count stand small within same = absurd (omega arith)
+    (front_number memory bytes count (λ i. represent (suc i)) (λ i. small (suc i)) (omega arith) (omega arith)))
+front_number memory bytes count represent small within same = absurd (omega arith)
 
-part_number : (memory : List FrameByte) (bytes : List ℕ) (at count : ℕ) → StandFor memory bytes → HoldBytes memory
+part_number : (memory : List FrameByte) (bytes : List ℕ) (at count : ℕ) → AreBytesOf memory bytes → HoldBytes memory
     → at + count ≤ length memory → length bytes ≡ length memory → IsNumberOf count (take count (drop at bytes))
     (frame.number_of (take count (drop at memory)))
-part_number memory bytes zero count stand small within same = front_number memory bytes count stand small (omega arith) same
-part_number (byte ∷ memory) (other ∷ bytes) (suc at) count stand small within same =
-    part_number memory bytes at count (λ i. stand (suc i)) (λ i. small (suc i)) (omega arith) (omega arith)
-part_number memory bytes at count stand small within same = absurd (omega arith)
+part_number memory bytes zero count represent small within same = front_number memory bytes count represent small (omega arith) same
+part_number (byte ∷ memory) (other ∷ bytes) (suc at) count represent small within same =
+    part_number memory bytes at count (λ i. represent (suc i)) (λ i. small (suc i)) (omega arith) (omega arith)
+part_number memory bytes at count represent small within same = absurd (omega arith)
 
 -- the number that a load yields has 64 bits
 loaded_fits : (load_format : LoadFormat) (n : ℕ) → n < 256 ^ load_length load_format → arithmetic.load_extension load_format n < 2 ^ 64
@@ -99,9 +99,9 @@ number_loaded : (load_format : LoadFormat) (bytes : List ℕ) (found : Option �
 number_loaded load_format bytes None is = tt
 number_loaded load_format bytes (Some n) is = (ap (arithmetic.load_extension load_format) is.0, loaded_fits load_format n is.1)
 
-bytes_loaded : (load_format : LoadFormat) (memory : List FrameByte) (bytes : List ℕ) (from : ℤ) → StandFor memory bytes → HoldBytes memory
+bytes_loaded : (load_format : LoadFormat) (memory : List FrameByte) (bytes : List ℕ) (from : ℤ) → AreBytesOf memory bytes → HoldBytes memory
     → length bytes ≡ length memory → Sound IsWordOf (effect.load_bytes load_format memory from) (load_bytes load_format bytes from)
-bytes_loaded load_format memory bytes from stand small same =
+bytes_loaded load_format memory bytes from represent small same =
     subst (λ (n : ℕ). Sound IsWordOf (effect.load_bytes load_format memory from)
     (if effect.lie_within from (load_length load_format) n then Ok (loaded load_format bytes (unsigned_abs from)) else Err OutOfBounds))
     (sym same)
@@ -113,7 +113,7 @@ bytes_loaded load_format memory bytes from stand small same =
         (if within then Ok (loaded load_format bytes (unsigned_abs from)) else Err OutOfBounds)
     by_test true within =
         number_loaded load_format (take (load_length load_format) (drop (unsigned_abs from) bytes)) _
-        (part_number memory bytes (unsigned_abs from) (load_length load_format) stand small
+        (part_number memory bytes (unsigned_abs from) (load_length load_format) represent small
         (inside_ends from (load_length load_format) (length memory) within) same)
     by_test false outside = tt
 
@@ -130,7 +130,7 @@ whole_loaded load_format bytes at slot all begins =
     whole_slot_is_loaded load_format _ all ∙ ap (λ (n : ℕ). number_of (take n (drop at bytes))) all
     ∙ ap (λ (n : ℕ). number_of (take SLOT_LENGTH (drop n bytes))) begins
 
-module _ (state : State) (words : Words) (whole : IsWhole state) (small : HoldsBytes state) (holds : Holds state words) where
+module _ (state : State) (words : Words) (whole : IsWellFormed state) (small : HoldsBytes state) (holds : Holds state words) where
   -- a load from the frame, of a whole slot or of other bytes
   within_loaded : (load_format : LoadFormat) (at : ℕ) → at + load_length load_format ≤ FRAME_LENGTH
       → Sound IsWordOf (effect.load_within load_format state.frame at) (Ok (loaded load_format words.frame at))
@@ -172,38 +172,38 @@ module _ (state : State) (words : Words) (whole : IsWhole state) (small : HoldsB
           let long = whole.frame in within_loaded load_format (unsigned_abs from) (omega arith)
       by_test false outside = tt
 
-  pub load_held : (segment : Contents) → IsSegment segment → (load_format : LoadFormat) (into : Area) (from : ℤ)
+  pub load_held : (segment : SegmentParts) → IsSegment segment → (load_format : LoadFormat) (into : Area) (from : ℤ)
       → Sound IsWordOf (effect.load_from segment state load_format into from) (load_bytes load_format (area_bytes segment words into) from)
   load_held segment is load_format area.Record from =
-      bytes_loaded load_format (map Byte segment.bytes) segment.bytes from (map-stands segment.bytes)
+      bytes_loaded load_format (map Byte segment.bytes) segment.bytes from (map-bytes_of segment.bytes)
       (bytes-map segment.bytes is.bytes.bytes) (sym (length-map segment.bytes Byte))
   load_held segment is load_format area.Frame from = frame_loaded load_format from
 
 -- what is stored
 
 -- words hold the state after a change
-abbrev pub HoldsChange : Contents → State → Change → Words → Type 0
+abbrev pub HoldsChange : SegmentParts → State → Change → Words → Type 0
 HoldsChange segment state change words = Holds (carry_out segment state change) words
 
 module _ (memory : List FrameByte) (bytes new : List ℕ) (at : ℕ) (same : length bytes ≡ length memory)
-    (within : at + length new ≤ length memory) (stand : StandFor memory bytes) where
+    (within : at + length new ≤ length memory) (represent : AreBytesOf memory bytes) where
   -- bytes still represent memory after both are overwritten, if the new bytes represent the new memory
-  written-stands : (fresh : List FrameByte) → length fresh ≡ length new → StandFor fresh new
-      → StandFor (write memory at fresh) (write bytes at new)
-  written-stands fresh long over i =
+  written-bytes_of : (fresh : List FrameByte) → length fresh ≡ length new → AreBytesOf fresh new
+      → AreBytesOf (write memory at fresh) (write bytes at new)
+  written-bytes_of fresh long over i =
       elim (cases_lt i at) [
         | inl before ↦
             both (get_or-write_before memory fresh at i Unwritten (omega arith) before)
-            (get_or-write_before bytes new at i 0 (omega arith) before) (stand i)
+            (get_or-write_before bytes new at i 0 (omega arith) before) (represent i)
         | inr above ↦
             elim (cases_lt i (at + length new)) [
               | inl below ↦
                   subst (λ (k : ℕ). IsByteOf (get_or (write memory at fresh) k Unwritten) (get_or (write bytes at new) k 0)) (omega arith)
                   (both (get_or-write memory fresh at (i - at) Unwritten (omega arith) (omega arith))
                   (get_or-write bytes new at (i - at) 0 (omega arith) (omega arith)) (over (i - at)))
-              | inr behind ↦
-                  both (get_or-write_behind memory fresh at i Unwritten (omega arith) (omega arith))
-                  (get_or-write_behind bytes new at i 0 (omega arith) (omega arith)) (stand i)
+              | inr beyond ↦
+                  both (get_or-write_after memory fresh at i Unwritten (omega arith) (omega arith))
+                  (get_or-write_after bytes new at i 0 (omega arith) (omega arith)) (represent i)
             ]
       ]
     where
@@ -211,10 +211,10 @@ module _ (memory : List FrameByte) (bytes new : List ℕ) (at : ℕ) (same : len
       both {written} {before} {byte} {old} one other is =
           subst (λ (b : ℕ). IsByteOf written b) (sym other) (subst (λ (m : FrameByte). IsByteOf m old) (sym one) is)
 
-  pub write-stands : StandFor (write memory at (map Byte new)) (write bytes at new)
-  write-stands = written-stands (map Byte new) (length-map new Byte) (map-stands new)
+  pub write-bytes_of : AreBytesOf (write memory at (map Byte new)) (write bytes at new)
+  write-bytes_of = written-bytes_of (map Byte new) (length-map new Byte) (map-bytes_of new)
 
-module _ (segment : Contents) (state : State) (words : Words) (whole : IsWhole state) (holds : Holds state words) where
+module _ (segment : SegmentParts) (state : State) (words : Words) (whole : IsWellFormed state) (holds : Holds state words) where
   -- a number is stored
   stored_held : (at : ℕ) (size : StoreSize) (number : ℕ) → at + store_length size ≤ FRAME_LENGTH
       → HoldsChange segment state (StoreBytes at size number) (stored words at size number)
@@ -228,19 +228,19 @@ module _ (segment : Contents) (state : State) (words : Words) (whole : IsWhole s
         count = holds.count;
         registers = holds.registers;
         whole = length-write words.frame low at (omega arith) ∙ new;
-        frame = subst (λ (m : List FrameByte). StandFor m (write words.frame at low))
+        frame = subst (λ (m : List FrameByte). AreBytesOf m (write words.frame at low))
             (sym (store_is_write state.frame.bytes at (store_length size) number))
-            (write-stands state.frame.bytes words.frame low at (omega arith) (omega arith) holds.frame);
-        slots = subst (λ (n : ℕ). SlotsStandFor (overwrite_slots None state.frame.slots at n) (write words.frame at low)) long
-            (overwrite-stands state.frame.slots words.frame low at (omega arith) (omega arith) holds.slots);
+            (write-bytes_of state.frame.bytes words.frame low at (omega arith) (omega arith) holds.frame);
+        slots = subst (λ (n : ℕ). AreWordsOfSlots (overwrite_slots None state.frame.slots at n) (write words.frame at low)) long
+            (overwrite-words_of state.frame.slots words.frame low at (omega arith) (omega arith) holds.slots);
         score = holds.score;
       }
 
   -- a pointer is stored in a slot
-  kept_held : (slot : ℕ) (pointer : PointerParts) (word : ℕ) → slot < SLOTS → IsWordOf (value.Pointer pointer) word
+  stored_pointer_held : (slot : ℕ) (pointer : PointerParts) (word : ℕ) → slot < SLOTS → IsWordOf (value.Pointer pointer) word
       → HoldsChange segment state (StorePointer slot pointer)
       (record words { frame = write words.frame (SLOT_LENGTH * slot) (bytes_low_first 0 SLOT_LENGTH word) })
-  kept_held slot pointer word inside held =
+  stored_pointer_held slot pointer word inside held =
       let low = bytes_low_first 0 SLOT_LENGTH word in
       let at = SLOT_LENGTH * slot in
       let old = whole.frame in
@@ -251,9 +251,9 @@ module _ (segment : Contents) (state : State) (words : Words) (whole : IsWhole s
         registers = holds.registers;
         whole = length-write words.frame low at (omega arith) ∙ new;
         frame =
-            written-stands state.frame.bytes words.frame low at (omega arith) (omega arith) holds.frame
-            (replicate SLOT_LENGTH Unwritten) refl (unwritten-stands SLOT_LENGTH low);
-        slots = keep-stands state.frame.slots words.frame slot pointer word (omega arith) (omega arith) held holds.slots;
+            written-bytes_of state.frame.bytes words.frame low at (omega arith) (omega arith) holds.frame
+            (replicate SLOT_LENGTH Unwritten) refl (unwritten-bytes_of SLOT_LENGTH low);
+        slots = set_pointer-words_of state.frame.slots words.frame slot pointer word (omega arith) (omega arith) held holds.slots;
         score = holds.score;
       }
 
@@ -273,24 +273,24 @@ module _ (segment : Contents) (state : State) (words : Words) (whole : IsWhole s
       → Sound (HoldsChange segment state) (effect.store_pointer from size pointer) (store_at words from size word)
   pointer_held from size pointer word held = by_slot (slot_at (unsigned_abs from) (store_length size)) refl
     where
-      kept : (slot : ℕ) → (store_length size ≡ SLOT_LENGTH) × (unsigned_abs from ≡ SLOT_LENGTH * slot)
+      stored_slot : (slot : ℕ) → (store_length size ≡ SLOT_LENGTH) × (unsigned_abs from ≡ SLOT_LENGTH * slot)
           → unsigned_abs from + store_length size ≤ FRAME_LENGTH
           → HoldsChange segment state (StorePointer slot pointer) (stored words (unsigned_abs from) size word)
-      kept slot is within =
+      stored_slot slot is within =
           let all = is.0 in
           let begins = is.1 in
           subst (λ (n : ℕ). HoldsChange segment state (StorePointer slot pointer)
           (record words { frame = write words.frame n (bytes_low_first 0 (store_length size) word) })) (sym begins)
           (subst (λ (n : ℕ). HoldsChange segment state (StorePointer slot pointer)
           (record words { frame = write words.frame (SLOT_LENGTH * slot) (bytes_low_first 0 n word) })) (sym all)
-          (kept_held slot pointer word (omega arith) held))
+          (stored_pointer_held slot pointer word (omega arith) held))
 
       by_test : (slot : ℕ) → slot_at (unsigned_abs from) (store_length size) ≡ Some slot → (within : Bool)
           → effect.lie_within from (store_length size) FRAME_LENGTH ≡ within
           → Sound (HoldsChange segment state) (if within then Ok (StorePointer slot pointer) else Err OutOfBounds)
           (if within then Ok (stored words (unsigned_abs from) size word) else Err OutOfBounds)
       by_test slot is true within =
-          kept slot (slot_at-is (unsigned_abs from) (store_length size) slot is) (inside_ends from (store_length size) FRAME_LENGTH within)
+          stored_slot slot (slot_at-is (unsigned_abs from) (store_length size) slot is) (inside_ends from (store_length size) FRAME_LENGTH within)
       by_test slot is false outside = tt
 
       by_slot : (found : Option ℕ) → slot_at (unsigned_abs from) (store_length size) ≡ found

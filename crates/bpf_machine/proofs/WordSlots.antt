@@ -14,11 +14,11 @@ use Rattle.bpf_helpers.specs.Call.{write}
 use Rattle.bpf_meaning.proofs.MemoryLemmas.{stored_is_loaded}
 use Rattle.bpf_meaning.proofs.SlotLemmas.{length-overwrite_slots, overwritten_apart, overwritten_within, slot_bytes-apart}
 use Rattle.bpf_machine.specs.Words.{IsWordOf, IsWordOfSlot, number_of}
-use Rattle.bpf_machine.proofs.WordArithmetic.{offset_kept}
+use Rattle.bpf_machine.proofs.WordArithmetic.{offset_unchanged}
 
 -- the words of slots represent the pointers in them, slot by slot
-abbrev pub SlotsStandFor : List (Option PointerParts) → List ℕ → Type 0
-SlotsStandFor slots bytes = (slot : ℕ) → IsWordOfSlot (get_or slots slot None) (number_of (slot_bytes bytes slot))
+abbrev pub AreWordsOfSlots : List (Option PointerParts) → List ℕ → Type 0
+AreWordsOfSlots slots bytes = (slot : ℕ) → IsWordOfSlot (get_or slots slot None) (number_of (slot_bytes bytes slot))
 
 -- if a slot holds no pointer, any word will do
 no_pointer : (held : Option PointerParts) (word : ℕ) → held ≡ None → IsWordOfSlot held word
@@ -29,13 +29,13 @@ all_alike zero at a = refl
 all_alike (suc count) zero a = refl
 all_alike (suc count) (suc at) a = all_alike count at a
 
-pub none-stands : (count : ℕ) (bytes : List ℕ) → SlotsStandFor (replicate count None) bytes
-none-stands count bytes slot = no_pointer _ _ (all_alike count slot None)
+pub none-words_of : (count : ℕ) (bytes : List ℕ) → AreWordsOfSlots (replicate count None) bytes
+none-words_of count bytes slot = no_pointer _ _ (all_alike count slot None)
 
 -- if a slot still holds the same pointer and the same bytes, its word still represents the pointer
-stays : (held before : Option PointerParts) (bytes old : List ℕ) → held ≡ before → bytes ≡ old → IsWordOfSlot before (number_of old)
+unchanged_slot : (held before : Option PointerParts) (bytes old : List ℕ) → held ≡ before → bytes ≡ old → IsWordOfSlot before (number_of old)
     → IsWordOfSlot held (number_of bytes)
-stays held before bytes old same alike is =
+unchanged_slot held before bytes old same alike is =
     subst (λ (l : List ℕ). IsWordOfSlot held (number_of l)) (sym alike)
     (subst (λ (p : Option PointerParts). IsWordOfSlot p (number_of old)) (sym same) is)
 
@@ -48,7 +48,7 @@ apart_or_touched : (slot at count : ℕ) → IsApart slot at count ⊎ IsTouched
 apart_or_touched slot at zero = inl (λ i above below is. omega arith)
 apart_or_touched slot at (suc more) =
     elim (cases_lt at (SLOT_LENGTH * slot + SLOT_LENGTH)) [
-      | inr behind ↦ inl (λ i above below is. omega arith)
+      | inr beyond ↦ inl (λ i above below is. omega arith)
       | inl begins ↦
           elim (cases_lt at (SLOT_LENGTH * slot)) [
             | inr inside ↦ inr (at, omega arith, omega arith, omega arith)
@@ -61,17 +61,17 @@ apart_or_touched slot at (suc more) =
     ]
 
 -- bytes that are written: a slot with one of them no longer holds a pointer, and the other slots keep their pointers and their bytes
-pub overwrite-stands : (slots : List (Option PointerParts)) (bytes new : List ℕ) (at : ℕ) → length bytes ≡ SLOT_LENGTH * length slots
-    → at + length new ≤ length bytes → SlotsStandFor slots bytes
-    → SlotsStandFor (overwrite_slots None slots at (length new)) (write bytes at new)
-overwrite-stands slots bytes new at long within stand slot =
+pub overwrite-words_of : (slots : List (Option PointerParts)) (bytes new : List ℕ) (at : ℕ) → length bytes ≡ SLOT_LENGTH * length slots
+    → at + length new ≤ length bytes → AreWordsOfSlots slots bytes
+    → AreWordsOfSlots (overwrite_slots None slots at (length new)) (write bytes at new)
+overwrite-words_of slots bytes new at long within represent slot =
     elim (cases_lt slot (length slots)) [
       | inr past ↦ no_pointer _ _ (let same = length-overwrite_slots None slots at (length new) (omega arith) in
           get_or_past (overwrite_slots None slots at (length new)) slot None (omega arith))
       | inl inside ↦
           elim (apart_or_touched slot at (length new)) [
-            | inl apart ↦ stays _ _ _ _ (overwritten_apart None slots at (length new) slot inside apart)
-                (slot_bytes-apart bytes new at slot within apart) (stand slot)
+            | inl apart ↦ unchanged_slot _ _ _ _ (overwritten_apart None slots at (length new) slot inside apart)
+                (slot_bytes-apart bytes new at slot within apart) (represent slot)
             | inr touched ↦ no_pointer _ _ (overwritten_within None slots at
                 (length new) slot touched.0 inside touched.1 touched.2 touched.3)
           ]
@@ -102,36 +102,36 @@ slot_written bytes slot word within =
 
 -- a stored pointer: the word of its slot represents it, and the other slots keep their pointers and their bytes
 
-module _ (slots : List (Option PointerParts)) (bytes : List ℕ) (kept : ℕ) (pointer : PointerParts) (word : ℕ)
-    (within : SLOT_LENGTH * kept + SLOT_LENGTH ≤ length bytes) where
-  kept_here : kept < length slots → IsWordOf (value.Pointer pointer) word
-      → IsWordOfSlot (get_or (slice_set slots kept (Some pointer)) kept None)
-      (number_of (slot_bytes (write bytes (SLOT_LENGTH * kept) (bytes_low_first 0 SLOT_LENGTH word)) kept))
-  kept_here inside held =
-      stays _ (Some pointer) _ (bytes_low_first 0 SLOT_LENGTH word) (get_or-set_same slots kept (Some pointer) None inside)
-      (slot_written bytes kept word within)
-      (subst (IsWordOf (value.Pointer pointer)) (sym (low_number word)) (offset_kept pointer.offset word held.0 held.1, held.1))
+module _ (slots : List (Option PointerParts)) (bytes : List ℕ) (stored_slot : ℕ) (pointer : PointerParts) (word : ℕ)
+    (within : SLOT_LENGTH * stored_slot + SLOT_LENGTH ≤ length bytes) where
+  stored_slot_holds : stored_slot < length slots → IsWordOf (value.Pointer pointer) word
+      → IsWordOfSlot (get_or (slice_set slots stored_slot (Some pointer)) stored_slot None)
+      (number_of (slot_bytes (write bytes (SLOT_LENGTH * stored_slot) (bytes_low_first 0 SLOT_LENGTH word)) stored_slot))
+  stored_slot_holds inside held =
+      unchanged_slot _ (Some pointer) _ (bytes_low_first 0 SLOT_LENGTH word) (get_or-set_same slots stored_slot (Some pointer) None inside)
+      (slot_written bytes stored_slot word within)
+      (subst (IsWordOf (value.Pointer pointer)) (sym (low_number word)) (offset_unchanged pointer.offset word held.0 held.1, held.1))
 
-  kept_apart : (slot : ℕ) → slot ≢ kept → IsWordOfSlot (get_or slots slot None) (number_of (slot_bytes bytes slot))
-      → IsWordOfSlot (get_or (slice_set slots kept (Some pointer)) slot None)
-      (number_of (slot_bytes (write bytes (SLOT_LENGTH * kept) (bytes_low_first 0 SLOT_LENGTH word)) slot))
-  kept_apart slot other is =
-      stays _ _ _ _ (get_or-set_other slots kept slot (Some pointer) None other)
-      (slot_bytes-apart bytes (bytes_low_first 0 SLOT_LENGTH word) (SLOT_LENGTH * kept) slot within
+  other_slots_hold : (slot : ℕ) → slot ≢ stored_slot → IsWordOfSlot (get_or slots slot None) (number_of (slot_bytes bytes slot))
+      → IsWordOfSlot (get_or (slice_set slots stored_slot (Some pointer)) slot None)
+      (number_of (slot_bytes (write bytes (SLOT_LENGTH * stored_slot) (bytes_low_first 0 SLOT_LENGTH word)) slot))
+  other_slots_hold slot other is =
+      unchanged_slot _ _ _ _ (get_or-set_other slots stored_slot slot (Some pointer) None other)
+      (slot_bytes-apart bytes (bytes_low_first 0 SLOT_LENGTH word) (SLOT_LENGTH * stored_slot) slot within
       (λ i above below at. other (omega arith))) is
 
-  pub keep-stands : kept < length slots → IsWordOf (value.Pointer pointer) word → SlotsStandFor slots bytes
-      → SlotsStandFor (slice_set slots kept (Some pointer)) (write bytes (SLOT_LENGTH * kept) (bytes_low_first 0 SLOT_LENGTH word))
-  keep-stands inside held stand slot =
-      elim (cases_lt slot kept) [
-        | inl before ↦ kept_apart slot (λ same. omega arith) (stand slot)
+  pub set_pointer-words_of : stored_slot < length slots → IsWordOf (value.Pointer pointer) word → AreWordsOfSlots slots bytes
+      → AreWordsOfSlots (slice_set slots stored_slot (Some pointer)) (write bytes (SLOT_LENGTH * stored_slot) (bytes_low_first 0 SLOT_LENGTH word))
+  set_pointer-words_of inside held represent slot =
+      elim (cases_lt slot stored_slot) [
+        | inl before ↦ other_slots_hold slot (λ same. omega arith) (represent slot)
         | inr above ↦
-            elim (cases_lt kept slot) [
-              | inl behind ↦ kept_apart slot (λ same. omega arith) (stand slot)
+            elim (cases_lt stored_slot slot) [
+              | inl beyond ↦ other_slots_hold slot (λ same. omega arith) (represent slot)
               | inr below ↦
-                  let slots_then = slice_set slots kept (Some pointer) in
-                  let bytes_then = write bytes (SLOT_LENGTH * kept) (bytes_low_first 0 SLOT_LENGTH word) in
+                  let slots_then = slice_set slots stored_slot (Some pointer) in
+                  let bytes_then = write bytes (SLOT_LENGTH * stored_slot) (bytes_low_first 0 SLOT_LENGTH word) in
                   subst (λ (n : ℕ). IsWordOfSlot (get_or slots_then n None) (number_of (slot_bytes bytes_then n))) (omega arith)
-                  (kept_here inside held)
+                  (stored_slot_holds inside held)
             ]
       ]

@@ -7,7 +7,7 @@ use Rattle.std.proofs.Math.ListN.{length-set}
 use Rattle.std.proofs.lemmas.Bool.Decides.{nat_tests}
 use Rattle.std.proofs.lemmas.Int.{ints}
 use Rattle.bpf_insn.specs.Arithmetic as arithmetic
-use Rattle.bpf_insn.specs.Arithmetic.{is_met}
+use Rattle.bpf_insn.specs.Arithmetic.{condition_holds}
 use Rattle.bpf_insn.specs.Code.{instruction_at, place_of, word_count}
 use Rattle.bpf_insn.specs.Pointer.{is_offset}
 use Rattle.bpf_insn.specs.declared.instruction.Insn.{Insn}
@@ -28,10 +28,10 @@ use Rattle.bpf_kinds.proofs.ResultLemmas.{extend-proper, extend-admits, negate-p
 use Rattle.bpf_kinds.proofs.ResultLemmas.{immediate_operand-proper, wide_number-proper}
 use Rattle.bpf_insn.specs.Immediates.{HasImmediates}
 use Rattle.bpf_flat.specs.Flat.{JumpsTo}
-use Rattle.tl_segments.specs.Segment.{Contents, IsSegment}
+use Rattle.tl_segments.specs.Segment.{SegmentParts, IsSegment}
 use Rattle.bpf_meaning.specs.Checks.{◌>>=◌, Sound}
 use Rattle.bpf_meaning.specs.Effect as effect
-use Rattle.bpf_meaning.specs.State.{HoldsBytes, IsWhole}
+use Rattle.bpf_meaning.specs.State.{HoldsBytes, IsWellFormed}
 use Rattle.bpf_meaning.specs.Step.{carry_out}
 use Rattle.bpf_meaning.specs.Walk.{ConditionalJump}
 use Rattle.bpf_meaning.specs.declared.cause.Cause.{Cause}
@@ -39,10 +39,10 @@ use Rattle.bpf_meaning.specs.declared.cause.Cause.TheVariants.{OutOfProgram, Int
 use Rattle.bpf_meaning.specs.declared.effect.Change.{Change}
 use Rattle.bpf_meaning.specs.declared.effect.Change.TheVariants.{Nothing, SetRegister}
 use Rattle.bpf_meaning.specs.declared.effect.Effect.{Effect}
-use Rattle.bpf_meaning.specs.declared.effect.Effect.TheVariants.{GoOn}
+use Rattle.bpf_meaning.specs.declared.effect.Effect.TheVariants.{Continue}
 use Rattle.bpf_meaning.specs.declared.state.State.{State}
 use Rattle.bpf_meaning.proofs.WalkForesees.{Foresees, against, walk_foreseen}
-use Rattle.bpf_machine.specs.Words.{Goes, HasAreas, Holds, HoldsEffect, IsWordOf, Next, PointsOnlyInto, Words, area_bytes, bare_words}
+use Rattle.bpf_machine.specs.Words.{Continues, HasAreas, Holds, HoldsEffect, IsWordOf, Next, PointsOnlyInto, Words, area_bytes, bare_words}
 use Rattle.bpf_machine.specs.Words.{load_bytes, next_words, pointer_of, store_at, with_word}
 use Rattle.bpf_machine.proofs.WordCalls.{call_held}
 use Rattle.bpf_machine.proofs.WordMemory.{HoldsChange, load_held, store_held}
@@ -104,7 +104,7 @@ swapped_held order width n word is =
 
 -- a register is set
 
-register_held : (segment : Contents) (state : State) (words : Words) → Holds state words
+register_held : (segment : SegmentParts) (state : State) (words : Words) → Holds state words
     → (destination : WritableRegister) (v : Value) (word : ℕ) → IsWordOf v word
     → HoldsChange segment state (SetRegister destination v) (with_word words destination.number word)
 register_held segment state words holds destination v word held = record {
@@ -139,50 +139,50 @@ placed state place words holds = record {
   score = holds.score;
 }
 
-module _ (code : List Insn) (segment : Contents) (state : State) where
-  goes_on_held : (place at : ℕ) (change : Change) (words : Words) → place ≡ place_of code at → HoldsChange segment state change words
-      → Sound (HoldsEffect code segment state) (effect.go_on code place change) (Ok (Goes words at))
-  goes_on_held place at change words same holds = by_tests (is_some (instruction_at code place)) (nat_lt place (word_count code))
+module _ (code : List Insn) (segment : SegmentParts) (state : State) where
+  continues_held : (place at : ℕ) (change : Change) (words : Words) → place ≡ place_of code at → HoldsChange segment state change words
+      → Sound (HoldsEffect code segment state) (effect.continue_with code place change) (Ok (Continues words at))
+  continues_held place at change words same holds = by_tests (is_some (instruction_at code place)) (nat_lt place (word_count code))
     where
       by_tests : (begins inside : Bool)
           → Sound (HoldsEffect code segment state)
-          (if begins then Ok (GoOn change place) else (if inside then Err IntoWide else Err OutOfProgram)) (Ok (Goes words at))
+          (if begins then Ok (Continue change place) else (if inside then Err IntoWide else Err OutOfProgram)) (Ok (Continues words at))
       by_tests true inside = (same, placed (carry_out segment state change) place words holds)
       by_tests false true = tt
       by_tests false false = tt
 
   jump_held : (to : ℤ) (at : ℕ) (words : Words) → to ≡ pos (place_of code at) → Holds state words
-      → Sound (HoldsEffect code segment state) (effect.go_to code to) (Ok (Goes words at))
+      → Sound (HoldsEffect code segment state) (effect.continue_at code to) (Ok (Continues words at))
   jump_held to at words leads holds =
-      subst (λ (z : ℤ). Sound (HoldsEffect code segment state) (effect.go_to code z) (Ok (Goes words at))) (sym leads)
-      (goes_on_held (place_of code at) at Nothing words refl holds)
+      subst (λ (z : ℤ). Sound (HoldsEffect code segment state) (effect.continue_at code z) (Ok (Continues words at))) (sym leads)
+      (continues_held (place_of code at) at Nothing words refl holds)
 
   -- words that hold the state, the entry of the next instruction, and the entry that the instruction jumps to
   module _ (words : Words) (holds : Holds state words) (next next_at target : ℕ) (same : next ≡ place_of code next_at) where
     branch_held : (jump : ConditionalJump) → pos (state.place + 1) +ℤ jump.distance ≡ pos (place_of code target) → (v w : Value) (m n : ℕ)
         → IsWordOf v m → IsWordOf w n
         → Sound (HoldsEffect code segment state) ((effect.values code segment state next).branch jump v w)
-        (Ok (Goes words (if is_met jump.condition jump.width m n then target else next_at)))
+        (Ok (Continues words (if condition_holds jump.condition jump.width m n then target else next_at)))
     branch_held jump leads (value.Number x) (value.Number y) m n left right =
-        subst (λ (k : ℕ). Sound (HoldsEffect code segment state) (taken (is_met jump.condition jump.width x y))
-        (Ok (goes (is_met jump.condition jump.width k n)))) (sym left.0)
-        (subst (λ (k : ℕ). Sound (HoldsEffect code segment state) (taken (is_met jump.condition jump.width x y))
-        (Ok (goes (is_met jump.condition jump.width x k)))) (sym right.0)
-        (by_answer (is_met jump.condition jump.width x y)))
+        subst (λ (k : ℕ). Sound (HoldsEffect code segment state) (taken (condition_holds jump.condition jump.width x y))
+        (Ok (branches (condition_holds jump.condition jump.width k n)))) (sym left.0)
+        (subst (λ (k : ℕ). Sound (HoldsEffect code segment state) (taken (condition_holds jump.condition jump.width x y))
+        (Ok (branches (condition_holds jump.condition jump.width x k)))) (sym right.0)
+        (by_answer (condition_holds jump.condition jump.width x y)))
       where
         taken : Bool → Result Effect Cause
-        taken answer = if answer then effect.jump code state.place jump.distance else effect.go_on code next Nothing
+        taken answer = if answer then effect.jump code state.place jump.distance else effect.continue_with code next Nothing
 
-        goes : Bool → Next
-        goes answer = Goes words (if answer then target else next_at)
+        branches : Bool → Next
+        branches answer = Continues words (if answer then target else next_at)
 
-        by_answer : (answer : Bool) → Sound (HoldsEffect code segment state) (taken answer) (Ok (goes answer))
+        by_answer : (answer : Bool) → Sound (HoldsEffect code segment state) (taken answer) (Ok (branches answer))
         by_answer true = jump_held _ target words leads holds
-        by_answer false = goes_on_held next next_at Nothing words same holds
+        by_answer false = continues_held next next_at Nothing words same holds
     branch_held jump leads v w m n left right = tt
 
     -- each step of an instruction
-    values_foresee : (areas : ℕ → Area) (insn : Insn) → IsSegment segment → IsWhole state → HoldsBytes state → HasAreas state areas
+    values_foresee : (areas : ℕ → Area) (insn : Insn) → IsSegment segment → IsWellFormed state → HoldsBytes state → HasAreas state areas
         → JumpsTo code state.place insn target
         → Foresees (effect.values code segment state next) (bare_words segment areas words next_at target) insn
     values_foresee areas insn is whole bytes points leads = record {
@@ -217,9 +217,9 @@ module _ (code : List Insn) (segment : Contents) (state : State) where
           subst (λ (k : ℤ). Sound (HoldsChange segment state) (effect.store_at at size v) (store_at words k size word)) (sym is)
           (store_held segment state words whole holds at size v word stored);
       call = call_held segment state words is whole holds;
-      set = λ goes_on destination v word held.
-          goes_on_held next next_at _ _ same (register_held segment state words holds destination v word held);
-      go_on = λ goes_on change behind holds. goes_on_held next next_at change behind same holds;
+      set = λ continues destination v word held.
+          continues_held next next_at _ _ same (register_held segment state words holds destination v word held);
+      continue_with = λ continues change updated holds. continues_held next next_at change updated same holds;
       jump = λ distance jumps. jump_held _ target words (leads distance jumps) holds;
       with_immediate = λ jump immediate may fits left.
           branch_held (against jump (Immediate immediate)) (leads jump.distance may.leads) left.first _ left.second _ left.is
@@ -230,7 +230,7 @@ module _ (code : List Insn) (segment : Contents) (state : State) where
       end = λ n word alike. (alike.0, holds.score);
     }
 
-    pub walk_held : (areas : ℕ → Area) (insn : Insn) → IsSegment segment → IsWhole state → HoldsBytes state → HasImmediates insn
+    pub walk_held : (areas : ℕ → Area) (insn : Insn) → IsSegment segment → IsWellFormed state → HoldsBytes state → HasImmediates insn
         → HasAreas state areas → JumpsTo code state.place insn target
         → Sound (HoldsEffect code segment state) (effect.instruction_effect code segment state next insn)
         (next_words segment areas words next_at target insn)

@@ -2,7 +2,7 @@
 use Rattle.std.specs.Prelude.{◌≡◌, ℕ, List, Option, Some, None}
 use Rattle.bpf_insn.specs.Code.{place_of}
 use Rattle.bpf_insn.specs.declared.instruction.Insn.{Insn}
-use Rattle.tl_segments.specs.Segment.{Contents}
+use Rattle.tl_segments.specs.Segment.{SegmentParts}
 use Rattle.bpf_meaning.specs.Run.{IsRun, end_of}
 use Rattle.bpf_meaning.specs.Step.{Configuration, Running, Exited}
 use Rattle.bpf_meaning.specs.declared.state.State.{State}
@@ -16,13 +16,13 @@ pub record HoldsState (code : List Insn) (state : State) (bare : Bare) : Type 0 
   pub words : Holds state (words_of bare)
 
 -- some run of a code on a segment reaches a state
-pub record IsReached (code : List Insn) (segment : Contents) (state : State) : Type 0 where
+pub record IsReached (code : List Insn) (segment : SegmentParts) (state : State) : Type 0 where
   pub run : List Configuration
   pub is_run : IsRun code segment run
   pub ends : end_of run ≡ Running state
 
 -- the machine holds a state that some run of the code on the segment reaches
-pub record IsOnItsWay (code : List Insn) (segment : Contents) (bare : Bare) : Type 0 where
+pub record IsReachable (code : List Insn) (segment : SegmentParts) (bare : Bare) : Type 0 where
   pub state : State
   pub reached : IsReached code segment state
   pub holds : HoldsState code state bare

@@ -3,8 +3,8 @@
 -- right if the checks of the instruction's meaning pass.
 use Rattle.std.specs.Prelude.{◌≡◌, ℕ, ◌+◌, ◌*◌, ◌^◌, ◌<◌, ℤ, ◌+ℤ◌, unsigned_abs, IsTrue, List, [], ◌∷◌, length, take, drop, get_or, slice_set, Option, Some, None, IfSome, Result, Ok, Err, if◌then◌else◌}
 use Rattle.std.specs.Int.{bytes_low_first, cast_signed, cast_unsigned, w32, w64}
-use Rattle.tl_segments.specs.Segment.{Contents}
-use Rattle.bpf_insn.specs.Arithmetic.{result_of, negate, extension_of, byte_swap, low_bits, operand_bits, is_met, immediate_operand, wide_number, load_extension}
+use Rattle.tl_segments.specs.Segment.{SegmentParts}
+use Rattle.bpf_insn.specs.Arithmetic.{result_of, negate, extension_of, byte_swap, low_bits, operand_bits, condition_holds, immediate_operand, wide_number, load_extension}
 use Rattle.bpf_insn.specs.Code.{place_of}
 use Rattle.bpf_insn.specs.Memory.{load_length, store_length}
 use Rattle.bpf_insn.specs.Pointer.{is_offset}
@@ -43,7 +43,7 @@ pub record Words : Type 0 where
 
 -- the result of an instruction: words at an entry, or the end with an answer
 pub data Next : Type 0 where
-  Goes : (words : Words) (at : ℕ) → Next
+  Continues : (words : Words) (at : ℕ) → Next
   Ends : (answer score : ℕ) → Next
 
 -- the words of a machine
@@ -68,7 +68,7 @@ end_of words = Ends (word_in words 0) words.score
 
 -- the result of an instruction, with the words after it: at an entry, or at the end
 abbrev pub next_of : Option ℕ → Words → Next
-next_of (Some at) words = Goes words at
+next_of (Some at) words = Continues words at
 next_of None words = end_of words
 
 -- the registers as words that point into these areas: every word can be read, and is its own number
@@ -97,7 +97,7 @@ number_of [] = 0
 number_of (byte ∷ bytes) = byte + 256 * number_of bytes
 
 -- the bytes of an area
-abbrev pub area_bytes : Contents → Words → Area → List ℕ
+abbrev pub area_bytes : SegmentParts → Words → Area → List ℕ
 area_bytes segment words Record = segment.bytes
 area_bytes segment words Frame = words.frame
 
@@ -124,15 +124,15 @@ store_at words from size number =
 -- an argument, in the register of its number; an unused one is 0
 abbrev pub argument_word : Words → ℕ → Argument → ℕ
 argument_word words number argument.Unused = 0
-argument_word words number wanted = word_in words number
+argument_word words number required = word_in words number
 
 -- the arguments that a prototype requires, in order
 abbrev pub argument_words : Words → List Argument → List ℕ
-argument_words words wanted =
-    argument_word words 1 (get_or wanted 0 argument.Unused) ∷ argument_word words 2 (get_or wanted 1 argument.Unused) ∷ argument_word words 3 (get_or wanted 2 argument.Unused) ∷ []
+argument_words words required =
+    argument_word words 1 (get_or required 0 argument.Unused) ∷ argument_word words 2 (get_or required 1 argument.Unused) ∷ argument_word words 3 (get_or required 2 argument.Unused) ∷ []
 
 -- what a call with these arguments does on the segment, with the bytes that it reads of the frame
-abbrev pub called : Contents → Words → Helper → List ℕ → Called
+abbrev pub called : SegmentParts → Words → Helper → List ℕ → Called
 called segment words helper arguments = call helper segment arguments (bytes_read (frame_use (signature helper).shape) arguments words.frame) words.score
 
 -- The words after a call whose bytes are written from an offset on. Only register 0 is set: the other registers that a call empties may hold
@@ -145,7 +145,7 @@ words_after words at called = record {
 }
 
 -- the call of a helper function
-abbrev pub call_helper : Contents → Words → Helper → Words
+abbrev pub call_helper : SegmentParts → Words → Helper → Words
 call_helper segment words helper =
     let arguments = argument_words words (signature helper).arguments in words_after words (second arguments) (called segment words helper arguments)
 
@@ -157,7 +157,7 @@ MeetsCall words insn = Unit {0}
 
 -- What an instruction sees and can do if registers hold words, with the areas that they point into, the entry of the next instruction, and the
 -- entry that it jumps to, if it jumps. An entry is an instruction's index.
-abbrev pub bare_words : Contents → (ℕ → Area) → Words → ℕ → ℕ → Domain
+abbrev pub bare_words : SegmentParts → (ℕ → Area) → Words → ℕ → ℕ → Domain
 bare_words segment areas words next target = record {
   registers = word_registers areas words;
   Offset = ℤ;
@@ -167,15 +167,15 @@ bare_words segment areas words next target = record {
   frame = λ pointer offset. Ok (pointer.offset +ℤ offset);
   store_at = λ from offset size number. store_at words from size number;
   call = λ helper. Ok (call_helper segment words helper);
-  set = λ destination word. Ok (Goes (with_word words destination.number word) next);
-  go_on = λ behind. Ok (Goes behind next);
-  jump = λ distance. Ok (Goes words target);
-  branch = λ jump x y. Ok (Goes words (if is_met jump.condition jump.width x y then target else next));
+  set = λ destination word. Ok (Continues (with_word words destination.number word) next);
+  continue_with = λ updated. Ok (Continues updated next);
+  jump = λ distance. Ok (Continues words target);
+  branch = λ jump x y. Ok (Continues words (if condition_holds jump.condition jump.width x y then target else next));
   end = λ answer. Ok (Ends answer words.score);
 }
 
 -- the result of an instruction on bare words; it fails only if it accesses memory outside an area, or calls a number that no helper has
-unfoldable pub next_words : Contents → (ℕ → Area) → Words → ℕ → ℕ → Insn → Result Next Cause
+unfoldable pub next_words : SegmentParts → (ℕ → Area) → Words → ℕ → ℕ → Insn → Result Next Cause
 next_words segment areas words next target insn = walk (bare_words segment areas words next target) insn
 
 -- A word represents a value: a number of 64 bits, or a pointer by its offset in two's complement. If there is no value, any word will do.
@@ -206,12 +206,12 @@ pub record Holds (state : State) (words : Words) : Type 0 where
 -- a result holds a configuration: its words are at the entry of the state's place and hold the state, or it is the end with the same answer and
 -- score
 abbrev pub HoldsNext : List Insn → Configuration → Next → Type 0
-HoldsNext code (Running state) (Goes words at) = (state.place ≡ place_of code at) × Holds state words
+HoldsNext code (Running state) (Continues words at) = (state.place ≡ place_of code at) × Holds state words
 HoldsNext code (Exited answer score) (Ends word word_score) = (word ≡ answer) × (word_score ≡ score)
 HoldsNext code configuration next = ⊥
 
 -- a result holds what an effect leads to
-abbrev pub HoldsEffect : List Insn → Contents → State → Effect → Next → Type 0
+abbrev pub HoldsEffect : List Insn → SegmentParts → State → Effect → Next → Type 0
 HoldsEffect code segment state effect next = HoldsNext code (apply segment state effect) next
 
 -- a value points into this area, if it's a pointer

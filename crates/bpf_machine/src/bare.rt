@@ -1,7 +1,7 @@
 //! The state of a bare machine, and what each instruction does to it.
 ghost use Rattle.std.specs.Prelude.{◌≡◌, ◌≤◌, ◌≤ℤ◌, ◌+◌, ℕ, pos, List, length, Ok, IsOk, unsigned_abs};
 ghost use Rattle.std.specs.Int.{bytes_low_first};
-ghost use Rattle.tl_segments.specs.Segment.{Contents};
+ghost use Rattle.tl_segments.specs.Segment.{SegmentParts};
 ghost use Rattle.bpf_insn.specs.Memory.{load_length, store_length};
 ghost use Rattle.bpf_insn.specs.declared.instruction.Insn.{Insn};
 ghost use Rattle.bpf_insn.specs.declared.value.Area.{Area};
@@ -9,8 +9,8 @@ ghost use Rattle.bpf_flat.specs.Flat.{alu_immediate, alu_register, jump_immediat
 ghost use Rattle.bpf_helpers.specs.Call.{MeetsSignature, write};
 ghost use Rattle.bpf_helpers.specs.Helper.{signature};
 ghost use Rattle.bpf_meaning.specs.State.{start};
-ghost use Rattle.bpf_machine.specs.Machine.{IsOnItsWay};
-ghost use Rattle.bpf_machine.specs.Words.{Ends, Goes, Holds, MeetsCall, address, argument_word, argument_words, call_helper, end_of, loaded, next_words, with_word, word_in, words_of};
+ghost use Rattle.bpf_machine.specs.Machine.{IsReachable};
+ghost use Rattle.bpf_machine.specs.Words.{Ends, Continues, Holds, MeetsCall, address, argument_word, argument_words, call_helper, end_of, loaded, next_words, with_word, word_in, words_of};
 
 use bpf_flat::{
     JumpWithImmediate, JumpWithRegister, LoadOperands, StoreImmediateOperands,
@@ -59,7 +59,7 @@ impl Bare {
     pub fn start() -> Self
         ensures entry { result.at ≡ 0 }
         ensures words { Holds start (words_of result) }
-        ensures begins { (code : List Insn) (segment : Contents) → IsOnItsWay code segment result }
+        ensures begins { (code : List Insn) (segment : SegmentParts) → IsReachable code segment result }
     {
         let mut bare = Bare {
             at: 0,
@@ -111,8 +111,8 @@ impl Bare {
         operands: WithImmediate,
         next: usize,
     ) -> usize
-        ensures { (segment : Contents) (areas : ℕ → Area) (target : ℕ)
-            → next_words segment areas (words_of self.old) next target (alu_immediate operation width operands) ≡ Ok (Goes (words_of self.new) result) }
+        ensures { (segment : SegmentParts) (areas : ℕ → Area) (target : ℕ)
+            → next_words segment areas (words_of self.old) next target (alu_immediate operation width operands) ≡ Ok (Continues (words_of self.new) result) }
     {
         let x = self.word(operands.destination.number);
         let y = immediate_operand(operands.immediate);
@@ -130,8 +130,8 @@ impl Bare {
         operands: WithRegister,
         next: usize,
     ) -> usize
-        ensures { (segment : Contents) (areas : ℕ → Area) (target : ℕ)
-            → next_words segment areas (words_of self.old) next target (alu_register operation width operands) ≡ Ok (Goes (words_of self.new) result) }
+        ensures { (segment : SegmentParts) (areas : ℕ → Area) (target : ℕ)
+            → next_words segment areas (words_of self.old) next target (alu_register operation width operands) ≡ Ok (Continues (words_of self.new) result) }
     {
         let x = self.word(operands.destination.number);
         let y = self.word(operands.source.number);
@@ -148,8 +148,8 @@ impl Bare {
         operands: WithRegister,
         next: usize,
     ) -> usize
-        ensures { (segment : Contents) (areas : ℕ → Area) (target : ℕ)
-            → next_words segment areas (words_of self.old) next target (move_extended extension operands) ≡ Ok (Goes (words_of self.new) result) }
+        ensures { (segment : SegmentParts) (areas : ℕ → Area) (target : ℕ)
+            → next_words segment areas (words_of self.old) next target (move_extended extension operands) ≡ Ok (Continues (words_of self.new) result) }
     {
         let x = self.word(operands.source.number);
         self.set(operands.destination, extension.apply(x));
@@ -165,8 +165,8 @@ impl Bare {
         destination: WritableRegister,
         next: usize,
     ) -> usize
-        ensures { (segment : Contents) (areas : ℕ → Area) (target : ℕ)
-            → next_words segment areas (words_of self.old) next target (Insn.Negate width destination) ≡ Ok (Goes (words_of self.new) result) }
+        ensures { (segment : SegmentParts) (areas : ℕ → Area) (target : ℕ)
+            → next_words segment areas (words_of self.old) next target (Insn.Negate width destination) ≡ Ok (Continues (words_of self.new) result) }
     {
         let x = self.word(destination.number);
         self.set(destination, negate(width, x));
@@ -183,8 +183,8 @@ impl Bare {
         destination: WritableRegister,
         next: usize,
     ) -> usize
-        ensures { (segment : Contents) (areas : ℕ → Area) (target : ℕ)
-            → next_words segment areas (words_of self.old) next target (Insn.ByteSwap order width destination) ≡ Ok (Goes (words_of self.new) result) }
+        ensures { (segment : SegmentParts) (areas : ℕ → Area) (target : ℕ)
+            → next_words segment areas (words_of self.old) next target (Insn.ByteSwap order width destination) ≡ Ok (Continues (words_of self.new) result) }
     {
         let x = self.word(destination.number);
         self.set(destination, order.apply(width, x));
@@ -201,9 +201,9 @@ impl Bare {
         next_immediate: i32,
         next: usize,
     ) -> usize
-        ensures { (segment : Contents) (areas : ℕ → Area) (target : ℕ)
+        ensures { (segment : SegmentParts) (areas : ℕ → Area) (target : ℕ)
             → next_words segment areas (words_of self.old) next target (Insn.WideLoad destination immediate next_immediate)
-            ≡ Ok (Goes (words_of self.new) result) }
+            ≡ Ok (Continues (words_of self.new) result) }
     {
         self.set(destination, wide_number(immediate, next_immediate));
         next
@@ -219,8 +219,8 @@ impl Bare {
         jump: JumpWithImmediate,
         next: usize,
     ) -> usize
-        ensures { (segment : Contents) (areas : ℕ → Area)
-            → next_words segment areas (words_of self.now) next jump.target (jump_immediate condition width jump) ≡ Ok (Goes (words_of self.now) result) }
+        ensures { (segment : SegmentParts) (areas : ℕ → Area)
+            → next_words segment areas (words_of self.now) next jump.target (jump_immediate condition width jump) ≡ Ok (Continues (words_of self.now) result) }
     {
         let x = self.word(jump.left.number);
         let y = immediate_operand(jump.immediate);
@@ -240,8 +240,8 @@ impl Bare {
         jump: JumpWithRegister,
         next: usize,
     ) -> usize
-        ensures { (segment : Contents) (areas : ℕ → Area)
-            → next_words segment areas (words_of self.now) next jump.target (jump_register condition width jump) ≡ Ok (Goes (words_of self.now) result) }
+        ensures { (segment : SegmentParts) (areas : ℕ → Area)
+            → next_words segment areas (words_of self.now) next jump.target (jump_register condition width jump) ≡ Ok (Continues (words_of self.now) result) }
     {
         let x = self.word(jump.left.number);
         let y = self.word(jump.right.number);
@@ -273,7 +273,7 @@ impl Bare {
         next: usize,
     ) -> usize
         requires { IsOk (next_words segment.now (λ register. Area.Record) (words_of self.old) next 0 (load format operands)) }
-        ensures { next_words segment.now (λ register. Area.Record) (words_of self.old) next 0 (load format operands) ≡ Ok (Goes (words_of self.new) result) }
+        ensures { next_words segment.now (λ register. Area.Record) (words_of self.old) next 0 (load format operands) ≡ Ok (Continues (words_of self.new) result) }
     {
         let bytes = segment.bytes();
         let at = self.address(operands.base, operands.offset);
@@ -293,7 +293,7 @@ impl Bare {
         next: usize,
     ) -> usize
         requires { IsOk (next_words segment.now (λ register. Area.Frame) (words_of self.old) next 0 (load format operands)) }
-        ensures { next_words segment.now (λ register. Area.Frame) (words_of self.old) next 0 (load format operands) ≡ Ok (Goes (words_of self.new) result) }
+        ensures { next_words segment.now (λ register. Area.Frame) (words_of self.old) next 0 (load format operands) ≡ Ok (Continues (words_of self.new) result) }
     {
         let at = self.address(operands.base, operands.offset);
         let word = load_number(&self.frame, format, at);
@@ -313,7 +313,7 @@ impl Bare {
     ) -> usize
         requires { IsOk (next_words segment.now (λ register. Area.Frame) (words_of self.old) next 0 (store_immediate size operands)) }
         ensures { next_words segment.now (λ register. Area.Frame) (words_of self.old) next 0 (store_immediate size operands)
-            ≡ Ok (Goes (words_of self.new) result) }
+            ≡ Ok (Continues (words_of self.new) result) }
     {
         let at = self.address(operands.base, operands.offset);
         store_number(
@@ -337,7 +337,7 @@ impl Bare {
     ) -> usize
         requires { IsOk (next_words segment.now (λ register. Area.Frame) (words_of self.old) next 0 (store_register size operands)) }
         ensures { next_words segment.now (λ register. Area.Frame) (words_of self.old) next 0 (store_register size operands)
-            ≡ Ok (Goes (words_of self.new) result) }
+            ≡ Ok (Continues (words_of self.new) result) }
     {
         let at = self.address(operands.base, operands.offset);
         let number = self.word(operands.source.number);
@@ -368,7 +368,7 @@ impl Bare {
         requires possible { IsOk (next_words segment.now (λ register. Area.Frame) (words_of self.old) next 0 (Insn.Call immediate)) }
         requires meets { MeetsCall (words_of self.old) (Insn.Call immediate) }
         ensures { next_words segment.now (λ register. Area.Frame) (words_of self.old) next 0 (Insn.Call immediate)
-            ≡ Ok (Goes (words_of self.new) result) }
+            ≡ Ok (Continues (words_of self.new) result) }
     {
         match Helper::by_number(immediate.cast_unsigned()) {
             Some(helper) => self.call(segment, helper),
@@ -398,11 +398,11 @@ impl Bare {
     }
 
     /// Returns an argument, numbered from 1. An unused argument isn't read.
-    fn argument(&self, number: u8, wanted: Argument) -> u64
+    fn argument(&self, number: u8, required: Argument) -> u64
         requires { number ≤ 10 }
-        ensures { result ≡ argument_word (words_of self.now) number wanted }
+        ensures { result ≡ argument_word (words_of self.now) number required }
     {
-        match wanted {
+        match required {
             Argument::Unused => 0,
             _ => self.word(number),
         }

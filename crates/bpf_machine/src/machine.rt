@@ -5,7 +5,7 @@ ghost use Rattle.bpf_meaning.specs.Run.{Answers, IsSafe};
 ghost use Rattle.bpf_meaning.specs.Step.{after};
 ghost use Rattle.bpf_meaning.specs.declared.state.State.{State};
 ghost use Rattle.bpf_verify.specs.Verified.{HasBaseAreas};
-ghost use Rattle.bpf_machine.specs.Machine.{Does, HoldsState, IsOnItsWay, IsReached, StepsTo};
+ghost use Rattle.bpf_machine.specs.Machine.{Does, HoldsState, IsReachable, IsReached, StepsTo};
 
 use crate::bare::{Answer, Bare};
 use crate::table::execute;
@@ -21,10 +21,10 @@ pub fn step<A: Allocator, B: Allocator>(
     bare: &mut Bare,
     segment: &Segment<B>,
 ) -> Option<Answer>
-    requires { IsOnItsWay verified.now.code segment.now bare.old }
+    requires { IsReachable verified.now.code segment.now bare.old }
     ensures does { (state : State) → IsReached verified.now.code segment.now state → HoldsState verified.now.code state bare.old
         → Does verified.now.code (after verified.now.code segment.now state) result bare.old bare.new }
-    ensures goes_on { result ≡ None → IsOnItsWay verified.now.code segment.now bare.new }
+    ensures continues { result ≡ None → IsReachable verified.now.code segment.now bare.new }
 {
     match step_from(verified, verified.flat_forms(), bare, segment, bare.at) {
         Some(next) => {
@@ -50,7 +50,7 @@ fn step_from<A: Allocator, B: Allocator>(
     requires fit { length flat_forms.now * 16 < 2 ^ 64 }
     requires safe { IsSafe verified.now.code }
     requires areas { HasBaseAreas verified.now.code verified.now.areas }
-    requires way { IsOnItsWay verified.now.code segment.now (record bare.old { at = at }) }
+    requires reachable { IsReachable verified.now.code segment.now (record bare.old { at = at }) }
     ensures { (state : State) → IsReached verified.now.code segment.now state → HoldsState verified.now.code state (record bare.old { at = at })
         → StepsTo verified.now.code (after verified.now.code segment.now state) result bare.old bare.new }
 {

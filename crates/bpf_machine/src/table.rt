@@ -78,7 +78,7 @@ pub(crate) fn execute<A: Allocator>(
     requires meets { MeetsCall (words_of bare.old) (insn_of flat.now) }
     ensures value { next_words segment.now (λ register. area_of flat.now) (words_of bare.old) next (target_of flat.now) (insn_of flat.now)
         ≡ Ok (next_of result (words_of bare.new)) }
-    ensures kept { result ≡ None → bare.new ≡ bare.old }
+    ensures unchanged { result ≡ None → bare.new ≡ bare.old }
 {
     instruction_rows!(dispatch!(flat, bare, segment, next))
 }

@@ -12,13 +12,13 @@ use Rattle.bpf_insn.specs.declared.value.Value.TheVariants.{Number}
 use Rattle.bpf_insn.specs.declared.memory.TheConstants.{FRAME_LENGTH, SLOTS}
 use Rattle.bpf_kinds.specs.Interval.{Admits}
 use Rattle.bpf_kinds.specs.declared.interval.Interval.{Interval}
-use Rattle.tl_segments.specs.Segment.{Contents, IsSegment}
+use Rattle.tl_segments.specs.Segment.{SegmentParts, IsSegment}
 use Rattle.bpf_helpers.specs.Call.{Meaning, Meets, LieWithin, bytes_read, call, does, meaning, second, shape_of, third, write}
 use Rattle.bpf_helpers.specs.Call.Meaning.{CopiesIntoFrame}
 use Rattle.bpf_helpers.specs.Meaning.{first_bytes}
 use Rattle.bpf_helpers.specs.Helper.{signature}
 use Rattle.bpf_helpers.specs.Shape.{frame_use}
-use Rattle.bpf_helpers.proofs.CallLemmas.{shape-is, three-wanted, written-bytes}
+use Rattle.bpf_helpers.proofs.CallLemmas.{shape-is, three-required, written-bytes}
 use Rattle.bpf_helpers.proofs.WriteLemmas.{length-write, write-nothing}
 use Rattle.bpf_helpers.specs.declared.helper.Helper.{Helper}
 use Rattle.bpf_helpers.specs.declared.signature.Argument.{Argument}
@@ -63,7 +63,7 @@ any_frame : (result : Result ℕ Cause) → IfPasses (Meets argument.Frame) resu
 any_frame (Ok n) = tt
 any_frame (Err cause) = tt
 
-word_meets : (number : ℕ) (wanted : Argument) (value : Value) → IfPasses (Meets wanted) (argument_word number wanted value)
+word_meets : (number : ℕ) (required : Argument) (value : Value) → IfPasses (Meets required) (argument_word number required value)
 word_meets number argument.Frame value = any_frame (argument_word number argument.Frame value)
 word_meets number (argument.Number allowed) (Number n) = by_test (is_allowed allowed n) refl
   where
@@ -71,32 +71,32 @@ word_meets number (argument.Number allowed) (Number n) = by_test (is_allowed all
         (if inside then Ok n else Err (BadArgument number))
     by_test true is = allowed_admits allowed n is
     by_test false is = tt
-word_meets number wanted value = tt
+word_meets number required value = tt
 
-argument_meets : (state : State) (number : ℕ) (wanted : Argument) → IfPasses (Meets wanted) (argument_in state number wanted)
+argument_meets : (state : State) (number : ℕ) (required : Argument) → IfPasses (Meets required) (argument_in state number required)
 argument_meets state number argument.Unused = tt
 argument_meets state number argument.Frame = then_passes (Meets argument.Frame) (read state number) _ (word_meets number argument.Frame)
 argument_meets state number (argument.Number allowed) = then_passes (Meets (argument.Number allowed)) (read state number) _
     (word_meets number (argument.Number allowed))
 
 -- each argument meets its requirement
-pub record AreMet (wanted : List Argument) (arguments : List ℕ) : Type 0 where
+pub record MatchPrototype (required : List Argument) (arguments : List ℕ) : Type 0 where
   pub count : length arguments ≡ 3
-  pub each : (at : ℕ) → Meets (get_or wanted at argument.Unused) (get_or arguments at 0)
+  pub each : (at : ℕ) → Meets (get_or required at argument.Unused) (get_or arguments at 0)
 
 abbrev AreMetAt : List Argument → List ℕ → Type 0
-AreMetAt wanted arguments = (at : ℕ) → Meets (get_or wanted at argument.Unused) (get_or arguments at 0)
+AreMetAt required arguments = (at : ℕ) → Meets (get_or required at argument.Unused) (get_or arguments at 0)
 
 none_met : AreMetAt [] []
 none_met at = tt
 
-more_met : (first : Argument) (wanted : List Argument) (word : ℕ) (arguments : List ℕ) → Meets first word → AreMetAt wanted arguments
-    → AreMetAt (first ∷ wanted) (word ∷ arguments)
-more_met first wanted word arguments one others zero = one
-more_met first wanted word arguments one others (suc at) = others at
+more_met : (first : Argument) (required : List Argument) (word : ℕ) (arguments : List ℕ) → Meets first word → AreMetAt required arguments
+    → AreMetAt (first ∷ required) (word ∷ arguments)
+more_met first required word arguments one others zero = one
+more_met first required word arguments one others (suc at) = others at
 
-arguments_met : (state : State) (a b c : Argument) → IfPasses (AreMet (a ∷ b ∷ c ∷ [])) (arguments_in state (a ∷ b ∷ c ∷ []))
-arguments_met state a b c =
+arguments_match : (state : State) (a b c : Argument) → IfPasses (MatchPrototype (a ∷ b ∷ c ∷ [])) (arguments_in state (a ∷ b ∷ c ∷ []))
+arguments_match state a b c =
     then_keeps (Meets a) _ (argument_in state 1 a) _ (argument_meets state 1 a) (λ x one.
     then_keeps (Meets b) _ (argument_in state 2 b) _ (argument_meets state 2 b) (λ y two.
     then_keeps (Meets c) _ (argument_in state 3 c) _ (argument_meets state 3 c) (λ z three.
@@ -121,58 +121,58 @@ word_inside at count bytes inside =
     negative_outside above = let test : ltb at (2 ^ 63) ≡ false = grind (arith, nat_tests) in rw test refl
 
 -- the arguments of a call whose checks passed
-pub record IsLent (state : State) (wanted : List Argument) (frame : FrameUse) (arguments : List ℕ) : Type 0 where
-  pub met : AreMet wanted arguments
+pub record IsLent (state : State) (required : List Argument) (frame : FrameUse) (arguments : List ℕ) : Type 0 where
+  pub matches : MatchPrototype required arguments
   pub within : LieWithin frame arguments
   pub written : IsTrue (all_written (bytes_read frame arguments state.frame.bytes))
 
-bytes_lent : (state : State) (wanted : List Argument) (arguments : List ℕ) → AreMet wanted arguments
-    → IfPasses (IsLent state wanted frame_use.Writes) (lend_bytes arguments)
-bytes_lent state wanted arguments met = by_test (lie_within (cast_signed w64 (second arguments)) (third arguments) FRAME_LENGTH) refl
+bytes_lent : (state : State) (required : List Argument) (arguments : List ℕ) → MatchPrototype required arguments
+    → IfPasses (IsLent state required frame_use.Writes) (lend_bytes arguments)
+bytes_lent state required arguments matches = by_test (lie_within (cast_signed w64 (second arguments)) (third arguments) FRAME_LENGTH) refl
   where
     by_test : (inside : Bool) → lie_within (cast_signed w64 (second arguments)) (third arguments) FRAME_LENGTH ≡ inside
-        → IfPasses (IsLent state wanted frame_use.Writes) (if inside then Ok arguments else Err OutOfBounds)
-    by_test true is = record { met = met; within = word_inside (second arguments) (third arguments) FRAME_LENGTH is; written = refl }
+        → IfPasses (IsLent state required frame_use.Writes) (if inside then Ok arguments else Err OutOfBounds)
+    by_test true is = record { matches = matches; within = word_inside (second arguments) (third arguments) FRAME_LENGTH is; written = refl }
     by_test false is = tt
 
-written_lent : (state : State) (wanted : List Argument) (arguments : List ℕ) → IsLent state wanted frame_use.Writes arguments
-    → IfPasses (IsLent state wanted frame_use.Reads) (lend_written state arguments)
-written_lent state wanted arguments lent = by_test (all_written (bytes_read frame_use.Reads arguments state.frame.bytes)) refl
+written_lent : (state : State) (required : List Argument) (arguments : List ℕ) → IsLent state required frame_use.Writes arguments
+    → IfPasses (IsLent state required frame_use.Reads) (lend_written state arguments)
+written_lent state required arguments lent = by_test (all_written (bytes_read frame_use.Reads arguments state.frame.bytes)) refl
   where
     by_test : (all : Bool) → all_written (bytes_read frame_use.Reads arguments state.frame.bytes) ≡ all
-        → IfPasses (IsLent state wanted frame_use.Reads) (if all then Ok arguments else Err UnwrittenFrame)
-    by_test true is = record { met = lent.met; within = lent.within; written = is }
+        → IfPasses (IsLent state required frame_use.Reads) (if all then Ok arguments else Err UnwrittenFrame)
+    by_test true is = record { matches = lent.matches; within = lent.within; written = is }
     by_test false is = tt
 
-frame_lent : (state : State) (wanted : List Argument) (frame : FrameUse) (arguments : List ℕ) → AreMet wanted arguments
-    → IfPasses (IsLent state wanted frame) (lend_frame state frame arguments)
-frame_lent state wanted frame_use.Nothing arguments met = record { met = met; within = tt; written = refl }
-frame_lent state wanted frame_use.Writes arguments met = bytes_lent state wanted arguments met
-frame_lent state wanted frame_use.Reads arguments met =
-    then_keeps (IsLent state wanted frame_use.Writes) _ (lend_bytes arguments) _ (bytes_lent state wanted arguments met)
-    (written_lent state wanted)
+frame_lent : (state : State) (required : List Argument) (frame : FrameUse) (arguments : List ℕ) → MatchPrototype required arguments
+    → IfPasses (IsLent state required frame) (lend_frame state frame arguments)
+frame_lent state required frame_use.Nothing arguments matches = record { matches = matches; within = tt; written = refl }
+frame_lent state required frame_use.Writes arguments matches = bytes_lent state required arguments matches
+frame_lent state required frame_use.Reads arguments matches =
+    then_keeps (IsLent state required frame_use.Writes) _ (lend_bytes arguments) _ (bytes_lent state required arguments matches)
+    (written_lent state required)
 
 -- so a call whose checks passed can be made
 
-abbrev wanted : Helper → ℕ → Argument
-wanted helper at = get_or (signature helper).arguments at argument.Unused
+abbrev required : Helper → ℕ → Argument
+required helper at = get_or (signature helper).arguments at argument.Unused
 
-prototype_met : (state : State) (helper : Helper) → IfPasses (AreMet (signature helper).arguments)
+prototype_matches : (state : State) (helper : Helper) → IfPasses (MatchPrototype (signature helper).arguments)
     (arguments_in state (signature helper).arguments)
-prototype_met state helper =
-    subst (λ (all : List Argument). IfPasses (AreMet all) (arguments_in state all)) (three-wanted helper)
-    (arguments_met state (wanted helper 0) (wanted helper 1) (wanted helper 2))
+prototype_matches state helper =
+    subst (λ (all : List Argument). IfPasses (MatchPrototype all) (arguments_in state all)) (three-required helper)
+    (arguments_match state (required helper 0) (required helper 1) (required helper 2))
 
 can_be_called : (state : State) (helper : Helper) (arguments : List ℕ)
     → IsLent state (signature helper).arguments (frame_use (signature helper).shape) arguments → CanBeCalled state helper arguments
 can_be_called state helper arguments lent = record
-    { meets = record { count = lent.met.count; each = lent.met.each; within = lent.within }; written = lent.written }
+    { meets = record { count = lent.matches.count; each = lent.matches.each; within = lent.within }; written = lent.written }
 
 call_can_be_made : (state : State) (helper : Helper) → IfPasses (CanBeMade state) (call_helper state helper)
 call_can_be_made state helper =
     then_keeps (IsLent state (signature helper).arguments (frame_use (signature helper).shape)) (CanBeMade state)
     (arguments_in state (signature helper).arguments >>= lend_frame state (frame_use (signature helper).shape)) _
-    (then_keeps (AreMet (signature helper).arguments) _ (arguments_in state (signature helper).arguments) _ (prototype_met state helper)
+    (then_keeps (MatchPrototype (signature helper).arguments) _ (arguments_in state (signature helper).arguments) _ (prototype_matches state helper)
     (frame_lent state (signature helper).arguments (frame_use (signature helper).shape)))
     (can_be_called state helper)
 
@@ -186,14 +186,14 @@ short_bytes : (count : ℕ) (name : Option (List ℕ)) → length (first_bytes c
 short_bytes count None = let long : length (first_bytes count None) ≡ count = length-replicate count 32 in omega arith
 short_bytes count (Some name) = omega (arith, length-take count name)
 
-does_inside : (m : Meaning) (segment : Contents) (arguments bytes : List ℕ) (score : ℕ) → LieWithin (frame_use (shape_of m)) arguments
+does_inside : (m : Meaning) (segment : SegmentParts) (arguments bytes : List ℕ) (score : ℕ) → LieWithin (frame_use (shape_of m)) arguments
     → ((does m segment arguments bytes score).written ≡ [])
     ⊎ (second arguments + length (does m segment arguments bytes score).written ≤ FRAME_LENGTH)
 does_inside (CopiesIntoFrame copied) segment arguments bytes score within =
     inr (let short = short_bytes (third arguments) (copied segment arguments) in omega arith)
 does_inside otherwise segment arguments bytes score within = inl refl
 
-written_inside : (segment : Contents) (helper : Helper) (arguments bytes : List ℕ) (score : ℕ)
+written_inside : (segment : SegmentParts) (helper : Helper) (arguments bytes : List ℕ) (score : ℕ)
     → LieWithin (frame_use (signature helper).shape) arguments → ((call helper segment arguments bytes score).written ≡ [])
     ⊎ (second arguments + length (call helper segment arguments bytes score).written ≤ FRAME_LENGTH)
 written_inside segment helper arguments bytes score within =
@@ -201,12 +201,12 @@ written_inside segment helper arguments bytes score within =
     (subst (λ (s : Shape). LieWithin (frame_use s) arguments) (sym (shape-is helper)) within)
 
 -- the frame after a call
-abbrev pub frame_after : Contents → State → Helper → List ℕ → List FrameByte
+abbrev pub frame_after : SegmentParts → State → Helper → List ℕ → List FrameByte
 frame_after segment state helper arguments = write state.frame.bytes (second arguments)
     (map Byte (called segment state helper arguments).written)
 
 -- a fact about a frame still holds after a call, if writing bytes within the frame preserves it
-after_call : (P : FrameContents → Type 0) (segment : Contents) (state : State) (helper : Helper) (arguments : List ℕ)
+after_call : (P : FrameContents → Type 0) (segment : SegmentParts) (state : State) (helper : Helper) (arguments : List ℕ)
     → CanBeCalled state helper arguments → P state.frame
     → ((at : ℕ) (bytes : List ℕ) → at + length bytes ≤ FRAME_LENGTH → P (write_bytes state.frame at bytes))
     → P (state_after state (second arguments) (called segment state helper arguments)).frame
@@ -220,13 +220,13 @@ after_call P segment state helper arguments can before within =
       | inr inside ↦ within (second arguments) (called segment state helper arguments).written inside
     ]
 
-pub length-frame_after : (segment : Contents) (state : State) (helper : Helper) (arguments : List ℕ) → CanBeCalled state helper arguments
+pub length-frame_after : (segment : SegmentParts) (state : State) (helper : Helper) (arguments : List ℕ) → CanBeCalled state helper arguments
     → length state.frame.bytes ≡ FRAME_LENGTH → length (frame_after segment state helper arguments) ≡ FRAME_LENGTH
 length-frame_after segment state helper arguments can long =
     after_call (λ frame. length frame.bytes ≡ FRAME_LENGTH) segment state helper arguments can long
     (λ at bytes within. let same = length-map bytes Byte in length-write state.frame.bytes (map Byte bytes) at (omega arith) ∙ long)
 
-pub length-slots_after : (segment : Contents) (state : State) (helper : Helper) (arguments : List ℕ) → CanBeCalled state helper arguments
+pub length-slots_after : (segment : SegmentParts) (state : State) (helper : Helper) (arguments : List ℕ) → CanBeCalled state helper arguments
     → length state.frame.slots ≡ SLOTS → length (state_after state (second arguments)
     (called segment state helper arguments)).frame.slots ≡ SLOTS
 length-slots_after segment state helper arguments can long =
@@ -234,7 +234,7 @@ length-slots_after segment state helper arguments can long =
     (λ at bytes within. length-overwrite_slots None state.frame.slots at (length bytes) (omega arith) ∙ long)
 
 -- if pointers are kept apart from written bytes, they are so after a call
-pub apart-frame_after : (segment : Contents) (state : State) (helper : Helper) (arguments : List ℕ) → CanBeCalled state helper arguments
+pub apart-frame_after : (segment : SegmentParts) (state : State) (helper : Helper) (arguments : List ℕ) → CanBeCalled state helper arguments
     → length state.frame.bytes ≡ FRAME_LENGTH → length state.frame.slots ≡ SLOTS → PointersApart state.frame
     → PointersApart (state_after state (second arguments) (called segment state helper arguments)).frame
 apart-frame_after segment state helper arguments can whole long apart =
@@ -242,7 +242,7 @@ apart-frame_after segment state helper arguments can whole long apart =
     (λ at bytes within. apart-write_bytes state.frame at bytes (omega arith) (omega arith) apart)
 
 -- if the frame holds bytes, it does so after a call
-pub bytes-frame_after : (segment : Contents) (state : State) (helper : Helper) (arguments : List ℕ) → IsSegment segment
+pub bytes-frame_after : (segment : SegmentParts) (state : State) (helper : Helper) (arguments : List ℕ) → IsSegment segment
     → CanBeCalled state helper arguments → HoldBytes state.frame.bytes → HoldBytes (frame_after segment state helper arguments)
 bytes-frame_after segment state helper arguments is can all =
     let read = bytes_read (frame_use (signature helper).shape) arguments state.frame.bytes in

@@ -6,7 +6,7 @@ use Rattle.bpf_insn.specs.declared.instruction.Operation.TheVariants.{Move}
 use Rattle.bpf_insn.specs.declared.instruction.Width.TheVariants.{Bits64}
 use Rattle.bpf_insn.specs.declared.instruction.Source.TheVariants.{Immediate}
 use Rattle.bpf_insn.specs.declared.value.Value.TheVariants.{Number}
-use Rattle.tl_segments.specs.Segment.{Contents}
+use Rattle.tl_segments.specs.Segment.{SegmentParts}
 use Rattle.bpf_meaning.specs.State.{start}
 use Rattle.bpf_meaning.specs.Step.{Running, Exited, Stuck, carry_out, after}
 use Rattle.bpf_meaning.specs.declared.effect.Change.TheVariants.{SetRegister}
@@ -22,7 +22,7 @@ abbrev move : ℕ → Insn
 move n = Alu Move Bits64 r0 (Immediate (pos n))
 
 -- it answers 1 with score 0 on every segment
-one_answers : (segment : Contents) → Answers (move 1 ∷ Exit ∷ []) segment 1 0
+one_answers : (segment : SegmentParts) → Answers (move 1 ∷ Exit ∷ []) segment 1 0
 unfolding after
 one_answers segment = record {
   run = Running (record (carry_out segment start (SetRegister r0 (Number 1))) { place = 1 }) ∷ Exited 1 0 ∷ [];
@@ -31,7 +31,7 @@ one_answers segment = record {
 }
 
 -- so its extract of two segments consists of both rows, in order
-two_rows : (first second : Contents) → IsExtract (move 1 ∷ Exit ∷ []) (first ∷ second ∷ []) (row_of 0 first ++ row_of 0 second) 2
+two_rows : (first second : SegmentParts) → IsExtract (move 1 ∷ Exit ∷ []) (first ∷ second ∷ []) (row_of 0 first ++ row_of 0 second) 2
 two_rows first second = (
   1,
   0,
@@ -44,7 +44,7 @@ two_rows first second = (
 )
 
 -- with 0 in place of 1, no segment is selected
-zero_answers : (segment : Contents) → Answers (move 0 ∷ Exit ∷ []) segment 0 0
+zero_answers : (segment : SegmentParts) → Answers (move 0 ∷ Exit ∷ []) segment 0 0
 unfolding after
 zero_answers segment = record {
   run = Running (record (carry_out segment start (SetRegister r0 (Number 0))) { place = 1 }) ∷ Exited 0 0 ∷ [];
@@ -52,15 +52,15 @@ zero_answers segment = record {
   exits = refl;
 }
 
-no_row : (segment : Contents) → IsExtract (move 0 ∷ Exit ∷ []) (segment ∷ []) [] 0
+no_row : (segment : SegmentParts) → IsExtract (move 0 ∷ Exit ∷ []) (segment ∷ []) [] 0
 no_row segment = (0, 0, [], 0, zero_answers segment, refl, refl, (refl, refl))
 
 -- without its end, it is stuck where it leaves the code
-leaves_code : (segment : Contents) → IsRun (move 1 ∷ []) segment (Stuck 0 OutOfProgram ∷ [])
+leaves_code : (segment : SegmentParts) → IsRun (move 1 ∷ []) segment (Stuck 0 OutOfProgram ∷ [])
 unfolding after
 leaves_code segment = (refl, tt)
 
 -- an end alone reads a register that holds nothing
-exit_alone : (segment : Contents) → IsRun (Exit ∷ []) segment (Stuck 0 (ReadsNothing 0) ∷ [])
+exit_alone : (segment : SegmentParts) → IsRun (Exit ∷ []) segment (Stuck 0 (ReadsNothing 0) ∷ [])
 unfolding after
 exit_alone segment = (refl, tt)

@@ -7,7 +7,7 @@ use Rattle.std.specs.Int.{byte_at, bytes_low_first}
 use Rattle.std.proofs.lemmas.Bool.{false≢true, cases_lt}
 use Rattle.std.proofs.lemmas.List.{length-map, get_or-map}
 use Rattle.bpf_helpers.specs.Call.{write}
-use Rattle.bpf_helpers.proofs.WriteLemmas.{get_or-write, get_or-write_before, get_or-write_behind}
+use Rattle.bpf_helpers.proofs.WriteLemmas.{get_or-write, get_or-write_before, get_or-write_after}
 use Rattle.bpf_insn.specs.Frame.{FrameByte, Unwritten, Byte, IsByte, is_byte, is_written, number_of}
 use Rattle.bpf_meaning.specs.Memory.{all_written, store}
 use Rattle.bpf_meaning.proofs.MemoryLemmas.{length-bytes_low_first, fits_more, store_is_write}
@@ -28,20 +28,20 @@ pub is_written-write_before : (memory : List FrameByte) (at : ℕ) (bytes : List
 is_written-write_before memory at bytes i within before =
     let long = length-map bytes Byte in ap is_byte (get_or-write_before memory (map Byte bytes) at i Unwritten (omega arith) before)
 
-pub is_written-write_behind : (memory : List FrameByte) (at : ℕ) (bytes : List ℕ) (i : ℕ) → at + length bytes ≤ length memory
+pub is_written-write_after : (memory : List FrameByte) (at : ℕ) (bytes : List ℕ) (i : ℕ) → at + length bytes ≤ length memory
     → at + length bytes ≤ i → is_written (write memory at (map Byte bytes)) i ≡ is_written memory i
-is_written-write_behind memory at bytes i within behind =
-    let long = length-map bytes Byte in ap is_byte (get_or-write_behind memory (map Byte bytes) at i Unwritten (omega arith) (omega arith))
+is_written-write_after memory at bytes i within beyond =
+    let long = length-map bytes Byte in ap is_byte (get_or-write_after memory (map Byte bytes) at i Unwritten (omega arith) (omega arith))
 
-pub written_stays : (memory : List FrameByte) (at : ℕ) (bytes : List ℕ) (i : ℕ) → at + length bytes ≤ length memory
+pub written_unchanged : (memory : List FrameByte) (at : ℕ) (bytes : List ℕ) (i : ℕ) → at + length bytes ≤ length memory
     → IsTrue (is_written memory i) → IsTrue (is_written (write memory at (map Byte bytes)) i)
-written_stays memory at bytes i within written =
+written_unchanged memory at bytes i within written =
     elim (cases_lt i at) [
       | inl before ↦ is_written-write_before memory at bytes i within before ∙ written
       | inr above ↦
           elim (cases_lt i (at + length bytes)) [
             | inl below ↦ is_written-write_inside memory at bytes i within above below
-            | inr behind ↦ is_written-write_behind memory at bytes i within behind ∙ written
+            | inr beyond ↦ is_written-write_after memory at bytes i within beyond ∙ written
           ]
     ]
 
@@ -58,11 +58,11 @@ is_written-store_inside memory at count number i within above below =
     ap (λ (m : List FrameByte). is_written m i) (store_is_write memory at count number)
     ∙ is_written-write_inside memory at (bytes_low_first 0 count number) i (stores_within memory at count number within) above (omega arith)
 
-pub stored_stays : (memory : List FrameByte) (at count number i : ℕ) → at + count ≤ length memory → IsTrue (is_written memory i)
+pub stored_unchanged : (memory : List FrameByte) (at count number i : ℕ) → at + count ≤ length memory → IsTrue (is_written memory i)
     → IsTrue (is_written (store memory at count number) i)
-stored_stays memory at count number i within written =
+stored_unchanged memory at count number i within written =
     ap (λ (m : List FrameByte). is_written m i) (store_is_write memory at count number)
-    ∙ written_stays memory at (bytes_low_first 0 count number) i (stores_within memory at count number within) written
+    ∙ written_unchanged memory at (bytes_low_first 0 count number) i (stores_within memory at count number within) written
 
 -- memory whose bytes are bytes
 

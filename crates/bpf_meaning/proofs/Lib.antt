@@ -5,7 +5,7 @@ pub mod Examples
 pub mod FrameLemmas
 pub mod SlotLemmas
 pub mod CallLemmas
-pub mod WholeLemmas
+pub mod WellFormedLemmas
 pub mod RegisterLemmas
 pub mod RecordLemmas
 pub mod CheckLemmas

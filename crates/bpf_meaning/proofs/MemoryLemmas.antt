@@ -20,7 +20,7 @@ use Rattle.bpf_helpers.proofs.WriteLemmas.{write-nothing}
 use Rattle.bpf_insn.specs.Frame.{FrameByte, FrameContents, Unwritten, Byte, number_of}
 use Rattle.bpf_insn.specs.declared.memory.TheConstants.{SLOT_LENGTH}
 use Rattle.bpf_insn.specs.declared.value.Pointer.{Pointer}
-use Rattle.bpf_meaning.specs.Memory.{all_written, frame_bytes, keep_pointer, store, write_bytes, written_bytes}
+use Rattle.bpf_meaning.specs.Memory.{all_written, frame_bytes, set_slot_pointer, store, write_bytes, written_bytes}
 
 -- the same number of bytes and of marks
 
@@ -236,7 +236,7 @@ module _ (marks : List Bool) (bytes : List ℕ) (same : length marks ≡ length 
         ∙ ap (λ (l : List FrameByte). contents l frame.slots) (sym (store_is_write frame.bytes at count number))
 
   -- a stored pointer, and the marks of its slot
-  pub keep_writes : {slots : List (Option Pointer)} {frame : FrameContents} (slot k : ℕ) (pointer : Pointer) {new_marks : List Bool}
+  pub pointer_unwrites : {slots : List (Option Pointer)} {frame : FrameContents} (slot k : ℕ) (pointer : Pointer) {new_marks : List Bool}
       → k ≡ SLOT_LENGTH
       → length (mid_of (SLOT_LENGTH * slot) k marks) ≡ SLOT_LENGTH → record { bytes = frame_bytes marks bytes; slots = slots } ≡ frame
       → new_marks ≡ replicate (length (mid_of (SLOT_LENGTH * slot) k marks)) false
@@ -245,9 +245,9 @@ module _ (marks : List Bool) (bytes : List ℕ) (same : length marks ≡ length 
         slots = slice_set
             slots slot (Some pointer);
       } in new)
-      ≡ keep_pointer frame slot pointer
+      ≡ set_slot_pointer frame slot pointer
   unfolding contents
-  keep_writes {slots} slot k pointer is long view all =
+  pointer_unwrites {slots} slot k pointer is long view all =
       let at = SLOT_LENGTH * slot in
       let middle = mid_of at k bytes in
       let wide : length middle ≡ SLOT_LENGTH = sym (same_parts at k) ∙ long in
@@ -262,7 +262,7 @@ module _ (marks : List Bool) (bytes : List ℕ) (same : length marks ≡ length 
       ∙ ap (put_mid at k (frame_bytes marks bytes)) (frame_bytes-unmarked SLOT_LENGTH middle wide)
       ∙ put_mid_is_write (frame_bytes marks bytes) (replicate SLOT_LENGTH Unwritten) at k
       (is ∙ sym (length-replicate SLOT_LENGTH Unwritten)))
-      ∙ ap (λ (f : FrameContents). keep_pointer f slot pointer) view
+      ∙ ap (λ (f : FrameContents). set_slot_pointer f slot pointer) view
 
   pub read_alike : {slots : List (Option Pointer)} {frame : FrameContents} (lent : FrameUse) (arguments : List ℕ)
       → record { bytes = frame_bytes marks bytes; slots = slots } ≡ frame → all_written (bytes_read lent arguments frame.bytes) ≡ true
@@ -319,23 +319,23 @@ pub stored_is_loaded : (memory : List FrameByte) (at count number : ℕ) → at 
     → number_of (take count (drop at (store memory at count number))) ≡ Some (number % 256 ^ count)
 stored_is_loaded memory at count number within =
     let low = map Byte (bytes_low_first 0 count number) in
-    let behind = drop (at + count) memory in
-    ap (λ (l : List FrameByte). number_of (take count (drop at l))) (append_assoc (take at memory) low behind)
-    ∙ ap (λ (l : List FrameByte). number_of (take count l)) (drop_at (take at memory) (low ++ behind) at (front_is memory at count within))
-    ∙ ap number_of (take_at low behind count (low_is count number))
+    let remainder = drop (at + count) memory in
+    ap (λ (l : List FrameByte). number_of (take count (drop at l))) (append_assoc (take at memory) low remainder)
+    ∙ ap (λ (l : List FrameByte). number_of (take count l)) (drop_at (take at memory) (low ++ remainder) at (front_is memory at count within))
+    ∙ ap number_of (take_at low remainder count (low_is count number))
     ∙ number_of-low 0 count number ∙ ap (λ (n : ℕ). Some (n % 256 ^ count)) (div-one number)
 
 -- the bytes before and after the written ones
 
-pub before_stays : (memory : List FrameByte) (at count number : ℕ) → at + count ≤ length memory
+pub before_unchanged : (memory : List FrameByte) (at count number : ℕ) → at + count ≤ length memory
     → take at (store memory at count number) ≡ take at memory
-before_stays memory at count number within =
+before_unchanged memory at count number within =
     ap (take at) (append_assoc (take at memory) (map Byte (bytes_low_first 0 count number)) (drop (at + count) memory))
     ∙ take_at (take at memory) (map Byte (bytes_low_first 0 count number) ++ drop (at + count) memory) at (front_is memory at count within)
 
-pub behind_stays : (memory : List FrameByte) (at count number : ℕ) → at + count ≤ length memory
+pub after_unchanged : (memory : List FrameByte) (at count number : ℕ) → at + count ≤ length memory
     → drop (at + count) (store memory at count number) ≡ drop (at + count) memory
-behind_stays memory at count number within =
+after_unchanged memory at count number within =
     let low = map Byte (bytes_low_first 0 count number) in
     let long : length (take at memory ++ low) ≡ at + count =
     length-append (take at memory) low ∙ omega (arith, front_is memory at count within, low_is count number) in

@@ -8,7 +8,7 @@ use Rattle.bpf_insn.specs.declared.instruction.Insn.{Insn}
 use Rattle.bpf_insn.specs.declared.instruction.Insn.TheVariants.{Call}
 use Rattle.bpf_insn.specs.declared.value.Value.{Value}
 use Rattle.bpf_insn.specs.declared.value.Value.TheVariants.{Empty}
-use Rattle.tl_segments.specs.Segment.{Contents}
+use Rattle.tl_segments.specs.Segment.{SegmentParts}
 use Rattle.bpf_helpers.specs.Helper.{by_number, signature}
 use Rattle.bpf_helpers.specs.Shape.{frame_use}
 use Rattle.bpf_helpers.specs.declared.helper.Helper.{Helper}
@@ -20,16 +20,16 @@ use Rattle.bpf_meaning.specs.declared.cause.Cause.{Cause}
 use Rattle.bpf_meaning.specs.declared.effect.Change.{Change}
 use Rattle.bpf_meaning.specs.declared.effect.Change.TheVariants.{CallHelper}
 use Rattle.bpf_meaning.specs.declared.effect.Effect.{Effect}
-use Rattle.bpf_meaning.specs.declared.effect.Effect.TheVariants.{GoOn}
+use Rattle.bpf_meaning.specs.declared.effect.Effect.TheVariants.{Continue}
 use Rattle.bpf_meaning.specs.declared.state.State.{State}
-use Rattle.bpf_meaning.proofs.WholeLemmas.{IfRunning}
-use Rattle.bpf_meaning.proofs.EffectLemmas.{GoesOnWith, goes_on_with}
+use Rattle.bpf_meaning.proofs.WellFormedLemmas.{IfRunning}
+use Rattle.bpf_meaning.proofs.EffectLemmas.{ContinuesWith, continues_with}
 use Rattle.bpf_meaning.proofs.CallLemmas.{IfPasses, then_passes, then_keeps}
 
 -- registers before and after a call
 pub record IsAfterCall (old new : State) : Type 0 where
   pub empty : (register : ℕ) → 1 ≤ register → register ≤ 5 → register_value new register ≡ Empty
-  pub kept : (register : ℕ) → 6 ≤ register → register_value new register ≡ register_value old register
+  pub preserved : (register : ℕ) → 6 ≤ register → register_value new register ≡ register_value old register
 
 registers_empty : (answer : ℕ) (registers : List Value) (register : ℕ) → 1 ≤ register → register ≤ 5
     → get_or (registers_after answer registers) register Empty ≡ Empty
@@ -37,11 +37,11 @@ registers_empty answer registers zero from to = absurd (omega arith)
 registers_empty answer registers (suc (suc (suc (suc (suc (suc register)))))) from to = absurd (omega arith)
 registers_empty answer registers register from to = refl
 
-registers_kept : (answer : ℕ) (registers : List Value) (register : ℕ) → 6 ≤ register
+registers_preserved : (answer : ℕ) (registers : List Value) (register : ℕ) → 6 ≤ register
     → get_or (registers_after answer registers) register Empty ≡ get_or registers register Empty
-registers_kept answer registers (suc (suc (suc (suc (suc (suc register)))))) from =
+registers_preserved answer registers (suc (suc (suc (suc (suc (suc register)))))) from =
     get_or-drop 6 registers register Empty ∙ ap (λ (n : ℕ). get_or registers n Empty) (omega arith)
-registers_kept answer registers register from = absurd (omega arith)
+registers_preserved answer registers register from = absurd (omega arith)
 
 -- an effect that is a call
 abbrev IsCall : Change → Type 0
@@ -54,19 +54,19 @@ change_is_call state (Some helper) =
     then_passes IsCall (arguments_in state (signature helper).arguments >>= lend_frame state (frame_use (signature helper).shape))
     (λ arguments. Ok (CallHelper helper arguments)) (λ arguments. tt)
 
-applies_call : (segment : Contents) (state : State) (result : Result Effect Cause) → IfPasses (GoesOnWith IsCall) result
+applies_call : (segment : SegmentParts) (state : State) (result : Result Effect Cause) → IfPasses (ContinuesWith IsCall) result
     → IfRunning (IsAfterCall state) (next_of segment state result)
-applies_call segment state (Ok (GoOn (CallHelper helper arguments) place)) call =
-    record { empty = registers_empty _ state.registers; kept = registers_kept _ state.registers }
-applies_call segment state (Ok (GoOn change place)) call = absurd call
+applies_call segment state (Ok (Continue (CallHelper helper arguments) place)) call =
+    record { empty = registers_empty _ state.registers; preserved = registers_preserved _ state.registers }
+applies_call segment state (Ok (Continue change place)) call = absurd call
 applies_call segment state result call = tt
 
-pub step_after_call : (code : List Insn) (segment : Contents) (state there : State) (immediate : ℤ)
+pub step_after_call : (code : List Insn) (segment : SegmentParts) (state there : State) (immediate : ℤ)
     → instruction_at code state.place ≡ Some (Call immediate) → Step code segment (Running state) (Running there) → IsAfterCall state there
 unfolding after
 step_after_call code segment state there immediate at step =
     subst (IfRunning (IsAfterCall state)) (sym step)
     (applies_call segment state (effect code segment state)
-    (subst (λ (found : Option Insn). IfPasses (GoesOnWith IsCall) (effect_of code segment state found)) (sym at)
-    (then_keeps IsCall (GoesOnWith IsCall) _ _ (change_is_call state (by_number (cast_unsigned w32 immediate)))
-    (goes_on_with IsCall code _))))
+    (subst (λ (found : Option Insn). IfPasses (ContinuesWith IsCall) (effect_of code segment state found)) (sym at)
+    (then_keeps IsCall (ContinuesWith IsCall) _ _ (change_is_call state (by_number (cast_unsigned w32 immediate)))
+    (continues_with IsCall code _))))

@@ -1,7 +1,7 @@
 -- Runs are determined: two runs of one code on one segment agree as far as both go.
 use Rattle.std.proofs.Common.{◌≡◌, ℕ, ◌≤◌, ◌<◌, List, [], ◌∷◌, ◌++◌, length, refl, sym, ap, ◌∙◌, subst, arith, ◌+◌, length-append}
 use Rattle.bpf_insn.specs.declared.instruction.Insn.{Insn}
-use Rattle.tl_segments.specs.Segment.{Contents}
+use Rattle.tl_segments.specs.Segment.{SegmentParts}
 use Rattle.bpf_meaning.specs.State.{start}
 use Rattle.bpf_meaning.specs.Step.{Configuration, Running, Exited, Stuck, after, configuration_of}
 use Rattle.bpf_meaning.specs.Run.{Step, HasOneNext, HasNoNext, FollowSteps, IsRun, last_of, end_of, Answers, IsTraced}
@@ -10,14 +10,14 @@ use Rattle.bpf_meaning.specs.declared.outcome.Outcome.{Outcome}
 use Rattle.bpf_meaning.specs.declared.outcome.Outcome.TheVariants as outcome
 use Rattle.bpf_meaning.specs.declared.state.State.{State}
 
-module _ (code : List Insn) (segment : Contents) where
+module _ (code : List Insn) (segment : SegmentParts) where
   -- a configuration with a next one hasn't ended, and has only one
   pub one_next : (from next other : Configuration) → Step code segment from next → Step code segment from other → next ≡ other
   one_next (Running state) next other a b = a ∙ sym b
   one_next ended next other a b = absurd a
 
-  pub running_goes_on : (state : State) → HasOneNext code segment (Running state)
-  running_goes_on state = record { next = after code segment state; is_next = refl; only = λ other step. step }
+  pub running_continues : (state : State) → HasOneNext code segment (Running state)
+  running_continues state = record { next = after code segment state; is_next = refl; only = λ other step. step }
 
   pub exited_ends : (answer score : ℕ) → HasNoNext code segment (Exited answer score)
   exited_ends answer score next step = step
@@ -80,46 +80,46 @@ last_of-more from [] next = refl
 last_of-more from (there ∷ run) next = last_of-more there run next
 
 -- some run of this many steps is in this state and hasn't ended
-pub record IsOnItsWay (code : List Insn) (segment : Contents) (steps : ℕ) (state : State) : Type 0 where
+pub record IsReachable (code : List Insn) (segment : SegmentParts) (steps : ℕ) (state : State) : Type 0 where
   pub run : List Configuration
   pub is_run : IsRun code segment run
   pub ends : end_of run ≡ Running state
   pub long : length run ≡ steps
 
 -- such a run, and the configuration after it
-pub record ComesTo (code : List Insn) (segment : Contents) (steps : ℕ) (next : Configuration) : Type 0 where
+pub record ComesTo (code : List Insn) (segment : SegmentParts) (steps : ℕ) (next : Configuration) : Type 0 where
   pub run : List Configuration
   pub is_run : IsRun code segment run
   pub ends : end_of run ≡ next
   pub long : length run ≡ steps + 1
 
-pub comes_to : (code : List Insn) (segment : Contents) (steps : ℕ) (state : State) (next : Configuration)
-    → IsOnItsWay code segment steps state → next ≡ after code segment state → ComesTo code segment steps next
-comes_to code segment steps state next way is = record {
-  run = way.run ++ next ∷ [];
-  is_run = follow_more code segment (Running start) way.run state next way.is_run way.ends is;
-  ends = last_of-more (Running start) way.run next;
-  long = length-append way.run (next ∷ []) ∙ ap (λ (n : ℕ). n + 1) way.long;
+pub comes_to : (code : List Insn) (segment : SegmentParts) (steps : ℕ) (state : State) (next : Configuration)
+    → IsReachable code segment steps state → next ≡ after code segment state → ComesTo code segment steps next
+comes_to code segment steps state next reachable is = record {
+  run = reachable.run ++ next ∷ [];
+  is_run = follow_more code segment (Running start) reachable.run state next reachable.is_run reachable.ends is;
+  ends = last_of-more (Running start) reachable.run next;
+  long = length-append reachable.run (next ∷ []) ∙ ap (λ (n : ℕ). n + 1) reachable.long;
 }
 
-pub goes_on : (code : List Insn) (segment : Contents) (steps : ℕ) (state next : State) → IsOnItsWay code segment steps state
-    → Running next ≡ after code segment state → IsOnItsWay code segment (steps + 1) next
-goes_on code segment steps state next way is =
-    let way = comes_to code segment steps state (Running next) way is in
-    record { run = way.run; is_run = way.is_run; ends = way.ends; long = way.long }
+pub continues : (code : List Insn) (segment : SegmentParts) (steps : ℕ) (state next : State) → IsReachable code segment steps state
+    → Running next ≡ after code segment state → IsReachable code segment (steps + 1) next
+continues code segment steps state next reachable is =
+    let reachable = comes_to code segment steps state (Running next) reachable is in
+    record { run = reachable.run; is_run = reachable.is_run; ends = reachable.ends; long = reachable.long }
 
 -- the outcome of a trace whose run has ended, and of one whose run hasn't
-pub traces_end : {code : List Insn} {segment : Contents} {steps : ℕ} (limit : ℕ) {state : State} (next : State) (ended : Outcome)
-    → IsOnItsWay code segment steps state → steps < limit → configuration_of ended next ≡ after code segment state
+pub traces_end : {code : List Insn} {segment : SegmentParts} {steps : ℕ} (limit : ℕ) {state : State} (next : State) (ended : Outcome)
+    → IsReachable code segment steps state → steps < limit → configuration_of ended next ≡ after code segment state
     → (ended ≡ outcome.Running → ⊥) → IsTraced code segment limit ended
-traces_end limit next outcome.Running way less is ends = absurd (ends refl)
-traces_end limit next (outcome.Exit answer score) way less is ends =
-    let way = comes_to _ _ _ _ (Exited answer score) way is in
-    record { run = way.run; is_run = way.is_run; ends = (way.ends, let long = way.long in omega arith) }
-traces_end limit next (outcome.Stuck place cause) way less is ends =
-    let way = comes_to _ _ _ _ (Stuck place cause) way is in
-    record { run = way.run; is_run = way.is_run; ends = (way.ends, let long = way.long in omega arith) }
+traces_end limit next outcome.Running reachable less is ends = absurd (ends refl)
+traces_end limit next (outcome.Exit answer score) reachable less is ends =
+    let reachable = comes_to _ _ _ _ (Exited answer score) reachable is in
+    record { run = reachable.run; is_run = reachable.is_run; ends = (reachable.ends, let long = reachable.long in omega arith) }
+traces_end limit next (outcome.Stuck place cause) reachable less is ends =
+    let reachable = comes_to _ _ _ _ (Stuck place cause) reachable is in
+    record { run = reachable.run; is_run = reachable.is_run; ends = (reachable.ends, let long = reachable.long in omega arith) }
 
-pub traces_on : (code : List Insn) (segment : Contents) (steps limit : ℕ) (state : State) → IsOnItsWay code segment steps state
+pub traces_on : (code : List Insn) (segment : SegmentParts) (steps limit : ℕ) (state : State) → IsReachable code segment steps state
     → steps ≡ limit → IsTraced code segment limit outcome.Running
-traces_on code segment steps limit state way all = record { run = way.run; is_run = way.is_run; ends = (state, way.ends, way.long ∙ all) }
+traces_on code segment steps limit state reachable all = record { run = reachable.run; is_run = reachable.is_run; ends = (state, reachable.ends, reachable.long ∙ all) }

@@ -8,7 +8,7 @@ use Rattle.std.proofs.lemmas.Grind.{common_steps}
 use Rattle.std.proofs.lemmas.List.{length-map, length-take-le, drop-drop, drop-take, take-append-le, take-take, drop_at, get_or-set_same}
 use Rattle.std.proofs.lemmas.List.{get_or-set_other, get_or-replicate, get_or_past}
 use Rattle.bpf_helpers.specs.Call.{write}
-use Rattle.bpf_helpers.proofs.WriteLemmas.{get_or-write, get_or-write_before, get_or-write_behind, write-nothing}
+use Rattle.bpf_helpers.proofs.WriteLemmas.{get_or-write, get_or-write_before, get_or-write_after, write-nothing}
 use Rattle.bpf_insn.specs.Arithmetic.{load_extension}
 use Rattle.bpf_insn.specs.Memory.{load_length, store_length}
 use Rattle.bpf_insn.specs.declared.instruction.LoadFormat.{LoadFormat}
@@ -22,11 +22,11 @@ use Rattle.bpf_insn.specs.declared.value.Value.TheVariants as value
 use Rattle.bpf_insn.specs.Frame as memory
 use Rattle.bpf_insn.specs.Frame.{FrameByte, FrameContents, IsApart, Unwritten, clear_slots, is_byte, is_written, number_of, overwrite_slots}
 use Rattle.bpf_insn.specs.Frame.{slot_at, slot_bytes, slot_pointer, slot_value, value_of}
-use Rattle.bpf_meaning.specs.Memory.{keep_pointer, store, store_number, write_bytes}
+use Rattle.bpf_meaning.specs.Memory.{set_slot_pointer, store, store_number, write_bytes}
 use Rattle.bpf_meaning.specs.Effect.{lie_within, store_pointer}
 use Rattle.bpf_meaning.specs.declared.cause.Cause.TheVariants.{OutOfBounds, StoresPointer}
 use Rattle.bpf_meaning.specs.declared.effect.Change.TheVariants.{StorePointer}
-use Rattle.bpf_meaning.proofs.FrameLemmas.{is_written-write_before, is_written-write_behind}
+use Rattle.bpf_meaning.proofs.FrameLemmas.{is_written-write_before, is_written-write_after}
 use Rattle.bpf_meaning.proofs.MemoryLemmas.{length-bytes_low_first, store_is_write, stored_is_loaded}
 
 -- if none of some bytes lies in a slot, they lie before it or after it
@@ -34,7 +34,7 @@ lies_apart : (slot at count : ℕ) → 0 < count → IsApart slot at count → (
     ⊎ (SLOT_LENGTH * slot + SLOT_LENGTH ≤ at)
 lies_apart slot at count some apart =
     elim (cases_lt at (SLOT_LENGTH * slot + SLOT_LENGTH)) [
-      | inr behind ↦ inr behind
+      | inr beyond ↦ inr beyond
       | inl within ↦
           elim (cases_lt at (SLOT_LENGTH * slot)) [
             | inr inside ↦ absurd (apart at (omega arith) (omega arith) (omega arith))
@@ -71,9 +71,9 @@ module _ {A : Type 0} (nothing : A) (slots : List A) (from to : ℕ) where
       → get_or (clear_slots nothing slots from to) slot nothing ≡ get_or slots slot nothing
   cleared_before slot inside before = grind (arith, common_steps)
 
-  cleared_behind : (slot : ℕ) → slot < length slots → from ≤ to → to / SLOT_LENGTH < slot
+  cleared_after : (slot : ℕ) → slot < length slots → from ≤ to → to / SLOT_LENGTH < slot
       → get_or (clear_slots nothing slots from to) slot nothing ≡ get_or slots slot nothing
-  cleared_behind slot inside ordered behind = grind (arith, common_steps)
+  cleared_after slot inside ordered beyond = grind (arith, common_steps)
 
   cleared_within : (slot : ℕ) → slot < length slots → from / SLOT_LENGTH ≤ slot → slot ≤ to / SLOT_LENGTH
       → get_or (clear_slots nothing slots from to) slot nothing ≡ nothing
@@ -90,8 +90,8 @@ module _ {A : Type 0} (nothing : A) (slots : List A) (at : ℕ) where
   overwritten_apart zero slot inside apart = refl
   overwritten_apart (suc more) slot inside apart =
       elim (lies_apart slot at (suc more) (omega arith) apart) [
-        | inl before ↦ cleared_behind nothing slots at (at + more) slot inside (omega arith) (omega arith)
-        | inr behind ↦ cleared_before nothing slots at (at + more) slot inside (omega arith)
+        | inl before ↦ cleared_after nothing slots at (at + more) slot inside (omega arith) (omega arith)
+        | inr beyond ↦ cleared_before nothing slots at (at + more) slot inside (omega arith)
       ]
 
   pub overwritten_within : (count slot i : ℕ) → slot < length slots → at ≤ i → i < at + count → i / SLOT_LENGTH ≡ slot
@@ -109,7 +109,7 @@ module _ {A : Type 0} (nothing : A) (slots : List A) (at : ℕ) where
         | inl before ↦ cleared_before nothing slots at (at + more) slot inside before ∙ none
         | inr above ↦
             elim (cases_lt ((at + more) / SLOT_LENGTH) slot) [
-              | inl behind ↦ cleared_behind nothing slots at (at + more) slot inside (omega arith) behind ∙ none
+              | inl beyond ↦ cleared_after nothing slots at (at + more) slot inside (omega arith) beyond ∙ none
               | inr within ↦ cleared_within nothing slots at (at + more) slot inside above within
             ]
       ]
@@ -122,8 +122,8 @@ module _ {A : Type 0} (nothing : A) (slots : List A) (at : ℕ) where
 -- the bytes of a slot apart from those that are written are unchanged
 
 module _ {A : Type 0} (memory bytes : List A) (at from count : ℕ) (within : at + length bytes ≤ length memory) where
-  part-behind : at + length bytes ≤ from → take count (drop from (write memory at bytes)) ≡ take count (drop from memory)
-  part-behind behind =
+  part-after : at + length bytes ≤ from → take count (drop from (write memory at bytes)) ≡ take count (drop from memory)
+  part-after beyond =
       let front : length (take at memory ++ bytes) ≡ at + length bytes =
       length-append (take at memory) bytes ∙ ap (λ (n : ℕ). n + length bytes) (length-take-le at memory (omega arith)) in
       let rest = drop (at + length bytes) memory in
@@ -148,7 +148,7 @@ pub slot_bytes-apart : {A : Type 0} (memory bytes : List A) (at slot : ℕ) → 
 slot_bytes-apart {A} memory [] at slot within apart = ap (λ (l : List A). slot_bytes l slot) (write-nothing memory at)
 slot_bytes-apart memory (byte ∷ bytes) at slot within apart =
     elim (lies_apart slot at (length (byte ∷ bytes)) (omega arith) apart) [
-      | inl behind ↦ part-behind memory (byte ∷ bytes) at (SLOT_LENGTH * slot) SLOT_LENGTH within behind
+      | inl beyond ↦ part-after memory (byte ∷ bytes) at (SLOT_LENGTH * slot) SLOT_LENGTH within beyond
       | inr before ↦ part-before memory (byte ∷ bytes) at (SLOT_LENGTH * slot) SLOT_LENGTH within before
     ]
 
@@ -221,63 +221,63 @@ slot_value-store_slot frame slot number within small =
 
 -- a stored pointer
 
-apart_slots : (slot kept : ℕ) → slot ≢ kept → IsApart slot (SLOT_LENGTH * kept) SLOT_LENGTH
-apart_slots slot kept other i above below is = other (omega arith)
+apart_slots : (slot stored_slot : ℕ) → slot ≢ stored_slot → IsApart slot (SLOT_LENGTH * stored_slot) SLOT_LENGTH
+apart_slots slot stored_slot other i above below is = other (omega arith)
 
-pub slot_pointer-keep_pointer : (frame : FrameContents) (slot : ℕ) (pointer : Pointer) → slot < length frame.slots
-    → slot_pointer (keep_pointer frame slot pointer) slot ≡ Some pointer
-slot_pointer-keep_pointer frame slot pointer inside = get_or-set_same frame.slots slot (Some pointer) None inside
+pub slot_pointer-set : (frame : FrameContents) (slot : ℕ) (pointer : Pointer) → slot < length frame.slots
+    → slot_pointer (set_slot_pointer frame slot pointer) slot ≡ Some pointer
+slot_pointer-set frame slot pointer inside = get_or-set_same frame.slots slot (Some pointer) None inside
 
-pub slot_pointer-keep_pointer_apart : (frame : FrameContents) (kept : ℕ) (pointer : Pointer) (slot : ℕ) → slot ≢ kept
-    → slot_pointer (keep_pointer frame kept pointer) slot ≡ slot_pointer frame slot
-slot_pointer-keep_pointer_apart frame kept pointer slot other = get_or-set_other frame.slots kept slot (Some pointer) None other
+pub slot_pointer-set_apart : (frame : FrameContents) (stored_slot : ℕ) (pointer : Pointer) (slot : ℕ) → slot ≢ stored_slot
+    → slot_pointer (set_slot_pointer frame stored_slot pointer) slot ≡ slot_pointer frame slot
+slot_pointer-set_apart frame stored_slot pointer slot other = get_or-set_other frame.slots stored_slot slot (Some pointer) None other
 
-slot_bytes-keep_pointer : (frame : FrameContents) (slot : ℕ) (pointer : Pointer) → SLOT_LENGTH * slot + SLOT_LENGTH ≤ length frame.bytes
-    → slot_bytes (keep_pointer frame slot pointer).bytes slot ≡ replicate SLOT_LENGTH Unwritten
-slot_bytes-keep_pointer frame slot pointer within =
+slot_bytes-set : (frame : FrameContents) (slot : ℕ) (pointer : Pointer) → SLOT_LENGTH * slot + SLOT_LENGTH ≤ length frame.bytes
+    → slot_bytes (set_slot_pointer frame slot pointer).bytes slot ≡ replicate SLOT_LENGTH Unwritten
+slot_bytes-set frame slot pointer within =
     let at = SLOT_LENGTH * slot in
     let unwritten = replicate SLOT_LENGTH Unwritten in
     let rest = drop (at + SLOT_LENGTH) frame.bytes in
     ap (λ (l : List FrameByte). take SLOT_LENGTH (drop at l)) (append_assoc (take at frame.bytes) unwritten rest)
     ∙ ap (take SLOT_LENGTH) (drop_at (take at frame.bytes) (unwritten ++ rest) at (length-take-le at frame.bytes (omega arith)))
 
-pub slot_value-keep_pointer : (frame : FrameContents) (slot : ℕ) (pointer : Pointer) → SLOT_LENGTH * slot + SLOT_LENGTH ≤ length frame.bytes
-    → slot < length frame.slots → slot_value (keep_pointer frame slot pointer) slot ≡ value.Pointer pointer
-slot_value-keep_pointer frame slot pointer within inside =
-    let kept = keep_pointer frame slot pointer in
-    ap (λ (l : List FrameByte). value_of (number_of l) (slot_pointer kept slot)) (slot_bytes-keep_pointer frame slot pointer within)
-    ∙ ap (value_of None) (slot_pointer-keep_pointer frame slot pointer inside)
+pub slot_value-set : (frame : FrameContents) (slot : ℕ) (pointer : Pointer) → SLOT_LENGTH * slot + SLOT_LENGTH ≤ length frame.bytes
+    → slot < length frame.slots → slot_value (set_slot_pointer frame slot pointer) slot ≡ value.Pointer pointer
+slot_value-set frame slot pointer within inside =
+    let stored_slot = set_slot_pointer frame slot pointer in
+    ap (λ (l : List FrameByte). value_of (number_of l) (slot_pointer stored_slot slot)) (slot_bytes-set frame slot pointer within)
+    ∙ ap (value_of None) (slot_pointer-set frame slot pointer inside)
 
-pub slot_value-keep_pointer_apart : (frame : FrameContents) (kept : ℕ) (pointer : Pointer) (slot : ℕ)
-    → SLOT_LENGTH * kept + SLOT_LENGTH ≤ length frame.bytes → slot ≢ kept
-    → slot_value (keep_pointer frame kept pointer) slot ≡ slot_value frame slot
-slot_value-keep_pointer_apart frame kept pointer slot within other =
-    held_alike (keep_pointer frame kept pointer) frame slot
-    (slot_bytes-apart frame.bytes (replicate SLOT_LENGTH Unwritten) (SLOT_LENGTH * kept) slot within (apart_slots slot kept other))
-    (slot_pointer-keep_pointer_apart frame kept pointer slot other)
+pub slot_value-set_apart : (frame : FrameContents) (stored_slot : ℕ) (pointer : Pointer) (slot : ℕ)
+    → SLOT_LENGTH * stored_slot + SLOT_LENGTH ≤ length frame.bytes → slot ≢ stored_slot
+    → slot_value (set_slot_pointer frame stored_slot pointer) slot ≡ slot_value frame slot
+slot_value-set_apart frame stored_slot pointer slot within other =
+    held_alike (set_slot_pointer frame stored_slot pointer) frame slot
+    (slot_bytes-apart frame.bytes (replicate SLOT_LENGTH Unwritten) (SLOT_LENGTH * stored_slot) slot within (apart_slots slot stored_slot other))
+    (slot_pointer-set_apart frame stored_slot pointer slot other)
 
 -- the bytes before and after the slot are unchanged, and its own are unwritten
 
-pub is_written-keep_before : (frame : FrameContents) (slot : ℕ) (pointer : Pointer) (i : ℕ)
+pub is_written-pointer_before : (frame : FrameContents) (slot : ℕ) (pointer : Pointer) (i : ℕ)
     → SLOT_LENGTH * slot + SLOT_LENGTH ≤ length frame.bytes → i < SLOT_LENGTH * slot
-    → is_written (keep_pointer frame slot pointer).bytes i ≡ is_written frame.bytes i
-is_written-keep_before frame slot pointer i within before = ap is_byte
+    → is_written (set_slot_pointer frame slot pointer).bytes i ≡ is_written frame.bytes i
+is_written-pointer_before frame slot pointer i within before = ap is_byte
     (get_or-write_before frame.bytes (replicate SLOT_LENGTH Unwritten) (SLOT_LENGTH * slot) i Unwritten within before)
 
-pub is_written-keep_behind : (frame : FrameContents) (slot : ℕ) (pointer : Pointer) (i : ℕ)
+pub is_written-pointer_after : (frame : FrameContents) (slot : ℕ) (pointer : Pointer) (i : ℕ)
     → SLOT_LENGTH * slot + SLOT_LENGTH ≤ length frame.bytes → SLOT_LENGTH * slot + SLOT_LENGTH ≤ i
-    → is_written (keep_pointer frame slot pointer).bytes i ≡ is_written frame.bytes i
-is_written-keep_behind frame slot pointer i within behind = ap is_byte
-    (get_or-write_behind frame.bytes (replicate SLOT_LENGTH Unwritten) (SLOT_LENGTH * slot) i Unwritten within behind)
+    → is_written (set_slot_pointer frame slot pointer).bytes i ≡ is_written frame.bytes i
+is_written-pointer_after frame slot pointer i within beyond = ap is_byte
+    (get_or-write_after frame.bytes (replicate SLOT_LENGTH Unwritten) (SLOT_LENGTH * slot) i Unwritten within beyond)
 
-pub is_written-keep_inside : (frame : FrameContents) (slot : ℕ) (pointer : Pointer) (i : ℕ)
+pub is_written-pointer_inside : (frame : FrameContents) (slot : ℕ) (pointer : Pointer) (i : ℕ)
     → SLOT_LENGTH * slot + SLOT_LENGTH ≤ length frame.bytes → SLOT_LENGTH * slot ≤ i → i < SLOT_LENGTH * slot + SLOT_LENGTH
-    → is_written (keep_pointer frame slot pointer).bytes i ≡ false
-is_written-keep_inside frame slot pointer i within above below =
+    → is_written (set_slot_pointer frame slot pointer).bytes i ≡ false
+is_written-pointer_inside frame slot pointer i within above below =
     let at = SLOT_LENGTH * slot in
     let unwritten = replicate SLOT_LENGTH Unwritten in
     let place : at + (i - at) ≡ i = omega arith in
-    ap (λ (n : ℕ). is_written (keep_pointer frame slot pointer).bytes n) (sym place)
+    ap (λ (n : ℕ). is_written (set_slot_pointer frame slot pointer).bytes n) (sym place)
     ∙ ap is_byte (get_or-write frame.bytes unwritten at (i - at) Unwritten within (omega arith)
     ∙ get_or-replicate SLOT_LENGTH (i - at) Unwritten Unwritten (omega arith))
 
@@ -301,7 +301,7 @@ apart-write_bytes frame at bytes within covered apart i written =
       | inr above ↦
           elim (cases_lt i (at + length bytes)) [
             | inl below ↦ overwritten_within None frame.slots at (length bytes) (i / SLOT_LENGTH) i (omega arith) above below refl
-            | inr behind ↦ stays (sym (is_written-write_behind frame.bytes at bytes i within behind) ∙ written)
+            | inr beyond ↦ stays (sym (is_written-write_after frame.bytes at bytes i within beyond) ∙ written)
           ]
     ]
   where
@@ -317,18 +317,18 @@ apart-store_number frame at count number within covered apart =
     let long : length low ≡ count = length-bytes_low_first 0 count number in
     subst PointersApart (stored_is_written frame at count number) (apart-write_bytes frame at low (omega arith) covered apart)
 
-pub apart-keep_pointer : (frame : FrameContents) (slot : ℕ) (pointer : Pointer) → SLOT_LENGTH * slot + SLOT_LENGTH ≤ length frame.bytes
-    → PointersApart frame → PointersApart (keep_pointer frame slot pointer)
-apart-keep_pointer frame slot pointer within apart i written =
+pub apart-set_slot_pointer : (frame : FrameContents) (slot : ℕ) (pointer : Pointer) → SLOT_LENGTH * slot + SLOT_LENGTH ≤ length frame.bytes
+    → PointersApart frame → PointersApart (set_slot_pointer frame slot pointer)
+apart-set_slot_pointer frame slot pointer within apart i written =
     elim (cases_lt i (SLOT_LENGTH * slot)) [
       | inl before ↦
-          slot_pointer-keep_pointer_apart frame slot pointer (i / SLOT_LENGTH) (λ same. omega (arith, same))
-          ∙ apart i (sym (is_written-keep_before frame slot pointer i within before) ∙ written)
+          slot_pointer-set_apart frame slot pointer (i / SLOT_LENGTH) (λ same. omega (arith, same))
+          ∙ apart i (sym (is_written-pointer_before frame slot pointer i within before) ∙ written)
       | inr above ↦
           elim (cases_lt i (SLOT_LENGTH * slot + SLOT_LENGTH)) [
-            | inl below ↦ absurd (false≢true (sym (is_written-keep_inside frame slot pointer i within above below) ∙ written))
-            | inr behind ↦
-                slot_pointer-keep_pointer_apart frame slot pointer (i / SLOT_LENGTH) (λ same. omega (arith, same))
-                ∙ apart i (sym (is_written-keep_behind frame slot pointer i within behind) ∙ written)
+            | inl below ↦ absurd (false≢true (sym (is_written-pointer_inside frame slot pointer i within above below) ∙ written))
+            | inr beyond ↦
+                slot_pointer-set_apart frame slot pointer (i / SLOT_LENGTH) (λ same. omega (arith, same))
+                ∙ apart i (sym (is_written-pointer_after frame slot pointer i within beyond) ∙ written)
           ]
     ]

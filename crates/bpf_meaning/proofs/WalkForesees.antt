@@ -26,8 +26,8 @@ use Rattle.bpf_meaning.proofs.CheckLemmas.{then_sound, weaker}
 use Rattle.bpf_meaning.specs.Walk.{Domain, ConditionalJump, number_in, operand, operation_value, compare, load_value, store, call, walk}
 
 -- the program doesn't end here
-abbrev pub GoesOn : Insn → Type 0
-GoesOn insn = insn ≡ Exit → ⊥
+abbrev pub IsNotExit : Insn → Type 0
+IsNotExit insn = insn ≡ Exit → ⊥
 
 -- the immediates of an instruction that become operands fit
 abbrev pub SourceFits : (ℤ → Type 0) → Source → Type 0
@@ -43,7 +43,7 @@ InsnFits Fits insn = Unit {0}
 
 -- an instruction goes on at the next one, or jumps by the distance of a conditional jump
 pub record MayJump (insn : Insn) (jump : ConditionalJump) : Type 0 where
-  pub goes_on : GoesOn insn
+  pub continues : IsNotExit insn
   pub leads : jump_distance insn ≡ Some jump.distance
 
 -- a conditional jump with another operand on the right
@@ -98,10 +98,10 @@ pub record Foresees (A B : Domain) (insn : Insn) : Type 1 where
       → Stored v w → Sound Changes (A.store_at x offset size v) (B.store_at from offset size w)
   pub call : (helper : Helper) → Sound Changes (A.call helper) (B.call helper)
   -- what comes next
-  pub set : GoesOn insn → (destination : WritableRegister) (x : A.Value) (v : B.Value) → Values x v
+  pub set : IsNotExit insn → (destination : WritableRegister) (x : A.Value) (v : B.Value) → Values x v
       → Sound Outcomes (A.set destination x) (B.set destination v)
-  pub go_on : GoesOn insn → (behind : A.Change) (change : B.Change) → Changes behind change
-      → Sound Outcomes (A.go_on behind) (B.go_on change)
+  pub continue_with : IsNotExit insn → (foreseen : A.Change) (change : B.Change) → Changes foreseen change
+      → Sound Outcomes (A.continue_with foreseen) (B.continue_with change)
   pub jump : (distance : ℤ) → jump_distance insn ≡ Some distance → Sound Outcomes (A.jump distance) (B.jump distance)
   pub with_immediate : (jump : ConditionalJump) (immediate : ℤ) → MayJump insn jump → Fits immediate
       → (left : IsRead Read jump.left.number)
@@ -134,17 +134,17 @@ module _ (A B : Domain) (insn : Insn) (f : Foresees A B insn) where
       then_sound f.Values f.Values _ _ _ _ (values_read destination) (λ x v left.
       then_sound f.Values f.Values _ _ _ _ (operand_foreseen source fits) (λ y w right. f.operate operation width x y v w left right))
 
-  value_written : GoesOn insn → (destination : WritableRegister) (a : Result A.Value Cause) (b : Result B.Value Cause) → Sound f.Values a b
+  value_written : IsNotExit insn → (destination : WritableRegister) (a : Result A.Value Cause) (b : Result B.Value Cause) → Sound f.Values a b
       → Sound f.Outcomes (a >>= A.set destination) (b >>= B.set destination)
-  value_written goes_on destination a b sound = then_sound f.Values f.Outcomes _ _ _ _ sound (f.set goes_on destination)
+  value_written continues destination a b sound = then_sound f.Values f.Outcomes _ _ _ _ sound (f.set continues destination)
 
-  number_written : GoesOn insn → (register : ℕ) (destination : WritableRegister) (g : A.Number → A.Number) (h : B.Number → B.Number)
+  number_written : IsNotExit insn → (register : ℕ) (destination : WritableRegister) (g : A.Number → A.Number) (h : B.Number → B.Number)
       → ((x : A.Number) (n : B.Number) → f.Numbers x n → f.Values (A.number (g x)) (B.number (h n)))
       → Sound f.Outcomes (number_in A.registers register >>= λ x. A.set destination (A.number (g x)))
       (number_in B.registers register >>= λ x. B.set destination (B.number (h x)))
-  number_written goes_on register destination g h all =
+  number_written continues register destination g h all =
       then_sound f.Numbers f.Outcomes _ _ _ _ (then_sound (f.Read register) f.Numbers _ _ _ _ (f.read register) (f.number_or _ register))
-      (λ x n numbers. f.set goes_on destination _ _ (all x n numbers))
+      (λ x n numbers. f.set continues destination _ _ (all x n numbers))
 
   compare_foreseen : (jump : ConditionalJump) (right : Source) → MayJump insn jump → SourceFits f.Fits right
       → Sound f.Outcomes (compare A (against jump right)) (compare B (against jump right))
@@ -172,9 +172,9 @@ module _ (A B : Domain) (insn : Insn) (f : Foresees A B insn) where
   call_foreseen None = tt
   call_foreseen (Some helper) = f.call helper
 
-  change_made : GoesOn insn → (a : Result A.Change Cause) (b : Result B.Change Cause) → Sound f.Changes a b
-      → Sound f.Outcomes (a >>= A.go_on) (b >>= B.go_on)
-  change_made goes_on a b sound = then_sound f.Changes f.Outcomes _ _ _ _ sound (f.go_on goes_on)
+  change_made : IsNotExit insn → (a : Result A.Change Cause) (b : Result B.Change Cause) → Sound f.Changes a b
+      → Sound f.Outcomes (a >>= A.continue_with) (b >>= B.continue_with)
+  change_made continues a b sound = then_sound f.Changes f.Outcomes _ _ _ _ sound (f.continue_with continues)
 
 -- if one domain foresees another, the walk over it is sound for the walk over the other: each row of the instruction table
 pub walk_foreseen : (A B : Domain) (insn : Insn) (f : Foresees A B insn) → InsnFits f.Fits insn
@@ -188,7 +188,7 @@ walk_foreseen A B (ByteSwap order width destination) f fits =
     number_written A B _ f (λ e. cc) destination.number destination _ _ (f.byte_swap order width)
 walk_foreseen A B (JumpIf condition width left right distance) f fits =
     compare_foreseen A B _ f (record { condition = condition; width = width; left = left; right = right; distance = distance }) right
-    (record { goes_on = λ e. cc; leads = refl }) fits
+    (record { continues = λ e. cc; leads = refl }) fits
 walk_foreseen A B (Jump distance) f fits = f.jump (words distance) refl
 walk_foreseen A B (Call immediate) f fits = change_made A B _ f (λ e. cc) _ _
     (call_foreseen A B _ f (by_number (cast_unsigned w32 immediate)))

@@ -1,7 +1,7 @@
 -- The effects of instructions (RFC 9669, sections 4 and 5). Which checks precede an effect, and in which order, is this project's own choice.
 use Rattle.std.specs.Prelude.{ℕ, ◌+◌, ◌≤◌, ◌<◌, ℤ, pos, negsuc, ◌+ℤ◌, ◌-ℤ◌, ◌&&◌, Bool, List, [], ◌∷◌, map, take, drop, get_or, length, unsigned_abs, int_le, nat_le, nat_lt, Option, Some, None, Result, Ok, Err, is_some, IsTrue, if◌then◌else◌}
 use Rattle.std.specs.Int.{cast_signed, cast_unsigned, w32, w64}
-use Rattle.bpf_insn.specs.Arithmetic.{result_of, negate, extension_of, byte_swap, low_bits, is_met, immediate_operand, wide_number, load_extension}
+use Rattle.bpf_insn.specs.Arithmetic.{result_of, negate, extension_of, byte_swap, low_bits, condition_holds, immediate_operand, wide_number, load_extension}
 use Rattle.bpf_insn.specs.Memory.{load_length, store_length}
 use Rattle.bpf_insn.specs.Pointer.{is_offset}
 use Rattle.bpf_insn.specs.Code.{instruction_at, spelling, word_count}
@@ -17,7 +17,7 @@ use Rattle.bpf_insn.specs.declared.value.Area.TheVariants.{Record, Frame}
 use Rattle.bpf_insn.specs.declared.value.Pointer.{Pointer as PointerParts}
 use Rattle.bpf_insn.specs.declared.value.Value.{Value}
 use Rattle.bpf_insn.specs.declared.value.Value.TheVariants.{Empty, Number, Pointer}
-use Rattle.tl_segments.specs.Segment.{Contents}
+use Rattle.tl_segments.specs.Segment.{SegmentParts}
 use Rattle.bpf_kinds.specs.declared.interval.Interval.{Interval}
 use Rattle.bpf_helpers.specs.Call.{MeetsSignature, bytes_read, second, third}
 use Rattle.bpf_helpers.specs.Helper.{signature}
@@ -40,7 +40,7 @@ use Rattle.bpf_meaning.specs.declared.cause.Cause.TheVariants.{OutOfProgram, Int
 use Rattle.bpf_meaning.specs.declared.effect.Change.{Change}
 use Rattle.bpf_meaning.specs.declared.effect.Change.TheVariants.{Nothing, SetRegister, StoreBytes, StorePointer, CallHelper}
 use Rattle.bpf_meaning.specs.declared.effect.Effect.{Effect}
-use Rattle.bpf_meaning.specs.declared.effect.Effect.TheVariants.{GoOn, End}
+use Rattle.bpf_meaning.specs.declared.effect.Effect.TheVariants.{Continue, End}
 use Rattle.bpf_insn.specs.declared.memory.TheConstants.{FRAME_LENGTH, SLOTS}
 use Rattle.bpf_meaning.specs.declared.state.State.{State}
 pub use Rattle.bpf_meaning.specs.Checks.{◌>>=◌}
@@ -93,7 +93,7 @@ value_tags = record {
 
 -- whether a conditional jump is taken
 abbrev pub compare : Condition → Width → Value → Value → Result Bool Cause
-compare condition width (Number x) (Number y) = Ok (is_met condition width x y)
+compare condition width (Number x) (Number y) = Ok (condition_holds condition width x y)
 compare condition width x y = Err ComparesPointer
 
 -- the pointer in the base register of a load or a store
@@ -140,12 +140,12 @@ load_frame format frame offset =
     if lie_within offset (load_length format) (length frame.bytes) then load_within format frame (unsigned_abs offset) else Err OutOfBounds
 
 -- a load from an area, from an offset on; all bytes of the record are written
-abbrev pub load_from : Contents → State → LoadFormat → Area → ℤ → Result Value Cause
+abbrev pub load_from : SegmentParts → State → LoadFormat → Area → ℤ → Result Value Cause
 load_from segment state format Record offset = load_bytes format (map memory.Byte segment.bytes) offset
 load_from segment state format Frame offset = load_frame format state.frame offset
 
 -- the value that a load yields; it begins where its base points, plus an offset
-abbrev pub load_value : Contents → State → LoadFormat → ℕ → ℤ → Result Value Cause
+abbrev pub load_value : SegmentParts → State → LoadFormat → ℕ → ℤ → Result Value Cause
 load_value segment state format base offset =
     pointer_in state base >>= λ pointer. load_from segment state format pointer.area (pointer.offset +ℤ offset)
 
@@ -215,7 +215,7 @@ argument_word number argument.Frame (Pointer pointer) = frame_word pointer.area
     frame_word : Area → Result ℕ Cause
     frame_word Frame = Ok (cast_unsigned w64 pointer.offset)
     frame_word Record = Err (BadArgument number)
-argument_word number wanted value = Err (BadArgument number)
+argument_word number required value = Err (BadArgument number)
 
 -- the argument with a number, counted from 1, in the register of that number; an unused argument isn't read
 abbrev pub argument_in : State → ℕ → Argument → Result ℕ Cause
@@ -225,10 +225,10 @@ argument_in state number argument.Frame = read state number >>= argument_word nu
 
 -- the arguments that a prototype requires, in order
 abbrev pub arguments_in : State → List Argument → Result (List ℕ) Cause
-arguments_in state wanted =
-    argument_in state 1 (get_or wanted 0 argument.Unused) >>= λ one.
-    argument_in state 2 (get_or wanted 1 argument.Unused) >>= λ two.
-    argument_in state 3 (get_or wanted 2 argument.Unused) >>= λ three. Ok (one ∷ two ∷ three ∷ [])
+arguments_in state required =
+    argument_in state 1 (get_or required 0 argument.Unused) >>= λ one.
+    argument_in state 2 (get_or required 1 argument.Unused) >>= λ two.
+    argument_in state 3 (get_or required 2 argument.Unused) >>= λ three. Ok (one ∷ two ∷ three ∷ [])
 
 -- the bytes of the frame that a call reads or writes lie within it
 abbrev pub lend_bytes : List ℕ → Result (List ℕ) Cause
@@ -256,25 +256,25 @@ call_change state (Some helper) = call_helper state helper
 
 -- The program goes on at a place, with a change, if an instruction begins there. A place within the code at which none begins is the second word of
 -- a wide load.
-abbrev pub go_on : List Insn → ℕ → Change → Result Effect Cause
-go_on code place change =
-    if is_some (instruction_at code place) then Ok (GoOn change place) else (if nat_lt place (word_count code) then Err IntoWide else Err OutOfProgram)
+abbrev pub continue_with : List Insn → ℕ → Change → Result Effect Cause
+continue_with code place change =
+    if is_some (instruction_at code place) then Ok (Continue change place) else (if nat_lt place (word_count code) then Err IntoWide else Err OutOfProgram)
 
 -- going on with a register set
 abbrev pub set_register : List Insn → ℕ → WritableRegister → Value → Result Effect Cause
-set_register code place register value = go_on code place (SetRegister register value)
+set_register code place register value = continue_with code place (SetRegister register value)
 
 -- going on without a change, at a place that may lie before the code
-abbrev pub go_to : List Insn → ℤ → Result Effect Cause
-go_to code (pos place) = go_on code place Nothing
-go_to code (negsuc before) = Err OutOfProgram
+abbrev pub continue_at : List Insn → ℤ → Result Effect Cause
+continue_at code (pos place) = continue_with code place Nothing
+continue_at code (negsuc before) = Err OutOfProgram
 
 -- a jump from a place, whose distance counts words from the word after it (section 4.3)
 abbrev pub jump : List Insn → ℕ → ℤ → Result Effect Cause
-jump code place distance = go_to code (pos (place + 1) +ℤ distance)
+jump code place distance = continue_at code (pos (place + 1) +ℤ distance)
 
 -- what an instruction sees and can do if registers hold values, in a state, with the next instruction beginning at this place
-abbrev pub values : List Insn → Contents → State → ℕ → Domain
+abbrev pub values : List Insn → SegmentParts → State → ℕ → Domain
 values code segment state next = record {
   registers = value_registers state;
   Offset = ℤ;
@@ -285,24 +285,24 @@ values code segment state next = record {
   store_at = λ from offset size. store_at from size;
   call = call_helper state;
   set = set_register code next;
-  go_on = go_on code next;
+  continue_with = continue_with code next;
   jump = jump code state.place;
   branch = λ conditional x y. compare conditional.condition conditional.width x y >>= λ taken.
-      if taken then jump code state.place conditional.distance else go_on code next Nothing;
+      if taken then jump code state.place conditional.distance else continue_with code next Nothing;
   end = λ answer. Ok (End answer);
 }
 
 -- the effect of an instruction, with the next one beginning at this place
-abbrev pub instruction_effect : List Insn → Contents → State → ℕ → Insn → Result Effect Cause
+abbrev pub instruction_effect : List Insn → SegmentParts → State → ℕ → Insn → Result Effect Cause
 instruction_effect code segment state next insn = walk.walk (values code segment state next) insn
 
 -- the effect of the instruction at the place, if there is one
-abbrev pub effect_of : List Insn → Contents → State → Option Insn → Result Effect Cause
+abbrev pub effect_of : List Insn → SegmentParts → State → Option Insn → Result Effect Cause
 effect_of code segment state None = Err OutOfProgram
 effect_of code segment state (Some insn) = instruction_effect code segment state (state.place + length (spelling insn)) insn
 
 -- the effect of the instruction at the state's place, or the first check that fails
-abbrev pub effect : List Insn → Contents → State → Result Effect Cause
+abbrev pub effect : List Insn → SegmentParts → State → Result Effect Cause
 effect code segment state = effect_of code segment state (instruction_at code state.place)
 
 -- a call can be made: its arguments meet its prototype, and what it reads of the frame is written
@@ -319,5 +319,5 @@ CanBeMade state (StorePointer slot pointer) = slot < SLOTS
 CanBeMade state (CallHelper helper arguments) = CanBeCalled state helper arguments
 
 abbrev pub CanBeCarriedOut : State → Effect → Type 0
-CanBeCarriedOut state (GoOn change place) = CanBeMade state change
+CanBeCarriedOut state (Continue change place) = CanBeMade state change
 CanBeCarriedOut state (End answer) = Unit {0}

@@ -43,8 +43,8 @@ write_bytes frame at bytes = record {
 }
 
 -- the frame with a pointer stored in a slot, which takes all of the slot's bytes
-abbrev pub keep_pointer : FrameContents → ℕ → PointerParts → FrameContents
-keep_pointer frame slot pointer = record {
+abbrev pub set_slot_pointer : FrameContents → ℕ → PointerParts → FrameContents
+set_slot_pointer frame slot pointer = record {
   bytes = write frame.bytes (SLOT_LENGTH * slot) (replicate SLOT_LENGTH Unwritten);
   slots = slice_set frame.slots slot (Some pointer);
 }

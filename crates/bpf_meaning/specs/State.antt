@@ -20,7 +20,7 @@ start = record {
 }
 
 -- eleven registers and a whole frame, as every State in the code has: a premise of laws about states, whose parts are only lists here
-pub record IsWhole (state : State) : Type 0 where
+pub record IsWellFormed (state : State) : Type 0 where
   pub registers : length state.registers ≡ REGISTERS
   pub frame : length state.frame.bytes ≡ FRAME_LENGTH
   pub slots : length state.frame.slots ≡ SLOTS
@@ -30,7 +30,7 @@ pub record HoldsBytes (state : State) : Type 0 where
   pub frame : (at : ℕ) → IsByte (get_or state.frame.bytes at Unwritten)
 
 -- a written byte lies in a slot that holds no pointer
-pub record KeepsPointersApart (state : State) : Type 0 where
+pub record SeparatesPointers (state : State) : Type 0 where
   pub written : (at : ℕ) → IsTrue (is_written state.frame.bytes at) → slot_pointer state.frame (at / SLOT_LENGTH) ≡ None
 
 -- the value in a register

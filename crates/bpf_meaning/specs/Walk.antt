@@ -72,7 +72,7 @@ pub record Domain : Type 1 where
   pub call : Helper → Result Change Cause
   -- on to the next instruction with a register set, or with another change; to a jump's target; to either one; to the end
   pub set : WritableRegister → Value → Result Outcome Cause
-  pub go_on : Change → Result Outcome Cause
+  pub continue_with : Change → Result Outcome Cause
   pub jump : ℤ → Result Outcome Cause
   pub branch : ConditionalJump → Value → Value → Result Outcome Cause
   pub end : Number → Result Outcome Cause
@@ -123,9 +123,9 @@ walk D (Negate width destination) = number_in D.registers destination.number >>=
 walk D (ByteSwap order width destination) = number_in D.registers destination.number >>= λ x. D.set destination (D.number (D.byte_swap order width x))
 walk D (JumpIf condition width left right distance) = compare D (record { condition = condition; width = width; left = left; right = right; distance = distance })
 walk D (Jump distance) = D.jump (words distance)
-walk D (Call immediate) = call D (by_number (cast_unsigned w32 immediate)) >>= D.go_on
+walk D (Call immediate) = call D (by_number (cast_unsigned w32 immediate)) >>= D.continue_with
 walk D Exit = D.read 0 >>= D.number_or ExitNotNumber >>= D.end
 walk D (Load format destination base offset) = load_value D format base.number offset >>= D.set destination
-walk D (StoreImmediate size base offset immediate) = store D size base.number offset (Immediate immediate) >>= D.go_on
-walk D (Store size base offset source) = store D size base.number offset (Register source) >>= D.go_on
+walk D (StoreImmediate size base offset immediate) = store D size base.number offset (Immediate immediate) >>= D.continue_with
+walk D (Store size base offset source) = store D size base.number offset (Register source) >>= D.continue_with
 walk D (WideLoad destination immediate next_immediate) = D.set destination (D.number (D.wide immediate next_immediate))

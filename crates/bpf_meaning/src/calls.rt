@@ -32,10 +32,10 @@ fn call_helper(state: &State, helper: Helper) -> Result<Change, Cause>
 }
 
 /// Returns the arguments that a prototype requires, in order. Each one is read and checked before the next one.
-fn arguments_in(state: &State, wanted: [Argument; 3]) -> Result<[u64; 3], Cause>
-    ensures { result ≡ arguments_in state.now wanted }
+fn arguments_in(state: &State, required: [Argument; 3]) -> Result<[u64; 3], Cause>
+    ensures { result ≡ arguments_in state.now required }
 {
-    let [first, second, third] = wanted;
+    let [first, second, third] = required;
     let first = argument_in(state, 1, first)?;
     let second = argument_in(state, 2, second)?;
     let third = argument_in(state, 3, third)?;
@@ -43,21 +43,21 @@ fn arguments_in(state: &State, wanted: [Argument; 3]) -> Result<[u64; 3], Cause>
 }
 
 /// Returns an argument, numbered from 1. An unused argument isn't read.
-fn argument_in(state: &State, number: u8, wanted: Argument) -> Result<u64, Cause>
+fn argument_in(state: &State, number: u8, required: Argument) -> Result<u64, Cause>
     requires { number ≤ 10 }
-    ensures { result ≡ argument_in state.now number wanted }
+    ensures { result ≡ argument_in state.now number required }
 {
-    match wanted {
+    match required {
         Argument::Unused => Ok(0),
-        _ => argument_word(number, wanted, state.read(number)?),
+        _ => argument_word(number, required, state.read(number)?),
     }
 }
 
 /// Returns the word for an argument: a number, or the offset of a pointer into the frame in two's complement.
-fn argument_word(number: u8, wanted: Argument, value: Value) -> Result<u64, Cause>
-    ensures { result ≡ argument_word number wanted value }
+fn argument_word(number: u8, required: Argument, value: Value) -> Result<u64, Cause>
+    ensures { result ≡ argument_word number required value }
 {
-    match (wanted, value) {
+    match (required, value) {
         (Argument::Unused, _) => Ok(0),
         (Argument::Number(allowed), Value::Number(n)) if is_allowed(allowed, n) => Ok(n),
         (Argument::Frame, Value::Pointer(pointer)) if pointer.area == Area::Frame => {

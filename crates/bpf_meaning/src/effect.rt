@@ -7,7 +7,7 @@ use bpf_insn::{Pointer, StoreSize, Value, WritableRegister};
 #[derive(Clone, Copy, PartialEq, Eq)]
 pub enum Effect {
     /// The program continues at a place, with a change.
-    GoOn { change: Change, place: usize },
+    Continue { change: Change, place: usize },
     /// The program ends with an answer.
     End { answer: u64 },
 }

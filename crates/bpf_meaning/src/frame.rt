@@ -4,7 +4,7 @@ ghost use Rattle.bpf_helpers.specs.Call.{MeetsSignature, bytes_read, call, secon
 ghost use Rattle.bpf_helpers.specs.Helper.{signature};
 ghost use Rattle.bpf_helpers.specs.Shape.{frame_use};
 ghost use Rattle.bpf_insn.specs.Frame.{Unwritten, number_of, overwrite_slots, slot_value};
-ghost use Rattle.bpf_meaning.specs.Memory.{all_written, keep_pointer, store_number, write_bytes, written_bytes};
+ghost use Rattle.bpf_meaning.specs.Memory.{all_written, set_slot_pointer, store_number, write_bytes, written_bytes};
 
 use crate::bytes::little_endian;
 use bpf_helpers::{FrameUse, Helper, call};
@@ -91,9 +91,9 @@ impl Frame {
     }
 
     /// Stores a pointer in a slot, where it takes all of the bytes.
-    pub fn keep_pointer(&mut self, slot: usize, pointer: Pointer)
+    pub fn set_slot_pointer(&mut self, slot: usize, pointer: Pointer)
         requires { slot < SLOTS }
-        ensures { self.new ≡ keep_pointer self.old slot pointer }
+        ensures { self.new ≡ set_slot_pointer self.old slot pointer }
     {
         let at = SLOT_LENGTH * slot;
         self.marks[at..at + SLOT_LENGTH].fill(false);

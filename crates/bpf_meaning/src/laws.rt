@@ -6,12 +6,12 @@ ghost use Rattle.bpf_insn.specs.declared.instruction.Insn.TheVariants.{Call};
 ghost use Rattle.bpf_insn.specs.declared.value.Value.TheVariants.{Empty, Number, Pointer};
 ghost use Rattle.bpf_insn.specs.declared.value.Pointer.{Pointer as PointerParts};
 ghost use Rattle.bpf_insn.specs.declared.memory.TheConstants.{SLOT_LENGTH, SLOTS};
-ghost use Rattle.tl_segments.specs.Segment.{Contents, IsSegment};
+ghost use Rattle.tl_segments.specs.Segment.{SegmentParts, IsSegment};
 ghost use Rattle.bpf_meaning.specs.Extract.{IsExtract};
 ghost use Rattle.bpf_insn.specs.Frame.{FrameByte, FrameContents, IsApart, is_written, number_of, slot_pointer, slot_value};
-ghost use Rattle.bpf_meaning.specs.Memory.{keep_pointer, store, store_number, write_bytes};
+ghost use Rattle.bpf_meaning.specs.Memory.{set_slot_pointer, store, store_number, write_bytes};
 ghost use Rattle.bpf_meaning.specs.RecordAlone.{reads_record_alone};
-ghost use Rattle.bpf_meaning.specs.State.{HoldsBytes, IsWhole, KeepsPointersApart, register_value};
+ghost use Rattle.bpf_meaning.specs.State.{HoldsBytes, IsWellFormed, SeparatesPointers, register_value};
 ghost use Rattle.bpf_meaning.specs.Step.{Configuration, Running, Exited, Stuck};
 ghost use Rattle.bpf_meaning.specs.Run.{Answers, HasNoNext, HasOneNext, IsRun, Step, end_of};
 ghost use Rattle.bpf_meaning.specs.declared.cause.Cause.{Cause};
@@ -25,9 +25,9 @@ pub fn registers()
 
 /// A running configuration has exactly one successor, and one that has ended has none.
 pub fn one_step()
-    ensures running { (code : List Insn) (segment : Contents) (state : State) → HasOneNext code segment (Running state) }
-    ensures exited { (code : List Insn) (segment : Contents) (answer score : ℕ) → HasNoNext code segment (Exited answer score) }
-    ensures stuck { (code : List Insn) (segment : Contents) (place : ℕ) (cause : Cause) → HasNoNext code segment (Stuck place cause) }
+    ensures running { (code : List Insn) (segment : SegmentParts) (state : State) → HasOneNext code segment (Running state) }
+    ensures exited { (code : List Insn) (segment : SegmentParts) (answer score : ℕ) → HasNoNext code segment (Exited answer score) }
+    ensures stuck { (code : List Insn) (segment : SegmentParts) (place : ℕ) (cause : Cause) → HasNoNext code segment (Stuck place cause) }
 {}
 
 /// Stored bytes are loaded as the number's low bytes, and the bytes before and after them are unchanged.
@@ -36,13 +36,13 @@ pub fn stores_are_loaded()
         → number_of (take count (drop at (store memory at count number))) ≡ Some (number % 256 ^ count) }
     ensures before { (memory : List FrameByte) (at count number : ℕ) → at + count ≤ length memory
         → take at (store memory at count number) ≡ take at memory }
-    ensures behind { (memory : List FrameByte) (at count number : ℕ) → at + count ≤ length memory
+    ensures after { (memory : List FrameByte) (at count number : ℕ) → at + count ≤ length memory
         → drop (at + count) (store memory at count number) ≡ drop (at + count) memory }
 {}
 
 /// A number of eight bytes stored in a slot is the slot's contents. A slot with none of the bytes that were stored, or that a helper function
 /// wrote, keeps its contents.
-pub fn numbers_are_kept()
+pub fn numbers_are_loaded()
     ensures whole { (frame : FrameContents) (slot number : ℕ) → SLOT_LENGTH * slot + SLOT_LENGTH ≤ length frame.bytes → number < 2 ^ 64
         → slot_value (store_number frame (SLOT_LENGTH * slot) SLOT_LENGTH number) slot ≡ Number number }
     ensures stored { (frame : FrameContents) (at count number slot : ℕ) → at + count ≤ length frame.bytes → slot < SLOTS
@@ -54,12 +54,12 @@ pub fn numbers_are_kept()
 /// A pointer stored in a slot is the slot's contents, the slot's bytes are unwritten, and the other slots keep their contents. Writing bytes into a
 /// slot removes its pointer.
 pub fn pointers_are_loaded()
-    ensures kept { (frame : FrameContents) (slot : ℕ) (pointer : PointerParts) → SLOT_LENGTH * slot + SLOT_LENGTH ≤ length frame.bytes
-        → slot < length frame.slots → slot_value (keep_pointer frame slot pointer) slot ≡ Pointer pointer }
+    ensures loaded { (frame : FrameContents) (slot : ℕ) (pointer : PointerParts) → SLOT_LENGTH * slot + SLOT_LENGTH ≤ length frame.bytes
+        → slot < length frame.slots → slot_value (set_slot_pointer frame slot pointer) slot ≡ Pointer pointer }
     ensures bytes { (frame : FrameContents) (slot : ℕ) (pointer : PointerParts) (byte : ℕ) → SLOT_LENGTH * slot + SLOT_LENGTH ≤ length frame.bytes
-        → byte / SLOT_LENGTH ≡ slot → is_written (keep_pointer frame slot pointer).bytes byte ≡ false }
-    ensures others { (frame : FrameContents) (kept : ℕ) (pointer : PointerParts) (slot : ℕ) → SLOT_LENGTH * kept + SLOT_LENGTH ≤ length frame.bytes
-        → slot ≢ kept → slot_value (keep_pointer frame kept pointer) slot ≡ slot_value frame slot }
+        → byte / SLOT_LENGTH ≡ slot → is_written (set_slot_pointer frame slot pointer).bytes byte ≡ false }
+    ensures others { (frame : FrameContents) (stored_slot : ℕ) (pointer : PointerParts) (slot : ℕ) → SLOT_LENGTH * stored_slot + SLOT_LENGTH ≤ length frame.bytes
+        → slot ≢ stored_slot → slot_value (set_slot_pointer frame stored_slot pointer) slot ≡ slot_value frame slot }
     ensures stored { (frame : FrameContents) (at count number slot byte : ℕ) → slot < length frame.slots
         → at ≤ byte → byte < at + count → byte / SLOT_LENGTH ≡ slot → slot_pointer (store_number frame at count number) slot ≡ None }
     ensures written { (frame : FrameContents) (at : ℕ) (bytes : List ℕ) (slot byte : ℕ) → slot < length frame.slots
@@ -67,64 +67,64 @@ pub fn pointers_are_loaded()
 {}
 
 /// Each state that a run reaches has eleven registers and a whole frame, and a step preserves this.
-pub fn states_stay_whole()
-    ensures step { (code : List Insn) (segment : Contents) (state there : State)
-        → IsWhole state → Step code segment (Running state) (Running there) → IsWhole there }
-    ensures run { (code : List Insn) (segment : Contents) (run : List Configuration) (state : State)
-        → IsRun code segment run → end_of run ≡ Running state → IsWhole state }
+pub fn steps_preserve_shape()
+    ensures step { (code : List Insn) (segment : SegmentParts) (state there : State)
+        → IsWellFormed state → Step code segment (Running state) (Running there) → IsWellFormed there }
+    ensures run { (code : List Insn) (segment : SegmentParts) (run : List Configuration) (state : State)
+        → IsRun code segment run → end_of run ≡ Running state → IsWellFormed state }
 {}
 
 /// The frame of each state that a run on a segment reaches holds bytes, and a step preserves this.
 pub fn states_hold_bytes()
-    ensures step { (code : List Insn) (segment : Contents) (state there : State)
+    ensures step { (code : List Insn) (segment : SegmentParts) (state there : State)
         → IsSegment segment → HoldsBytes state → Step code segment (Running state) (Running there) → HoldsBytes there }
-    ensures run { (code : List Insn) (segment : Contents) (run : List Configuration) (state : State)
+    ensures run { (code : List Insn) (segment : SegmentParts) (run : List Configuration) (state : State)
         → IsSegment segment → IsRun code segment run → end_of run ≡ Running state → HoldsBytes state }
 {}
 
 /// In each state that a run reaches, no slot with a written byte holds a pointer, and a step preserves this.
-pub fn pointers_stand_apart()
-    ensures step { (code : List Insn) (segment : Contents) (state there : State)
-        → IsWhole state → KeepsPointersApart state → Step code segment (Running state) (Running there) → KeepsPointersApart there }
-    ensures run { (code : List Insn) (segment : Contents) (run : List Configuration) (state : State)
-        → IsRun code segment run → end_of run ≡ Running state → KeepsPointersApart state }
+pub fn steps_separate_pointers()
+    ensures step { (code : List Insn) (segment : SegmentParts) (state there : State)
+        → IsWellFormed state → SeparatesPointers state → Step code segment (Running state) (Running there) → SeparatesPointers there }
+    ensures run { (code : List Insn) (segment : SegmentParts) (run : List Configuration) (state : State)
+        → IsRun code segment run → end_of run ≡ Running state → SeparatesPointers state }
 {}
 
 /// A step over a call leaves registers 1 to 5 empty, and keeps the registers above them.
 pub fn calls_empty_registers()
-    ensures empty { (code : List Insn) (segment : Contents) (state there : State) (immediate : ℤ)
+    ensures empty { (code : List Insn) (segment : SegmentParts) (state there : State) (immediate : ℤ)
         → instruction_at code state.place ≡ Some (Call immediate) → Step code segment (Running state) (Running there)
         → (register : ℕ) → 1 ≤ register → register ≤ 5 → register_value there register ≡ Empty }
-    ensures kept { (code : List Insn) (segment : Contents) (state there : State) (immediate : ℤ)
+    ensures preserved { (code : List Insn) (segment : SegmentParts) (state there : State) (immediate : ℤ)
         → instruction_at code state.place ≡ Some (Call immediate) → Step code segment (Running state) (Running there)
         → (register : ℕ) → 6 ≤ register → register_value there register ≡ register_value state register }
 {}
 
 /// Two runs of a code on a segment agree as far as both go: the shorter one is a prefix of the longer one.
 pub fn runs_agree()
-    ensures { (code : List Insn) (segment : Contents) (run longer : List Configuration)
+    ensures { (code : List Insn) (segment : SegmentParts) (run longer : List Configuration)
         → IsRun code segment run → IsRun code segment longer → length run ≤ length longer
         → (rest : List Configuration) × (longer ≡ run ++ rest) }
 {}
 
 /// A code has at most one answer on a segment.
 pub fn one_answer()
-    ensures { (code : List Insn) (segment : Contents) (answer score other other_score : ℕ)
+    ensures { (code : List Insn) (segment : SegmentParts) (answer score other other_score : ℕ)
         → Answers code segment answer score → Answers code segment other other_score
         → (answer ≡ other) × (score ≡ other_score) }
 {}
 
 /// A code that reads only the record gives the same answer on segments with the same record.
 pub fn record_decides()
-    ensures { (code : List Insn) (segment other : Contents) (answer score : ℕ) → IsTrue (reads_record_alone code)
+    ensures { (code : List Insn) (segment other : SegmentParts) (answer score : ℕ) → IsTrue (reads_record_alone code)
         → segment.bytes ≡ other.bytes → Answers code segment answer score → Answers code other answer score }
 {}
 
 /// The extract of two lists of segments, one after the other, is the extract of the first list followed by that of the second. A code has at most
 /// one extract of a list of segments.
 pub fn extracts_join()
-    ensures join { (code : List Insn) (front back : List Contents) (text more : List ℕ) (rows others : ℕ)
+    ensures join { (code : List Insn) (front back : List SegmentParts) (text more : List ℕ) (rows others : ℕ)
         → IsExtract code front text rows → IsExtract code back more others → IsExtract code (front ++ back) (text ++ more) (rows + others) }
-    ensures one { (code : List Insn) (segments : List Contents) (text other : List ℕ) (rows others : ℕ)
+    ensures one { (code : List Insn) (segments : List SegmentParts) (text other : List ℕ) (rows others : ℕ)
         → IsExtract code segments text rows → IsExtract code segments other others → (text ≡ other) × (rows ≡ others) }
 {}

@@ -29,7 +29,7 @@ pub struct State {
 impl State {
     ghost use Rattle.bpf_meaning.specs.Effect.{CanBeCalled, CanBeMade, CanBeCarriedOut, read};
     ghost use Rattle.bpf_helpers.specs.Call.{second};
-    ghost use Rattle.bpf_meaning.specs.Step.{apply, called, carry_out, configuration_of, state_after, KeepsAtEnd};
+    ghost use Rattle.bpf_meaning.specs.Step.{apply, called, carry_out, configuration_of, state_after, UnchangedAtEnd};
 
     /// Returns the state at the start of a program, which is the same on every segment: register 1 points to the record's first byte, register 10
     /// past the end of the frame, and nothing else is written. Allocates nothing.
@@ -61,10 +61,10 @@ impl State {
     pub(crate) fn apply<A: Allocator>(&mut self, segment: &Segment<A>, effect: Effect) -> Outcome
         requires { CanBeCarriedOut self.old effect }
         ensures next { configuration_of result self.new ≡ apply segment.now self.old effect }
-        ensures ended { KeepsAtEnd result self.old self.new }
+        ensures ended { UnchangedAtEnd result self.old self.new }
     {
         match effect {
-            Effect::GoOn { change, place } => {
+            Effect::Continue { change, place } => {
                 self.carry_out(segment, change);
                 self.place = place;
                 Outcome::Running
@@ -89,7 +89,7 @@ impl State {
             Change::StoreBytes { at, size, number } => {
                 self.frame.store(at, store_length(size), number);
             }
-            Change::StorePointer { slot, pointer } => self.frame.keep_pointer(slot, pointer),
+            Change::StorePointer { slot, pointer } => self.frame.set_slot_pointer(slot, pointer),
             Change::CallHelper { helper, arguments } => self.call(segment, helper, arguments),
         }
     }

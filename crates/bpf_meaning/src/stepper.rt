@@ -1,7 +1,7 @@
 //! Steps and traces.
 ghost use Rattle.std.specs.Prelude.{◌≡◌};
 ghost use Rattle.bpf_meaning.specs.Run.{IsTraced};
-ghost use Rattle.bpf_meaning.specs.Step.{after, configuration_of, KeepsAtEnd};
+ghost use Rattle.bpf_meaning.specs.Step.{after, configuration_of, UnchangedAtEnd};
 
 use crate::outcome::Outcome;
 use crate::state::State;
@@ -39,7 +39,7 @@ pub fn step<A: Allocator, B: Allocator>(
     state: &mut State,
 ) -> Outcome
     ensures next { configuration_of result state.new ≡ after code.now segment.now state.old }
-    ensures ended { KeepsAtEnd result state.old state.new }
+    ensures ended { UnchangedAtEnd result state.old state.new }
 {
     match effect(code, segment, state) {
         Ok(effect) => state.apply(segment, effect),

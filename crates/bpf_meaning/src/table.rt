@@ -1,6 +1,6 @@
 //! The instruction table: the checks of each instruction in order, and its effect.
 ghost use Rattle.std.specs.Prelude.{◌≡◌, ◌<◌};
-ghost use Rattle.bpf_insn.specs.declared.code.TheConstants.{WORD_LIMIT};
+ghost use Rattle.bpf_insn.specs.declared.code.TheConstants.{MAX_WORDS};
 ghost use Rattle.bpf_meaning.specs.Effect.{effect, values};
 ghost use Rattle.bpf_meaning.specs.Walk.{walk};
 
@@ -9,7 +9,7 @@ use crate::cause::Cause;
 use crate::effect::{Change, Effect};
 use crate::memory::{load_value, store_change};
 use crate::operands::{compare, number_in, number_or, operand, operation_value};
-use crate::progress::{go_on, jump, set_register};
+use crate::progress::{continue_with, jump, set_register};
 use crate::state::State;
 use bpf_helpers::Helper;
 use bpf_insn::{Code, Insn, Source, Value, negate, wide_number};
@@ -43,7 +43,7 @@ fn instruction_effect<A: Allocator, B: Allocator>(
     next: usize,
     insn: Insn,
 ) -> Result<Effect, Cause>
-    requires { state.now.place < WORD_LIMIT }
+    requires { state.now.place < MAX_WORDS }
     ensures { result ≡ walk (values code.now segment.now state.now next) insn }
 {
     match insn {
@@ -93,13 +93,13 @@ fn instruction_effect<A: Allocator, B: Allocator>(
             if compare(condition, width, x, y)? {
                 jump(code, state.place, i32::from(offset))
             } else {
-                go_on(code, next, Change::Nothing)
+                continue_with(code, next, Change::Nothing)
             }
         }
         Insn::Jump(distance) => jump(code, state.place, distance.words()),
         Insn::Call { immediate } => {
             let change = call_change(state, Helper::by_number(immediate.cast_unsigned()))?;
-            go_on(code, next, change)
+            continue_with(code, next, change)
         }
         Insn::Exit => {
             let answer = number_or(Cause::ExitNotNumber, state.read(0)?)?;
@@ -121,7 +121,7 @@ fn instruction_effect<A: Allocator, B: Allocator>(
             immediate,
         } => {
             let change = store_change(state, size, base, offset, Source::Immediate(immediate))?;
-            go_on(code, next, change)
+            continue_with(code, next, change)
         }
         Insn::Store {
             size,
@@ -130,7 +130,7 @@ fn instruction_effect<A: Allocator, B: Allocator>(
             source,
         } => {
             let change = store_change(state, size, base, offset, Source::Register(source))?;
-            go_on(code, next, change)
+            continue_with(code, next, change)
         }
         Insn::WideLoad {
             destination,

@@ -23,8 +23,8 @@ use Rattle.bpf_kinds.specs.declared.kind.Kind.{Kind}
 use Rattle.bpf_kinds.specs.declared.kind.Kind.TheVariants.{Number, Record, Frame, Nothing}
 use Rattle.bpf_kinds.specs.declared.offsets.Offsets.{Offsets}
 use Rattle.bpf_meaning.specs.declared.state.TheConstants.{REGISTERS}
-use Rattle.bpf_verify.specs.AbstractState.{AbstractState, IsProper, IsProperKnown, Reached, Unreached, kind_of}
-use Rattle.bpf_verify.specs.declared.known.Known.{Known}
+use Rattle.bpf_verify.specs.LiftedState.{LiftedState, IsProper, IsProperState, Reached, Unreached, kind_of}
+use Rattle.bpf_verify.specs.declared.abstract_state.AbstractState.{AbstractState}
 use Rattle.bpf_notes.proofs.SplitLemmas.{BeginsWith, decimal-excludes, excludes, excludes-append, first, fronts-equal, rest}
 use Rattle.bpf_notes.proofs.TextLemmas.{differs, names-differ, states-equal}
 use Rattle.bpf_notes.specs.Facts.{facts_text, is_changed, is_shown, joined, note_text, shown_parts}
@@ -118,7 +118,7 @@ held-excludes (Record x) marks proper = kind-excludes (Record x) proper
 held-excludes (Frame x) marks proper = kind-excludes (Frame x) proper
 held-excludes Nothing marks proper = marks-exclude marks
 
-part-excludes : (known : Known) (part : Part) → IsProperKnown known → excludes 44 (part_text known part) ≡ true
+part-excludes : (known : AbstractState) (part : Part) → IsProperState known → excludes 44 (part_text known part) ≡ true
 part-excludes known (Register register) proper = kind-excludes (kind_of known register) (proper.kinds register)
 part-excludes known (Slot slot) proper = held-excludes (slot_kind known.frame slot) (slot_marks known.frame.marks slot) (proper.frame.kinds slot)
 
@@ -137,20 +137,20 @@ name-plain byte (Slot slot) tests small within =
     (decimal-excludes byte (FRAME_LENGTH - SLOT_LENGTH * slot) small (omega arith)))
     both.1
 
-fact-is : (known : Known) (part : Part) → fact_text known part ≡ part_name part ++ (codes " = " ++ part_text known part)
+fact-is : (known : AbstractState) (part : Part) → fact_text known part ≡ part_name part ++ (codes " = " ++ part_text known part)
 fact-is known part = append_assoc (part_name part) (codes " = ") (part_text known part)
 
-fact-excludes : (known : Known) (part : Part) → IsProperKnown known → IsPart part → excludes 44 (fact_text known part) ≡ true
+fact-excludes : (known : AbstractState) (part : Part) → IsProperState known → IsPart part → excludes 44 (fact_text known part) ≡ true
 fact-excludes known part proper is =
     excludes-append 44 (part_name part ++ codes " = ") (part_text known part)
     (excludes-append 44 (part_name part) (codes " = ") (name-plain 44 part refl (omega arith) is) refl) (part-excludes known part proper)
 
-fact-some : (known : Known) (part : Part) → 0 < length (fact_text known part)
+fact-some : (known : AbstractState) (part : Part) → 0 < length (fact_text known part)
 fact-some known (Register register) = omega arith
 fact-some known (Slot slot) = omega arith
 
 -- a fact determines its part and what is known about it
-fact-injective : (known other : Known) (part there : Part) → IsPart part → IsPart there → fact_text known part ≡ fact_text other there
+fact-injective : (known other : AbstractState) (part there : Part) → IsPart part → IsPart there → fact_text known part ≡ fact_text other there
     → (part ≡ there) × (part_text known part ≡ part_text other there)
 fact-injective known other part there is other_is same =
     let both : part_name part ++ (codes " = " ++ part_text known part) ≡ part_name there ++ (codes " = " ++ part_text other there) =
@@ -172,7 +172,7 @@ in-more : (f : Part → List ℕ) (text : List ℕ) (next : Part) (parts : List 
 in-more f text next parts true there = inr there
 in-more f text next parts false there = there
 
-fact-in : (known : Known) (shown : Part → Bool) (part : Part) (parts : List Part) → shown part ≡ true → IsIn part parts
+fact-in : (known : AbstractState) (shown : Part → Bool) (part : Part) (parts : List Part) → shown part ≡ true → IsIn part parts
     → IsIn (fact_text known part) (map (fact_text known) (filter shown parts))
 fact-in known shown part [] test none = absurd none
 fact-in known shown part (next ∷ parts) test (inl here) =
@@ -182,25 +182,25 @@ fact-in known shown part (next ∷ parts) test (inl here) =
 fact-in known shown part (next ∷ parts) test (inr later) =
     in-more (fact_text known) (fact_text known part) next (filter shown parts) (shown next) (fact-in known shown part parts test later)
 
-record IsFactOf (known : Known) (shown : Part → Bool) (parts : List Part) (text : List ℕ) : Type 0 where
+record IsFactOf (known : AbstractState) (shown : Part → Bool) (parts : List Part) (text : List ℕ) : Type 0 where
   part : Part
   is_in : IsIn part parts
   is_shown : shown part ≡ true
   is : text ≡ fact_text known part
 
-fact-later : (known : Known) (shown : Part → Bool) {text : List ℕ} (next : Part) (parts : List Part) → IsFactOf known shown parts text
+fact-later : (known : AbstractState) (shown : Part → Bool) {text : List ℕ} (next : Part) (parts : List Part) → IsFactOf known shown parts text
     → IsFactOf known shown (next ∷ parts) text
 fact-later known shown next parts found =
     record { part = found.part; is_in = inr found.is_in; is_shown = found.is_shown; is = found.is }
 
-fact-next : (known : Known) (shown : Part → Bool) {text : List ℕ} (next : Part) (parts : List Part) (chosen : Bool) → shown next ≡ chosen
+fact-next : (known : AbstractState) (shown : Part → Bool) {text : List ℕ} (next : Part) (parts : List Part) (chosen : Bool) → shown next ≡ chosen
     → (IsIn text (map (fact_text known) (filter shown parts)) → IsFactOf known shown parts text)
     → IsIn text (map (fact_text known) (cond chosen (next ∷ filter shown parts) (filter shown parts))) → IsFactOf known shown (next ∷ parts) text
 fact-next known shown next parts true test later (inl here) = record { part = next; is_in = inl refl; is_shown = test; is = here }
 fact-next known shown next parts true test later (inr more) = fact-later known shown next parts (later more)
 fact-next known shown next parts false test later more = fact-later known shown next parts (later more)
 
-fact-of : (known : Known) (shown : Part → Bool) (text : List ℕ) (parts : List Part) → IsIn text (map (fact_text known) (filter shown parts))
+fact-of : (known : AbstractState) (shown : Part → Bool) (text : List ℕ) (parts : List Part) → IsIn text (map (fact_text known) (filter shown parts))
     → IsFactOf known shown parts text
 fact-of known shown text [] none = absurd none
 fact-of known shown text (next ∷ parts) there =
@@ -252,12 +252,12 @@ unfolding parts_from
 all-parts part there = are-parts 0 (REGISTERS + SLOTS) part (omega arith) there
 
 -- the facts are texts that can be distinguished
-facts-next : (known : Known) (next : Part) (parts : List Part) (chosen : Bool) → IsProperKnown known → IsPart next
+facts-next : (known : AbstractState) (next : Part) (parts : List Part) (chosen : Bool) → IsProperState known → IsPart next
     → AreTexts (map (fact_text known) parts) → AreTexts (map (fact_text known) (cond chosen (next ∷ parts) parts))
 facts-next known next parts true proper is more = (fact-some known next, fact-excludes known next proper is, more)
 facts-next known next parts false proper is more = more
 
-facts-are : (known : Known) (shown : Part → Bool) (parts : List Part) → IsProperKnown known → ((part : Part) → IsIn part parts → IsPart part)
+facts-are : (known : AbstractState) (shown : Part → Bool) (parts : List Part) → IsProperState known → ((part : Part) → IsIn part parts → IsPart part)
     → AreTexts (map (fact_text known) (filter shown parts))
 facts-are known shown [] proper are = tt
 facts-are known shown (next ∷ parts) proper are =
@@ -265,7 +265,7 @@ facts-are known shown (next ∷ parts) proper are =
     (facts-are known shown parts proper (λ part there. are part (inr there)))
 
 -- a part that isn't shown is unchanged
-unchanged : (last known : Known) (insn : Insn) (part : Part) → is_shown last known insn part ≡ false → part_text last part ≡ part_text known part
+unchanged : (last known : AbstractState) (insn : Insn) (part : Part) → is_shown last known insn part ≡ false → part_text last part ≡ part_text known part
 unchanged last known insn part hidden = by-test (reads known insn part) hidden
   where
     same : (equal : Bool) → not equal ≡ false → bytes_eq (part_text last part) (part_text known part) ≡ equal → part_text last part ≡ part_text known part
@@ -277,10 +277,10 @@ unchanged last known insn part hidden = by-test (reads known insn part) hidden
     by-test false test = same (bytes_eq (part_text last part) (part_text known part)) test refl
 
 -- a part shown in one of two states with the same note is shown in the other, with the same text
-abbrev shown_facts : Known → Known → Insn → List (List ℕ)
+abbrev shown_facts : AbstractState → AbstractState → Insn → List (List ℕ)
 shown_facts last known insn = map (fact_text known) (filter (is_shown last known insn) (parts_from 0 (REGISTERS + SLOTS)))
 
-shown-too : (last known other : Known) (insn : Insn) (part : Part) → shown_facts last known insn ≡ shown_facts last other insn → IsPart part
+shown-too : (last known other : AbstractState) (insn : Insn) (part : Part) → shown_facts last known insn ≡ shown_facts last other insn → IsPart part
     → is_shown last known insn part ≡ true → (is_shown last other insn part ≡ true) × (part_text known part ≡ part_text other part)
 shown-too last known other insn part same is shown =
     let there : IsIn (fact_text known part) (shown_facts last other insn) =
@@ -290,7 +290,7 @@ shown-too last known other insn part same is shown =
     let found_is = fact-injective known other part found.part is (all-parts found.part found.is_in) found.is in
     (ap (is_shown last other insn) found_is.0 ∙ found.is_shown, found_is.1 ∙ ap (part_text other) (sym found_is.0))
 
-texts-same : (last known other : Known) (insn : Insn) (part : Part) → shown_facts last known insn ≡ shown_facts last other insn → IsPart part
+texts-same : (last known other : AbstractState) (insn : Insn) (part : Part) → shown_facts last known insn ≡ shown_facts last other insn → IsPart part
     → part_text known part ≡ part_text other part
 texts-same last known other insn part same is = by-test (is_shown last known insn part) refl
   where
@@ -301,7 +301,7 @@ texts-same last known other insn part same is = by-test (is_shown last known ins
         (λ shown. true≢false (sym (shown-too last other known insn part (sym same) is shown).0 ∙ hidden)) in
         sym (unchanged last known insn part hidden) ∙ unchanged last other insn part hidden_too
 
-known-injective : (last known other : Known) (insn : Insn) → IsProperKnown known → IsProperKnown other
+known-injective : (last known other : AbstractState) (insn : Insn) → IsProperState known → IsProperState other
     → facts_text known (shown_parts last known insn) ≡ facts_text other (shown_parts last other insn) → known ≡ other
 known-injective last known other insn proper proper_other same =
     let facts : shown_facts last known insn ≡ shown_facts last other insn = joined-injective (shown_facts last known insn) (shown_facts last other insn)
@@ -310,12 +310,12 @@ known-injective last known other insn proper proper_other same =
     states-equal known other proper proper_other (λ part is. texts-same last known other insn part facts is)
 
 -- no list of facts reads like the note of an instruction that isn't reached
-reached-note : (known : Known) (parts : List Part) → facts_text known parts ≢ codes "unreached"
+reached-note : (known : AbstractState) (parts : List Part) → facts_text known parts ≢ codes "unreached"
 reached-note known [] same = absurd (differs 0 9 refl (ap length same))
 reached-note known (Register register ∷ parts) same = absurd (differs 114 117 refl (ap first same))
 reached-note known (Slot slot ∷ parts) same = absurd (differs 91 117 refl (ap first same))
 
-pub notes-injective : (last : Known) (insn : Insn) (state other : AbstractState) → IsProper state → IsProper other
+pub notes-injective : (last : AbstractState) (insn : Insn) (state other : LiftedState) → IsProper state → IsProper other
     → note_text last state insn ≡ note_text last other insn → state ≡ other
 notes-injective last insn Unreached Unreached proper proper_other same = refl
 notes-injective last insn Unreached (Reached other) proper proper_other same = absurd (reached-note other (shown_parts last other insn) (sym same))

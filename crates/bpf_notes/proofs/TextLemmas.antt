@@ -29,8 +29,8 @@ use Rattle.bpf_insn.specs.declared.memory.TheConstants.{FRAME_LENGTH, SLOTS, SLO
 use Rattle.bpf_frame.specs.FrameMap as map
 use Rattle.bpf_frame.specs.FrameMap.{Contents, FitsKind, slot_kind}
 use Rattle.bpf_frame.specs.OrderLaws.{same_maps, same_tests}
-use Rattle.bpf_verify.specs.AbstractState.{IsProperKnown}
-use Rattle.bpf_verify.specs.declared.known.Known.{Known}
+use Rattle.bpf_verify.specs.LiftedState.{IsProperState}
+use Rattle.bpf_verify.specs.declared.abstract_state.AbstractState.{AbstractState}
 use Rattle.bpf_notes.proofs.SplitLemmas.{BeginsWith, IsDigit, AreDigits, decimal-digits, decimal-excludes, excludes, first, fronts-equal, rest}
 use Rattle.bpf_notes.specs.Notation.{IsPart, begins_negative, end_text, held_text, interval_text, is_any, kind_text, mark_code, marks_text, offsets_text}
 use Rattle.bpf_notes.specs.Notation.{part_name, part_text, range_text, slot_marks, slot_text}
@@ -408,10 +408,10 @@ frames-equal x y proper other same = same_maps x y
     (λ slot within. slot-kinds x y slot proper other (let count = proper.slots in same slot (omega arith))))
 
 same-known : (registers others : List Kind) (frame other : Contents) → registers ≡ others → frame ≡ other
-    → let x : Known = record { registers = registers; frame = frame } in let y : Known = record { registers = others; frame = other } in x ≡ y
+    → let x : AbstractState = record { registers = registers; frame = frame } in let y : AbstractState = record { registers = others; frame = other } in x ≡ y
 same-known registers others frame other registers_same frames_same = cc
 
-pub states-equal : (x y : Known) → IsProperKnown x → IsProperKnown y → ((part : Part) → IsPart part → part_text x part ≡ part_text y part) → x ≡ y
+pub states-equal : (x y : AbstractState) → IsProperState x → IsProperState y → ((part : Part) → IsPart part → part_text x part ≡ part_text y part) → x ≡ y
 states-equal x y proper other same = same-known x.registers y.registers x.frame y.frame
     (ext_get_or Nothing x.registers y.registers (proper.count ∙ sym other.count)
     (λ register within. let count = proper.count in kind-injective _ _ (proper.kinds register) (other.kinds register)

@@ -11,8 +11,8 @@ use Rattle.bpf_kinds.specs.declared.interval.Interval.{Interval}
 use Rattle.bpf_kinds.specs.declared.kind.Kind.{Kind}
 use Rattle.bpf_kinds.specs.declared.kind.Kind.TheVariants.{Number, Record, Frame, Nothing}
 use Rattle.bpf_kinds.specs.declared.offsets.Offsets.{Offsets}
-use Rattle.bpf_verify.specs.AbstractState.{kind_of}
-use Rattle.bpf_verify.specs.declared.known.Known.{Known}
+use Rattle.bpf_verify.specs.LiftedState.{kind_of}
+use Rattle.bpf_verify.specs.declared.abstract_state.AbstractState.{AbstractState}
 use Rattle.bpf_notes.specs.declared.notation.Part.{Part}
 use Rattle.bpf_notes.specs.declared.notation.Part.TheVariants.{Register, Slot}
 
@@ -83,9 +83,9 @@ part_name (Register register) = codes "r" ++ decimal register
 part_name (Slot slot) = codes "[r10-" ++ decimal (FRAME_LENGTH - SLOT_LENGTH * slot) ++ codes "]"
 
 -- what is known about a part
-abbrev pub part_text : Known → Part → List ℕ
+abbrev pub part_text : AbstractState → Part → List ℕ
 part_text known (Register register) = kind_text (kind_of known register)
 part_text known (Slot slot) = slot_text known.frame slot
 
-abbrev pub fact_text : Known → Part → List ℕ
+abbrev pub fact_text : AbstractState → Part → List ℕ
 fact_text known part = part_name part ++ codes " = " ++ part_text known part

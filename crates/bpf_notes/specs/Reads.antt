@@ -19,8 +19,8 @@ use Rattle.bpf_kinds.specs.declared.kind.Kind.{Kind}
 use Rattle.bpf_kinds.specs.declared.kind.Kind.TheVariants.{Number, Frame}
 use Rattle.bpf_kinds.specs.declared.offsets.Offsets.{Offsets}
 use Rattle.bpf_meaning.specs.declared.state.TheConstants.{REGISTERS}
-use Rattle.bpf_verify.specs.AbstractState.{kind_of}
-use Rattle.bpf_verify.specs.declared.known.Known.{Known}
+use Rattle.bpf_verify.specs.LiftedState.{kind_of}
+use Rattle.bpf_verify.specs.declared.abstract_state.AbstractState.{AbstractState}
 use Rattle.bpf_notes.specs.declared.notation.Part.{Part}
 use Rattle.bpf_notes.specs.declared.notation.Part.TheVariants.{Register, Slot}
 use Rattle.bpf_notes.specs.declared.reads.Bytes.{Bytes}
@@ -65,17 +65,17 @@ lent_bytes (Frame x) (Number count) = Some (bytes_from x (pos 0) count.high)
 lent_bytes second third = None
 
 -- those bytes, if the call reads them
-abbrev pub read_if : FrameUse → Known → Option Bytes
+abbrev pub read_if : FrameUse → AbstractState → Option Bytes
 read_if frame_use.Nothing known = None
 read_if frame_use.Writes known = None
 read_if frame_use.Reads known = lent_bytes (kind_of known 2) (kind_of known 3)
 
-abbrev pub called_bytes : Option Helper → Known → Option Bytes
+abbrev pub called_bytes : Option Helper → AbstractState → Option Bytes
 called_bytes None known = None
 called_bytes (Some helper) known = read_if (frame_use (signature helper).shape) known
 
 -- the bytes of the frame that an instruction may read
-abbrev pub read_bytes : Known → Insn → Option Bytes
+abbrev pub read_bytes : AbstractState → Insn → Option Bytes
 read_bytes known (Load format destination base offset) = loaded_bytes (kind_of known base.number) offset (load_length format)
 read_bytes known (Call immediate) = called_bytes (helper_of immediate) known
 read_bytes known insn = None
@@ -97,7 +97,7 @@ has_one_if None slot = false
 has_one_if (Some bytes) slot = has_one_of bytes slot
 
 -- an instruction reads a part of a state
-abbrev pub reads : Known → Insn → Part → Bool
+abbrev pub reads : AbstractState → Insn → Part → Bool
 reads known insn (Register register) = reads_register insn register
 reads known insn (Slot slot) = has_one_if (read_bytes known insn) slot
 
@@ -115,8 +115,8 @@ registers = parts_from 0 REGISTERS
 abbrev pub slots : List Part
 slots = parts_from REGISTERS SLOTS
 
-abbrev pub registers_read : Known → Insn → List Part
+abbrev pub registers_read : AbstractState → Insn → List Part
 registers_read known insn = filter (reads known insn) registers
 
-abbrev pub slots_read : Known → Insn → List Part
+abbrev pub slots_read : AbstractState → Insn → List Part
 slots_read known insn = filter (reads known insn) slots

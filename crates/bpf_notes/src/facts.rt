@@ -2,7 +2,7 @@
 ghost use Rattle.std.specs.Prelude.{◌≡◌, ◌++◌, ◌+◌, ◌-◌, replicate, length, IfOk, OnOk, codes};
 ghost use Rattle.std.specs.List.{All};
 ghost use Rattle.std.specs.String.{string_bytes};
-ghost use Rattle.bpf_verify.specs.AbstractState.{IsProperKnown, Reached};
+ghost use Rattle.bpf_verify.specs.LiftedState.{IsProperState, Reached};
 ghost use Rattle.std.specs.Prelude.{Decides, ◌&&◌, ◌<◌};
 ghost use Rattle.std.specs.Str.{bytes_eq};
 ghost use Rattle.bpf_frame.specs.FrameMap as map;
@@ -17,7 +17,7 @@ use bpf_frame::FrameMap;
 use bpf_insn::Insn;
 use bpf_kinds::Kind;
 use bpf_text::push_instruction;
-use bpf_verify::Known;
+use bpf_verify::AbstractState;
 use itoa::Buffer;
 use std::alloc::{AllocError, Allocator};
 
@@ -27,10 +27,10 @@ pub const NOTE_COLUMN: usize = 40;
 /// Pushes the facts about parts, separated by commas.
 pub fn push_facts<A: Allocator>(
     text: &mut String<A>,
-    known: &Known,
+    known: &AbstractState,
     parts: &[Part],
 ) -> Result<(), AllocError>
-    requires known { IsProperKnown known.now }
+    requires known { IsProperState known.now }
     requires parts { All IsPart parts.now }
     ensures { OnOk result (string_bytes text.new ≡ string_bytes text.old ++ facts_text known.now parts.now) }
 {
@@ -46,12 +46,12 @@ pub fn push_facts<A: Allocator>(
 /// Returns the parts that are shown: those that the instruction reads and those that changed.
 fn shown_parts<A: Allocator>(
     alloc: A,
-    last: &Known,
-    known: &Known,
+    last: &AbstractState,
+    known: &AbstractState,
     insn: Insn,
 ) -> Result<Vec<Part, A>, AllocError>
-    requires last { IsProperKnown last.now }
-    requires known { IsProperKnown known.now }
+    requires last { IsProperState last.now }
+    requires known { IsProperState known.now }
     ensures value { IfOk result (λ parts. parts.items ≡ shown_parts last.now known.now insn) }
     ensures are { IfOk result (λ parts. All IsPart parts.items) }
 {
@@ -63,9 +63,9 @@ fn shown_parts<A: Allocator>(
     Ok(parts)
 }
 
-fn is_shown(last: &Known, known: &Known, insn: Insn, part: Part) -> bool
-    requires last { IsProperKnown last.now }
-    requires known { IsProperKnown known.now }
+fn is_shown(last: &AbstractState, known: &AbstractState, insn: Insn, part: Part) -> bool
+    requires last { IsProperState last.now }
+    requires known { IsProperState known.now }
     requires part { IsPart part }
     ensures { result ≡ is_shown last.now known.now insn part }
 {
@@ -73,9 +73,9 @@ fn is_shown(last: &Known, known: &Known, insn: Insn, part: Part) -> bool
 }
 
 /// Returns whether a part differs from the last state. Its text then differs too, because texts show all that is known.
-fn is_changed(last: &Known, known: &Known, part: Part) -> bool
-    requires last { IsProperKnown last.now }
-    requires known { IsProperKnown known.now }
+fn is_changed(last: &AbstractState, known: &AbstractState, part: Part) -> bool
+    requires last { IsProperState last.now }
+    requires known { IsProperState known.now }
     requires part { IsPart part }
     ensures { result ≡ is_changed last.now known.now part }
 {
@@ -128,12 +128,12 @@ fn are_same_marks(frame: &FrameMap, other: &FrameMap, slot: usize) -> bool
 fn push_note<A: Allocator + Copy>(
     alloc: A,
     text: &mut String<A>,
-    last: &Known,
-    known: &Known,
+    last: &AbstractState,
+    known: &AbstractState,
     insn: Insn,
 ) -> Result<(), AllocError>
-    requires last { IsProperKnown last.now }
-    requires known { IsProperKnown known.now }
+    requires last { IsProperState last.now }
+    requires known { IsProperState known.now }
     ensures { OnOk result (string_bytes text.new ≡ string_bytes text.old ++ note_text last.now (Reached known.now) insn) }
 {
     let parts = shown_parts(alloc, last, known, insn)?;
@@ -143,12 +143,12 @@ fn push_note<A: Allocator + Copy>(
 /// Returns the note of an instruction that is reached.
 pub fn note<A: Allocator + Copy>(
     alloc: A,
-    last: &Known,
-    known: &Known,
+    last: &AbstractState,
+    known: &AbstractState,
     insn: Insn,
 ) -> Result<String<A>, AllocError>
-    requires last { IsProperKnown last.now }
-    requires known { IsProperKnown known.now }
+    requires last { IsProperState last.now }
+    requires known { IsProperState known.now }
     ensures { IfOk result (λ text. string_bytes text ≡ note_text last.now (Reached known.now) insn) }
 {
     let mut text = String::new(alloc);

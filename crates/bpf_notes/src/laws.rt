@@ -1,8 +1,8 @@
 //! Laws over the definitions, as contracts of functions that do nothing.
 ghost use Rattle.std.specs.Prelude.{◌≡◌, ◌↔◌, ℕ, IsTrue};
 ghost use Rattle.bpf_insn.specs.declared.instruction.Insn.{Insn};
-ghost use Rattle.bpf_verify.specs.AbstractState.{AbstractState, IsProper, IsProperKnown};
-ghost use Rattle.bpf_verify.specs.declared.known.Known.{Known};
+ghost use Rattle.bpf_verify.specs.LiftedState.{LiftedState, IsProper, IsProperState};
+ghost use Rattle.bpf_verify.specs.declared.abstract_state.AbstractState.{AbstractState};
 ghost use Rattle.bpf_notes.specs.Facts.{note_text};
 ghost use Rattle.bpf_notes.specs.Notation.{IsPart, part_name, part_text};
 ghost use Rattle.bpf_notes.specs.Reads.{HasOneOf, has_one_of};
@@ -12,7 +12,7 @@ ghost use Rattle.bpf_notes.specs.declared.reads.Bytes.{Bytes};
 
 /// Two states are equal if each of their parts has the same text in both: the texts show all that is known.
 pub fn texts_determine_states()
-    ensures { (known other : Known) → IsProperKnown known → IsProperKnown other
+    ensures { (known other : AbstractState) → IsProperState known → IsProperState other
         → ((part : Part) → IsPart part → part_text known part ≡ part_text other part) → known ≡ other }
 {}
 
@@ -23,7 +23,7 @@ pub fn names_determine_parts()
 
 /// Two states are equal if they have the same note for an instruction, given the same last state: a part that isn't shown is unchanged.
 pub fn notes_determine_states()
-    ensures { (last : Known) (insn : Insn) (state other : AbstractState) → IsProper state → IsProper other
+    ensures { (last : AbstractState) (insn : Insn) (state other : LiftedState) → IsProper state → IsProper other
         → note_text last state insn ≡ note_text last other insn → state ≡ other }
 {}
 

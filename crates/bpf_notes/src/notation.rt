@@ -4,14 +4,14 @@ ghost use Rattle.std.specs.Fmt.{signed_decimal};
 ghost use Rattle.std.specs.String.{string_bytes};
 ghost use Rattle.bpf_frame.specs.FrameMap as map;
 ghost use Rattle.bpf_insn.specs.declared.memory.TheConstants.{FRAME_LENGTH, SLOTS};
-ghost use Rattle.bpf_verify.specs.AbstractState.{IsProperKnown};
+ghost use Rattle.bpf_verify.specs.LiftedState.{IsProperState};
 ghost use Rattle.bpf_notes.specs.Notation.{IsPart, end_text, fact_text, interval_text, kind_text, mark_code, marks_text, offsets_text, part_name, part_text};
 ghost use Rattle.bpf_notes.specs.Notation.{slot_marks, slot_text};
 
 use bpf_frame::FrameMap;
 use bpf_insn::{FRAME_LENGTH, SLOT_LENGTH};
 use bpf_kinds::{Interval, Kind, Offsets};
-use bpf_verify::Known;
+use bpf_verify::AbstractState;
 use itoa::Buffer;
 use std::alloc::{AllocError, Allocator};
 
@@ -170,10 +170,10 @@ fn push_name<A: Allocator>(text: &mut String<A>, part: Part) -> Result<(), Alloc
 
 fn push_part<A: Allocator>(
     text: &mut String<A>,
-    known: &Known,
+    known: &AbstractState,
     part: Part,
 ) -> Result<(), AllocError>
-    requires known { IsProperKnown known.now }
+    requires known { IsProperState known.now }
     requires part { IsPart part }
     ensures { OnOk result (string_bytes text.new ≡ string_bytes text.old ++ part_text known.now part) }
 {
@@ -186,10 +186,10 @@ fn push_part<A: Allocator>(
 /// Pushes the name of a part and what is known about it.
 pub fn push_fact<A: Allocator>(
     text: &mut String<A>,
-    known: &Known,
+    known: &AbstractState,
     part: Part,
 ) -> Result<(), AllocError>
-    requires known { IsProperKnown known.now }
+    requires known { IsProperState known.now }
     requires part { IsPart part }
     ensures { OnOk result (string_bytes text.new ≡ string_bytes text.old ++ fact_text known.now part) }
 {

@@ -1,7 +1,7 @@
 //! The parts of a state that an instruction reads.
 ghost use Rattle.std.specs.Prelude.{◌≡◌, ◌≤◌, ◌<◌, ◌+◌, pos, ◌+ℤ◌, ◌-ℤ◌, ◌++◌, ◌∷◌, [], cond, filter, IfOk, OnOk};
 ghost use Rattle.std.specs.List.{All};
-ghost use Rattle.bpf_verify.specs.AbstractState.{IsProperKnown, kind_of};
+ghost use Rattle.bpf_verify.specs.LiftedState.{IsProperState, kind_of};
 ghost use Rattle.bpf_notes.specs.declared.reads.TheConstants.{PARTS};
 ghost use Rattle.bpf_insn.specs.declared.memory.TheConstants.{SLOTS};
 ghost use Rattle.bpf_meaning.specs.declared.state.TheConstants.{REGISTERS};
@@ -14,7 +14,7 @@ use bpf_helpers::{Argument, FrameUse, Helper};
 use bpf_insn::{Insn, SLOT_LENGTH, SLOTS, load_length};
 use bpf_kinds::{Kind, Offsets};
 use bpf_meaning::REGISTERS;
-use bpf_verify::Known;
+use bpf_verify::AbstractState;
 use std::alloc::{AllocError, Allocator};
 
 /// The number of parts.
@@ -28,8 +28,8 @@ pub struct Bytes {
     pub last: i128,
 }
 
-pub(crate) fn reads(known: &Known, insn: Insn, part: Part) -> bool
-    requires known { IsProperKnown known.now }
+pub(crate) fn reads(known: &AbstractState, insn: Insn, part: Part) -> bool
+    requires known { IsProperState known.now }
     requires part { IsPart part }
     ensures { result ≡ reads known.now insn part }
 {
@@ -88,8 +88,8 @@ fn is_used(argument: Argument) -> bool
 }
 
 /// Returns the bytes of the frame that an instruction may read.
-fn read_bytes(known: &Known, insn: Insn) -> Option<Bytes>
-    requires { IsProperKnown known.now }
+fn read_bytes(known: &AbstractState, insn: Insn) -> Option<Bytes>
+    requires { IsProperState known.now }
     ensures { result ≡ read_bytes known.now insn }
 {
     match insn {
@@ -118,8 +118,8 @@ fn loaded_bytes(base: Kind, offset: i16, count: usize) -> Option<Bytes>
     }
 }
 
-fn called_bytes(helper: Option<Helper>, known: &Known) -> Option<Bytes>
-    requires { IsProperKnown known.now }
+fn called_bytes(helper: Option<Helper>, known: &AbstractState) -> Option<Bytes>
+    requires { IsProperState known.now }
     ensures { result ≡ called_bytes helper known.now }
 {
     match helper?.signature().shape.frame_use() {
@@ -129,8 +129,8 @@ fn called_bytes(helper: Option<Helper>, known: &Known) -> Option<Bytes>
 }
 
 /// Returns the bytes of the frame that a call may read or write.
-pub fn lent_bytes(known: &Known) -> Option<Bytes>
-    requires { IsProperKnown known.now }
+pub fn lent_bytes(known: &AbstractState) -> Option<Bytes>
+    requires { IsProperState known.now }
     ensures { result ≡ lent_bytes (kind_of known.now 2) (kind_of known.now 3) }
 {
     match (known.registers[2], known.registers[3]) {
@@ -186,10 +186,10 @@ pub(crate) fn part_at(place: usize) -> Part
 /// Returns the registers that an instruction reads.
 pub fn registers_read<A: Allocator>(
     alloc: A,
-    known: &Known,
+    known: &AbstractState,
     insn: Insn,
 ) -> Result<Vec<Part, A>, AllocError>
-    requires { IsProperKnown known.now }
+    requires { IsProperState known.now }
     ensures value { IfOk result (λ parts. parts.items ≡ registers_read known.now insn) }
     ensures are { IfOk result (λ parts. All IsPart parts.items) }
 {
@@ -199,10 +199,10 @@ pub fn registers_read<A: Allocator>(
 /// Returns the slots that an instruction may read.
 pub fn slots_read<A: Allocator>(
     alloc: A,
-    known: &Known,
+    known: &AbstractState,
     insn: Insn,
 ) -> Result<Vec<Part, A>, AllocError>
-    requires { IsProperKnown known.now }
+    requires { IsProperState known.now }
     ensures value { IfOk result (λ parts. parts.items ≡ slots_read known.now insn) }
     ensures are { IfOk result (λ parts. All IsPart parts.items) }
 {
@@ -212,12 +212,12 @@ pub fn slots_read<A: Allocator>(
 /// Returns the parts that an instruction reads, of `count` parts from the place `first` on.
 fn parts_read<A: Allocator>(
     alloc: A,
-    known: &Known,
+    known: &AbstractState,
     insn: Insn,
     first: usize,
     count: usize,
 ) -> Result<Vec<Part, A>, AllocError>
-    requires known { IsProperKnown known.now }
+    requires known { IsProperState known.now }
     requires within { first + count ≤ PARTS }
     ensures value { IfOk result (λ parts. parts.items ≡ filter (reads known.now insn) (parts_from first count)) }
     ensures are { IfOk result (λ parts. All IsPart parts.items) }

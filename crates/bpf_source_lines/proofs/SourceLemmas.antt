@@ -12,8 +12,8 @@ use Rattle.bpf_source_lines.specs.SourceLines.{SourceLine, IsChecked, checked, f
 use Rattle.bpf_source_lines.specs.SourceLines.{lines_or_none}
 use Rattle.bpf_source_lines.specs.SourceLines.{preceded}
 use Rattle.bpf_source_lines.specs.declared.source_lines.LinesFault.{LinesFault}
-use Rattle.bpf_source_lines.specs.declared.source_lines.LineFlaw.{LineFlaw}
-use Rattle.bpf_source_lines.specs.declared.source_lines.LineFlaw.TheVariants.{NotText, WithoutPlace, OutOfOrder}
+use Rattle.bpf_source_lines.specs.declared.source_lines.SourceLineFaultKind.{SourceLineFaultKind}
+use Rattle.bpf_source_lines.specs.declared.source_lines.SourceLineFaultKind.TheVariants.{NotText, WithoutPlace, OutOfOrder}
 use Rattle.bpf_source_lines.specs.declared.source_lines.PlacedLine.{PlacedLine}
 
 -- lines before lines before other lines
@@ -31,7 +31,7 @@ pub lines-next : (number last : ℕ) (text : List ℕ) (texts : List (List ℕ))
 unfolding lines_from
 lines-next number last text texts line is = ap (λ held. followed number held (λ place. lines_from (number + 1) place texts)) is
 
-pub lines-fault : (number last : ℕ) (text : List ℕ) (texts : List (List ℕ)) (flaw : LineFlaw) → checked last text ≡ Err flaw
+pub lines-fault : (number last : ℕ) (text : List ℕ) (texts : List (List ℕ)) (flaw : SourceLineFaultKind) → checked last text ≡ Err flaw
     → lines_from number last (text ∷ texts) ≡ Err (fault_at number flaw)
 unfolding lines_from
 lines-fault number last text texts flaw is = ap (λ held. followed number held (λ place. lines_from (number + 1) place texts)) is

@@ -2,10 +2,10 @@
 use Rattle.std.specs.Prelude.{codes}
 use Rattle.refusals.specs.Refusal.{RefusalParts, at_line, refused}
 use Rattle.bpf_source_lines.specs.declared.source_lines.LinesFault.{LinesFault}
-use Rattle.bpf_source_lines.specs.declared.source_lines.LineFlaw.{LineFlaw}
-use Rattle.bpf_source_lines.specs.declared.source_lines.LineFlaw.TheVariants.{NotText, WithoutPlace, OutOfOrder}
+use Rattle.bpf_source_lines.specs.declared.source_lines.SourceLineFaultKind.{SourceLineFaultKind}
+use Rattle.bpf_source_lines.specs.declared.source_lines.SourceLineFaultKind.TheVariants.{NotText, WithoutPlace, OutOfOrder}
 
-abbrev pub flaw_refusal : LineFlaw → RefusalParts
+abbrev pub flaw_refusal : SourceLineFaultKind → RefusalParts
 flaw_refusal NotText = refused 110 (codes "LineNotText")
 flaw_refusal WithoutPlace = refused 111 (codes "LineWithoutPlace")
 flaw_refusal OutOfOrder = refused 112 (codes "LineOutOfOrder")

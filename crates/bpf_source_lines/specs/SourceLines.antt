@@ -6,11 +6,11 @@ use Rattle.std.specs.Str.{is_utf8}
 use Rattle.std.specs.Str.Lines.{lines}
 use Rattle.decimal.specs.Numeral.{decimal_in}
 use Rattle.bpf_source_lines.specs.declared.source_lines.LinesFault.{LinesFault}
-use Rattle.bpf_source_lines.specs.declared.source_lines.LineFlaw.{LineFlaw}
-use Rattle.bpf_source_lines.specs.declared.source_lines.LineFlaw.TheVariants.{NotText, WithoutPlace, OutOfOrder}
+use Rattle.bpf_source_lines.specs.declared.source_lines.SourceLineFaultKind.{SourceLineFaultKind}
+use Rattle.bpf_source_lines.specs.declared.source_lines.SourceLineFaultKind.TheVariants.{NotText, WithoutPlace, OutOfOrder}
 use Rattle.bpf_source_lines.specs.declared.source_lines.PlacedLine.{PlacedLine}
 use Rattle.bpf_source_lines.specs.declared.source_lines.SourceLines.{SourceLines}
-use Rattle.bpf_source_lines.specs.declared.source_lines.TheConstants.{GREATEST_PLACE, PLACE_DIGITS}
+use Rattle.bpf_source_lines.specs.declared.source_lines.TheConstants.{MAX_PLACE, PLACE_DIGITS}
 
 -- a line: its place, and its text
 pub record SourceLine : Type 0 where
@@ -22,7 +22,7 @@ line_of line = record { place = line.place; text = line.text.now }
 
 -- the place written in one to five decimal digits, if a program can have it
 unfoldable pub place_in : List ℕ → Option ℕ
-place_in digits = option_and_then (λ place. if nat_le place GREATEST_PLACE then Some place else None) (decimal_in PLACE_DIGITS digits)
+place_in digits = option_and_then (λ place. if nat_le place MAX_PLACE then Some place else None) (decimal_in PLACE_DIGITS digits)
 
 abbrev pub is_tab : ℕ → Bool
 is_tab byte = byte == 9
@@ -35,12 +35,12 @@ line_in text =
     else None
 
 -- a line whose place isn't less than that of the line above it
-abbrev pub in_order : ℕ → Option SourceLine → Result SourceLine LineFlaw
+abbrev pub in_order : ℕ → Option SourceLine → Result SourceLine SourceLineFaultKind
 in_order last None = Err WithoutPlace
 in_order last (Some line) = if nat_lt line.place last then Err OutOfOrder else Ok line
 
 -- a line's place and text, given the place of the line above it
-unfoldable pub checked : ℕ → List ℕ → Result SourceLine LineFlaw
+unfoldable pub checked : ℕ → List ℕ → Result SourceLine SourceLineFaultKind
 checked last text = if is_utf8 text then in_order last (line_in text) else Err NotText
 
 -- lines put before other lines
@@ -48,10 +48,10 @@ abbrev pub preceded : List SourceLine → Result (List SourceLine) LinesFault �
 preceded lines (Ok later) = Ok (lines ++ later)
 preceded lines (Err fault) = Err fault
 
-abbrev pub fault_at : ℕ → LineFlaw → LinesFault
+abbrev pub fault_at : ℕ → SourceLineFaultKind → LinesFault
 fault_at number flaw = record { line = number; flaw = flaw }
 
-abbrev pub followed : ℕ → Result SourceLine LineFlaw → (ℕ → Result (List SourceLine) LinesFault) → Result (List SourceLine) LinesFault
+abbrev pub followed : ℕ → Result SourceLine SourceLineFaultKind → (ℕ → Result (List SourceLine) LinesFault) → Result (List SourceLine) LinesFault
 followed number (Ok line) later = preceded (line ∷ []) (later line.place)
 followed number (Err flaw) later = Err (fault_at number flaw)
 
@@ -73,6 +73,6 @@ abbrev pub parts_of : SourceLines → List SourceLine
 parts_of lines = lines_or_none (lines_in lines.file.now)
 
 -- the result of reading the line with a number
-abbrev pub IsChecked : ℕ → Result SourceLine LineFlaw → Result PlacedLine LinesFault → Type 0
+abbrev pub IsChecked : ℕ → Result SourceLine SourceLineFaultKind → Result PlacedLine LinesFault → Type 0
 IsChecked number held (Ok line) = held ≡ Ok (line_of line)
 IsChecked number held (Err fault) = (fault.line ≡ number) × (held ≡ Err fault.flaw)

@@ -4,4 +4,4 @@
 pub mod laws;
 mod source_lines;
 
-pub use source_lines::{GREATEST_PLACE, LineFlaw, LinesFault, PlacedLine, SourceLines};
+pub use source_lines::{LinesFault, MAX_PLACE, PlacedLine, SourceLineFaultKind, SourceLines};

@@ -10,7 +10,7 @@ use std::alloc::{AllocError, Allocator};
 use thiserror::Error;
 
 /// The greatest place that a program can have.
-pub const GREATEST_PLACE: usize = 65_535;
+pub const MAX_PLACE: usize = 65_535;
 
 /// The greatest number of decimal digits of a place.
 pub const PLACE_DIGITS: usize = 5;
@@ -25,7 +25,7 @@ pub struct PlacedLine<'a> {
 
 /// The flaw of a line.
 #[derive(Clone, Copy, Debug, PartialEq, Eq, Error)]
-pub enum LineFlaw {
+pub enum SourceLineFaultKind {
     #[error("the line isn't UTF-8")]
     NotText,
     #[error("the line has no place before a tab")]
@@ -40,18 +40,18 @@ pub enum LineFlaw {
 pub struct LinesFault {
     /// The line, counted from 1.
     pub line: usize,
-    pub flaw: LineFlaw,
+    pub flaw: SourceLineFaultKind,
 }
 
-impl LineFlaw {
+impl SourceLineFaultKind {
     /// Returns the flaw as a refusal, without its line.
     pub fn refusal(self) -> Refusal
         ensures { result ≡ line_fault.flaw_refusal self }
     {
         match self {
-            LineFlaw::NotText => Refusal::refused(110, "LineNotText"),
-            LineFlaw::WithoutPlace => Refusal::refused(111, "LineWithoutPlace"),
-            LineFlaw::OutOfOrder => Refusal::refused(112, "LineOutOfOrder"),
+            SourceLineFaultKind::NotText => Refusal::refused(110, "LineNotText"),
+            SourceLineFaultKind::WithoutPlace => Refusal::refused(111, "LineWithoutPlace"),
+            SourceLineFaultKind::OutOfOrder => Refusal::refused(112, "LineOutOfOrder"),
         }
     }
 }
@@ -134,16 +134,16 @@ fn checked(number: usize, last: usize, line: &[u8]) -> Result<PlacedLine<'_>, Li
 }
 
 #[tactic(auto, unfolding(crate::specs::SourceLines::checked))]
-fn check(last: usize, line: &[u8]) -> Result<PlacedLine<'_>, LineFlaw>
+fn check(last: usize, line: &[u8]) -> Result<PlacedLine<'_>, SourceLineFaultKind>
     ensures { MatchResult result (λ read. checked last line.now ≡ Ok (line_of read)) (λ flaw. checked last line.now ≡ Err flaw) }
 {
     let Ok(text) = str::from_utf8(line) else {
-        return Err(LineFlaw::NotText);
+        return Err(SourceLineFaultKind::NotText);
     };
     match line_in(text) {
-        Some(read) if read.place < last => Err(LineFlaw::OutOfOrder),
+        Some(read) if read.place < last => Err(SourceLineFaultKind::OutOfOrder),
         Some(read) => Ok(read),
-        None => Err(LineFlaw::WithoutPlace),
+        None => Err(SourceLineFaultKind::WithoutPlace),
     }
 }
 
@@ -163,5 +163,5 @@ fn place_in(digits: &[u8]) -> Option<usize>
     ensures { result ≡ place_in digits.now }
 {
     let place = decimal_value(digits, PLACE_DIGITS)? as usize;
-    (place <= GREATEST_PLACE).then_some(place)
+    (place <= MAX_PLACE).then_some(place)
 }

@@ -1,6 +1,6 @@
 //! Opcodes, and codes that are built instead of decoded.
 use bpf_insn::{
-    Code, CodeBuilder, CodeFault, Insn, Register, WORD_LIMIT, WritableRegister, decode, encode,
+    Code, CodeBuilder, CodeFault, Insn, MAX_WORDS, Register, WritableRegister, decode, encode,
 };
 use refusals::Fault;
 use std::alloc::Global;
@@ -61,7 +61,7 @@ const WIDE: Insn = Insn::WideLoad {
 #[test]
 fn limit(rt: HostRuntime) {
     let mut builder = CodeBuilder::new(rt.alloc());
-    for _ in 1..WORD_LIMIT {
+    for _ in 1..MAX_WORDS {
         let _ = builder.push(Insn::Exit);
     }
     // One word is left, which has room for any instruction but a wide load.

@@ -84,19 +84,19 @@ pub fn county_of<A: Allocator + Copy>(
 }
 
 /// Returns whether at most `limit` steps of a code on a segment have the outcome in a cell.
-fn comes_to<A: Allocator, B: Allocator>(
+fn has_outcome<A: Allocator, B: Allocator>(
     code: &Code<A>,
     segment: &Segment<B>,
     limit: u64,
-    said: &str,
+    expected: &str,
 ) -> Result<bool, TableFault> {
     match trace(code, segment, limit) {
-        Outcome::Running => Ok(said == "running"),
+        Outcome::Running => Ok(expected == "running"),
         Outcome::Stuck { place, cause } => {
             let refusal = cause.refusal().at_place(place);
-            Ok(refusal.line().as_str() == said)
+            Ok(refusal.line().as_str() == expected)
         }
-        exit => Ok(exit == exit_in(said)?),
+        exit => Ok(exit == exit_in(expected)?),
     }
 }
 
@@ -115,26 +115,26 @@ fn is_outcome(
     traced: (&str, &str, &str),
     texts: FileTexts<'_>,
 ) -> Result<bool, TableFault> {
-    let (said, lines, limit) = traced;
+    let (expected, lines, limit) = traced;
     let limit = number(limit)?;
     let code = code_of(alloc, lines)?;
     let county = county_of(alloc, alloc, texts)?;
     match county.segments().first() {
-        Some(segment) => comes_to(&code, segment, limit, said),
+        Some(segment) => has_outcome(&code, segment, limit, expected),
         None => Ok(false),
     }
 }
 
 /// Returns whether a row's program has the row's outcome with the row's file of type 1 alone.
 fn is_alone(alloc: Global, row: &str) -> Result<bool, TableFault> {
-    let (said, lines, limit, rt1) = cells(row)?.four()?;
-    is_outcome(alloc, (said, lines, limit), (rt1, "", "", ""))
+    let (expected, lines, limit, rt1) = cells(row)?.four()?;
+    is_outcome(alloc, (expected, lines, limit), (rt1, "", "", ""))
 }
 
 /// Returns whether a row's program has the row's outcome with the row's four files.
 fn is_joined(alloc: Global, row: &str) -> Result<bool, TableFault> {
-    let (said, lines, limit, rt1, rt4, rt5, rt6) = cells(row)?.seven()?;
-    is_outcome(alloc, (said, lines, limit), (rt1, rt4, rt5, rt6))
+    let (expected, lines, limit, rt1, rt4, rt5, rt6) = cells(row)?.seven()?;
+    is_outcome(alloc, (expected, lines, limit), (rt1, rt4, rt5, rt6))
 }
 
 #[test]

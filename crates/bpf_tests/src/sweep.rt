@@ -177,11 +177,11 @@ impl Program {
 pub type Heap = Refusing<Global>;
 
 /// Returns the expected result of a call: the row's, or out of memory if an allocation was refused.
-fn due<'a>(heap: &Heap, said: &'a str) -> &'a str {
+fn due<'a>(heap: &Heap, expected: &'a str) -> &'a str {
     if heap.was_refused() {
         "refused memory"
     } else {
-        said
+        expected
     }
 }
 
@@ -194,34 +194,34 @@ fn is_same(heap: &Heap, given: Result<Vec<u8, &Heap>, AllocError>, bytes: &[u8])
 }
 
 /// Returns whether a text is assembled, and the code encoded, as a row says.
-fn is_assembled(heap: &Heap, program: &Program, said: &str) -> bool {
+fn is_assembled(heap: &Heap, program: &Program, expected: &str) -> bool {
     let Ok(text) = str::from_utf8(&program.text) else {
         return false;
     };
     match assemble(heap, text) {
-        Ok(code) => said == "accepted" && is_same(heap, encode(heap, &code), &program.words),
-        Err(fault) => fault.line().as_str() == due(heap, said),
+        Ok(code) => expected == "accepted" && is_same(heap, encode(heap, &code), &program.words),
+        Err(fault) => fault.line().as_str() == due(heap, expected),
     }
 }
 
 /// Returns whether a text is converted to a program's bytes as a row says.
-fn is_source(heap: &Heap, program: &Program, said: &str) -> bool {
+fn is_source(heap: &Heap, program: &Program, expected: &str) -> bool {
     match assemble_source(heap, &program.text) {
-        Ok(words) => said == "accepted" && is_same(heap, Ok(words), &program.words),
-        Err(SourceFault::Text(fault)) => fault.line().as_str() == due(heap, said),
-        Err(SourceFault::NotUtf8) => said == "not UTF-8",
+        Ok(words) => expected == "accepted" && is_same(heap, Ok(words), &program.words),
+        Err(SourceFault::Text(fault)) => fault.line().as_str() == due(heap, expected),
+        Err(SourceFault::NotUtf8) => expected == "not UTF-8",
     }
 }
 
 /// Returns whether words are decoded, and the code built again and disassembled, as a row says.
-fn is_decoded(heap: &Heap, program: &Program, said: &str) -> bool {
+fn is_decoded(heap: &Heap, program: &Program, expected: &str) -> bool {
     match decode(heap, &program.words) {
         Ok(code) => {
-            due(heap, said) == "accepted"
+            due(heap, expected) == "accepted"
                 && is_built(heap, &code)
                 && (heap.was_refused() || is_disassembled(heap, &code, &program.text))
         }
-        Err(fault) => fault.line().as_str() == due(heap, said),
+        Err(fault) => fault.line().as_str() == due(heap, expected),
     }
 }
 
@@ -244,12 +244,12 @@ fn is_built(heap: &Heap, code: &Code<&Heap>) -> bool {
 
 /// Returns whether a builder yields a code without allocating.
 fn is_finished(heap: &Heap, builder: CodeBuilder<&Heap>, code: &Code<&Heap>) -> bool {
-    let (asked, words) = (heap.count(), builder.words());
+    let (requested, words) = (heap.count(), builder.words());
     let is_writable = builder.destination(Register { number: 9 }).is_ok();
     match builder.finish() {
         Ok(built) => {
             !heap.was_refused()
-                && heap.count() == asked
+                && heap.count() == requested
                 && is_writable
                 && words == built.words()
                 && built.instructions() == code.instructions()
@@ -267,32 +267,36 @@ fn is_disassembled(heap: &Heap, code: &Code<&Heap>, text: &[u8]) -> bool {
 }
 
 /// Returns whether a program's bytes are converted to text as a row says.
-fn is_text(heap: &Heap, program: &Program, said: &str) -> bool {
+fn is_text(heap: &Heap, program: &Program, expected: &str) -> bool {
     match disassemble_program(heap, &program.words) {
-        Ok(text) => said == "accepted" && is_same(heap, Ok(text.into_bytes()), &program.text),
-        Err(fault) => fault.line().as_str() == due(heap, said),
+        Ok(text) => expected == "accepted" && is_same(heap, Ok(text.into_bytes()), &program.text),
+        Err(fault) => fault.line().as_str() == due(heap, expected),
     }
 }
 
 /// Verifies words, and returns what the verifier found if they are accepted. The error says whether they are refused as a row says.
-pub fn verified<'a>(heap: &'a Heap, words: &[u8], said: &str) -> Result<Verified<&'a Heap>, bool> {
+pub fn verified<'a>(
+    heap: &'a Heap,
+    words: &[u8],
+    expected: &str,
+) -> Result<Verified<&'a Heap>, bool> {
     let flow = match decode(heap, words) {
         Ok(code) => Flow::of(code),
-        Err(fault) => return Err(fault.line().as_str() == due(heap, said)),
+        Err(fault) => return Err(fault.line().as_str() == due(heap, expected)),
     };
     match flow {
         Ok(flow) => match verify(heap, flow) {
             Ok(verified) => Ok(verified),
-            Err(fault) => Err(fault.line().as_str() == due(heap, said)),
+            Err(fault) => Err(fault.line().as_str() == due(heap, expected)),
         },
-        Err(fault) => Err(fault.line().as_str() == due(heap, said)),
+        Err(fault) => Err(fault.line().as_str() == due(heap, expected)),
     }
 }
 
 /// Returns whether words are verified as a row says.
-fn is_verified(heap: &Heap, words: &[u8], said: &str) -> bool {
-    match verified(heap, words, said) {
-        Ok(_verified) => due(heap, said) == "accepted",
+fn is_verified(heap: &Heap, words: &[u8], expected: &str) -> bool {
+    match verified(heap, words, expected) {
+        Ok(_verified) => due(heap, expected) == "accepted",
         Err(is_right) => is_right,
     }
 }
@@ -323,14 +327,19 @@ fn is_flat<'a>(heap: &'a Heap, flow: &Flow<&'a Heap>) -> bool {
 }
 
 /// Returns whether the call with a name has the expected result.
-fn is_given(heap: &Heap, call: &str, program: &Program, said: &str) -> Result<bool, TableFault> {
+fn is_given(
+    heap: &Heap,
+    call: &str,
+    program: &Program,
+    expected: &str,
+) -> Result<bool, TableFault> {
     match call {
-        "assemble" => Ok(is_assembled(heap, program, said)),
-        "source" => Ok(is_source(heap, program, said)),
-        "decode" => Ok(is_decoded(heap, program, said)),
-        "disassemble" => Ok(is_text(heap, program, said)),
-        "verify" => Ok(is_verified(heap, &program.words, said)),
-        "flatten" => Ok(said == "accepted" && is_flattened(heap, &program.words)),
+        "assemble" => Ok(is_assembled(heap, program, expected)),
+        "source" => Ok(is_source(heap, program, expected)),
+        "decode" => Ok(is_decoded(heap, program, expected)),
+        "disassemble" => Ok(is_text(heap, program, expected)),
+        "verify" => Ok(is_verified(heap, &program.words, expected)),
+        "flatten" => Ok(expected == "accepted" && is_flattened(heap, &program.words)),
         _ => Err(TableFault::Word),
     }
 }
@@ -340,17 +349,17 @@ fn is_swept(
     alloc: Global,
     call: &str,
     program: &Program,
-    said: &str,
+    expected: &str,
     first: u64,
 ) -> Result<bool, TableFault> {
     let heap = Refusing::new(alloc);
     for nth in first..=u64::MAX {
         heap.refuse(nth);
-        if !is_given(&heap, call, program, said)? {
+        if !is_given(&heap, call, program, expected)? {
             return Ok(false);
         }
         if !heap.was_refused() {
-            return Ok(nth != 1 || said != "accepted");
+            return Ok(nth != 1 || expected != "accepted");
         }
     }
     Ok(false)
@@ -361,11 +370,11 @@ fn are_swept(
     alloc: Global,
     calls: &str,
     program: &Program,
-    said: &str,
+    expected: &str,
     first: u64,
 ) -> Result<bool, TableFault> {
     for call in calls.split(' ') {
-        if !is_swept(alloc, call, program, said, first)? {
+        if !is_swept(alloc, call, program, expected, first)? {
             return Ok(false);
         }
     }
@@ -381,16 +390,16 @@ fn is_conversion(alloc: Global, row: &str, first: u64) -> Result<bool, TableFaul
 
 /// Returns whether the calls of a row refuse its text as the row says, and pass the sweep.
 fn is_refused(alloc: Global, row: &str, first: u64) -> Result<bool, TableFault> {
-    let (calls, text, said) = cells(row)?.three()?;
+    let (calls, text, expected) = cells(row)?.three()?;
     let program = Program::new(alloc, text, "")?;
-    are_swept(alloc, calls, &program, said, first)
+    are_swept(alloc, calls, &program, expected, first)
 }
 
 /// Returns whether the calls of a row have the row's result on its program, and pass the sweep.
 fn is_judged(alloc: Global, row: &str, first: u64) -> Result<bool, TableFault> {
-    let (calls, words, said) = cells(row)?.three()?;
+    let (calls, words, expected) = cells(row)?.three()?;
     let program = Program::new(alloc, "", words)?;
-    are_swept(alloc, calls, &program, said, first)
+    are_swept(alloc, calls, &program, expected, first)
 }
 
 #[test]

@@ -7,8 +7,8 @@ use Rattle.std.proofs.lemmas.Bool.{lt-ltb}
 use Rattle.std.proofs.lemmas.Bool.Decides.{nat_tests}
 use Rattle.std.proofs.lemmas.List.{append_assoc, length-append}
 use Rattle.std.proofs.lemmas.List.Sums.{AllPass-from_list_all}
-use Rattle.bpf_assembler.specs.declared.fault.TextFlaw.{TextFlaw}
-use Rattle.bpf_assembler.specs.declared.fault.TextFlaw.TheVariants.{Syntax}
+use Rattle.bpf_assembler.specs.declared.fault.TextFaultKind.{TextFaultKind}
+use Rattle.bpf_assembler.specs.declared.fault.TextFaultKind.TheVariants.{Syntax}
 use Rattle.bpf_assembler.specs.Words.{is_blank, is_comma, is_semicolon, trim, content_of, first_word, after_word, is_mnemonic_byte}
 use Rattle.bpf_assembler.specs.Words.{split_operand}
 use Rattle.bpf_assembler.specs.Operand.{both}
@@ -87,11 +87,11 @@ cut-operands xs ys word others =
     (lt-ltb _ _ inside) ∙ ap (λ (l : List ℕ). Some (l, trim (after_first is_comma (xs ++ 44 ∷ (32 ∷ ys))))) first
     ∙ ap (λ (l : List ℕ). Some (xs, l)) rest
 
-pub two-operands : {A B : Type 0} (left : List ℕ → Result A TextFlaw) (right : List ℕ → Result B TextFlaw) {xs ys : List ℕ} {a : A} {b : B}
+pub two-operands : {A B : Type 0} (left : List ℕ → Result A TextFaultKind) (right : List ℕ → Result B TextFaultKind) {xs ys : List ℕ} {a : A} {b : B}
     → IsWord xs → AreOperands ys → left xs ≡ Ok a → right ys ≡ Ok b → two left right ((xs ++ codes ", ") ++ ys) ≡ Ok (a, b)
 two-operands left right {ys} {a} word others first second =
-    ap (with_two left right) (cut-operands _ ys word others) ∙ ap (λ (r : Result _ TextFlaw). both r (right ys)) first
-    ∙ ap (λ (r : Result _ TextFlaw). both (Ok a) r) second
+    ap (with_two left right) (cut-operands _ ys word others) ∙ ap (λ (r : Result _ TextFaultKind). both r (right ys)) first
+    ∙ ap (λ (r : Result _ TextFaultKind). both (Ok a) r) second
 
 instruction-by : (content name ops : List ℕ) → first_word content ≡ name → after_word content ≡ ops → list_all is_mnemonic_byte name ≡ true
     → instruction_of content ≡ instruction_with (form_named name) ops

@@ -9,8 +9,8 @@ use Rattle.std.proofs.lemmas.Int.{ints}
 use Rattle.std.proofs.lemmas.Fmt.{decimal_is_IsNumeral, length-decimal-le, decimal_nonempty}
 use Rattle.bpf_insn.specs.declared.register.Register.{Register}
 use Rattle.bpf_insn.specs.declared.instruction.Source.TheVariants as source
-use Rattle.bpf_assembler.specs.declared.fault.TextFlaw.{TextFlaw}
-use Rattle.bpf_assembler.specs.declared.fault.TextFlaw.TheVariants.{Syntax}
+use Rattle.bpf_assembler.specs.declared.fault.TextFaultKind.{TextFaultKind}
+use Rattle.bpf_assembler.specs.declared.fault.TextFaultKind.TheVariants.{Syntax}
 use Rattle.bpf_assembler.specs.Number.{and_then, is_digit, decimal_in, positive, negative, signed_in}
 use Rattle.bpf_assembler.specs.Operand.{register_name, register_number, register_named, register_at, register_in, option_and_then, or_fault}
 use Rattle.bpf_assembler.specs.Operand.{source_in, source_with}
@@ -85,7 +85,7 @@ decimal-back n small =
     let test : (nat_le 1 (length (decimal n)) && nat_le (length (decimal n)) 20 && list_all (is_digit 10) (decimal n)) ≡ true =
     and_from _ _ (and_from _ _ some few) (decimal-digits n small) in
     ap (λ (t : Bool). cond t (Ok (digits_value 10 (decimal n))) (Err Syntax)) test
-    ∙ ap (λ (v : ℕ). let r : Result ℕ TextFlaw = Ok v in r) (decimal_is_IsNumeral n small).1
+    ∙ ap (λ (v : ℕ). let r : Result ℕ TextFaultKind = Ok v in r) (decimal_is_IsNumeral n small).1
 
 pub positive-back : (limit n : ℕ) → n < limit → positive limit n ≡ Ok (pos n)
 positive-back limit n within = rw (lt-ltb n limit within) refl
@@ -97,7 +97,7 @@ negative-back limit n within = rw (le-leb (suc n) limit within) refl
 pub signed-back : (limit : ℕ) (z : ℤ) → limit ≤ 2 ^ 31 → neg_ℤ (pos limit) ≤ℤ z → z <ℤ pos limit → signed_in limit (signed_text z) ≡ Ok z
 signed-back limit (pos n) bound low high =
     let within : n < limit = omega (arith, ints, high) in
-    ap (λ (r : Result ℕ TextFlaw). and_then r (positive limit)) (decimal-back n (omega arith)) ∙ positive-back limit n within
+    ap (λ (r : Result ℕ TextFaultKind). and_then r (positive limit)) (decimal-back n (omega arith)) ∙ positive-back limit n within
 signed-back limit (negsuc n) bound low high =
     let within : suc n ≤ limit = omega (arith, ints, low) in
-    ap (λ (r : Result ℕ TextFlaw). and_then r (negative limit)) (decimal-back (suc n) (omega arith)) ∙ negative-back limit n within
+    ap (λ (r : Result ℕ TextFaultKind). and_then r (negative limit)) (decimal-back (suc n) (omega arith)) ∙ negative-back limit n within

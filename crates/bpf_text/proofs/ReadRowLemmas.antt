@@ -21,8 +21,8 @@ use Rattle.bpf_insn.specs.declared.instruction.Insn.{Insn}
 use Rattle.bpf_insn.specs.declared.instruction.Insn.TheVariants as insn
 use Rattle.bpf_insn.specs.declared.instruction.JumpDistance.TheVariants as distance
 use Rattle.bpf_assembler.specs.declared.mnemonic_form.MnemonicForm.{MnemonicForm}
-use Rattle.bpf_assembler.specs.declared.fault.TextFlaw.{TextFlaw}
-use Rattle.bpf_assembler.specs.declared.fault.TextFlaw.TheVariants.{WritesFramePointer}
+use Rattle.bpf_assembler.specs.declared.fault.TextFaultKind.{TextFaultKind}
+use Rattle.bpf_assembler.specs.declared.fault.TextFaultKind.TheVariants.{WritesFramePointer}
 use Rattle.bpf_assembler.specs.Number.{and_then, immediate_in, wide_in, limit_of_16_bits, limit_of_32_bits, IsWithin}
 use Rattle.bpf_assembler.specs.Words.{is_mnemonic_byte}
 use Rattle.bpf_assembler.specs.Mnemonic.{name_of}
@@ -89,7 +89,7 @@ alu-back : (i : Insn) (d : WritableRegister) (s : Source) (made : WritableRegist
     → and_then (two register_in source_in (comma (register_name d.number) (source_text s)))
     (λ read. writing read.0 (λ x. made x read.1)) ≡ Ok (Instruction (made d s) None)
 alu-back i d s made fits =
-    ap (λ (r : Result (Register × Source) TextFlaw). and_then r (λ read. writing read.0 (λ x. made x read.1)))
+    ap (λ (r : Result (Register × Source) TextFaultKind). and_then r (λ read. writing read.0 (λ x. made x read.1)))
     (two-operands register_in source_in (word-of-register (as_register d)) (one-operand (source_text s) (word-of-source s fits))
     (register-back (as_register d)) (source-back s fits)) ∙ writes-back d (λ x. made x s)
 
@@ -113,16 +113,16 @@ read-back (insn.Alu op width d s) fits =
 read-back (insn.MoveSignExtended extension d s) fits =
     with-operands (insn.MoveSignExtended extension d s) (comma (register_name d.number) (register_name s.number))
     (operands-of _ _ (word-of-register (as_register d)) (word-of-register s)) refl
-    (ap (λ (r : Result (Register × Register) TextFlaw). and_then r (λ read. writing read.0 (λ x. insn.MoveSignExtended extension x read.1)))
+    (ap (λ (r : Result (Register × Register) TextFaultKind). and_then r (λ read. writing read.0 (λ x. insn.MoveSignExtended extension x read.1)))
     (two-operands register_in register_in (word-of-register (as_register d)) (one-operand _ (word-of-register s))
     (register-back (as_register d)) (register-back s)) ∙ writes-back d (λ x. insn.MoveSignExtended extension x s))
 read-back (insn.Negate width d) fits =
     with-operands (insn.Negate width d) (register_name d.number) (one-operand _ (word-of-register (as_register d))) refl
-    (ap (λ (r : Result Register TextFlaw). and_then r (λ register. writing register (λ x. insn.Negate width x)))
+    (ap (λ (r : Result Register TextFaultKind). and_then r (λ register. writing register (λ x. insn.Negate width x)))
     (register-back (as_register d)) ∙ writes-back d (insn.Negate width))
 read-back (insn.ByteSwap order width d) fits =
     with-operands (insn.ByteSwap order width d) (register_name d.number) (one-operand _ (word-of-register (as_register d))) refl
-    (ap (λ (r : Result Register TextFlaw). and_then r (λ register. writing register (λ x. insn.ByteSwap order width x)))
+    (ap (λ (r : Result Register TextFaultKind). and_then r (λ register. writing register (λ x. insn.ByteSwap order width x)))
     (register-back (as_register d)) ∙ writes-back d (insn.ByteSwap order width))
 read-back (insn.JumpIf condition width left right offset) fits =
     let target : IsWord (signed_text offset) = word-of-signed offset (wider offset fits.1).0 (wider offset fits.1).1 in
@@ -134,29 +134,29 @@ read-back (insn.JumpIf condition width left right offset) fits =
     (comma (register_name left.number) (comma (source_text right) (signed_text offset)))
     (more-operands _ _ (word-of-register left) (operands-of _ _ source target))
     (ap (λ (l : List ℕ). 32 ∷ l) (three-parts (register_name left.number) (source_text right) (signed_text offset)))
-    (ap (λ (r : Result (Register × (Source × (ℤ × Option (List ℕ)))) TextFlaw). and_then r
+    (ap (λ (r : Result (Register × (Source × (ℤ × Option (List ℕ)))) TextFaultKind). and_then r
     (λ read. Ok (Instruction (insn.JumpIf condition width read.0 read.1.0 read.1.1.0) read.1.1.1)))
     (two-operands register_in (two source_in (target_in limit_of_16_bits)) (word-of-register left) (operands-of _ _ source target)
     (register-back left) rest))
 read-back (insn.Jump (distance.Short offset)) fits =
     with-operands (insn.Jump (distance.Short offset)) (signed_text offset)
     (one-operand _ (word-of-signed offset (wider offset fits).0 (wider offset fits).1)) refl
-    (ap (λ (r : Result (ℤ × Option (List ℕ)) TextFlaw). and_then r
+    (ap (λ (r : Result (ℤ × Option (List ℕ)) TextFaultKind). and_then r
     (λ target. Ok (Instruction (insn.Jump (distance.Short target.0)) target.1)))
     (target-back limit_of_16_bits offset (omega arith) fits.0 fits.1))
 read-back (insn.Jump (distance.Long offset)) fits =
     with-operands (insn.Jump (distance.Long offset)) (signed_text offset) (one-operand _ (word-of-signed offset fits.0 fits.1)) refl
-    (ap (λ (r : Result (ℤ × Option (List ℕ)) TextFlaw). and_then r
+    (ap (λ (r : Result (ℤ × Option (List ℕ)) TextFaultKind). and_then r
     (λ target. Ok (Instruction (insn.Jump (distance.Long target.0)) target.1)))
     (target-back limit_of_32_bits offset (omega arith) fits.0 fits.1))
 read-back (insn.Call helper) fits =
     with-operands (insn.Call helper) (signed_decimal helper) (one-operand _ (word-of-immediate helper fits.0 fits.1)) refl
-    (ap (λ (r : Result ℤ TextFlaw). and_then r (λ h. plain (insn.Call h))) (immediate-back helper fits.0 fits.1))
+    (ap (λ (r : Result ℤ TextFaultKind). and_then r (λ h. plain (insn.Call h))) (immediate-back helper fits.0 fits.1))
 read-back insn.Exit fits = record { printed = refl; means = refl }
 read-back (insn.Load format d base offset) fits =
     with-operands (insn.Load format d base offset) (comma (register_name d.number) (memory_text base offset))
     (operands-of _ _ (word-of-register (as_register d)) (word-of-memory base offset (wider offset fits).0 (wider offset fits).1)) refl
-    (ap (λ (r : Result (Register × (Register × ℤ)) TextFlaw). and_then r
+    (ap (λ (r : Result (Register × (Register × ℤ)) TextFaultKind). and_then r
     (λ read. writing read.0 (λ x. insn.Load format x read.1.0 read.1.1)))
     (two-operands register_in memory_in (word-of-register (as_register d))
     (one-operand _ (word-of-memory base offset (wider offset fits).0 (wider offset fits).1)) (register-back (as_register d))
@@ -165,14 +165,14 @@ read-back (insn.StoreImmediate size base offset value) fits =
     with-operands (insn.StoreImmediate size base offset value) (comma (memory_text base offset) (signed_decimal value))
     (operands-of _ _ (word-of-memory base offset (wider offset fits.0).0 (wider offset fits.0).1)
     (word-of-immediate value fits.1.0 fits.1.1)) refl
-    (ap (λ (r : Result ((Register × ℤ) × ℤ) TextFlaw). and_then r (λ read. plain (insn.StoreImmediate size read.0.0 read.0.1 read.1)))
+    (ap (λ (r : Result ((Register × ℤ) × ℤ) TextFaultKind). and_then r (λ read. plain (insn.StoreImmediate size read.0.0 read.0.1 read.1)))
     (two-operands memory_in immediate_in (word-of-memory base offset (wider offset fits.0).0 (wider offset fits.0).1)
     (one-operand _ (word-of-immediate value fits.1.0 fits.1.1)) (memory-back base offset fits.0.0 fits.0.1)
     (immediate-back value fits.1.0 fits.1.1)))
 read-back (insn.Store size base offset s) fits =
     with-operands (insn.Store size base offset s) (comma (memory_text base offset) (register_name s.number))
     (operands-of _ _ (word-of-memory base offset (wider offset fits).0 (wider offset fits).1) (word-of-register s)) refl
-    (ap (λ (r : Result ((Register × ℤ) × Register) TextFlaw). and_then r (λ read. plain (insn.Store size read.0.0 read.0.1 read.1)))
+    (ap (λ (r : Result ((Register × ℤ) × Register) TextFaultKind). and_then r (λ read. plain (insn.Store size read.0.0 read.0.1 read.1)))
     (two-operands memory_in register_in (word-of-memory base offset (wider offset fits).0 (wider offset fits).1)
     (one-operand _ (word-of-register s)) (memory-back base offset fits.0 fits.1) (register-back s)))
 read-back (insn.WideLoad d value next) fits =
@@ -188,9 +188,9 @@ read-back (insn.WideLoad d value next) fits =
     (div-mul-add (cast_unsigned w32 next) (2 ^ 32) (cast_unsigned w32 value) low) ∙ to_z-of_z w32 next next_fits in
     with-operands (insn.WideLoad d value next) (comma (register_name d.number) (wide_text number))
     (operands-of _ _ (word-of-register (as_register d)) (word-of-wide number)) refl
-    (ap (λ (r : Result (Register × ℕ) TextFlaw). and_then r
+    (ap (λ (r : Result (Register × ℕ) TextFaultKind). and_then r
     (λ read. writing read.0 (λ x. insn.WideLoad x (low_half read.1) (high_half read.1))))
     (two-operands register_in wide_in (word-of-register (as_register d)) (one-operand _ (word-of-wide number))
     (register-back (as_register d)) (wide-back number small)) ∙ writes-back d (λ x. insn.WideLoad x (low_half number) (high_half number))
-    ∙ ap (λ (v : ℤ). let r : Result Statement TextFlaw = Ok (Instruction (insn.WideLoad d v (high_half number)) None) in r) low_is
-    ∙ ap (λ (v : ℤ). let r : Result Statement TextFlaw = Ok (Instruction (insn.WideLoad d value v) None) in r) high_is)
+    ∙ ap (λ (v : ℤ). let r : Result Statement TextFaultKind = Ok (Instruction (insn.WideLoad d v (high_half number)) None) in r) low_is
+    ∙ ap (λ (v : ℤ). let r : Result Statement TextFaultKind = Ok (Instruction (insn.WideLoad d value v) None) in r) high_is)

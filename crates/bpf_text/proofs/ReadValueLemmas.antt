@@ -11,7 +11,7 @@ use Rattle.std.proofs.lemmas.List.{length-append, get_or_push}
 use Rattle.std.proofs.Math.Seq.{take-append_seam, drop-append_seam}
 use Rattle.bpf_insn.specs.declared.register.Register.{Register}
 use Rattle.bpf_insn.specs.declared.instruction.Source.TheVariants as source
-use Rattle.bpf_assembler.specs.declared.fault.TextFlaw.{TextFlaw}
+use Rattle.bpf_assembler.specs.declared.fault.TextFaultKind.{TextFaultKind}
 use Rattle.bpf_assembler.specs.Words.{is_sign, is_label}
 use Rattle.bpf_assembler.specs.Number.{and_then, is_digit, negative, signed_in, immediate_in, is_hexadecimal, limit_of_16_bits, limit_of_32_bits}
 use Rattle.bpf_assembler.specs.Operand.{register_name, register_number, register_at, register_in, option_and_then, source_in, source_with}
@@ -65,7 +65,7 @@ immediate-back (pos n) low high =
 immediate-back (negsuc n) low high =
     let within : suc n ≤ limit_of_32_bits = omega (arith, ints, low) in
     let small : suc n < 2 ^ 64 = omega arith in
-    ap (λ (r : Result ℕ TextFlaw). and_then r (negative limit_of_32_bits)) (decimal-back (suc n) small)
+    ap (λ (r : Result ℕ TextFaultKind). and_then r (negative limit_of_32_bits)) (decimal-back (suc n) small)
     ∙ negative-back limit_of_32_bits n within
 
 word-of-prefixed : (byte n : ℕ) → is_word_byte byte ≡ true → n < 2 ^ 64 → IsWord (byte ∷ decimal n)
@@ -90,7 +90,7 @@ pub source-immediate-back : (value : ℤ) → neg_ℤ (pos limit_of_32_bits) ≤
     → source_in (signed_decimal value) ≡ Ok (source.Immediate value)
 source-immediate-back value low high =
     ap (λ (o : Option ℕ). source_with (option_and_then register_at o) (signed_decimal value)) (no-register-immediate value low high)
-    ∙ ap (λ (r : Result ℤ TextFlaw). and_then r (λ v. Ok (source.Immediate v))) (immediate-back value low high)
+    ∙ ap (λ (r : Result ℤ TextFaultKind). and_then r (λ v. Ok (source.Immediate v))) (immediate-back value low high)
 
 -- a target's distance
 no-label : (value : ℤ) → is_label (signed_text value) ≡ false
@@ -102,7 +102,7 @@ pub target-back : (limit : ℕ) (value : ℤ) → limit ≤ 2 ^ 31 → neg_ℤ (
 target-back limit value bound low high =
     ap (λ (t : Bool). cond t (Ok (pos 0, Some (signed_text value)))
     (and_then (signed_in limit (signed_text value)) (λ distance. Ok (distance, None)))) (no-label value)
-    ∙ ap (λ (r : Result ℤ TextFlaw). and_then r (λ distance. let o : Result (ℤ × Option (List ℕ)) TextFlaw = Ok (distance, None) in o))
+    ∙ ap (λ (r : Result ℤ TextFaultKind). and_then r (λ distance. let o : Result (ℤ × Option (List ℕ)) TextFaultKind = Ok (distance, None) in o))
     (signed-back limit value bound low high)
 
 -- a memory operand
@@ -123,8 +123,8 @@ address-by base sign ds offset is means =
     let second : offset_in (drop (position_or_len is_sign (reg ++ sign ∷ ds)) (reg ++ sign ∷ ds)) ≡ Ok offset =
     ap (λ (n : ℕ). offset_in (drop n (reg ++ sign ∷ ds))) (place-at is_sign reg ds sign none is)
     ∙ ap offset_in (drop-append_seam reg (sign ∷ ds)) ∙ offset-by sign ds ∙ means in
-    ap (λ (r : Result Register TextFlaw). both r (offset_in (drop (position_or_len is_sign (reg ++ sign ∷ ds)) (reg ++ sign ∷ ds)))) first
-    ∙ ap (λ (r : Result ℤ TextFlaw). both (let o : Result Register TextFlaw = Ok base in o) r) second
+    ap (λ (r : Result Register TextFaultKind). both r (offset_in (drop (position_or_len is_sign (reg ++ sign ∷ ds)) (reg ++ sign ∷ ds)))) first
+    ∙ ap (λ (r : Result ℤ TextFaultKind). both (let o : Result Register TextFaultKind = Ok base in o) r) second
 
 address-back : (base : Register) (offset : ℤ) → neg_ℤ (pos limit_of_16_bits) ≤ℤ offset → offset <ℤ pos limit_of_16_bits
     → address_in (register_name base.number ++ signed_text offset) ≡ Ok (base, offset)

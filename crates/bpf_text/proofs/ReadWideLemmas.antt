@@ -8,8 +8,8 @@ use Rattle.std.proofs.lemmas.Bool.{and_from, lt-ltb, le-leb}
 use Rattle.std.proofs.lemmas.Bool.Decides.{nat_tests}
 use Rattle.std.proofs.Math.Arith.{mod-mul}
 use Rattle.std.proofs.Math.Pow.{pow-add, pow_pos}
-use Rattle.bpf_assembler.specs.declared.fault.TextFlaw.{TextFlaw}
-use Rattle.bpf_assembler.specs.declared.fault.TextFlaw.TheVariants.{Syntax}
+use Rattle.bpf_assembler.specs.declared.fault.TextFaultKind.{TextFaultKind}
+use Rattle.bpf_assembler.specs.declared.fault.TextFaultKind.TheVariants.{Syntax}
 use Rattle.bpf_assembler.specs.Number.{is_digit, wide_in}
 use Rattle.bpf_text.specs.CodeText.{hexadecimal, wide_text}
 use Rattle.bpf_text.proofs.ReadLemmas.{all-by}
@@ -56,7 +56,7 @@ wide-back n small =
     and_from _ _ (and_from _ _ some few) (hexadecimal-digits 16 n) in
     let value : digits_value 16 ds ≡ n = hexadecimal-value 16 0 n
     ∙ (let whole : 0 * 2 ^ (4 * 16) + n % 2 ^ (4 * 16) ≡ n = omega arith in whole) in
-    ap (λ (t : Bool). cond t (Ok (digits_value 16 ds)) (Err Syntax)) test ∙ ap (λ (v : ℕ). let r : Result ℕ TextFlaw = Ok v in r) value
+    ap (λ (t : Bool). cond t (Ok (digits_value 16 ds)) (Err Syntax)) test ∙ ap (λ (v : ℕ). let r : Result ℕ TextFaultKind = Ok v in r) value
 
 pub word-of-wide : (n : ℕ) → IsWord (wide_text n)
 word-of-wide n = record {

@@ -12,9 +12,9 @@ use Rattle.std.proofs.lemmas.List.Sums.{AllPass-from_list_all}
 use Rattle.std.proofs.lemmas.List.Splits.{slice_split_at, length-slice_split}
 use Rattle.bpf_insn.specs.Form.{spelling}
 use Rattle.bpf_insn.specs.Code.{word_count, code_words, HasProgramSize}
-use Rattle.bpf_insn.specs.declared.code.TheConstants.{WORD_LIMIT}
+use Rattle.bpf_insn.specs.declared.code.TheConstants.{MAX_WORDS}
 use Rattle.bpf_insn.specs.declared.instruction.Insn.{Insn}
-use Rattle.bpf_assembler.specs.declared.fault.TextFlaw.{TextFlaw}
+use Rattle.bpf_assembler.specs.declared.fault.TextFaultKind.{TextFaultKind}
 use Rattle.bpf_assembler.specs.Statement.{Statement, Instruction, statement_in}
 use Rattle.bpf_assembler.specs.Text.{words_of, FaultlessAfter, items_from, code_from, onto_code, Means}
 use Rattle.bpf_text.specs.CodeText.{line_text, text_of, IsReadBack}
@@ -72,10 +72,10 @@ statements_of code = map (λ insn. Instruction insn None) code
 meant-back : (code : List Insn) → AreReadBack code → map statement_in (map line_text code) ≡ map Ok (statements_of code)
 meant-back [] all = refl
 meant-back (insn ∷ code) all =
-    ap (λ (r : Result Statement TextFlaw). r ∷ map statement_in (map line_text code)) all.0.means
-    ∙ ap (λ (rs : List (Result Statement TextFlaw)). Ok (Instruction insn None) ∷ rs) (meant-back code all.1)
+    ap (λ (r : Result Statement TextFaultKind). r ∷ map statement_in (map line_text code)) all.0.means
+    ∙ ap (λ (rs : List (Result Statement TextFaultKind)). Ok (Instruction insn None) ∷ rs) (meant-back code all.1)
 
-faultless-back : (before : List Statement) (code : List Insn) → words_of before + word_count code ≤ WORD_LIMIT
+faultless-back : (before : List Statement) (code : List Insn) → words_of before + word_count code ≤ MAX_WORDS
     → FaultlessAfter before (statements_of code)
 faultless-back before [] fits = tt
 faultless-back before (insn ∷ code) fits =

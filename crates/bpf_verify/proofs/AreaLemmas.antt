@@ -6,7 +6,7 @@ use Rattle.std.specs.Prelude.{slice_get}
 use Rattle.std.proofs.lemmas.Bool.{cases_lt}
 use Rattle.std.proofs.lemmas.Bool.Decides.{nat_tests}
 use Rattle.std.proofs.lemmas.Option.{get_or_from_slice_get, none-some}
-use Rattle.bpf_insn.proofs.PlaceLemmas.{index_within, instruction_at-index, instruction_at-inside, instruction_at-behind}
+use Rattle.bpf_insn.proofs.PlaceLemmas.{index_within, instruction_at-index, instruction_at-inside, instruction_at-after}
 use Rattle.bpf_insn.proofs.PlaceLemmas.{instruction_within, word_count-cons}
 use Rattle.bpf_insn.specs.Code.{index_at, instruction_at, spelling, word_count}
 use Rattle.bpf_insn.specs.declared.instruction.Insn.{Insn}
@@ -32,11 +32,11 @@ use Rattle.bpf_meaning.specs.declared.cause.Cause.{Cause}
 use Rattle.bpf_meaning.specs.declared.state.State.{State}
 use Rattle.tl_segments.specs.Segment as segments
 use Rattle.bpf_verify.specs.Annotation.{Annotation, IsAccepted, area_of, area_of_kind, areas_from}
-use Rattle.bpf_verify.specs.AbstractState.{AbstractState, Unreached, Reached, Edges, Admits, kind_of}
+use Rattle.bpf_verify.specs.LiftedState.{LiftedState, Unreached, Reached, Edges, Admits, kind_of}
 use Rattle.bpf_verify.specs.Transfer.{kinds, only_pointers, pointers_in, read_kind, transfer}
 use Rattle.bpf_verify.specs.Verified.{HasBaseAreas, IsPointerInto, areas_in, base_of, entries_of, instructions_in}
 use Rattle.bpf_verify.specs.declared.memory.Pointers.{Pointers}
-use Rattle.bpf_verify.specs.declared.known.Known.{Known}
+use Rattle.bpf_verify.specs.declared.abstract_state.AbstractState.{AbstractState}
 use Rattle.bpf_verify.specs.declared.verified.Entry.{Entry}
 use Rattle.bpf_verify.proofs.SoundRuns.{IsAdmitted, end_admitted}
 use Rattle.bpf_verify.proofs.SoundSteps.{IsVerified}
@@ -65,18 +65,18 @@ pub areas_from-same : (old new : Annotation) (end place : ℕ) (code : List Insn
 areas_from-same old new end place [] same ends = refl
 areas_from-same old new end place (insn ∷ code) same ends =
     let sum = word_count-cons insn code in
-    ap (λ (state : AbstractState). area_of state insn ∷ areas_from new (place + length (spelling insn)) code) (same place (omega arith))
+    ap (λ (state : LiftedState). area_of state insn ∷ areas_from new (place + length (spelling insn)) code) (same place (omega arith))
     ∙ ap (λ (areas : List (Option Area)). area_of (old place) insn ∷ areas)
     (areas_from-same old new end (place + length (spelling insn)) code same (omega arith))
 
 -- the area of the instruction at a place, by its index
 
-index_behind : (first : Insn) (code : List Insn) (place : ℕ) → length (spelling first) ≤ suc place
+index_at-rest : (first : Insn) (code : List Insn) (place : ℕ) → length (spelling first) ≤ suc place
     → index_at (first ∷ code) (suc place) ≡ option_map (λ (i : ℕ). suc i) (index_at code (suc place - length (spelling first)))
-index_behind first code place past =
+index_at-rest first code place past =
     let not_first : (suc place == 0) ≡ false = grind (arith, nat_tests) in
-    let behind : nat_lt (suc place) (length (spelling first)) ≡ false = grind (arith, nat_tests) in
-    rw (not_first, behind) refl
+    let beyond : nat_lt (suc place) (length (spelling first)) ≡ false = grind (arith, nat_tests) in
+    rw (not_first, beyond) refl
 
 get_or-next : {A : Type 0} (x : A) (xs : List A) (d y : A) (found : Option ℕ) (index : ℕ) → option_map (λ (i : ℕ). suc i) found ≡ Some index
     → ((i : ℕ) → found ≡ Some i → get_or xs i d ≡ y) → get_or (x ∷ xs) index d ≡ y
@@ -85,23 +85,23 @@ get_or-next x xs d y (Some i) index is each = let same : suc i ≡ index = cc in
 
 area_at : (annotation : Annotation) (from : ℕ) (code : List Insn) (place index : ℕ) (insn : Insn) → index_at code place ≡ Some index
     → instruction_at code place ≡ Some insn → get_or (areas_from annotation from code) index None ≡ area_of (annotation (from + place)) insn
-area_at annotation from [] place index insn is stands = absurd (none-some index is)
-area_at annotation from (first ∷ code) zero index insn is stands =
+area_at annotation from [] place index insn is is_insn = absurd (none-some index is)
+area_at annotation from (first ∷ code) zero index insn is is_insn =
     let here : 0 ≡ index = cc in
     let one : first ≡ insn = cc in
     subst (λ (n : ℕ). get_or (areas_from annotation from (first ∷ code)) n None ≡ area_of (annotation (from + 0)) insn) here
     (ap (area_of (annotation from)) one ∙ ap (λ (p : ℕ). area_of (annotation p) insn) (omega arith))
-area_at annotation from (first ∷ code) (suc place) index insn is stands =
+area_at annotation from (first ∷ code) (suc place) index insn is is_insn =
     elim (cases_lt (suc place) (length (spelling first))) as
     (λ _. get_or (areas_from annotation from (first ∷ code)) index None ≡ area_of (annotation (from + suc place)) insn) [
-      | inl below ↦ absurd (none-some insn (sym (instruction_at-inside first code (suc place) (omega arith) below) ∙ stands))
+      | inl below ↦ absurd (none-some insn (sym (instruction_at-inside first code (suc place) (omega arith) below) ∙ is_insn))
       | inr past ↦
           let left : ℕ = suc place - length (spelling first) in
           let sum : from + length (spelling first) + left ≡ from + suc place = omega arith in
           get_or-next _ (areas_from annotation (from + length (spelling first)) code) None _ (index_at code left) index
-          (sym (index_behind first code place past) ∙ is)
+          (sym (index_at-rest first code place past) ∙ is)
           (λ i found. area_at annotation (from + length (spelling first)) code left i insn found
-          (sym (instruction_at-behind first code (suc place) past) ∙ stands) ∙ ap (λ (p : ℕ). area_of (annotation p) insn) sum)
+          (sym (instruction_at-after first code (suc place) past) ∙ is_insn) ∙ ap (λ (p : ℕ). area_of (annotation p) insn) sum)
     ]
 
 -- If an instruction passes its checks, its base holds a pointer.
@@ -111,10 +111,10 @@ first_passes : {A B : Type 0} (first : Result A Cause) (others : A → Result B 
 first_passes (Ok x) others end is = (x, refl)
 first_passes (Err cause) others end is = absurd (let no : ⊥ = cc in no)
 
-abbrev HasPointers : Known → ℕ → Type 0
+abbrev HasPointers : AbstractState → ℕ → Type 0
 HasPointers known base = (pointers : Pointers) × (pointers_in known base ≡ Ok pointers)
 
-base_passes : (known : Known) (insn : Insn) (base : ℕ) (edges : Edges) → base_of insn ≡ Some base → walk (kinds known) insn ≡ Ok edges
+base_passes : (known : AbstractState) (insn : Insn) (base : ℕ) (edges : Edges) → base_of insn ≡ Some base → walk (kinds known) insn ≡ Ok edges
     → HasPointers known base
 base_passes known (insn.Load format destination register offset) base edges is passes =
     let loaded = first_passes (load_value (kinds known) format register.number offset) _ edges passes in
@@ -140,7 +140,7 @@ points_into (Record x) held register pointers admits passes = absurd admits
 points_into (Frame x) held register pointers admits passes = absurd admits
 points_into x held register pointers admits passes = absurd (let no : ⊥ = cc in no)
 
-by_state : (abstract : AbstractState) (state : State) (insn : Insn) (base : ℕ) (edges : Edges) → Admits abstract state
+by_state : (abstract : LiftedState) (state : State) (insn : Insn) (base : ℕ) (edges : Edges) → Admits abstract state
     → transfer abstract insn ≡ Ok edges → base_of insn ≡ Some base → IsPointerInto (register_value state base) (area_of abstract insn)
 by_state Unreached state insn base edges admits passes is = absurd admits
 by_state (Reached known) state insn base edges admits passes is =
@@ -152,17 +152,17 @@ pub areas_hold : (code : List Insn) (areas : List (Option Area)) → IsForward c
     → HasBaseAreas code areas
 areas_hold code areas forward immediates accepted = record {
   count = ap length accepted.are ∙ length-areas_from accepted.annotation 0 code;
-  bases = λ segment is_segment run is_run state end index insn base at stands is.
+  bases = λ segment is_segment run is_run state end index insn base at is_insn is.
       let verified : IsVerified code segment accepted.annotation =
       record { forward = forward; good = accepted.is_least.good; is_segment = is_segment; immediates = immediates } in
       let place : get_or areas index None ≡ area_of (accepted.annotation state.place) insn =
       ap (λ (areas : List (Option Area)). get_or areas index None) accepted.are
-      ∙ area_at accepted.annotation 0 code state.place index insn at stands
+      ∙ area_at accepted.annotation 0 code state.place index insn at is_insn
       ∙ ap (λ (p : ℕ). area_of (accepted.annotation p) insn) (omega arith) in
-      let way = subst (IsAdmitted code accepted.annotation) end (end_admitted code segment accepted.annotation verified run is_run) in
-      let passes = verified.good.passes state.place insn (instruction_within code state.place (ap is_some stands)) stands in
+      let admitted_state = subst (IsAdmitted code accepted.annotation) end (end_admitted code segment accepted.annotation verified run is_run) in
+      let passes = verified.good.passes state.place insn (instruction_within code state.place (ap is_some is_insn)) is_insn in
       subst (IsPointerInto (register_value state base)) (sym place)
-      (by_state (accepted.annotation state.place) state insn base passes.edges way.admits passes.passes is);
+      (by_state (accepted.annotation state.place) state insn base passes.edges admitted_state.admits passes.passes is);
 }
 
 -- The immediates of a code.
@@ -182,8 +182,8 @@ abbrev pub HaveImmediatesBefore : List Insn → ℕ → Type 0
 HaveImmediatesBefore code count = (index : ℕ) (insn : Insn) → index < count → slice_get code index ≡ Some insn → HasImmediates insn
 
 pub all_have_immediates : (code : List Insn) → HaveImmediatesBefore code (length code) → HaveImmediates code
-all_have_immediates code have place insn stands =
-    by_index (index_at code place) (index_within code place) (sym (instruction_at-index code place) ∙ stands)
+all_have_immediates code have place insn is_insn =
+    by_index (index_at code place) (index_within code place) (sym (instruction_at-index code place) ∙ is_insn)
   where
     by_index : (found : Option ℕ) → IfSome found (λ index. index < length code) → option_and_then (slice_get code) found ≡ Some insn
         → HasImmediates insn

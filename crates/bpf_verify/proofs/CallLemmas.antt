@@ -7,8 +7,8 @@ use Rattle.bpf_kinds.specs.declared.interval.Interval.{Interval}
 use Rattle.bpf_kinds.specs.declared.kind.Kind.{Kind}
 use Rattle.bpf_kinds.specs.declared.kind.Kind.TheVariants.{Number, Nothing}
 use Rattle.bpf_verify.specs.Transfer.{state_after}
-use Rattle.bpf_verify.specs.AbstractState.{IsProperKnown}
-use Rattle.bpf_verify.specs.declared.known.Known.{Known}
+use Rattle.bpf_verify.specs.LiftedState.{IsProperState}
+use Rattle.bpf_verify.specs.declared.abstract_state.AbstractState.{AbstractState}
 
 after_proper : (answer : Interval) (kinds : List Kind) → interval.IsProper answer
     → ((register : ℕ) → kind.IsProper (get_or kinds register Nothing))
@@ -18,8 +18,8 @@ after_proper answer kinds proper all (suc (suc (suc (suc (suc (suc register)))))
     subst kind.IsProper (sym (get_or-drop 6 kinds register Nothing)) (all (6 + register))
 after_proper answer kinds proper all register = tt
 
-pub state_after_is_proper : (answer : Interval) (known : Known) → interval.IsProper answer → IsProperKnown known
-    → IsProperKnown (state_after answer known)
+pub state_after_is_proper : (answer : Interval) (known : AbstractState) → interval.IsProper answer → IsProperState known
+    → IsProperState (state_after answer known)
 state_after_is_proper answer known answers proper = record {
   count = let rest = length-drop 6 known.registers in let all = proper.count in omega arith;
   kinds = after_proper answer known.registers answers proper.kinds;

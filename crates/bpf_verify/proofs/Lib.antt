@@ -14,13 +14,13 @@ pub mod SoundSteps
 pub mod SoundRuns
 pub mod AreaLemmas
 pub mod StateLaws
-pub mod RiseChecks
-pub mod RiseMemory
-pub mod RiseCalls
-pub mod RiseComparison
-pub mod CheckRises
-pub mod RiseInstructions
+pub mod MonotoneChecks
+pub mod MonotoneMemory
+pub mod MonotoneCalls
+pub mod MonotoneComparison
+pub mod CheckMonotone
+pub mod MonotoneInstructions
 pub mod PassLemmas
-pub mod AheadLemmas
+pub mod WorklistLemmas
 pub mod VerdictLemmas
 mod VisitLemmas

@@ -23,29 +23,29 @@ use Rattle.bpf_kinds.specs.Offsets as offsets
 use Rattle.bpf_insn.specs.declared.value.Area.{Area}
 use Rattle.bpf_verify.specs.Annotation.{Annotation, PassesAt, IsGoodUpTo, IsLeastUpTo, Fails, IsAccepted, IsRefusedAt, IsVerifyFault}
 use Rattle.bpf_verify.specs.Annotation.{area_of, areas_from}
-use Rattle.bpf_verify.specs.Pass.{Ahead, AreProper, IsRefusedVisit, IsVisitFault, Visits, first, joined, joined_if, kept, propagated, state_of}
+use Rattle.bpf_verify.specs.Pass.{PassState, AreProper, IsRefusedVisit, IsVisitFault, Visits, initial, joined, joined_if, pending, propagated, state_of}
 use Rattle.bpf_verify.specs.Pass.{visit_of, waiting_at}
 use Rattle.bpf_verify.specs.Visit.{IsShown, IsShownRefusal, IsShownUpTo, Visit, visited_all, visits_from}
 use Rattle.bpf_meaning.specs.declared.cause.Cause.{Cause}
-use Rattle.bpf_verify.specs.AbstractState.{AbstractState, Unreached, Reached, Edges, AreEdgesWithin, entry, join, kind_of, IsProper}
-use Rattle.bpf_verify.specs.AbstractState.{IsProperKnown, IsWithin}
+use Rattle.bpf_verify.specs.LiftedState.{LiftedState, Unreached, Reached, Edges, AreEdgesWithin, entry, join, kind_of, IsProper}
+use Rattle.bpf_verify.specs.LiftedState.{IsProperState, IsWithin}
 use Rattle.bpf_verify.specs.Transfer.{transfer}
 use Rattle.bpf_verify.specs.declared.fault.VerifyFault.{VerifyFault}
 use Rattle.bpf_verify.specs.declared.fault.VerifyFault.TheVariants.{Refused, Memory}
-use Rattle.bpf_verify.specs.declared.known.Known.{Known}
+use Rattle.bpf_verify.specs.declared.abstract_state.AbstractState.{AbstractState}
 use Rattle.bpf_verify.proofs.AreaLemmas.{areas_from-more, areas_from-same, length-areas_from}
 use Rattle.bpf_verify.proofs.VisitLemmas.{visited_all-more, visit-parts, visits_from-more, visits_from-same}
-use Rattle.bpf_verify.proofs.RiseInstructions.{same_edges, upward}
+use Rattle.bpf_verify.proofs.MonotoneInstructions.{same_edges, upward}
 use Rattle.bpf_verify.proofs.StateLaws as laws
 
 -- the bottom changes nothing
 
-pub join-bottom : (state : AbstractState) → join state Unreached ≡ state
+pub join-bottom : (state : LiftedState) → join state Unreached ≡ state
 join-bottom Unreached = refl
 join-bottom (Reached known) = refl
 
-pub is_found_proper : {A : Type 0} (found : Option (Box Known A)) → IsProper (state_of found)
-    → IfSome found (λ known. IsProperKnown known.value)
+pub is_found_proper : {A : Type 0} (found : Option (Box AbstractState A)) → IsProper (state_of found)
+    → IfSome found (λ known. IsProperState known.value)
 is_found_proper None proper = tt
 is_found_proper (Some known) proper = proper
 
@@ -54,7 +54,7 @@ is_found_proper (Some known) proper = proper
 pub same_place : (other place : ℕ) → (other == place) ≡ true → place ≡ other
 same_place other place is = grind (arith, nat_tests)
 
-pub joined_each : (P : ℕ → AbstractState → Type 0) (states : Annotation) (place : ℕ) (state : AbstractState)
+pub joined_each : (P : ℕ → LiftedState → Type 0) (states : Annotation) (place : ℕ) (state : LiftedState)
     → P place (join (states place) state) → ((other : ℕ) → P other (states other)) → (other : ℕ) → P other (joined states place state other)
 joined_each P states place state here others other = by (other == place) refl
   where
@@ -62,10 +62,10 @@ joined_each P states place state here others other = by (other == place) refl
     by true is = subst (λ (p : ℕ). P p (join (states p) state)) (same_place other place is) here
     by false is = others other
 
-pub joined-here : (states : Annotation) (place : ℕ) (state : AbstractState) → joined states place state place ≡ join (states place) state
+pub joined-here : (states : Annotation) (place : ℕ) (state : LiftedState) → joined states place state place ≡ join (states place) state
 joined-here states place state = let same : (place == place) ≡ true = grind (arith, nat_tests) in rw same refl
 
-pub joined-other : (states : Annotation) (place : ℕ) (state : AbstractState) (other : ℕ) → other ≢ place
+pub joined-other : (states : Annotation) (place : ℕ) (state : LiftedState) (other : ℕ) → other ≢ place
     → joined states place state other ≡ states other
 joined-other states place state other apart = let not : (other == place) ≡ false = grind (arith, nat_tests, apart) in rw not refl
 
@@ -78,29 +78,29 @@ joined_if-bottom states None other = refl
 joined_if-bottom states (Some place) other = joined-bottom states place other
 
 -- if two annotations agree at a place, they still agree there after a join
-pub joined-same : (states others : Annotation) (place : ℕ) (state : AbstractState) (other : ℕ) → states other ≡ others other
+pub joined-same : (states others : Annotation) (place : ℕ) (state : LiftedState) (other : ℕ) → states other ≡ others other
     → joined states place state other ≡ joined others place state other
-joined-same states others place state other same = ap (λ (s : AbstractState). if other == place then join s state else s) same
+joined-same states others place state other same = ap (λ (s : LiftedState). if other == place then join s state else s) same
 
-pub joined_if-same : (states others : Annotation) (place : Option ℕ) (state : AbstractState) (other : ℕ) → states other ≡ others other
+pub joined_if-same : (states others : Annotation) (place : Option ℕ) (state : LiftedState) (other : ℕ) → states other ≡ others other
     → joined_if states place state other ≡ joined_if others place state other
 joined_if-same states others None state other same = same
 joined_if-same states others (Some place) state other same = joined-same states others place state other same
 
-pub joined_proper : (states : Annotation) (place : ℕ) (state : AbstractState) → AreProper states → IsProper state
+pub joined_proper : (states : Annotation) (place : ℕ) (state : LiftedState) → AreProper states → IsProper state
     → AreProper (joined states place state)
 joined_proper states place state proper proper-state = joined_each (λ other. IsProper) states place state
     (laws.join_is_proper (states place) state (proper place) proper-state) proper
 
 -- states with another one joined into them: they grow, and it is below the one at its place
-record Takes (before after : Annotation) (place : Option ℕ) (state : AbstractState) : Type 0 where
+record Takes (before after : Annotation) (place : Option ℕ) (state : LiftedState) : Type 0 where
   proper : AreProper after
   more : (other : ℕ) → IsWithin (before other) (after other)
   holds : (to : ℕ) → place ≡ Some to → IsWithin state (after to)
-  least : (bound : AbstractState) (other : ℕ) → IsWithin (before other) bound → (place ≡ Some other → IsWithin state bound)
+  least : (bound : LiftedState) (other : ℕ) → IsWithin (before other) bound → (place ≡ Some other → IsWithin state bound)
       → IsWithin (after other) bound
 
-joined_takes : (states : Annotation) (place : Option ℕ) (state : AbstractState) → AreProper states → IsProper state
+joined_takes : (states : Annotation) (place : Option ℕ) (state : LiftedState) → AreProper states → IsProper state
     → Takes states (joined_if states place state) place state
 joined_takes states None state proper proper-state =
     record {
@@ -119,7 +119,7 @@ joined_takes states (Some place) state proper proper-state = record {
       subst (λ (p : ℕ). IsWithin state (joined states place state p)) same
       (subst (IsWithin state) (sym (joined-here states place state))
       (laws.right_is_within_join (states place) state (proper place) proper-state));
-  least = λ bound other below lower. joined_each (λ at (kept : AbstractState). at ≡ other → IsWithin kept bound) states place state
+  least = λ bound other below lower. joined_each (λ at (pending : LiftedState). at ≡ other → IsWithin pending bound) states place state
       (λ same. laws.join_is_least (states place) state bound (proper place) proper-state
       (subst (λ (at : ℕ). IsWithin (states at) bound) (sym same) below) (lower (ap Some same)))
       (λ at same. subst (λ (at : ℕ). IsWithin (states at) bound) (sym same) below) other refl;
@@ -129,20 +129,20 @@ joined_takes states (Some place) state proper proper-state = record {
 
 -- an annotation is good up to the place after the instructions passed so far, and lies below every other such annotation; from there on it equals
 -- the kept states, and the areas found are those of these instructions
-pub record IsOnItsWay (code passed : List Insn) (ahead : Ahead) (areas : List (Option Area)) (visits : List Visit) : Type 0 where
-  pub of_code : ahead.code ≡ code
-  pub at : ahead.place ≡ word_count passed
-  pub proper : AreProper (kept ahead)
+pub record IsAnnotatedUpTo (code passed : List Insn) (worklist : PassState) (areas : List (Option Area)) (visits : List Visit) : Type 0 where
+  pub of_code : worklist.code ≡ code
+  pub at : worklist.place ≡ word_count passed
+  pub proper : AreProper (pending worklist)
   pub annotation : Annotation
-  pub good : IsGoodUpTo code ahead.place annotation
-  pub least : (other : Annotation) → IsGoodUpTo code ahead.place other → (at : ℕ) → IsWithin (annotation at) (other at)
-  pub kept_on : (other : ℕ) → ahead.place ≤ other → annotation other ≡ kept ahead other
+  pub good : IsGoodUpTo code worklist.place annotation
+  pub least : (other : Annotation) → IsGoodUpTo code worklist.place other → (at : ℕ) → IsWithin (annotation at) (other at)
+  pub is_pending : (other : ℕ) → worklist.place ≤ other → annotation other ≡ pending worklist other
   pub found : areas ≡ areas_from annotation 0 passed
   pub shown : visits ≡ visits_from annotation 0 passed
 
-pub length-found : {code passed : List Insn} {ahead : Ahead} {areas : List (Option Area)} {visits : List Visit}
-    → IsOnItsWay code passed ahead areas visits → length areas ≡ length passed
-length-found {passed = passed} way = ap length way.found ∙ length-areas_from way.annotation 0 passed
+pub length-found : {code passed : List Insn} {worklist : PassState} {areas : List (Option Area)} {visits : List Visit}
+    → IsAnnotatedUpTo code passed worklist areas visits → length areas ≡ length passed
+length-found {passed = passed} progress = ap length progress.found ∙ length-areas_from progress.annotation 0 passed
 
 pub not_both : (edges : Edges) (cause : Cause) (found : Result Edges Cause) → found ≡ Ok edges → found ≡ Err cause → ⊥
 not_both edges cause found passes fails = cc
@@ -152,7 +152,7 @@ passes_more : (old new : Annotation) (place : ℕ) (insn : Insn) → new place �
     → PassesAt old place insn → PassesAt new place insn
 passes_more old new place insn same more passes = record {
   edges = passes.edges;
-  passes = ap (λ (state : AbstractState). transfer state insn) same ∙ passes.passes;
+  passes = ap (λ (state : LiftedState). transfer state insn) same ∙ passes.passes;
   next = laws.transitive passes.edges.next (old (place + length (spelling insn))) (new (place + length (spelling insn))) passes.next
       (more (place + length (spelling insn)));
   target = λ distance to jumps leads. laws.transitive passes.edges.target (old to) (new to) (passes.target distance to jumps leads)
@@ -160,14 +160,14 @@ passes_more old new place insn same more passes = record {
 }
 
 -- one annotation up to a place, and another one after it
-abbrev behind : Annotation → ℕ → Annotation → Annotation
-behind old place new other = if nat_le other place then old other else new other
+abbrev spliced : Annotation → ℕ → Annotation → Annotation
+spliced old place new other = if nat_le other place then old other else new other
 
-behind-old : (old new : Annotation) (place other : ℕ) → other ≤ place → behind old place new other ≡ old other
-behind-old old new place other up = let is : nat_le other place ≡ true = grind (arith, nat_tests) in rw is refl
+spliced-old : (old new : Annotation) (place other : ℕ) → other ≤ place → spliced old place new other ≡ old other
+spliced-old old new place other up = let is : nat_le other place ≡ true = grind (arith, nat_tests) in rw is refl
 
-behind-new : (old new : Annotation) (place other : ℕ) → place < other → behind old place new other ≡ new other
-behind-new old new place other past = let is : nat_le other place ≡ false = grind (arith, nat_tests) in rw is refl
+spliced-new : (old new : Annotation) (place other : ℕ) → place < other → spliced old place new other ≡ new other
+spliced-new old new place other past = let is : nat_le other place ≡ false = grind (arith, nat_tests) in rw is refl
 
 -- the target of a jump that leads on
 target_is : (place to : ℕ) (target : Option ℕ) (distance : ℤ) (jump : Option ℤ) → option_map pos target ≡ option_map (target_of place) jump
@@ -190,9 +190,9 @@ jump_of place to (Some found) (Some distance) same is =
     let there : pos found ≡ target_of place distance = cc in
     (distance, refl, sym there ∙ ap pos here)
 
-module _ (code passed : List Insn) (insn : Insn) (before after : Ahead) (areas : List (Option Area)) (earlier : List Visit) (forward : IsForward code)
-    (stands : instruction_at code before.place ≡ Some insn) (way : IsOnItsWay code passed before areas earlier)
-    (all_proper : AreProper (kept after)) (visits : Visits insn before after) where
+module _ (code passed : List Insn) (insn : Insn) (before after : PassState) (areas : List (Option Area)) (earlier : List Visit) (forward : IsForward code)
+    (is_insn : instruction_at code before.place ≡ Some insn) (progress : IsAnnotatedUpTo code passed before areas earlier)
+    (all_proper : AreProper (pending after)) (visits : Visits insn before after) where
   abbrev place : ℕ
   place = before.place
 
@@ -200,55 +200,55 @@ module _ (code passed : List Insn) (insn : Insn) (before after : Ahead) (areas :
   next = after.place
 
   -- the next place
-  goes : next ≡ place + length (spelling insn)
-  goes = visits.place
+  next_is : next ≡ place + length (spelling insn)
+  next_is = visits.place
 
   abbrev states : Annotation
-  states = kept before
+  states = pending before
 
   abbrev middle : Annotation
   middle = joined_if states visits.target visits.edges.target
 
   first_edge : Takes states middle visits.target visits.edges.target
-  first_edge = joined_takes states visits.target visits.edges.target way.proper visits.proper.target
+  first_edge = joined_takes states visits.target visits.edges.target progress.proper visits.proper.target
 
   second_edge : Takes middle (propagated states next visits.target visits.edges) (Some next) visits.edges.next
   second_edge = joined_takes middle (Some next) visits.edges.next first_edge.proper visits.proper.next
 
   abbrev annotation : Annotation
-  annotation = behind way.annotation place (kept after)
+  annotation = spliced progress.annotation place (pending after)
 
-  is_behind : (other : ℕ) → place < other → annotation other ≡ propagated states next visits.target visits.edges other
-  is_behind other past = behind-new way.annotation (kept after) place other past ∙ visits.states other past
+  spliced_after : (other : ℕ) → place < other → annotation other ≡ propagated states next visits.target visits.edges other
+  spliced_after other past = spliced-new progress.annotation (pending after) place other past ∙ visits.states other past
 
   -- past the place, the kept states have grown
-  more : (other : ℕ) → IsWithin (way.annotation other) (annotation other)
-  more other = elim (cases_lt place other) as (λ _. IsWithin (way.annotation other) (annotation other)) [
+  more : (other : ℕ) → IsWithin (progress.annotation other) (annotation other)
+  more other = elim (cases_lt place other) as (λ _. IsWithin (progress.annotation other) (annotation other)) [
     | inl past ↦
-        subst (λ (s : AbstractState). IsWithin s (annotation other)) (sym (way.kept_on other (omega arith)))
-        (subst (IsWithin (states other)) (sym (is_behind other past))
+        subst (λ (s : LiftedState). IsWithin s (annotation other)) (sym (progress.is_pending other (omega arith)))
+        (subst (IsWithin (states other)) (sym (spliced_after other past))
         (laws.transitive (states other) (middle other) _ (first_edge.more other) (second_edge.more other)))
-    | inr up ↦ subst (IsWithin (way.annotation other)) (sym (behind-old way.annotation (kept after) place other up))
-        (laws.reflexive (way.annotation other))
+    | inr up ↦ subst (IsWithin (progress.annotation other)) (sym (spliced-old progress.annotation (pending after) place other up))
+        (laws.reflexive (progress.annotation other))
   ]
 
-  here_kept : annotation place ≡ states place
-  here_kept = behind-old way.annotation (kept after) place place (omega arith) ∙ way.kept_on place (omega arith)
+  pending_here : annotation place ≡ states place
+  pending_here = spliced-old progress.annotation (pending after) place place (omega arith) ∙ progress.is_pending place (omega arith)
 
   passes_here : PassesAt annotation place insn
   passes_here = record {
     edges = visits.edges;
-    passes = ap (λ (state : AbstractState). transfer state insn) here_kept ∙ visits.passes;
+    passes = ap (λ (state : LiftedState). transfer state insn) pending_here ∙ visits.passes;
     next =
         let long = length-spelling_positive insn in
-        let later : place < next = omega (arith, goes) in
-        subst (λ (p : ℕ). IsWithin visits.edges.next (annotation p)) goes
-        (subst (IsWithin visits.edges.next) (sym (is_behind next later)) (second_edge.holds next refl));
+        let later : place < next = omega (arith, next_is) in
+        subst (λ (p : ℕ). IsWithin visits.edges.next (annotation p)) next_is
+        (subst (IsWithin visits.edges.next) (sym (spliced_after next later)) (second_edge.holds next refl));
     target = λ distance to jumps leads.
-        let on = forward.jumps place insn distance stands jumps in
+        let on = forward.jumps place insn distance is_insn jumps in
         let same : on.target ≡ to = (let both : pos on.target ≡ pos to = sym on.is_target ∙ leads in cc) in
         let later : place < to = omega (arith, on.later) in
-        subst (IsWithin visits.edges.target) (sym (is_behind to later))
+        subst (IsWithin visits.edges.target) (sym (spliced_after to later))
         (laws.transitive visits.edges.target (middle to) _
         (first_edge.holds to (target_is place to visits.target distance (jump_distance insn) visits.leads jumps leads))
         (second_edge.more to));
@@ -256,13 +256,13 @@ module _ (code passed : List Insn) (insn : Insn) (before after : Ahead) (areas :
 
   passes_up_to : (at : ℕ) (found : Insn) → at < next → instruction_at code at ≡ Some found → PassesAt annotation at found
   passes_up_to at found below is = elim (cases_lt at place) as (λ _. PassesAt annotation at found) [
-    | inl earlier ↦ passes_more way.annotation annotation at found (behind-old way.annotation (kept after) place at (omega arith)) more
-        (way.good.passes at found earlier is)
+    | inl earlier ↦ passes_more progress.annotation annotation at found (spliced-old progress.annotation (pending after) place at (omega arith)) more
+        (progress.good.passes at found earlier is)
     | inr from ↦ elim (cases_lt place at) as (λ _. PassesAt annotation at found) [
-      | inl inside ↦ absurd (none-some found (sym (nothing_within code place insn at stands inside (let end = goes in omega arith)) ∙ is))
+      | inl inside ↦ absurd (none-some found (sym (nothing_within code place insn at is_insn inside (let end = next_is in omega arith)) ∙ is))
       | inr here ↦
           let same : place ≡ at = omega arith in
-          let both : Some insn ≡ Some found = sym stands ∙ ap (instruction_at code) same ∙ is in
+          let both : Some insn ≡ Some found = sym is_insn ∙ ap (instruction_at code) same ∙ is in
           let one : insn ≡ found = cc in
           subst (λ (p : ℕ). PassesAt annotation p found) same (subst (PassesAt annotation place) one passes_here)
     ]
@@ -270,33 +270,33 @@ module _ (code passed : List Insn) (insn : Insn) (before after : Ahead) (areas :
 
   proper_everywhere : (other : ℕ) → IsProper (annotation other)
   proper_everywhere other = elim (cases_lt place other) as (λ _. IsProper (annotation other)) [
-    | inl past ↦ subst IsProper (sym (behind-new way.annotation (kept after) place other past)) (all_proper other)
-    | inr up ↦ subst IsProper (sym (behind-old way.annotation (kept after) place other up)) (way.good.proper other)
+    | inl past ↦ subst IsProper (sym (spliced-new progress.annotation (pending after) place other past)) (all_proper other)
+    | inr up ↦ subst IsProper (sym (spliced-old progress.annotation (pending after) place other up)) (progress.good.proper other)
   ]
 
   area_here : area_of (annotation (0 + word_count passed)) insn ≡ area_of (states place) insn
   area_here =
-      let here : 0 + word_count passed ≡ place = omega (arith, way.at) in
-      ap (λ (p : ℕ). area_of (annotation p) insn) here ∙ ap (λ (state : AbstractState). area_of state insn) here_kept
+      let here : 0 + word_count passed ≡ place = omega (arith, progress.at) in
+      ap (λ (p : ℕ). area_of (annotation p) insn) here ∙ ap (λ (state : LiftedState). area_of state insn) pending_here
 
   found_more : areas ++ area_of (states place) insn ∷ [] ≡ areas_from annotation 0 (passed ++ insn ∷ [])
   found_more =
-      let earlier = areas_from-same way.annotation annotation place 0 passed (behind-old way.annotation (kept after) place)
-      (let at = way.at in omega arith) in
-      ap (λ (found : List (Option Area)). found ++ area_of (states place) insn ∷ []) (way.found ∙ sym earlier)
+      let earlier = areas_from-same progress.annotation annotation place 0 passed (spliced-old progress.annotation (pending after) place)
+      (let at = progress.at in omega arith) in
+      ap (λ (found : List (Option Area)). found ++ area_of (states place) insn ∷ []) (progress.found ∙ sym earlier)
       ∙ ap (λ (area : Option Area). areas_from annotation 0 passed ++ area ∷ []) (sym area_here)
       ∙ sym (areas_from-more annotation 0 passed insn)
 
   visit_here : (0 + word_count passed ≡ place) × (annotation (0 + word_count passed) ≡ states place)
   visit_here =
-      let here : 0 + word_count passed ≡ place = omega (arith, way.at) in
-      (here, ap annotation here ∙ here_kept)
+      let here : 0 + word_count passed ≡ place = omega (arith, progress.at) in
+      (here, ap annotation here ∙ pending_here)
 
   shown_more : earlier ++ visit_of before insn ∷ [] ≡ visits_from annotation 0 (passed ++ insn ∷ [])
   shown_more =
-      let same = visits_from-same way.annotation annotation place 0 passed (behind-old way.annotation (kept after) place)
-      (let at = way.at in omega arith) in
-      ap (λ (visits : List Visit). visits ++ visit_of before insn ∷ []) (way.shown ∙ sym same)
+      let same = visits_from-same progress.annotation annotation place 0 passed (spliced-old progress.annotation (pending after) place)
+      (let at = progress.at in omega arith) in
+      ap (λ (visits : List Visit). visits ++ visit_of before insn ∷ []) (progress.shown ∙ sym same)
       ∙ ap (λ (visit : Visit). visits_from annotation 0 passed ++ visit ∷ []) (visit-parts _ insn _ (sym visit_here.0) (sym visit_here.1))
       ∙ sym (visits_from-more annotation 0 passed insn)
 
@@ -308,25 +308,25 @@ module _ (code passed : List Insn) (insn : Insn) (before after : Ahead) (areas :
       proper = good.proper;
       entry = good.entry;
       passes =
-          λ earlier found below is. good.passes earlier found (let end = goes in omega arith) is;
+          λ earlier found below is. good.passes earlier found (let end = next_is in omega arith) is;
     }
 
     passes : PassesAt other place insn
-    passes = good.passes place insn (let long = length-spelling_positive insn in let end = goes in omega arith) stands
+    passes = good.passes place insn (let long = length-spelling_positive insn in let end = next_is in omega arith) is_insn
 
     here_below : IsWithin (states place) (other place)
-    here_below = subst (λ (s : AbstractState). IsWithin s (other place)) (way.kept_on place (omega arith))
-        (way.least other good_before place)
+    here_below = subst (λ (s : LiftedState). IsWithin s (other place)) (progress.is_pending place (omega arith))
+        (progress.least other good_before place)
 
     edges_below : AreEdgesWithin visits.edges passes.edges
     edges_below =
-        let lower = upward insn (states place) (other place) passes.edges (way.proper place) (good.proper place) here_below passes.passes in
+        let lower = upward insn (states place) (other place) passes.edges (progress.proper place) (good.proper place) here_below passes.passes in
         subst (λ (edges : Edges). AreEdgesWithin edges passes.edges)
         (same_edges lower.0 visits.edges (transfer (states place) insn) lower.1 visits.passes) lower.2
 
-    ahead_below : (at : ℕ) → place < at → IsWithin (states at) (other at)
-    ahead_below at past = subst (λ (s : AbstractState). IsWithin s (other at)) (way.kept_on at (omega arith))
-        (way.least other good_before at)
+    pending_below : (at : ℕ) → place < at → IsWithin (states at) (other at)
+    pending_below at past = subst (λ (s : LiftedState). IsWithin s (other at)) (progress.is_pending at (omega arith))
+        (progress.least other good_before at)
 
     target_below : (at : ℕ) → visits.target ≡ Some at → IsWithin visits.edges.target (other at)
     target_below at is =
@@ -335,41 +335,41 @@ module _ (code passed : List Insn) (insn : Insn) (before after : Ahead) (areas :
 
     next_below : (at : ℕ) → Some next ≡ Some at → IsWithin visits.edges.next (other at)
     next_below at is =
-        let same : place + length (spelling insn) ≡ at = (let both : next ≡ at = cc in sym goes ∙ both) in
+        let same : place + length (spelling insn) ≡ at = (let both : next ≡ at = cc in sym next_is ∙ both) in
         subst (λ (p : ℕ). IsWithin visits.edges.next (other p)) same
         (laws.transitive visits.edges.next passes.edges.next (other (place + length (spelling insn))) edges_below.next passes.next)
 
     least_here : (at : ℕ) → IsWithin (annotation at) (other at)
     least_here at = elim (cases_lt place at) as (λ _. IsWithin (annotation at) (other at)) [
       | inl past ↦
-          subst (λ (s : AbstractState). IsWithin s (other at)) (sym (is_behind at past))
-          (second_edge.least (other at) at (first_edge.least (other at) at (ahead_below at past) (target_below at)) (next_below at))
-      | inr up ↦ subst (λ (s : AbstractState). IsWithin s (other at)) (sym (behind-old way.annotation (kept after) place at up))
-          (way.least other good_before at)
+          subst (λ (s : LiftedState). IsWithin s (other at)) (sym (spliced_after at past))
+          (second_edge.least (other at) at (first_edge.least (other at) at (pending_below at past) (target_below at)) (next_below at))
+      | inr up ↦ subst (λ (s : LiftedState). IsWithin s (other at)) (sym (spliced-old progress.annotation (pending after) place at up))
+          (progress.least other good_before at)
     ]
 
   -- one more instruction
-  pub goes_on : IsOnItsWay code (passed ++ insn ∷ []) after (areas ++ area_of (states place) insn ∷ []) (earlier ++ visit_of before insn ∷ [])
-  goes_on = record {
-    of_code = visits.code ∙ way.of_code;
-    at = let more = word_count-append passed (insn ∷ []) in let one = word_count-one insn in let at = way.at in let end = goes in
+  pub continues : IsAnnotatedUpTo code (passed ++ insn ∷ []) after (areas ++ area_of (states place) insn ∷ []) (earlier ++ visit_of before insn ∷ [])
+  continues = record {
+    of_code = visits.code ∙ progress.of_code;
+    at = let more = word_count-append passed (insn ∷ []) in let one = word_count-one insn in let at = progress.at in let end = next_is in
         omega arith;
     proper = all_proper;
     annotation = annotation;
     good = record {
       proper = proper_everywhere;
-      entry = laws.transitive (Reached entry) (way.annotation 0) (annotation 0) way.good.entry (more 0);
+      entry = laws.transitive (Reached entry) (progress.annotation 0) (annotation 0) progress.good.entry (more 0);
       passes = passes_up_to;
     };
     least = least_here;
-    kept_on = λ other past. let long = length-spelling_positive insn in
-        behind-new way.annotation (kept after) place other (let end = goes in omega arith);
+    is_pending = λ other past. let long = length-spelling_positive insn in
+        spliced-new progress.annotation (pending after) place other (let end = next_is in omega arith);
     found = found_more;
     shown = shown_more;
   }
 
 -- If a check fails in a state, some check fails in every state above it, because if none fails, none fails below.
-fails_above : (insn : Insn) (lower higher : AbstractState) (cause : Cause) → IsProper lower → IsProper higher → IsWithin lower higher
+fails_above : (insn : Insn) (lower higher : LiftedState) (cause : Cause) → IsProper lower → IsProper higher → IsWithin lower higher
     → transfer lower insn ≡ Err cause → Fails higher insn
 fails_above insn lower higher cause proper above within fails = by_result (transfer higher insn) refl
   where
@@ -380,24 +380,24 @@ fails_above insn lower higher cause proper above within fails = by_result (trans
         absurd (not_both passes.0 cause (transfer lower insn) passes.1 fails)
 
 -- a visit that is refused
-pub refuses : {code passed : List Insn} {insn : Insn} {ahead : Ahead} {areas : List (Option Area)} {visits : List Visit} (fault : VerifyFault)
-    → instruction_at code ahead.place ≡ Some insn → IsOnItsWay code passed ahead areas visits → IsVisitFault ahead insn fault
+pub refuses : {code passed : List Insn} {insn : Insn} {worklist : PassState} {areas : List (Option Area)} {visits : List Visit} (fault : VerifyFault)
+    → instruction_at code worklist.place ≡ Some insn → IsAnnotatedUpTo code passed worklist areas visits → IsVisitFault worklist insn fault
     → IsVerifyFault code fault
-refuses Memory stands way fault = tt
-refuses {code} {insn} {ahead} (Refused at cause) stands way fault =
+refuses Memory is_insn progress fault = tt
+refuses {code} {insn} {worklist} (Refused at cause) is_insn progress fault =
     subst (λ (p : ℕ). IsRefusedAt code p cause) (sym fault.0)
     (record {
-      annotation = way.annotation;
-      is_least = record { good = way.good; least = λ other good at before. way.least other good at };
+      annotation = progress.annotation;
+      is_least = record { good = progress.good; least = λ other good at before. progress.least other good at };
       insn = insn;
-      stands = stands;
+      is_insn = is_insn;
       fails = here;
-      always = λ other good. fails_above insn (way.annotation ahead.place) (other ahead.place) cause (way.good.proper ahead.place)
-          (good.proper ahead.place) (way.least other good ahead.place) here;
+      always = λ other good. fails_above insn (progress.annotation worklist.place) (other worklist.place) cause (progress.good.proper worklist.place)
+          (good.proper worklist.place) (progress.least other good worklist.place) here;
     })
   where
-    here : transfer (way.annotation ahead.place) insn ≡ Err cause
-    here = ap (λ (state : AbstractState). transfer state insn) (way.kept_on ahead.place (omega arith) ∙ ap (kept ahead) (sym fault.0))
+    here : transfer (progress.annotation worklist.place) insn ≡ Err cause
+    here = ap (λ (state : LiftedState). transfer state insn) (progress.is_pending worklist.place (omega arith) ∙ ap (pending worklist) (sym fault.0))
         ∙ fault.1
 
 -- at the start
@@ -410,87 +410,87 @@ entry_kinds (suc zero) = at_proper (pos 0) (search rules)
 entry_kinds (suc (suc (suc (suc (suc (suc (suc (suc (suc (suc zero)))))))))) = at_proper (pos FRAME_LENGTH) (search rules)
 entry_kinds register = tt
 
-pub entry_is_proper : IsProperKnown entry
+pub entry_is_proper : IsProperState entry
 entry_is_proper = record { count = refl; kinds = entry_kinds; frame = unwritten_is_proper }
 
 -- at the start, only place 0 is reached
 
-pub first_are_proper : (code : List Insn) → AreProper (kept (first code))
-first_are_proper code = joined_proper (waiting_at []) 0 (Reached entry) (λ place. tt) entry_is_proper
+pub initial_states_are_proper : (code : List Insn) → AreProper (pending (initial code))
+initial_states_are_proper code = joined_proper (waiting_at []) 0 (Reached entry) (λ place. tt) entry_is_proper
 
-first_are_least : (code : List Insn) (other : Annotation) → IsWithin (Reached entry) (other 0) → (at : ℕ)
-    → IsWithin (kept (first code) at) (other at)
-first_are_least code other entered = joined_each (λ at state. IsWithin state (other at)) (waiting_at []) 0 (Reached entry) entered
+initial_states_are_least : (code : List Insn) (other : Annotation) → IsWithin (Reached entry) (other 0) → (at : ℕ)
+    → IsWithin (pending (initial code) at) (other at)
+initial_states_are_least code other entered = joined_each (λ at state. IsWithin state (other at)) (waiting_at []) 0 (Reached entry) entered
     (λ at. tt)
 
-pub starts : (code : List Insn) (ahead : Ahead) → ahead ≡ first code → IsOnItsWay code [] ahead [] []
-starts code ahead is = subst (λ (ahead : Ahead). IsOnItsWay code [] ahead [] []) (sym is) (record {
+pub starts : (code : List Insn) (worklist : PassState) → worklist ≡ initial code → IsAnnotatedUpTo code [] worklist [] []
+starts code worklist is = subst (λ (worklist : PassState). IsAnnotatedUpTo code [] worklist [] []) (sym is) (record {
   of_code = refl;
   at = refl;
-  proper = first_are_proper code;
-  annotation = kept (first code);
+  proper = initial_states_are_proper code;
+  annotation = pending (initial code);
   good = record {
-    proper = first_are_proper code;
+    proper = initial_states_are_proper code;
     entry = laws.reflexive (Reached entry);
-    passes = λ place insn before stands. absurd (omega arith);
+    passes = λ place insn before is_insn. absurd (omega arith);
   };
-  least = λ other good. first_are_least code other good.entry;
-  kept_on = λ other past. refl;
+  least = λ other good. initial_states_are_least code other good.entry;
+  is_pending = λ other past. refl;
   found = refl;
   shown = refl;
 })
 
 -- at the end
 
-pub accepts : (code passed : List Insn) (ahead : Ahead) (areas : List (Option Area)) {visits : List Visit} → passed ≡ code
-    → IsOnItsWay code passed ahead areas visits → IsAccepted code areas
-accepts code passed ahead areas all way = record {
-  annotation = way.annotation;
-  is_least = subst (λ (p : ℕ). IsLeastUpTo code p way.annotation) (way.at ∙ ap word_count all)
-      (record { good = way.good; least = λ other good at before. way.least other good at });
-  are = way.found ∙ ap (areas_from way.annotation 0) all;
+pub accepts : (code passed : List Insn) (worklist : PassState) (areas : List (Option Area)) {visits : List Visit} → passed ≡ code
+    → IsAnnotatedUpTo code passed worklist areas visits → IsAccepted code areas
+accepts code passed worklist areas all progress = record {
+  annotation = progress.annotation;
+  is_least = subst (λ (p : ℕ). IsLeastUpTo code p progress.annotation) (progress.at ∙ ap word_count all)
+      (record { good = progress.good; least = λ other good at before. progress.least other good at });
+  are = progress.found ∙ ap (areas_from progress.annotation 0) all;
 }
 
 -- what a visitor was shown
 
 -- of all instructions
-pub shows : {V : Type 0} (visited : V → Visit → V) {code passed : List Insn} {ahead : Ahead} {areas : List (Option Area)}
-    {visits : List Visit} (old new : V) → passed ≡ code → IsOnItsWay code passed ahead areas visits → new ≡ visited_all visited old visits
+pub shows : {V : Type 0} (visited : V → Visit → V) {code passed : List Insn} {worklist : PassState} {areas : List (Option Area)}
+    {visits : List Visit} (old new : V) → passed ≡ code → IsAnnotatedUpTo code passed worklist areas visits → new ≡ visited_all visited old visits
     → IsShown visited code old new
-shows visited {code} old new all way shown = record {
-  annotation = way.annotation;
-  is_least = subst (λ (p : ℕ). IsLeastUpTo code p way.annotation) (way.at ∙ ap word_count all)
-      (record { good = way.good; least = λ other good at before. way.least other good at });
-  shown = shown ∙ ap (visited_all visited old) (way.shown ∙ ap (visits_from way.annotation 0) all);
+shows visited {code} old new all progress shown = record {
+  annotation = progress.annotation;
+  is_least = subst (λ (p : ℕ). IsLeastUpTo code p progress.annotation) (progress.at ∙ ap word_count all)
+      (record { good = progress.good; least = λ other good at before. progress.least other good at });
+  shown = shown ∙ ap (visited_all visited old) (progress.shown ∙ ap (visits_from progress.annotation 0) all);
 }
 
 -- the instructions before an index were visited
-module _ {V : Type 0} (visited : V → Visit → V) {code : List Insn} (index : ℕ) {ahead : Ahead} {areas : List (Option Area)}
-    {visits : List Visit} (old : V) {now : V} (way : IsOnItsWay code (take index code) ahead areas visits)
+module _ {V : Type 0} (visited : V → Visit → V) {code : List Insn} (index : ℕ) {worklist : PassState} {areas : List (Option Area)}
+    {visits : List Visit} (old : V) {now : V} (progress : IsAnnotatedUpTo code (take index code) worklist areas visits)
     (so_far : now ≡ visited_all visited old visits) (insn : Insn) (one_more : take (index + 1) code ≡ take index code ++ insn ∷ []) where
   -- and so was one more
-  shows_one_more : visited now (visit_of ahead insn) ≡ visited_all visited old (visits_from way.annotation 0 (take (index + 1) code))
+  shows_one_more : visited now (visit_of worklist insn) ≡ visited_all visited old (visits_from progress.annotation 0 (take (index + 1) code))
   shows_one_more =
-      let here : ahead.place ≡ 0 + word_count (take index code) = omega (arith, way.at) in
-      let state : kept ahead ahead.place ≡ way.annotation (0 + word_count (take index code)) =
-      sym (way.kept_on ahead.place (omega arith)) ∙ ap way.annotation here in
-      ap (λ visitor. visited visitor (visit_of ahead insn)) so_far ∙ visited_all-more visited old visits (visit_of ahead insn)
-      ∙ ap (λ visits. visited_all visited old (visits ++ visit_of ahead insn ∷ [])) way.shown
-      ∙ ap (λ visit. visited_all visited old (visits_from way.annotation 0 (take index code) ++ visit ∷ []))
-      (visit-parts ahead.place insn (kept ahead ahead.place) here state)
-      ∙ ap (visited_all visited old) (sym (visits_from-more way.annotation 0 (take index code) insn))
-      ∙ ap (λ passed. visited_all visited old (visits_from way.annotation 0 passed)) (sym one_more)
+      let here : worklist.place ≡ 0 + word_count (take index code) = omega (arith, progress.at) in
+      let state : pending worklist worklist.place ≡ progress.annotation (0 + word_count (take index code)) =
+      sym (progress.is_pending worklist.place (omega arith)) ∙ ap progress.annotation here in
+      ap (λ visitor. visited visitor (visit_of worklist insn)) so_far ∙ visited_all-more visited old visits (visit_of worklist insn)
+      ∙ ap (λ visits. visited_all visited old (visits ++ visit_of worklist insn ∷ [])) progress.shown
+      ∙ ap (λ visit. visited_all visited old (visits_from progress.annotation 0 (take index code) ++ visit ∷ []))
+      (visit-parts worklist.place insn (pending worklist worklist.place) here state)
+      ∙ ap (visited_all visited old) (sym (visits_from-more progress.annotation 0 (take index code) insn))
+      ∙ ap (λ passed. visited_all visited old (visits_from progress.annotation 0 passed)) (sym one_more)
 
   -- whose check failed
-  pub shows_refusal : (new : V) (fault : VerifyFault) → IsVisitFault ahead insn fault
-      → IsRefusedVisit visited (visit_of ahead insn) fault now new → IsShownRefusal visited code fault old new
+  pub shows_refusal : (new : V) (fault : VerifyFault) → IsVisitFault worklist insn fault
+      → IsRefusedVisit visited (visit_of worklist insn) fault now new → IsShownRefusal visited code fault old new
   shows_refusal new Memory fails last = tt
   shows_refusal new (Refused at cause) fails last =
       subst (λ (p : ℕ). IsShownUpTo visited code p old new) (sym fails.0)
       (record {
-        annotation = way.annotation;
-        is_least = record { good = way.good; least = λ other good at before. way.least other good at };
+        annotation = progress.annotation;
+        is_least = record { good = progress.good; least = λ other good at before. progress.least other good at };
         index = index;
-        at = way.at;
+        at = progress.at;
         shown = last ∙ shows_one_more;
       })

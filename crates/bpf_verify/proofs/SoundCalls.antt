@@ -39,15 +39,15 @@ use Rattle.bpf_meaning.specs.declared.state.State.{State}
 use Rattle.bpf_helpers.proofs.CallLemmas.{answer-admits, written-length}
 use Rattle.bpf_helpers.proofs.WriteLemmas.{write-nothing}
 use Rattle.bpf_meaning.proofs.CallLemmas.{IfPasses, called_can_be_made}
-use Rattle.bpf_meaning.proofs.FrameLemmas.{all_written-part, written_stays, is_written-write_inside}
-use Rattle.tl_segments.specs.Segment.{Contents, IsSegment}
+use Rattle.bpf_meaning.proofs.FrameLemmas.{all_written-part, written_unchanged, is_written-write_inside}
+use Rattle.tl_segments.specs.Segment.{SegmentParts, IsSegment}
 use Rattle.bpf_frame.specs.FrameMap as map
 use Rattle.bpf_verify.specs.Transfer.{are_allowed, argument_kind, argument_in, arguments_in, lie_within, lend_bytes, lend_read, lend_frame}
 use Rattle.bpf_verify.specs.Transfer.{all_marked, state_after, call}
 use Rattle.bpf_verify.specs.Transfer as transfer
-use Rattle.bpf_verify.specs.AbstractState.{AdmitsKnown}
+use Rattle.bpf_verify.specs.LiftedState.{AdmitsState}
 use Rattle.bpf_verify.specs.declared.calls.LentBytes.{LentBytes}
-use Rattle.bpf_verify.specs.declared.known.Known.{Known}
+use Rattle.bpf_verify.specs.declared.abstract_state.AbstractState.{AbstractState}
 use Rattle.bpf_meaning.specs.Checks.{Sound}
 use Rattle.bpf_meaning.proofs.CheckLemmas.{then_sound, passes_if}
 use Rattle.bpf_verify.proofs.SoundChecks.{HasValue, HasState, read_sound}
@@ -91,17 +91,17 @@ pointer_sound : (number : ℕ) (x : Offsets) (into : Area) (offset : ℤ) → of
 pointer_sound number x area.Frame offset proper into admits = record { proper = proper; offset = offset; admits = admits; is = refl }
 pointer_sound number x area.Record offset proper into admits = cc
 
-argument_sound : (number : ℕ) (wanted : Argument) (x : Kind) (v : Value) → HasValue x v
-    → Sound IsWord (argument_kind number wanted x) (effect.argument_word number wanted v)
+argument_sound : (number : ℕ) (required : Argument) (x : Kind) (v : Value) → HasValue x v
+    → Sound IsWord (argument_kind number required x) (effect.argument_word number required v)
 argument_sound number (argument.Number allowed) (Number x) (value.Number n) has = number_sound number allowed x n has.admits
 argument_sound number (argument.Number allowed) (Number x) v has = absurd has.admits
 argument_sound number argument.Frame (Frame x) (value.Pointer pointer) has =
     pointer_sound number x pointer.area pointer.offset has.proper has.admits.0 has.admits.1
 argument_sound number argument.Frame (Frame x) v has = absurd has.admits
-argument_sound number wanted x v has = tt
+argument_sound number required x v has = tt
 
-argument_in_sound : (known : Known) (state : State) → HasState known state → (number : ℕ) (wanted : Argument)
-    → Sound IsWord (argument_in known number wanted) (effect.argument_in state number wanted)
+argument_in_sound : (known : AbstractState) (state : State) → HasState known state → (number : ℕ) (required : Argument)
+    → Sound IsWord (argument_in known number required) (effect.argument_in state number required)
 argument_in_sound known state has number argument.Unused = tt
 argument_in_sound known state has number (argument.Number allowed) =
     then_sound HasValue IsWord _ _ _ _ (read_sound known state has number) (argument_sound number (argument.Number allowed))
@@ -113,12 +113,12 @@ record AreWords (kinds : List Kind) (words : List ℕ) : Type 0 where
   second : IsWord (get_or kinds 1 Nothing) (second words)
   third : IsWord (get_or kinds 2 Nothing) (third words)
 
-arguments_sound : (known : Known) (state : State) → HasState known state → (wanted : List Argument)
-    → Sound AreWords (arguments_in known wanted) (effect.arguments_in state wanted)
-arguments_sound known state has wanted =
-    then_sound IsWord AreWords _ _ _ _ (argument_in_sound known state has 1 (get_or wanted 0 argument.Unused)) (λ x a one.
-    then_sound IsWord AreWords _ _ _ _ (argument_in_sound known state has 2 (get_or wanted 1 argument.Unused)) (λ y b two.
-    then_sound IsWord AreWords _ _ _ _ (argument_in_sound known state has 3 (get_or wanted 2 argument.Unused)) (λ z c three.
+arguments_sound : (known : AbstractState) (state : State) → HasState known state → (required : List Argument)
+    → Sound AreWords (arguments_in known required) (effect.arguments_in state required)
+arguments_sound known state has required =
+    then_sound IsWord AreWords _ _ _ _ (argument_in_sound known state has 1 (get_or required 0 argument.Unused)) (λ x a one.
+    then_sound IsWord AreWords _ _ _ _ (argument_in_sound known state has 2 (get_or required 1 argument.Unused)) (λ y b two.
+    then_sound IsWord AreWords _ _ _ _ (argument_in_sound known state has 3 (get_or required 2 argument.Unused)) (λ z c three.
     record { second = two; third = three })))
 
 -- bytes of the frame
@@ -172,11 +172,11 @@ abbrev written : State → List ℕ → List ℕ → State
 written state words bytes = record state { frame = write_bytes state.frame (second words) bytes }
 
 -- the state after a call's use of the frame, whatever it writes
-record IsLent (state : State) (frame : FrameUse) (after : Known) (words : List ℕ) : Type 0 where
-  admits : (bytes : List ℕ) → length bytes ≡ written_length frame words → AdmitsKnown after (written state words bytes)
+record IsLent (state : State) (frame : FrameUse) (after : AbstractState) (words : List ℕ) : Type 0 where
+  admits : (bytes : List ℕ) → length bytes ≡ written_length frame words → AdmitsState after (written state words bytes)
 
-writes_none : (known : Known) (state : State) (words : List ℕ) → AdmitsKnown known state → (bytes : List ℕ) → length bytes ≡ 0
-    → AdmitsKnown known (written state words bytes)
+writes_none : (known : AbstractState) (state : State) (words : List ℕ) → AdmitsState known state → (bytes : List ℕ) → length bytes ≡ 0
+    → AdmitsState known (written state words bytes)
 writes_none known state words admits [] none = record {
   registers = admits.registers;
   frame = subst (λ (memory : List FrameByte). let frame : FrameContents = record { bytes = memory; slots = state.frame.slots } in
@@ -184,9 +184,9 @@ writes_none known state words admits [] none = record {
 }
 writes_none known state words admits (byte ∷ bytes) none = absurd (omega arith)
 
-writes_some : (known : Known) (state : State) → HasState known state → (lent : LentBytes) (words : List ℕ) → AreLent lent words
+writes_some : (known : AbstractState) (state : State) → HasState known state → (lent : LentBytes) (words : List ℕ) → AreLent lent words
     → (bytes : List ℕ) → length bytes ≡ third words
-    → AdmitsKnown (transfer.write_bytes known lent.offsets (pos 0) lent.count.low lent.count.high) (written state words bytes)
+    → AdmitsState (transfer.write_bytes known lent.offsets (pos 0) lent.count.low lent.count.high) (written state words bytes)
 writes_some known state has lent words is bytes count =
     let at = is.offset.offset in
     let inside = lent_inside lent words is in
@@ -195,13 +195,13 @@ writes_some known state has lent words is bytes count =
     writes_admit (pos 0) is.offset.admits (record { proper = has.proper; registers = has.admits.registers; frame = has.admits.frame })
     (length bytes) lent.count.low lent.count.high is.within (omega arith) (omega arith)
     (record {
-      stay = λ i before. written_stays state.frame.bytes (second words) bytes i fits before;
+      still_written = λ i before. written_unchanged state.frame.bytes (second words) bytes i fits before;
       written = λ i above below. is_written-write_inside state.frame.bytes (second words) bytes i fits (omega arith) (omega arith);
-      kept = λ slot inside apart. slot_value-write_bytes_apart state.frame (second words) bytes slot fits inside has.whole.slots
+      preserved = λ slot inside apart. slot_value-write_bytes_apart state.frame (second words) bytes slot fits inside has.whole.slots
           (λ i above below lies. apart i (omega arith) (omega arith) lies);
     })
 
-reads_sound : (known : Known) (state : State) → HasState known state → (lent : LentBytes) (words : List ℕ) → AreLent lent words
+reads_sound : (known : AbstractState) (state : State) → HasState known state → (lent : LentBytes) (words : List ℕ) → AreLent lent words
     → Sound (IsLent state frame_use.Reads) (lend_read known lent) (effect.lend_written state words)
 reads_sound known state has lent words is = by_test (all_marked known lent.offsets (pos 0) lent.count.high) refl
   where
@@ -224,7 +224,7 @@ then_known First Second (Err cause) concrete f first second = tt
 then_known First Second (Ok x) (Ok y) f first second = second x y first
 then_known First Second (Ok x) (Err cause) f first second = absurd first
 
-lend_frame_sound : (known : Known) (state : State) → HasState known state → (frame : FrameUse) (kinds : List Kind) (words : List ℕ)
+lend_frame_sound : (known : AbstractState) (state : State) → HasState known state → (frame : FrameUse) (kinds : List Kind) (words : List ℕ)
     → AreWords kinds words → Sound (IsLent state frame) (lend_frame known frame kinds) (effect.lend_frame state frame words)
 lend_frame_sound known state has frame_use.Nothing kinds words are = record { admits = writes_none known state words has.admits }
 lend_frame_sound known state has frame_use.Writes kinds words are =
@@ -250,7 +250,7 @@ registers_admit kinds values x n admits all (suc (suc (suc (suc (suc (suc regist
     (subst (kind.Admits (get_or kinds (6 + register) Nothing)) (sym (get_or-drop 6 values register value.Empty)) (all (6 + register)))
 registers_admit kinds values x n admits all register = tt
 
-call_admits : (segment : Contents) (state : State) (helper : Helper) (after : Known) (words : List ℕ) → IsSegment segment
+call_admits : (segment : SegmentParts) (state : State) (helper : Helper) (after : AbstractState) (words : List ℕ) → IsSegment segment
     → MeetsSignature helper words → IsLent state (frame_use (signature helper).shape) after words
     → Stores segment state (state_after (signature helper).answer after) (CallHelper helper words)
 call_admits segment state helper after words is_segment meets lent =
@@ -263,8 +263,8 @@ call_admits segment state helper after words is_segment meets lent =
       frame = admits.frame;
     }
 
-made_sound : (segment : Contents) (state : State) (helper : Helper) → IsSegment segment
-    → (abstract : Result Known Cause) (concrete : Result (List ℕ) Cause)
+made_sound : (segment : SegmentParts) (state : State) (helper : Helper) → IsSegment segment
+    → (abstract : Result AbstractState Cause) (concrete : Result (List ℕ) Cause)
     → Sound (IsLent state (frame_use (signature helper).shape)) abstract concrete
     → IfPasses (effect.CanBeMade state) (concrete >>= λ words. Ok (CallHelper helper words))
     → Sound (Stores segment state) (abstract >>= λ after. Ok (state_after (signature helper).answer after))
@@ -273,7 +273,7 @@ made_sound segment state helper is (Err cause) concrete sound can = tt
 made_sound segment state helper is (Ok after) (Err cause) sound can = absurd sound
 made_sound segment state helper is (Ok after) (Ok words) lent can = call_admits segment state helper after words is can.meets lent
 
-pub call_sound : (segment : Contents) (known : Known) (state : State) → IsSegment segment → HasState known state → (found : Option Helper)
+pub call_sound : (segment : SegmentParts) (known : AbstractState) (state : State) → IsSegment segment → HasState known state → (found : Option Helper)
     → Sound (Stores segment state) (call known found) (effect.call_change state found)
 call_sound segment known state is has None = tt
 call_sound segment known state is has (Some helper) =

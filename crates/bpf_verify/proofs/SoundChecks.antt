@@ -10,12 +10,12 @@ use Rattle.bpf_kinds.specs.declared.kind.Kind.TheVariants.{Number, Record, Frame
 use Rattle.bpf_meaning.specs.Effect as effect
 use Rattle.bpf_meaning.specs.Checks.{Sound}
 use Rattle.bpf_meaning.proofs.CheckLemmas.{weaker}
-use Rattle.bpf_meaning.specs.State.{IsWhole, HoldsBytes, register_value}
+use Rattle.bpf_meaning.specs.State.{IsWellFormed, HoldsBytes, register_value}
 use Rattle.bpf_meaning.specs.declared.cause.Cause.{Cause}
 use Rattle.bpf_meaning.specs.declared.state.State.{State}
 use Rattle.bpf_verify.specs.Transfer.{read_kind, read, number_or}
-use Rattle.bpf_verify.specs.AbstractState.{kind_of, IsProperKnown, AdmitsKnown}
-use Rattle.bpf_verify.specs.declared.known.Known.{Known}
+use Rattle.bpf_verify.specs.LiftedState.{kind_of, IsProperState, AdmitsState}
+use Rattle.bpf_verify.specs.declared.abstract_state.AbstractState.{AbstractState}
 
 -- a proper interval and one of its numbers
 pub record HasNumber (x : Interval) (n : ℕ) : Type 0 where
@@ -28,13 +28,13 @@ pub record HasValue (known : Kind) (held : Value) : Type 0 where
   pub admits : kind.Admits known held
 
 -- a proper abstract state and a whole state that it admits
-pub record HasState (known : Known) (state : State) : Type 0 where
-  pub proper : IsProperKnown known
-  pub admits : AdmitsKnown known state
-  pub whole : IsWhole state
+pub record HasState (known : AbstractState) (state : State) : Type 0 where
+  pub proper : IsProperState known
+  pub admits : AdmitsState known state
+  pub whole : IsWellFormed state
   pub bytes : HoldsBytes state
 
-pub has_value : (known : Known) (state : State) → HasState known state → (register : ℕ)
+pub has_value : (known : AbstractState) (state : State) → HasState known state → (register : ℕ)
     → HasValue (kind_of known register) (register_value state register)
 has_value known state has register = record { proper = has.proper.kinds register; admits = has.admits.registers register }
 
@@ -52,11 +52,11 @@ read_kind_sound register (Record x) (value.Pointer pointer) has = record { has =
 read_kind_sound register (Frame x) (value.Pointer pointer) has = record { has = has; same = refl }
 read_kind_sound register known held has = absurd has.admits
 
-pub read_holds : (known : Known) (state : State) → HasState known state → (register : ℕ)
+pub read_holds : (known : AbstractState) (state : State) → HasState known state → (register : ℕ)
     → Sound (IsReadOf (register_value state register)) (read known register) (effect.read state register)
 read_holds known state has register = read_kind_sound register _ _ (has_value known state has register)
 
-pub read_sound : (known : Known) (state : State) → HasState known state → (register : ℕ)
+pub read_sound : (known : AbstractState) (state : State) → HasState known state → (register : ℕ)
     → Sound HasValue (read known register) (effect.read state register)
 read_sound known state has register = weaker (IsReadOf (register_value state register)) HasValue _ _ (λ x v is. is.has)
     (read_holds known state has register)

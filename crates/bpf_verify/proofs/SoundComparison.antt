@@ -1,7 +1,7 @@
 -- Conditional jumps are sound: the abstract state on the edge that is taken admits the state.
 use Rattle.std.proofs.Common.{◌≡◌, ℕ, ℤ, Bool, true, false, Option, if◌then◌else◌, refl, sym, ap, subst, arith}
 use Rattle.bpf_insn.specs.Arithmetic as arithmetic
-use Rattle.bpf_insn.specs.Arithmetic.{operand_bits, low_bits, is_met}
+use Rattle.bpf_insn.specs.Arithmetic.{operand_bits, low_bits, condition_holds}
 use Rattle.bpf_insn.specs.declared.instruction.Condition.{Condition}
 use Rattle.bpf_insn.specs.declared.instruction.Source.{Source}
 use Rattle.bpf_insn.specs.declared.instruction.Source.TheVariants.{Immediate, Register}
@@ -17,26 +17,26 @@ use Rattle.bpf_kinds.specs.declared.interval.Interval.{Interval}
 use Rattle.bpf_kinds.specs.declared.kind.Kind.{Kind}
 use Rattle.bpf_kinds.specs.declared.kind.Kind.TheVariants.{Number}
 use Rattle.bpf_kinds.specs.declared.narrowing.Narrowed.{Narrowed}
-use Rattle.bpf_kinds.proofs.NarrowingLaws.{refine-keeps}
+use Rattle.bpf_kinds.proofs.NarrowingLaws.{refine-still_admits}
 use Rattle.bpf_meaning.specs.Effect as effect
 use Rattle.bpf_meaning.specs.State.{register_value}
 use Rattle.bpf_meaning.specs.declared.state.State.{State}
 use Rattle.bpf_verify.specs.Transfer.{is_register, with_narrowed, narrowed, on_edge, edges_to, branch, compare}
-use Rattle.bpf_verify.specs.AbstractState as known_state
-use Rattle.bpf_verify.specs.declared.known.Known.{Known}
+use Rattle.bpf_verify.specs.LiftedState as lifted
+use Rattle.bpf_verify.specs.declared.abstract_state.AbstractState.{AbstractState}
 use Rattle.bpf_verify.specs.declared.comparison.Comparison.{Comparison}
-use Rattle.bpf_verify.specs.AbstractState.{Edges}
+use Rattle.bpf_verify.specs.LiftedState.{Edges}
 use Rattle.bpf_verify.specs.declared.comparison.Edge.TheVariants.{Unchanged}
 use Rattle.bpf_verify.specs.declared.successors.Successors.TheVariants.{Branch}
 use Rattle.bpf_verify.proofs.SoundArithmetic.{low_twice}
 use Rattle.bpf_meaning.specs.Checks.{Sound}
 use Rattle.bpf_verify.proofs.SoundChecks.{HasNumber, HasState, IsReadOf}
-use Rattle.bpf_verify.proofs.SoundStates.{narrows_keep}
+use Rattle.bpf_verify.proofs.SoundStates.{narrowed_still_admits}
 
 -- the abstract state on the edge that a comparison takes
 abbrev pub TakesEdge : State → Edges → Bool → Type 0
-TakesEdge state edges true = known_state.Admits edges.target state
-TakesEdge state edges false = known_state.Admits edges.next state
+TakesEdge state edges true = lifted.Admits edges.target state
+TakesEdge state edges false = lifted.Admits edges.next state
 
 -- the right operand, if it's a register, holds this number
 abbrev RightHolds : State → Source → ℕ → Type 0
@@ -51,25 +51,25 @@ record Operands (state : State) (left : ℕ) (right : Source) (x y : Interval) (
   on_right : RightHolds state right n
 
 -- both edges, if the operands are numbers
-abbrev edges_of : Known → Comparison → Interval → Interval → Edges
+abbrev edges_of : AbstractState → Comparison → Interval → Interval → Edges
 edges_of known comparison x y = edges_to known (Branch comparison (branch comparison x y false) (branch comparison x y true))
 
 -- an admitted state
-module _ {known : Known} {state : State} (has : HasState known state) where
+module _ {known : AbstractState} {state : State} (has : HasState known state) where
   with_narrowed_admits : (left : ℕ) (right : Source) (both : Narrowed) {m n : ℕ} → register_value state left ≡ value.Number m
       → RightHolds state right n → Admits both.left m → Admits both.right n
-      → known_state.AdmitsKnown (with_narrowed known left right both) state
+      → lifted.AdmitsState (with_narrowed known left right both) state
   with_narrowed_admits left (Immediate immediate) both holds other first second =
-      narrows_keep known state has.admits left (Number both.left) (subst (kind.Admits (Number both.left)) (sym holds) first)
+      narrowed_still_admits known state has.admits left (Number both.left) (subst (kind.Admits (Number both.left)) (sym holds) first)
   with_narrowed_admits left (Register register) both holds other first second =
-      narrows_keep (known_state.with_kind known left (Number both.left)) state
-      (narrows_keep known state has.admits left (Number both.left) (subst (kind.Admits (Number both.left)) (sym holds) first))
+      narrowed_still_admits (lifted.with_kind known left (Number both.left)) state
+      (narrowed_still_admits known state has.admits left (Number both.left) (subst (kind.Admits (Number both.left)) (sym holds) first))
       register.number (Number both.right) (subst (kind.Admits (Number both.right)) (sym other) second)
 
   -- an edge of a conditional jump
   branch_admits : (comparison : Comparison) {x y : Interval} {m n : ℕ} {taken : Bool}
-      → Operands state comparison.left.number comparison.right x y m n → is_met comparison.condition comparison.width m n ≡ taken
-      → known_state.Admits (on_edge known comparison (branch comparison x y taken)) state
+      → Operands state comparison.left.number comparison.right x y m n → condition_holds comparison.condition comparison.width m n ≡ taken
+      → lifted.Admits (on_edge known comparison (branch comparison x y taken)) state
   branch_admits comparison {x} {y} {taken} operands answer = by_test (is_register left right)
     where
       left : ℕ
@@ -78,21 +78,21 @@ module _ {known : Known} {state : State} (has : HasState known state) where
       right : Source
       right = comparison.right
 
-      by_test : (same : Bool) → known_state.Admits (on_edge known comparison
+      by_test : (same : Bool) → lifted.Admits (on_edge known comparison
           (if same then Unchanged else narrowed (refine comparison.condition comparison.width x y taken))) state
       by_test true = has.admits
       by_test false =
-          let kept = refine-keeps comparison.condition comparison.width taken
+          let admitted = refine-still_admits comparison.condition comparison.width taken
           (record { left = operands.first.admits; right = operands.second.admits; answer = answer }) in
-          subst (λ (refined : Option Narrowed). known_state.Admits (on_edge known comparison (narrowed refined)) state) (sym kept.1)
-          (with_narrowed_admits left right kept.0 operands.on_left operands.on_right kept.2 kept.3)
+          subst (λ (refined : Option Narrowed). lifted.Admits (on_edge known comparison (narrowed refined)) state) (sym admitted.1)
+          (with_narrowed_admits left right admitted.0 operands.on_left operands.on_right admitted.2 admitted.3)
 
   edges_take : (comparison : Comparison) {x y : Interval} {m n : ℕ}
       → Operands state comparison.left.number comparison.right x y m n
-      → TakesEdge state (edges_of known comparison x y) (is_met comparison.condition comparison.width m n)
-  edges_take comparison {x} {y} {m} {n} operands = by_answer (is_met comparison.condition comparison.width m n) refl
+      → TakesEdge state (edges_of known comparison x y) (condition_holds comparison.condition comparison.width m n)
+  edges_take comparison {x} {y} {m} {n} operands = by_answer (condition_holds comparison.condition comparison.width m n) refl
     where
-      by_answer : (taken : Bool) → is_met comparison.condition comparison.width m n ≡ taken
+      by_answer : (taken : Bool) → condition_holds comparison.condition comparison.width m n ≡ taken
           → TakesEdge state (edges_of known comparison x y) taken
       by_answer true answer = branch_admits comparison operands answer
       by_answer false answer = branch_admits comparison operands answer
@@ -106,16 +106,16 @@ low_proper : (width : Width) (n : ℕ) → IsProper (single (low_bits (operand_b
 low_proper Bits32 n = record { ordered = omega arith; fits = omega arith }
 low_proper Bits64 n = record { ordered = omega arith; fits = omega arith }
 
-met_low : (condition : Condition) (width : Width) (m n : ℕ) → is_met condition width m (low_bits (operand_bits width) n) ≡ is_met condition
+condition_holds_low : (condition : Condition) (width : Width) (m n : ℕ) → condition_holds condition width m (low_bits (operand_bits width) n) ≡ condition_holds condition
     width m n
-met_low condition width m n = ap (λ (k : ℕ). arithmetic.is_met_on condition (operand_bits width) (low_bits (operand_bits width) m) k)
+condition_holds_low condition width m n = ap (λ (k : ℕ). arithmetic.condition_holds_on condition (operand_bits width) (low_bits (operand_bits width) m) k)
     (low_twice width n)
 
 abbrev pub with_source : Condition → Width → RegisterParts → Source → Comparison
 with_source condition width left right = record { condition = condition; width = width; left = left; right = right }
 
 -- a register's value is compared
-module _ {known : Known} {state : State} (has : HasState known state) (condition : Condition) (width : Width) (left : RegisterParts) where
+module _ {known : AbstractState} {state : State} (has : HasState known state) (condition : Condition) (width : Width) (left : RegisterParts) where
   pub with_immediate : (immediate : ℤ) (x : Kind) (v : Value) → IsReadOf (register_value state left.number) x v
       → Sound (TakesEdge state)
       (compare known (with_source condition width left (Immediate immediate)) x
@@ -125,7 +125,7 @@ module _ {known : Known} {state : State} (has : HasState known state) (condition
       let n = arithmetic.immediate_operand immediate in
       let low = low_bits (operand_bits width) n in
       subst (TakesEdge state (edges_of known (with_source condition width left (Immediate immediate)) x (single low)))
-      (met_low condition width m n)
+      (condition_holds_low condition width m n)
       (edges_take has (with_source condition width left (Immediate immediate))
       (record {
         first = record { proper = first.has.proper; admits = first.has.admits };

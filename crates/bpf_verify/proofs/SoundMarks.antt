@@ -8,7 +8,7 @@ use Rattle.std.proofs.lemmas.Int.{ints}
 use Rattle.bpf_insn.specs.declared.memory.TheConstants.{FRAME_LENGTH, SLOTS}
 use Rattle.bpf_frame.specs.FrameMap as map
 use Rattle.bpf_insn.specs.Frame.{IsApart, FrameByte, FrameContents, is_written, slot_value}
-use Rattle.bpf_frame.proofs.AdmitLemmas.{admits_stays, mark_admits, touch_admits}
+use Rattle.bpf_frame.proofs.AdmitLemmas.{admits_unchanged, mark_admits, touch_admits}
 use Rattle.bpf_frame.proofs.ProperLemmas.{touch_is_proper}
 use Rattle.bpf_frame.proofs.ReadLemmas.{all_written_is}
 use Rattle.bpf_kinds.specs.Kind as kind
@@ -18,8 +18,8 @@ use Rattle.bpf_meaning.specs.Effect as effect
 use Rattle.bpf_meaning.specs.State.{register_value}
 use Rattle.bpf_meaning.specs.declared.state.State.{State}
 use Rattle.bpf_verify.specs.Transfer.{lie_within, all_marked, mark_bytes, touch_bytes, write_bytes}
-use Rattle.bpf_verify.specs.AbstractState.{kind_of, IsProperKnown, AdmitsKnown}
-use Rattle.bpf_verify.specs.declared.known.Known.{Known}
+use Rattle.bpf_verify.specs.LiftedState.{kind_of, IsProperState, AdmitsState}
+use Rattle.bpf_verify.specs.declared.abstract_state.AbstractState.{AbstractState}
 use Rattle.bpf_verify.proofs.SoundChecks.{HasState}
 
 -- bytes that lie within an area from each of the offsets on also lie within it from one of them on
@@ -56,8 +56,8 @@ touched_ends : (low high offset : ℤ) (more : ℕ) → low ≤ℤ high
     → (unsigned_abs (low +ℤ offset) ≤ unsigned_abs (high +ℤ offset) + more) × (unsigned_abs (high +ℤ offset) + more < FRAME_LENGTH)
 touched_ends low high offset more ordered within = (grind (arith, ints, nat_tests), grind (arith, ints, nat_tests))
 
-pub touched_is_proper : (known : Known) (x : Offsets) (offset : ℤ) (count : ℕ) → IsProperKnown known → x.low ≤ℤ x.high
-    → lie_within x offset count FRAME_LENGTH ≡ true → IsProperKnown (touch_bytes known x offset count)
+pub touched_is_proper : (known : AbstractState) (x : Offsets) (offset : ℤ) (count : ℕ) → IsProperState known → x.low ≤ℤ x.high
+    → lie_within x offset count FRAME_LENGTH ≡ true → IsProperState (touch_bytes known x offset count)
 touched_is_proper known x offset zero proper ordered within = proper
 touched_is_proper known x offset (suc more) proper ordered within =
     let ends = touched_ends x.low x.high offset more ordered within in
@@ -70,13 +70,13 @@ touched_is_proper known x offset (suc more) proper ordered within =
 
 -- a frame before and after `count` of its bytes were written from an offset on
 pub record IsWritten (before after : FrameContents) (from : ℤ) (count : ℕ) : Type 0 where
-  pub stay : (i : ℕ) → IsTrue (is_written before.bytes i) → IsTrue (is_written after.bytes i)
+  pub still_written : (i : ℕ) → IsTrue (is_written before.bytes i) → IsTrue (is_written after.bytes i)
   pub written : AreWritten after.bytes from count
-  pub kept : (slot : ℕ) → slot < SLOTS → IsApart slot (unsigned_abs from) count → slot_value after slot ≡ slot_value before slot
+  pub preserved : (slot : ℕ) → slot < SLOTS → IsApart slot (unsigned_abs from) count → slot_value after slot ≡ slot_value before slot
 
 -- what is known of a frame before it is written, and of the registers after that
-pub record IsKnownBefore (known : Known) (before : FrameContents) (after : State) : Type 0 where
-  pub proper : IsProperKnown known
+pub record IsKnownBefore (known : AbstractState) (before : FrameContents) (after : State) : Type 0 where
+  pub proper : IsProperState known
   pub registers : (register : ℕ) → kind.Admits (kind_of known register) (register_value after register)
   pub frame : map.Admits known.frame before
 
@@ -86,7 +86,7 @@ ordered_ends x at admits = let above = admits.above in let below = admits.below 
 -- one of the offsets from which bytes are read, or may have been written
 module _ {x : Offsets} {at : ℤ} (offset : ℤ) (admits : Admits x at) where
   -- bytes that are marked from each of the offsets on are written from one of them on
-  pub marked_are_written : {known : Known} {state : State} → HasState known state → (count : ℕ)
+  pub marked_are_written : {known : AbstractState} {state : State} → HasState known state → (count : ℕ)
       → lie_within x offset count FRAME_LENGTH ≡ true → all_marked known x offset count ≡ true
       → AreWritten state.frame.bytes (at +ℤ offset) count
   marked_are_written has zero within marked i above below = absurd (omega arith)
@@ -99,13 +99,13 @@ module _ {x : Offsets} {at : ℤ} (offset : ℤ) (admits : Admits x at) where
       ((all_written_is known.frame.marks from to (omega arith) (omega arith)).0 marked i (omega arith) (omega arith))
 
   -- the state after bytes may have been written from each of the offsets on, if they were written from one of them on
-  touched_admits : {known : Known} {before : FrameContents} {after : State} → IsKnownBefore known before after → (count most : ℕ)
+  touched_admits : {known : AbstractState} {before : FrameContents} {after : State} → IsKnownBefore known before after → (count most : ℕ)
       → lie_within x offset most FRAME_LENGTH ≡ true → count ≤ most → IsWritten before after.frame (at +ℤ offset) count
-      → AdmitsKnown (touch_bytes known x offset most) after
+      → AdmitsState (touch_bytes known x offset most) after
   touched_admits {after} is zero zero within fewer written = record {
     registers = is.registers;
-    frame = admits_stays after.frame is.proper.frame is.frame written.stay
-        (λ slot inside. written.kept slot inside (λ i above below same. omega arith));
+    frame = admits_unchanged after.frame is.proper.frame is.frame written.still_written
+        (λ slot inside. written.preserved slot inside (λ i above below same. omega arith));
   }
   touched_admits is (suc count) zero within fewer written = absurd (omega arith)
   touched_admits {after} is count (suc more) within fewer written =
@@ -115,26 +115,26 @@ module _ {x : Offsets} {at : ℤ} (offset : ℤ) (admits : Admits x at) where
       record {
         registers = is.registers;
         frame = touch_admits after.frame is.proper.frame is.frame (unsigned_abs (x.low +ℤ offset)) (unsigned_abs (x.high +ℤ offset) + more)
-            ends.0 ends.1 written.stay
-            (λ slot inside apart. written.kept slot inside (λ i above below same. apart i (omega arith) (omega arith) same));
+            ends.0 ends.1 written.still_written
+            (λ slot inside apart. written.preserved slot inside (λ i above below same. apart i (omega arith) (omega arith) same));
       }
 
   -- and after the bytes that were written in any case are marked
-  marks_admit : {known : Known} {after : State} → IsProperKnown known → AdmitsKnown known after → (count least : ℕ)
+  marks_admit : {known : AbstractState} {after : State} → IsProperState known → AdmitsState known after → (count least : ℕ)
       → lie_within x offset count FRAME_LENGTH ≡ true → least ≤ count → AreWritten after.frame.bytes (at +ℤ offset) count
-      → AdmitsKnown (mark_bytes known x offset least) after
+      → AdmitsState (mark_bytes known x offset least) after
   marks_admit {known} {after} proper admitted count least within fewer written = by_test (int_eq x.low x.high) refl
     where
       from : ℕ
       from = unsigned_abs (x.low +ℤ offset)
 
-      marked : Known
+      marked : AbstractState
       marked = record known { frame = map.mark known.frame from least }
 
       only_one : (low high z : ℤ) → low ≤ℤ z → z ≤ℤ high → int_eq low high ≡ true → z ≡ low
       only_one low high z above below one = grind (arith, ints, nat_tests)
 
-      by_test : (one : Bool) → int_eq x.low x.high ≡ one → AdmitsKnown (if one then marked else known) after
+      by_test : (one : Bool) → int_eq x.low x.high ≡ one → AdmitsState (if one then marked else known) after
       by_test true one =
           let same : at ≡ x.low = only_one x.low x.high at admits.above admits.below one in
           let here : AreWritten after.frame.bytes (x.low +ℤ offset) count =
@@ -149,9 +149,9 @@ module _ {x : Offsets} {at : ℤ} (offset : ℤ) (admits : Admits x at) where
       by_test false many = admitted
 
   -- the state after bytes are written from one of the offsets on
-  pub writes_admit : {known : Known} {before : FrameContents} {after : State} → IsKnownBefore known before after → (count least most : ℕ)
+  pub writes_admit : {known : AbstractState} {before : FrameContents} {after : State} → IsKnownBefore known before after → (count least most : ℕ)
       → lie_within x offset most FRAME_LENGTH ≡ true → least ≤ count → count ≤ most → IsWritten before after.frame (at +ℤ offset) count
-      → AdmitsKnown (write_bytes known x offset least most) after
+      → AdmitsState (write_bytes known x offset least most) after
   writes_admit is count least most within fewer more written =
       marks_admit (touched_is_proper _ x offset most is.proper (ordered_ends x at admits) within)
       (touched_admits is count most within more written) count least (shorter x.low x.high most count more within) fewer written.written

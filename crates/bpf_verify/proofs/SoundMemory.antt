@@ -27,8 +27,8 @@ use Rattle.bpf_kinds.proofs.ResultLemmas.{load-admits}
 use Rattle.bpf_meaning.specs.Effect as effect
 use Rattle.bpf_meaning.specs.Effect.{◌>>=◌}
 use Rattle.bpf_insn.specs.Frame.{FrameByte, Unwritten, Byte, FrameContents, is_written, number_of, slot_at, slot_bytes, slot_value, IsApart}
-use Rattle.bpf_meaning.specs.Memory.{keep_pointer, store_number}
-use Rattle.tl_segments.specs.Segment.{Contents, IsSegment}
+use Rattle.bpf_meaning.specs.Memory.{set_slot_pointer, store_number}
+use Rattle.tl_segments.specs.Segment.{SegmentParts, IsSegment}
 use Rattle.bpf_meaning.specs.Step.{carry_out}
 use Rattle.bpf_meaning.specs.declared.cause.Cause.{Cause}
 use Rattle.bpf_meaning.specs.declared.cause.Cause.TheVariants.{OutOfBounds, UnwrittenFrame}
@@ -38,22 +38,22 @@ use Rattle.bpf_insn.specs.Memory.{load_length, store_length}
 use Rattle.bpf_insn.specs.declared.memory.TheConstants.{FRAME_LENGTH, SLOT_LENGTH, SLOTS}
 use Rattle.tl_records.specs.declared.layout.TheConstants.{RECORD_LENGTH}
 use Rattle.bpf_meaning.specs.declared.state.State.{State}
-use Rattle.bpf_meaning.proofs.FrameLemmas.{HoldBytes, HaveNumber, bytes-map, part_has_number, stored_stays, is_written-store_inside}
+use Rattle.bpf_meaning.proofs.FrameLemmas.{HoldBytes, HaveNumber, bytes-map, part_has_number, stored_unchanged, is_written-store_inside}
 use Rattle.bpf_insn.proofs.SlotLemmas.{slot_at-is}
 use Rattle.bpf_meaning.proofs.SlotLemmas.{whole_slot_is_loaded, slot_value-store_number_apart, slot_value-store_slot}
-use Rattle.bpf_meaning.proofs.SlotLemmas.{slot_value-keep_pointer, slot_value-keep_pointer_apart, is_written-keep_before}
-use Rattle.bpf_meaning.proofs.SlotLemmas.{is_written-keep_behind}
+use Rattle.bpf_meaning.proofs.SlotLemmas.{slot_value-set, slot_value-set_apart, is_written-pointer_before}
+use Rattle.bpf_meaning.proofs.SlotLemmas.{is_written-pointer_after}
 use Rattle.bpf_helpers.proofs.WriteLemmas.{length-write}
 use Rattle.bpf_meaning.proofs.MemoryLemmas.{length-bytes_low_first, store_is_write}
-use Rattle.bpf_meaning.proofs.WholeLemmas.{inside_ends}
+use Rattle.bpf_meaning.proofs.WellFormedLemmas.{inside_ends}
 use Rattle.bpf_frame.specs.FrameMap as map
 use Rattle.bpf_frame.specs.FrameMap.{set_slot, slot_kind}
 use Rattle.bpf_frame.proofs.AdmitLemmas.{set_slot_admits}
-use Rattle.bpf_verify.specs.Transfer.{only_pointers, pointers_in, lie_within, all_marked, keep, kept_or, known_slot, load_area, load_from}
+use Rattle.bpf_verify.specs.Transfer.{only_pointers, pointers_in, lie_within, all_marked, store_kind, kind_or, known_slot, load_area, load_from}
 use Rattle.bpf_verify.specs.Transfer.{frame_offsets, storable, store_at, write_bytes}
-use Rattle.bpf_verify.specs.AbstractState.{AdmitsKnown}
+use Rattle.bpf_verify.specs.LiftedState.{AdmitsState}
 use Rattle.bpf_verify.specs.declared.memory.Pointers.{Pointers}
-use Rattle.bpf_verify.specs.declared.known.Known.{Known}
+use Rattle.bpf_verify.specs.declared.abstract_state.AbstractState.{AbstractState}
 use Rattle.bpf_verify.proofs.PointerLemmas.{ArePointers, record_pointers, frame_pointers}
 use Rattle.bpf_verify.proofs.SoundMarks.{AreWritten, lies_within, marked_are_written, writes_admit}
 use Rattle.bpf_meaning.specs.Checks.{Sound}
@@ -74,7 +74,7 @@ only_pointers_sound (Frame x) (value.Pointer pointer) has = record { into = has.
 only_pointers_sound (Frame x) v has = absurd has.admits
 only_pointers_sound x v has = tt
 
-pub pointers_sound : (known : Known) (state : State) → HasState known state → (base : ℕ)
+pub pointers_sound : (known : AbstractState) (state : State) → HasState known state → (base : ℕ)
     → Sound PointsWithin (pointers_in known base) (effect.pointer_in state base)
 pointers_sound known state has base = then_sound HasValue PointsWithin _ _ _ _ (read_sound known state has base) only_pointers_sound
 
@@ -102,7 +102,7 @@ part_written bytes (pos at) count within i above below = record_written bytes i
     (let inside = inside_ends (pos at) count (length bytes) within in omega arith)
 part_written bytes (negsuc n) count within i above below = absurd (false≢true within)
 
-record_sound : (segment : Contents) → IsSegment segment → (load_format : LoadFormat) (x : Offsets) (at offset : ℤ) → Admits x at
+record_sound : (segment : SegmentParts) → IsSegment segment → (load_format : LoadFormat) (x : Offsets) (at offset : ℤ) → Admits x at
     → Sound kind.Admits (if lie_within x offset (load_length load_format) RECORD_LENGTH then Ok
     (Number (load load_format)) else Err OutOfBounds) (effect.load_bytes load_format (map Byte segment.bytes) (at +ℤ offset))
 record_sound segment is load_format x at offset admits = by_test (lie_within x offset (load_length load_format) RECORD_LENGTH) refl
@@ -157,16 +157,16 @@ known_slot_is x at offset count slot admits is = by_test (int_eq x.low x.high) r
     by_test false many found = cc
 
 -- the contents of a slot are loaded, if their kind is known
-kept_sound : (otherwise : Result Kind Cause) (k : Kind) (held : Value) → kind.Admits k held
-    → Sound kind.Admits otherwise (effect.load_slot held) → Sound kind.Admits (kept_or otherwise k) (effect.load_slot held)
-kept_sound otherwise Nothing held admits rest = rest
-kept_sound otherwise (Number x) (value.Number n) admits rest = admits
-kept_sound otherwise (Record x) (value.Pointer pointer) admits rest = admits
-kept_sound otherwise (Frame x) (value.Pointer pointer) admits rest = admits
-kept_sound otherwise k held admits rest = absurd admits
+kind_or_sound : (otherwise : Result Kind Cause) (k : Kind) (held : Value) → kind.Admits k held
+    → Sound kind.Admits otherwise (effect.load_slot held) → Sound kind.Admits (kind_or otherwise k) (effect.load_slot held)
+kind_or_sound otherwise Nothing held admits rest = rest
+kind_or_sound otherwise (Number x) (value.Number n) admits rest = admits
+kind_or_sound otherwise (Record x) (value.Pointer pointer) admits rest = admits
+kind_or_sound otherwise (Frame x) (value.Pointer pointer) admits rest = admits
+kind_or_sound otherwise k held admits rest = absurd admits
 
 -- a load of bytes within the frame
-module _ {known : Known} {state : State} (has : HasState known state) (load_format : LoadFormat) {x : Offsets} {at : ℤ} (offset : ℤ)
+module _ {known : AbstractState} {state : State} (has : HasState known state) (load_format : LoadFormat) {x : Offsets} {at : ℤ} (offset : ℤ)
     (admits : Admits x at) where
   within_sound : lie_within x offset (load_length load_format) FRAME_LENGTH ≡ true
       → unsigned_abs (at +ℤ offset) + load_length load_format ≤ length state.frame.bytes
@@ -200,7 +200,7 @@ module _ {known : Known} {state : State} (has : HasState known state) (load_form
           let bytes : Sound kind.Admits (if all_marked known x offset (load_length load_format) then Ok
           (Number (load load_format)) else Err UnwrittenFrame) (effect.load_slot (slot_value state.frame slot)) =
           rw (here) at bytes_sound in
-          rw (is, here) (kept_sound _ (slot_kind known.frame slot) (slot_value state.frame slot) (has.admits.frame.slots slot) bytes)
+          rw (is, here) (kind_or_sound _ (slot_kind known.frame slot) (slot_value state.frame slot) (has.admits.frame.slots slot) bytes)
 
   frame_sound : Sound kind.Admits (load_from known load_format (record { area = area.Frame; offsets = x }) offset)
       (effect.load_frame load_format state.frame (at +ℤ offset))
@@ -221,7 +221,7 @@ module _ {known : Known} {state : State} (has : HasState known state) (load_form
       by_test false outside = tt
 
 -- a load from an area
-module _ {segment : Contents} {known : Known} {state : State} (is : IsSegment segment) (has : HasState known state)
+module _ {segment : SegmentParts} {known : AbstractState} {state : State} (is : IsSegment segment) (has : HasState known state)
     (load_format : LoadFormat) where
   load_sound : (into : Area) (x : Offsets) (pointer : PointerParts) (offset : ℤ) → pointer.area ≡ into → Admits x pointer.offset
       → Sound kind.Admits (load_from known load_format (record { area = into; offsets = x }) offset)
@@ -257,26 +257,26 @@ from_sound area.Frame x pointer offset into admits =
     (record { at = pointer.offset; sum = refl; admits = admits })
 
 -- the state after a change
-abbrev pub Stores : Contents → State → Known → Change → Type 0
-Stores segment state known change = AdmitsKnown known (carry_out segment state change)
+abbrev pub Stores : SegmentParts → State → AbstractState → Change → Type 0
+Stores segment state known change = AdmitsState known (carry_out segment state change)
 
 -- the state after the bytes of a number are stored in the frame
-abbrev stored : Contents → State → ℤ → StoreSize → ℕ → State
+abbrev stored : SegmentParts → State → ℤ → StoreSize → ℕ → State
 stored segment state from size number = carry_out segment state (StoreBytes (unsigned_abs from) size number)
 
 -- bytes of one slot aren't in another one
 other_slot : (slot other : ℕ) → other ≢ slot → IsApart other (SLOT_LENGTH * slot) SLOT_LENGTH
 other_slot slot other apart i above below same = apart (omega arith)
 
-stays_outside : (frame : FrameContents) (slot : ℕ) (pointer : PointerParts) (at : ℕ) → SLOT_LENGTH * slot + SLOT_LENGTH ≤ length frame.bytes
-    → at / SLOT_LENGTH ≢ slot → is_written (keep_pointer frame slot pointer).bytes at ≡ is_written frame.bytes at
-stays_outside frame slot pointer at fits apart =
+written_outside : (frame : FrameContents) (slot : ℕ) (pointer : PointerParts) (at : ℕ) → SLOT_LENGTH * slot + SLOT_LENGTH ≤ length frame.bytes
+    → at / SLOT_LENGTH ≢ slot → is_written (set_slot_pointer frame slot pointer).bytes at ≡ is_written frame.bytes at
+written_outside frame slot pointer at fits apart =
     elim (cases_lt at (SLOT_LENGTH * slot)) [
-      | inl before ↦ is_written-keep_before frame slot pointer at fits before
+      | inl before ↦ is_written-pointer_before frame slot pointer at fits before
       | inr above ↦
           elim (cases_lt at (SLOT_LENGTH * slot + SLOT_LENGTH)) [
             | inl below ↦ absurd (apart (omega arith))
-            | inr behind ↦ is_written-keep_behind frame slot pointer at fits behind
+            | inr beyond ↦ is_written-pointer_after frame slot pointer at fits beyond
           ]
     ]
 
@@ -289,9 +289,9 @@ length-stored frame at count number fits =
     let count_is = length-bytes_low_first 0 count number in
     ap length (store_is_write frame.bytes at count number) ∙ length-write frame.bytes low at (omega arith)
 
-length-kept : (frame : FrameContents) (slot : ℕ) (pointer : PointerParts) → SLOT_LENGTH * slot + SLOT_LENGTH ≤ length frame.bytes
-    → length (keep_pointer frame slot pointer).bytes ≡ length frame.bytes
-length-kept frame slot pointer fits = length-write frame.bytes (replicate SLOT_LENGTH Unwritten) (SLOT_LENGTH * slot)
+length-set_slot_pointer : (frame : FrameContents) (slot : ℕ) (pointer : PointerParts) → SLOT_LENGTH * slot + SLOT_LENGTH ≤ length frame.bytes
+    → length (set_slot_pointer frame slot pointer).bytes ≡ length frame.bytes
+length-set_slot_pointer frame slot pointer fits = length-write frame.bytes (replicate SLOT_LENGTH Unwritten) (SLOT_LENGTH * slot)
     (let long = length-replicate {A = FrameByte} SLOT_LENGTH Unwritten in omega arith)
 
 -- a slot that lies within the frame is one of its slots
@@ -299,17 +299,17 @@ slot_inside : (at count slot : ℕ) → slot_at at count ≡ Some slot → at + 
 slot_inside at count slot is within = let whole = slot_at-is at count slot is in let wide = whole.0 in let place = whole.1 in omega arith
 
 -- the store of a pointer of a kind, into a slot if one is known
-abbrev keeps_kind : Known → Offsets → ℤ → StoreSize → Kind → Option ℕ → Result Known Cause
-keeps_kind known x offset size k found =
+abbrev stores_kind : AbstractState → Offsets → ℤ → StoreSize → Kind → Option ℕ → Result AbstractState Cause
+stores_kind known x offset size k found =
     storable found k >>= λ k. if lie_within x offset (store_length size) FRAME_LENGTH then Ok
-    (keep known x offset (store_length size) k found) else Err OutOfBounds
+    (store_kind known x offset (store_length size) k found) else Err OutOfBounds
 
 -- what is stored in an admitted state
-module _ (segment : Contents) {known : Known} {state : State} (has : HasState known state) where
+module _ (segment : SegmentParts) {known : AbstractState} {state : State} (has : HasState known state) where
   -- the bytes of a number
   number_written : {x : Offsets} {at : ℤ} (offset : ℤ) (size : StoreSize) (number : ℕ) → Admits x at
       → lie_within x offset (store_length size) FRAME_LENGTH ≡ true
-      → AdmitsKnown (write_bytes known x offset (store_length size) (store_length size)) (stored segment state (at +ℤ offset) size number)
+      → AdmitsState (write_bytes known x offset (store_length size) (store_length size)) (stored segment state (at +ℤ offset) size number)
   number_written {x} {at} offset size number admits within =
       let inside = inside_ends (at +ℤ offset) (store_length size) FRAME_LENGTH
       (lies_within x at offset (store_length size) FRAME_LENGTH admits within) in
@@ -317,18 +317,18 @@ module _ (segment : Contents) {known : Known} {state : State} (has : HasState kn
       writes_admit offset admits (record { proper = has.proper; registers = has.admits.registers; frame = has.admits.frame })
       (store_length size) (store_length size) (store_length size) within (omega arith) (omega arith)
       (record {
-        stay = λ i written. stored_stays state.frame.bytes (unsigned_abs (at +ℤ offset)) (store_length size) number i fits written;
+        still_written = λ i written. stored_unchanged state.frame.bytes (unsigned_abs (at +ℤ offset)) (store_length size) number i fits written;
         written = λ i above below. is_written-store_inside state.frame.bytes (unsigned_abs (at +ℤ offset))
             (store_length size) number i fits above below;
-        kept = λ slot inside apart. slot_value-store_number_apart state.frame (unsigned_abs (at +ℤ offset))
+        preserved = λ slot inside apart. slot_value-store_number_apart state.frame (unsigned_abs (at +ℤ offset))
             (store_length size) number slot fits inside has.whole.slots apart;
       })
 
   -- a number in a slot
-  number_kept : {k : Interval} (from : ℤ) (size : StoreSize) {slot : ℕ} (number : ℕ) → slot_at (unsigned_abs from) (store_length size) ≡ Some slot
+  number_in_slot_sound : {k : Interval} (from : ℤ) (size : StoreSize) {slot : ℕ} (number : ℕ) → slot_at (unsigned_abs from) (store_length size) ≡ Some slot
       → unsigned_abs from + store_length size ≤ FRAME_LENGTH → HasValue (Number k) (value.Number number)
-      → AdmitsKnown (record known { frame = set_slot known.frame slot (Number k) }) (stored segment state from size number)
-  number_kept {k} from size {slot} number is within holds =
+      → AdmitsState (record known { frame = set_slot known.frame slot (Number k) }) (stored segment state from size number)
+  number_in_slot_sound {k} from size {slot} number is within holds =
       let whole = slot_at-is (unsigned_abs from) (store_length size) slot is in
       let below = slot_inside (unsigned_abs from) (store_length size) slot is within in
       let long = has.whole.frame in
@@ -339,7 +339,7 @@ module _ (segment : Contents) {known : Known} {state : State} (has : HasState kn
       let admitted : map.Admits (set_slot known.frame slot (Number k)) after =
       set_slot_admits after has.proper.frame has.admits.frame slot (Number k) below
       (let same = length-stored state.frame (SLOT_LENGTH * slot) SLOT_LENGTH number fits in omega arith) (λ e. cc)
-      (λ i apart written. stored_stays state.frame.bytes (SLOT_LENGTH * slot) SLOT_LENGTH number i fits written)
+      (λ i apart written. stored_unchanged state.frame.bytes (SLOT_LENGTH * slot) SLOT_LENGTH number i fits written)
       (λ other inside apart. slot_value-store_number_apart state.frame
       (SLOT_LENGTH * slot) SLOT_LENGTH number other fits inside has.whole.slots (other_slot slot other apart))
       (subst (kind.Admits (Number k)) (sym (slot_value-store_slot state.frame slot number fits small)) holds.admits) in
@@ -352,36 +352,36 @@ module _ (segment : Contents) {known : Known} {state : State} (has : HasState kn
       }
 
   -- a pointer in a slot
-  pointer_kept : {k : Kind} (slot : ℕ) (pointer : PointerParts)
+  pointer_store_sound : {k : Kind} (slot : ℕ) (pointer : PointerParts)
       → slot < SLOTS → k ≢ Nothing → kind.Admits k (value.Pointer pointer)
-      → AdmitsKnown (record known { frame = set_slot known.frame slot k }) (carry_out segment state (StorePointer slot pointer))
-  pointer_kept {k} slot pointer below known_kind holds =
+      → AdmitsState (record known { frame = set_slot known.frame slot k }) (carry_out segment state (StorePointer slot pointer))
+  pointer_store_sound {k} slot pointer below known_kind holds =
       let long = has.whole.frame in let many = has.whole.slots in
       let fits : SLOT_LENGTH * slot + SLOT_LENGTH ≤ length state.frame.bytes = omega arith in
-      let after : FrameContents = keep_pointer state.frame slot pointer in
+      let after : FrameContents = set_slot_pointer state.frame slot pointer in
       record {
         registers = has.admits.registers;
         frame = set_slot_admits after has.proper.frame has.admits.frame slot k below
-            (let same = length-kept state.frame slot pointer fits in omega arith) known_kind
-            (λ i apart written. stays_outside state.frame slot pointer i fits apart ∙ written)
-            (λ other inside apart. slot_value-keep_pointer_apart state.frame slot pointer other fits apart)
-            (subst (kind.Admits k) (sym (slot_value-keep_pointer state.frame slot pointer fits (omega arith))) holds);
+            (let same = length-set_slot_pointer state.frame slot pointer fits in omega arith) known_kind
+            (λ i apart written. written_outside state.frame slot pointer i fits apart ∙ written)
+            (λ other inside apart. slot_value-set_apart state.frame slot pointer other fits apart)
+            (subst (kind.Admits k) (sym (slot_value-set state.frame slot pointer fits (omega arith))) holds);
       }
 
 -- the same, from one of some offsets on
-module _ (segment : Contents) {known : Known} {state : State} (has : HasState known state) {x : Offsets} {offset from : ℤ}
+module _ (segment : SegmentParts) {known : AbstractState} {state : State} (has : HasState known state) {x : Offsets} {offset from : ℤ}
     (size : StoreSize) (is : IsFrom offset x from) where
-  number_keeps : {k : Interval} (number : ℕ) → lie_within x offset (store_length size) FRAME_LENGTH ≡ true → HasValue (Number k) (value.Number number)
-      → AdmitsKnown (keep known x offset (store_length size) (Number k) (known_slot x offset (store_length size)))
+  number_store_sound : {k : Interval} (number : ℕ) → lie_within x offset (store_length size) FRAME_LENGTH ≡ true → HasValue (Number k) (value.Number number)
+      → AdmitsState (store_kind known x offset (store_length size) (Number k) (known_slot x offset (store_length size)))
       (stored segment state (is.at +ℤ offset) size number)
-  number_keeps {k} number within holds =
+  number_store_sound {k} number within holds =
       by_slot (known_slot x offset (store_length size)) refl
     where
       by_slot : (found : Option ℕ) → known_slot x offset (store_length size) ≡ found
-          → AdmitsKnown (keep known x offset (store_length size) (Number k) found) (stored segment state (is.at +ℤ offset) size number)
+          → AdmitsState (store_kind known x offset (store_length size) (Number k) found) (stored segment state (is.at +ℤ offset) size number)
       by_slot None none = number_written segment has offset size number is.admits within
       by_slot (Some slot) found =
-          number_kept segment has (is.at +ℤ offset) size number (known_slot_is x is.at offset (store_length size) slot is.admits found)
+          number_in_slot_sound segment has (is.at +ℤ offset) size number (known_slot_is x is.at offset (store_length size) slot is.admits found)
           (inside_ends (is.at +ℤ offset) (store_length size) FRAME_LENGTH
           (lies_within x is.at offset (store_length size) FRAME_LENGTH is.admits within)) holds
 
@@ -390,8 +390,8 @@ module _ (segment : Contents) {known : Known} {state : State} (has : HasState kn
   number_sound {k} number holds =
       by_test (lie_within x offset (store_length size) FRAME_LENGTH) refl
     where
-      after : Known
-      after = keep known x offset (store_length size) (Number k) (known_slot x offset (store_length size))
+      after : AbstractState
+      after = store_kind known x offset (store_length size) (Number k) (known_slot x offset (store_length size))
 
       by_test : (within : Bool) → lie_within x offset (store_length size) FRAME_LENGTH ≡ within
           → Sound (Stores segment state) (if within then Ok after else Err OutOfBounds) (effect.store_number from size number)
@@ -400,7 +400,7 @@ module _ (segment : Contents) {known : Known} {state : State} (has : HasState kn
           subst (λ (z : ℤ). Sound (Stores segment state) (Ok after) (effect.store_number z size number)) (sym is.sum)
           (passes_if (Stores segment state) (Ok after) (Ok (StoreBytes (unsigned_abs (is.at +ℤ offset)) size number))
           (effect.lie_within (is.at +ℤ offset) (store_length size) FRAME_LENGTH) OutOfBounds inside
-          (number_keeps number within holds))
+          (number_store_sound number within holds))
       by_test false outside = tt
 
   pointer_sound : {k : Kind} (pointer : PointerParts) → kind.Admits k (value.Pointer pointer) → ArePointers k
@@ -417,16 +417,16 @@ module _ (segment : Contents) {known : Known} {state : State} (has : HasState kn
           let inside = lies_within x is.at offset (store_length size) FRAME_LENGTH is.admits within in
           passes_if (Stores segment state) (Ok (record known { frame = set_slot known.frame slot k })) (Ok (StorePointer slot pointer))
           (effect.lie_within (is.at +ℤ offset) (store_length size) FRAME_LENGTH) OutOfBounds inside
-          (pointer_kept segment has slot pointer
+          (pointer_store_sound segment has slot pointer
           (slot_inside _ _ slot here (inside_ends (is.at +ℤ offset) (store_length size) FRAME_LENGTH inside)) pointers.known holds)
       into_slot slot here false outside = tt
 
       by_slot : (found : Option ℕ) → known_slot x offset (store_length size) ≡ found
-          → Sound (Stores segment state) (keeps_kind known x offset size k found) (effect.store_pointer from size pointer)
+          → Sound (Stores segment state) (stores_kind known x offset size k found) (effect.store_pointer from size pointer)
       by_slot None none = rw (pointers.nowhere) tt
       by_slot (Some slot) known_here =
           let here = known_slot_is x is.at offset (store_length size) slot is.admits known_here in
-          subst (λ (z : ℤ). Sound (Stores segment state) (keeps_kind known x offset size k (Some slot)) (effect.store_pointer z size pointer))
+          subst (λ (z : ℤ). Sound (Stores segment state) (stores_kind known x offset size k (Some slot)) (effect.store_pointer z size pointer))
           (sym is.sum)
           (rw (pointers.somewhere slot, here) (into_slot slot here (lie_within x offset (store_length size) FRAME_LENGTH) refl))
 

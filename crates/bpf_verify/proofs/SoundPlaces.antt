@@ -5,31 +5,31 @@ use Rattle.std.proofs.lemmas.Bool.{cases_lt}
 use Rattle.bpf_insn.specs.Code.{instruction_at, spelling}
 use Rattle.bpf_insn.specs.declared.instruction.Insn.{Insn}
 use Rattle.bpf_insn.specs.declared.instruction.Insn.TheVariants.{Exit}
-use Rattle.bpf_insn.proofs.PlaceLemmas.{instruction_at-inside, instruction_at-behind}
+use Rattle.bpf_insn.proofs.PlaceLemmas.{instruction_at-inside, instruction_at-after}
 use Rattle.bpf_insn.proofs.SpanLemmas.{next_begins}
 use Rattle.bpf_flow.specs.Flow.{EndsInExit}
 
 -- an instruction other than EXIT is followed by another one
 pub is_followed : (code : List Insn) → EndsInExit code → (place : ℕ) (insn : Insn) → instruction_at code place ≡ Some insn
     → (insn ≡ Exit → ⊥) → IsSome (instruction_at code (place + length (spelling insn)))
-is_followed code ends place insn stands other =
+is_followed code ends place insn is_insn other =
     subst (λ (c : List Insn). instruction_at c place ≡ Some insn → IsSome (instruction_at c (place + length (spelling insn)))) (sym ends.1)
-    (λ there. next_begins ends.0 Exit place insn there other) stands
+    (λ there. next_begins ends.0 Exit place insn there other) is_insn
 
 -- an instruction found after the start of the first one is after its words, and in the rest of the code
 
-stands_behind : (first : Insn) (code : List Insn) (place : ℕ) (insn : Insn) → instruction_at (first ∷ code) (suc place) ≡ Some insn
+insn_in_rest : (first : Insn) (code : List Insn) (place : ℕ) (insn : Insn) → instruction_at (first ∷ code) (suc place) ≡ Some insn
     → length (spelling first) ≤ suc place
-stands_behind first code place insn stands = elim (cases_lt (suc place) (length (spelling first))) as
+insn_in_rest first code place insn is_insn = elim (cases_lt (suc place) (length (spelling first))) as
     (λ _. length (spelling first) ≤ suc place) [
       | inl below ↦ let nothing = instruction_at-inside first code (suc place) (omega arith) below in absurd (let no : ⊥ = cc in no)
       | inr past ↦ past
     ]
 
-stands_in_rest : (first : Insn) (code : List Insn) (place : ℕ) (insn : Insn) → instruction_at (first ∷ code) (suc place) ≡ Some insn
+insn_at-rest : (first : Insn) (code : List Insn) (place : ℕ) (insn : Insn) → instruction_at (first ∷ code) (suc place) ≡ Some insn
     → instruction_at code (suc place - length (spelling first)) ≡ Some insn
-stands_in_rest first code place insn stands = sym (instruction_at-behind first code (suc place)
-    (stands_behind first code place insn stands)) ∙ stands
+insn_at-rest first code place insn is_insn = sym (instruction_at-after first code (suc place)
+    (insn_in_rest first code place insn is_insn)) ∙ is_insn
 
 -- the number of instructions that begin at a place or after it
 abbrev pub count_from : List Insn → ℕ → ℕ
@@ -49,12 +49,12 @@ count_from-most (insn ∷ code) (suc place) = let rest = count_from-most code (s
 -- fewer instructions are left from a later place on
 pub count_from-later : (code : List Insn) (place later : ℕ) (insn : Insn) → instruction_at code place ≡ Some insn → place < later
     → count_from code later < count_from code place
-count_from-later [] place later insn stands less = absurd (let no : ⊥ = cc in no)
-count_from-later (first ∷ code) zero zero insn stands less = absurd (omega arith)
-count_from-later (first ∷ code) zero (suc later) insn stands less = let rest = count_from-most code (suc later - length (spelling first)) in
+count_from-later [] place later insn is_insn less = absurd (let no : ⊥ = cc in no)
+count_from-later (first ∷ code) zero zero insn is_insn less = absurd (omega arith)
+count_from-later (first ∷ code) zero (suc later) insn is_insn less = let rest = count_from-most code (suc later - length (spelling first)) in
     omega arith
-count_from-later (first ∷ code) (suc place) zero insn stands less = absurd (omega arith)
-count_from-later (first ∷ code) (suc place) (suc later) insn stands less =
-    let past = stands_behind first code place insn stands in
+count_from-later (first ∷ code) (suc place) zero insn is_insn less = absurd (omega arith)
+count_from-later (first ∷ code) (suc place) (suc later) insn is_insn less =
+    let past = insn_in_rest first code place insn is_insn in
     count_from-later code (suc place - length (spelling first)) (suc later - length (spelling first)) insn
-    (stands_in_rest first code place insn stands) (omega arith)
+    (insn_at-rest first code place insn is_insn) (omega arith)

@@ -8,7 +8,7 @@ use Rattle.bpf_insn.specs.declared.value.Area.{Area}
 use Rattle.std.specs.Prelude.{is_some}
 use Rattle.bpf_meaning.specs.declared.cause.Cause.{Cause}
 use Rattle.bpf_verify.specs.Annotation.{Annotation, IsGoodUpTo, IsLeastUpTo, HasGoodAnnotation, IsAccepted, IsRefusedAt, IsVerifyFault}
-use Rattle.bpf_verify.specs.AbstractState.{AbstractState, Edges}
+use Rattle.bpf_verify.specs.LiftedState.{LiftedState, Edges}
 use Rattle.bpf_verify.specs.Transfer.{transfer}
 use Rattle.bpf_verify.specs.declared.fault.VerifyFault.{VerifyFault}
 use Rattle.bpf_verify.specs.declared.fault.VerifyFault.TheVariants.{Refused, Memory}
@@ -22,7 +22,7 @@ good_before : (code : List Insn) (place end : ℕ) (annotation : Annotation) →
 good_before code place end annotation before good = record {
   proper = good.proper;
   entry = good.entry;
-  passes = λ at insn earlier stands. good.passes at insn (omega arith) stands;
+  passes = λ at insn earlier is_insn. good.passes at insn (omega arith) is_insn;
 }
 
 -- no annotation is good beyond a refusal
@@ -30,13 +30,13 @@ nothing_beyond : (code : List Insn) (place end : ℕ) (cause : Cause) (annotatio
     → IsRefusedAt code place cause → IsGoodUpTo code end annotation → place < end → ⊥
 nothing_beyond code place end cause annotation refused good before =
     let fails = refused.always annotation (good_before code place end annotation (omega arith) good) in
-    let passes = good.passes place refused.insn before refused.stands in
+    let passes = good.passes place refused.insn before refused.is_insn in
     not_both passes.edges fails.0 (transfer (annotation place) refused.insn) passes.passes fails.1
 
 pub accepted_or_refused : (code : List Insn) (place : ℕ) (cause : Cause) → HasGoodAnnotation code → IsRefusedAt code place cause → ⊥
 accepted_or_refused code place cause accepted refused =
     nothing_beyond code place (word_count code) cause accepted.0 refused accepted.1
-    (instruction_within code place (ap is_some refused.stands))
+    (instruction_within code place (ap is_some refused.is_insn))
 
 -- the least annotation is unique
 one_least : (code : List Insn) (end : ℕ) (x y : Annotation) → IsLeastUpTo code end x → IsLeastUpTo code end y → (place : ℕ) → place ≤ end
@@ -50,19 +50,19 @@ same_place : (code : List Insn) (place other : ℕ) (cause why : Cause) → IsRe
 same_place code place other cause why refused again = elim (cases_lt place other) as (λ _. place ≡ other) [
   | inl before ↦ absurd (nothing_beyond code place other cause again.annotation refused again.is_least.good before)
   | inr up ↦ elim (cases_lt other place) as (λ _. place ≡ other) [
-    | inl behind ↦ absurd (nothing_beyond code other place why refused.annotation again refused.is_least.good behind)
+    | inl beyond ↦ absurd (nothing_beyond code other place why refused.annotation again refused.is_least.good beyond)
     | inr down ↦ omega arith
   ]
 ]
 
 same_cause : (code : List Insn) (place : ℕ) (cause why : Cause) → IsRefusedAt code place cause → IsRefusedAt code place why → cause ≡ why
 same_cause code place cause why refused again =
-    let insn : Some refused.insn ≡ Some again.insn = sym refused.stands ∙ again.stands in
+    let insn : Some refused.insn ≡ Some again.insn = sym refused.is_insn ∙ again.is_insn in
     let one : refused.insn ≡ again.insn = cc in
     let state : refused.annotation place ≡ again.annotation place =
     one_least code place refused.annotation again.annotation refused.is_least again.is_least place (omega arith) in
     let both : transfer (refused.annotation place) refused.insn ≡ transfer (again.annotation place) again.insn =
-    ap (λ (s : AbstractState). transfer s refused.insn) state ∙ ap (transfer (again.annotation place)) one in
+    ap (λ (s : LiftedState). transfer s refused.insn) state ∙ ap (transfer (again.annotation place)) one in
     same_error cause why (transfer (again.annotation place) again.insn) (sym both ∙ refused.fails) again.fails
   where
     same_error : (x y : Cause) (found : Result Edges Cause) → found ≡ Err x → found ≡ Err y → x ≡ y

@@ -3,12 +3,12 @@ use Rattle.std.proofs.Common.{◌≡◌, ℕ, ◌+◌, ◌≤◌, List, [], ◌�
 use Rattle.bpf_insn.proofs.PlaceLemmas.{word_count-cons}
 use Rattle.bpf_insn.specs.Code.{spelling, word_count}
 use Rattle.bpf_insn.specs.declared.instruction.Insn.{Insn}
-use Rattle.bpf_verify.specs.AbstractState.{AbstractState}
+use Rattle.bpf_verify.specs.LiftedState.{LiftedState}
 use Rattle.bpf_verify.specs.Annotation.{Annotation}
 use Rattle.bpf_verify.specs.Visit.{Visit, visit_at, visited_all, visits_from}
 
 -- a visit is determined by its parts
-pub visit-parts : (place : ℕ) {there : ℕ} (insn : Insn) (state : AbstractState) {other : AbstractState} → place ≡ there → state ≡ other
+pub visit-parts : (place : ℕ) {there : ℕ} (insn : Insn) (state : LiftedState) {other : LiftedState} → place ≡ there → state ≡ other
     → ◌≡◌ {A = Visit} (record { place = place; insn = insn; state = state }) (record { place = there; insn = insn; state = other })
 visit-parts place insn state same equal = cc
 

@@ -10,14 +10,14 @@ use Rattle.bpf_kinds.specs.declared.kind.Kind.{Kind}
 use Rattle.bpf_kinds.specs.declared.kind.Kind.TheVariants.{Record, Frame}
 use Rattle.bpf_meaning.specs.declared.cause.Cause.{Cause}
 use Rattle.bpf_verify.specs.Transfer.{transfer}
-use Rattle.bpf_verify.specs.AbstractState.{AbstractState, Unreached, Reached, Edges, entry, kind_of, IsProper, IsWithin}
+use Rattle.bpf_verify.specs.LiftedState.{LiftedState, Unreached, Reached, Edges, entry, kind_of, IsProper, IsWithin}
 use Rattle.bpf_verify.specs.Verified.{base_of}
 use Rattle.bpf_verify.specs.declared.fault.VerifyFault.{VerifyFault}
 use Rattle.bpf_verify.specs.declared.fault.VerifyFault.TheVariants.{Refused, Memory}
 
 -- an abstract state for each place
 abbrev pub Annotation : Type 0
-Annotation = ℕ → AbstractState
+Annotation = ℕ → LiftedState
 
 -- no check of the instruction at this place fails, and the state on each edge is below the state that the edge leads to
 pub record PassesAt (annotation : Annotation) (place : ℕ) (insn : Insn) : Type 0 where
@@ -48,7 +48,7 @@ area_of_kind (Frame offsets) = Some area.Frame
 area_of_kind kind = None
 
 -- the area of the base of a load or a store that is reached
-abbrev pub area_of : AbstractState → Insn → Option Area
+abbrev pub area_of : LiftedState → Insn → Option Area
 area_of Unreached insn = None
 area_of (Reached known) insn = option_and_then (λ base. area_of_kind (kind_of known base)) (base_of insn)
 
@@ -70,7 +70,7 @@ pub record IsAccepted (code : List Insn) (areas : List (Option Area)) : Type 0 w
   pub are : areas ≡ areas_from annotation 0 code
 
 -- some check of an instruction fails in a state
-abbrev pub Fails : AbstractState → Insn → Type 0
+abbrev pub Fails : LiftedState → Insn → Type 0
 Fails state insn = (cause : Cause) × (transfer state insn ≡ Err cause)
 
 -- A code is refused at a place with a cause: under the least annotation that is good up to there, this check of the instruction is the first that
@@ -79,7 +79,7 @@ pub record IsRefusedAt (code : List Insn) (place : ℕ) (cause : Cause) : Type 0
   pub annotation : Annotation
   pub is_least : IsLeastUpTo code place annotation
   pub insn : Insn
-  pub stands : instruction_at code place ≡ Some insn
+  pub is_insn : instruction_at code place ≡ Some insn
   pub fails : transfer (annotation place) insn ≡ Err cause
   pub always : (other : Annotation) → IsGoodUpTo code place other → Fails (other place) insn
 

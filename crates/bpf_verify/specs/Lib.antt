@@ -1,4 +1,4 @@
-pub mod AbstractState
+pub mod LiftedState
 pub mod Transfer
 pub mod Verified
 pub mod Annotation

@@ -42,8 +42,8 @@ use Rattle.bpf_meaning.specs.declared.cause.Cause.{Cause}
 use Rattle.bpf_meaning.specs.declared.cause.Cause.TheVariants.{ReadsNothing, PointerArithmetic, LeavesArea, NotPointer, OutOfBounds, UnwrittenFrame, WritesRecord, StoresPointer, ComparesPointer, UnknownHelper, BadArgument}
 use Rattle.bpf_insn.specs.declared.memory.TheConstants.{FRAME_LENGTH}
 use Rattle.tl_records.specs.declared.layout.TheConstants.{RECORD_LENGTH}
-use Rattle.bpf_verify.specs.AbstractState.{AbstractState, Unreached, Reached, Edges, kind_of, with_kind}
-use Rattle.bpf_verify.specs.declared.known.Known.{Known}
+use Rattle.bpf_verify.specs.LiftedState.{LiftedState, Unreached, Reached, Edges, kind_of, with_kind}
+use Rattle.bpf_verify.specs.declared.abstract_state.AbstractState.{AbstractState}
 use Rattle.bpf_verify.specs.declared.calls.LentBytes.{LentBytes}
 use Rattle.bpf_verify.specs.declared.comparison.Comparison.{Comparison}
 use Rattle.bpf_verify.specs.declared.comparison.Edge.{Edge}
@@ -62,7 +62,7 @@ read_kind register (Record x) = Ok (Record x)
 read_kind register (Frame x) = Ok (Frame x)
 
 -- the kind of a register that is read
-abbrev pub read : Known → ℕ → Result Kind Cause
+abbrev pub read : AbstractState → ℕ → Result Kind Cause
 read known register = read_kind register (kind_of known register)
 
 -- the interval of a number kind, or the cause if the kind is no number
@@ -110,7 +110,7 @@ is_register left (Immediate value) = false
 is_register left (Register register) = left == register.number
 
 -- a state with a comparison's operands narrowed, on an edge
-abbrev pub with_narrowed : Known → ℕ → Source → Narrowed → Known
+abbrev pub with_narrowed : AbstractState → ℕ → Source → Narrowed → AbstractState
 with_narrowed known left (Immediate value) both = with_kind known left (Number both.left)
 with_narrowed known left (Register right) both = with_kind (with_kind known left (Number both.left)) right.number (Number both.right)
 
@@ -126,20 +126,20 @@ branch comparison x y taken =
     else narrowed (refine comparison.condition comparison.width x y taken)
 
 -- the state on an edge, from the state before the jump and what the jump adds
-abbrev pub on_edge : Known → Comparison → Edge → AbstractState
+abbrev pub on_edge : AbstractState → Comparison → Edge → LiftedState
 on_edge known comparison edge.Unreached = Unreached
 on_edge known comparison Unchanged = Reached known
 on_edge known comparison (Narrows both) = Reached (with_narrowed known comparison.left.number comparison.right both)
 
 -- the states on the edges out of an instruction, from the state after it and where control goes
-abbrev pub edges_to : Known → Successors → Edges
+abbrev pub edges_to : AbstractState → Successors → Edges
 edges_to known successors.End = record { next = Unreached; target = Unreached }
 edges_to known Next = record { next = Reached known; target = Unreached }
 edges_to known Target = record { next = Unreached; target = Reached known }
 edges_to known (Branch comparison next target) = record { next = on_edge known comparison next; target = on_edge known comparison target }
 
 -- both edges of a conditional jump: it must compare numbers, which is checked after both operands are read
-abbrev pub compare : Known → Comparison → Kind → Kind → Result Edges Cause
+abbrev pub compare : AbstractState → Comparison → Kind → Kind → Result Edges Cause
 compare known comparison (Number x) (Number y) =
     Ok (edges_to known (Branch comparison (branch comparison x y false) (branch comparison x y true)))
 compare known comparison x y = Err ComparesPointer
@@ -150,7 +150,7 @@ only_pointers (Record offsets) = Ok (record { area = area.Record; offsets = offs
 only_pointers (Frame offsets) = Ok (record { area = area.Frame; offsets = offsets })
 only_pointers kind = Err NotPointer
 
-abbrev pub pointers_in : Known → ℕ → Result Pointers Cause
+abbrev pub pointers_in : AbstractState → ℕ → Result Pointers Cause
 pointers_in known register = read known register >>= only_pointers
 
 -- pointers lie within others: they point into the same area, at offsets within theirs
@@ -159,7 +159,7 @@ pub record ArePointersWithin (pointers others : Pointers) : Type 0 where
   pub offsets : pointer_offsets.IsWithin pointers.offsets others.offsets
 
 -- the registers' kinds; an immediate is truncated to the width of a comparison
-abbrev pub kind_registers : Known → Registers
+abbrev pub kind_registers : AbstractState → Registers
 kind_registers known = record {
   Value = Kind;
   Number = Interval;
@@ -178,7 +178,7 @@ kind_registers known = record {
   operate = tags.operate kind_tags;
 }
 
-abbrev pub branches : Known → Comparison → Result Edges Cause
+abbrev pub branches : AbstractState → Comparison → Result Edges Cause
 branches known comparison =
     read known comparison.left.number >>= λ x. compared_operand (kind_registers known) comparison.width comparison.right >>= λ y. compare known comparison x y
 
@@ -192,7 +192,7 @@ area_length area.Record = RECORD_LENGTH
 area_length area.Frame = FRAME_LENGTH
 
 -- every byte of the frame that may be read is marked, if at most the given number of bytes is read, starting at one of the offsets plus `offset`
-abbrev pub all_marked : Known → Offsets → ℤ → ℕ → Bool
+abbrev pub all_marked : AbstractState → Offsets → ℤ → ℕ → Bool
 all_marked known offsets offset zero = true
 all_marked known offsets offset (suc more) =
     all_written known.frame.marks (unsigned_abs (offsets.low +ℤ offset)) (unsigned_abs (offsets.high +ℤ offset) + more)
@@ -203,19 +203,19 @@ abbrev pub known_slot : Offsets → ℤ → ℕ → Option ℕ
 known_slot offsets offset count = if int_eq offsets.low offsets.high then slot_at (unsigned_abs (offsets.low +ℤ offset)) count else None
 
 -- the kind in a slot, if there is one
-abbrev pub kept_kind : Known → Option ℕ → Kind
-kept_kind known None = Nothing
-kept_kind known (Some slot) = slot_kind known.frame slot
+abbrev pub slot_kind_or_nothing : AbstractState → Option ℕ → Kind
+slot_kind_or_nothing known None = Nothing
+slot_kind_or_nothing known (Some slot) = slot_kind known.frame slot
 
 -- a kind, or the alternative if nothing is known
-abbrev pub kept_or : Result Kind Cause → Kind → Result Kind Cause
-kept_or otherwise Nothing = otherwise
-kept_or otherwise (Number x) = Ok (Number x)
-kept_or otherwise (Record x) = Ok (Record x)
-kept_or otherwise (Frame x) = Ok (Frame x)
+abbrev pub kind_or : Result Kind Cause → Kind → Result Kind Cause
+kind_or otherwise Nothing = otherwise
+kind_or otherwise (Number x) = Ok (Number x)
+kind_or otherwise (Record x) = Ok (Record x)
+kind_or otherwise (Frame x) = Ok (Frame x)
 
 -- a load from an area: bytes of the record are always written, and bytes of the frame must be marked, or be a slot whose kind is known
-abbrev pub load_area : Known → LoadFormat → Pointers → ℤ → Result Kind Cause
+abbrev pub load_area : AbstractState → LoadFormat → Pointers → ℤ → Result Kind Cause
 load_area known format pointers offset = of_area pointers.area
   where
     loaded : Result Kind Cause
@@ -224,11 +224,11 @@ load_area known format pointers offset = of_area pointers.area
     of_area : Area → Result Kind Cause
     of_area area.Record = loaded
     of_area area.Frame =
-        kept_or (if all_marked known pointers.offsets offset (load_length format) then loaded else Err UnwrittenFrame)
-        (kept_kind known (known_slot pointers.offsets offset (load_length format)))
+        kind_or (if all_marked known pointers.offsets offset (load_length format) then loaded else Err UnwrittenFrame)
+        (slot_kind_or_nothing known (known_slot pointers.offsets offset (load_length format)))
 
 -- a load, whose bytes must lie within the area and be written
-abbrev pub load_from : Known → LoadFormat → Pointers → ℤ → Result Kind Cause
+abbrev pub load_from : AbstractState → LoadFormat → Pointers → ℤ → Result Kind Cause
 load_from known format pointers offset =
     if lie_within pointers.offsets offset (load_length format) (area_length pointers.area) then load_area known format pointers offset else Err OutOfBounds
 
@@ -242,7 +242,7 @@ frame_offsets pointers = frame_only pointers.area pointers.offsets
 
 -- the state after a possible write of at most the given number of bytes to the frame, starting at one of the offsets plus `offset`: nothing is
 -- known of the slots of these bytes any more
-abbrev pub touch_bytes : Known → Offsets → ℤ → ℕ → Known
+abbrev pub touch_bytes : AbstractState → Offsets → ℤ → ℕ → AbstractState
 touch_bytes known offsets offset zero = known
 touch_bytes known offsets offset (suc more) = record known {
   frame = touch known.frame (unsigned_abs (offsets.low +ℤ offset)) (unsigned_abs (offsets.high +ℤ offset) + more);
@@ -250,20 +250,20 @@ touch_bytes known offsets offset (suc more) = record known {
 
 -- the state after a certain write of `count` bytes to the frame, starting at one of the offsets plus `offset`: the bytes are marked if that is a
 -- single offset, and otherwise none are
-abbrev pub mark_bytes : Known → Offsets → ℤ → ℕ → Known
+abbrev pub mark_bytes : AbstractState → Offsets → ℤ → ℕ → AbstractState
 mark_bytes known offsets offset count =
     if int_eq offsets.low offsets.high
     then record known { frame = mark known.frame (unsigned_abs (offsets.low +ℤ offset)) count }
     else known
 
 -- the state after a write of at least `least` and at most `most` bytes
-abbrev pub write_bytes : Known → Offsets → ℤ → ℕ → ℕ → Known
+abbrev pub write_bytes : AbstractState → Offsets → ℤ → ℕ → ℕ → AbstractState
 write_bytes known offsets offset least most = mark_bytes (touch_bytes known offsets offset most) offsets offset least
 
 -- the state after a store of a value of a kind: a whole slot gets the kind, and any other bytes are written
-abbrev pub keep : Known → Offsets → ℤ → ℕ → Kind → Option ℕ → Known
-keep known offsets offset count kind None = write_bytes known offsets offset count count
-keep known offsets offset count kind (Some slot) = record known { frame = set_slot known.frame slot kind }
+abbrev pub store_kind : AbstractState → Offsets → ℤ → ℕ → Kind → Option ℕ → AbstractState
+store_kind known offsets offset count kind None = write_bytes known offsets offset count count
+store_kind known offsets offset count kind (Some slot) = record known { frame = set_slot known.frame slot kind }
 
 -- a kind whose values may be stored: pointers only in a whole slot
 abbrev pub storable : Option ℕ → Kind → Result Kind Cause
@@ -273,11 +273,11 @@ storable (Some slot) (Frame x) = Ok (Frame x)
 storable slot kind = Err StoresPointer
 
 -- the state after a store, whose bytes must lie within the frame
-abbrev pub store_at : Known → Offsets → ℤ → StoreSize → Kind → Result Known Cause
+abbrev pub store_at : AbstractState → Offsets → ℤ → StoreSize → Kind → Result AbstractState Cause
 store_at known offsets offset size kind =
     storable (known_slot offsets offset (store_length size)) kind >>= λ kind.
     if lie_within offsets offset (store_length size) FRAME_LENGTH
-    then Ok (keep known offsets offset (store_length size) kind (known_slot offsets offset (store_length size)))
+    then Ok (store_kind known offsets offset (store_length size) kind (known_slot offsets offset (store_length size)))
     else Err OutOfBounds
 
 -- all numbers of an interval lie in the interval that a prototype allows
@@ -289,24 +289,24 @@ abbrev pub argument_kind : ℕ → Argument → Kind → Result Kind Cause
 argument_kind number argument.Unused kind = Ok Nothing
 argument_kind number (argument.Number allowed) (Number x) = if are_allowed allowed x then Ok (Number x) else Err (BadArgument number)
 argument_kind number argument.Frame (Frame offsets) = Ok (Frame offsets)
-argument_kind number wanted kind = Err (BadArgument number)
+argument_kind number required kind = Err (BadArgument number)
 
 -- each argument's kind is proper
 abbrev pub AreProper : List Kind → Type 0
 AreProper arguments = (at : ℕ) → kind.IsProper (get_or arguments at Nothing)
 
 -- the argument with a number, counted from 1, in the register of that number; an unused argument isn't read
-abbrev pub argument_in : Known → ℕ → Argument → Result Kind Cause
+abbrev pub argument_in : AbstractState → ℕ → Argument → Result Kind Cause
 argument_in known number argument.Unused = Ok Nothing
 argument_in known number (argument.Number allowed) = read known number >>= argument_kind number (argument.Number allowed)
 argument_in known number argument.Frame = read known number >>= argument_kind number argument.Frame
 
 -- the arguments that a prototype requires, in order
-abbrev pub arguments_in : Known → List Argument → Result (List Kind) Cause
-arguments_in known wanted =
-    argument_in known 1 (get_or wanted 0 argument.Unused) >>= λ one.
-    argument_in known 2 (get_or wanted 1 argument.Unused) >>= λ two.
-    argument_in known 3 (get_or wanted 2 argument.Unused) >>= λ three. Ok (one ∷ two ∷ three ∷ [])
+abbrev pub arguments_in : AbstractState → List Argument → Result (List Kind) Cause
+arguments_in known required =
+    argument_in known 1 (get_or required 0 argument.Unused) >>= λ one.
+    argument_in known 2 (get_or required 1 argument.Unused) >>= λ two.
+    argument_in known 3 (get_or required 2 argument.Unused) >>= λ three. Ok (one ∷ two ∷ three ∷ [])
 
 -- the bytes of the frame that a call reads or writes, which its second argument points to and its third one counts: they lie within the frame from
 -- the lowest offset on, and from the highest offset on with the highest count
@@ -322,43 +322,43 @@ pub record LieWithinFrame (bytes : LentBytes) : Type 0 where
   pub within : IsTrue (lie_within bytes.offsets (pos 0) bytes.count.high FRAME_LENGTH)
 
 -- the bytes that a call reads must be marked
-abbrev pub lend_read : Known → LentBytes → Result Known Cause
+abbrev pub lend_read : AbstractState → LentBytes → Result AbstractState Cause
 lend_read known bytes = if all_marked known bytes.offsets (pos 0) bytes.count.high then Ok known else Err UnwrittenFrame
 
 -- the state after a call's use of the frame: a call that writes marks the bytes that it writes in any case, and touches those that it may write
-abbrev pub lend_frame : Known → FrameUse → List Kind → Result Known Cause
+abbrev pub lend_frame : AbstractState → FrameUse → List Kind → Result AbstractState Cause
 lend_frame known frame_use.Nothing arguments = Ok known
 lend_frame known Writes arguments =
     lend_bytes (get_or arguments 1 Nothing) (get_or arguments 2 Nothing) >>= λ bytes. Ok (write_bytes known bytes.offsets (pos 0) bytes.count.low bytes.count.high)
 lend_frame known Reads arguments = lend_bytes (get_or arguments 1 Nothing) (get_or arguments 2 Nothing) >>= lend_read known
 
 -- the state after a call: register 0 holds an answer in the prototype's interval, registers 1 to 5 hold nothing, and the others are kept
-abbrev pub state_after : Interval → Known → Known
+abbrev pub state_after : Interval → AbstractState → AbstractState
 state_after answer known = record known { registers = Number answer ∷ replicate 5 Nothing ++ drop 6 known.registers }
 
 -- a call of a helper function, if there is one
-abbrev pub call : Known → Option Helper → Result Known Cause
+abbrev pub call : AbstractState → Option Helper → Result AbstractState Cause
 call known None = Err UnknownHelper
 call known (Some helper) =
     arguments_in known (signature helper).arguments >>= lend_frame known (frame_use (signature helper).shape) >>= λ after. Ok (state_after (signature helper).answer after)
 
 -- on to the next instruction with a register set
-abbrev pub set_register : Known → ℕ → Kind → Result Edges Cause
+abbrev pub set_register : AbstractState → ℕ → Kind → Result Edges Cause
 set_register known register kind = Ok (edges_to (with_kind known register kind) Next)
 
 -- the domain of kinds: what is known of values
-abbrev pub kinds : Known → Domain
+abbrev pub kinds : AbstractState → Domain
 kinds known = record {
   registers = kind_registers known;
   Offset = Offsets;
-  Change = Known;
+  Change = AbstractState;
   Outcome = Edges;
   load = load_from known;
   frame = λ pointers offset. frame_offsets pointers;
   store_at = store_at known;
   call = λ helper. call known (Some helper);
   set = λ destination. set_register known destination.number;
-  go_on = λ behind. Ok (edges_to behind Next);
+  continue_with = λ updated. Ok (edges_to updated Next);
   jump = λ distance. Ok (edges_to known Target);
   branch = λ jump. compare known (record { condition = jump.condition; width = jump.width; left = jump.left; right = jump.right });
   end = λ answer. Ok (edges_to known successors.End);
@@ -366,6 +366,6 @@ kinds known = record {
 
 -- The transfer function: the states on the edges out of an instruction, from the state before it, or the first check that fails. An instruction
 -- that isn't reached fails no check and leads nowhere.
-abbrev pub transfer : AbstractState → Insn → Result Edges Cause
+abbrev pub transfer : LiftedState → Insn → Result Edges Cause
 transfer Unreached insn = Ok (record { next = Unreached; target = Unreached })
 transfer (Reached known) insn = walk (kinds known) insn

@@ -37,7 +37,7 @@ pub record IsPointerInto (held : Value) (area : Option Area) : Type 0 where
 -- that instruction
 pub record HasBaseAreas (code : List Insn) (areas : List (Option Area)) : Type 0 where
   pub count : length areas ≡ length code
-  pub bases : (segment : segments.Contents) → IsSegment segment → (run : List Configuration) → IsRun code segment run → (state : State) → end_of run ≡ Running state
+  pub bases : (segment : segments.SegmentParts) → IsSegment segment → (run : List Configuration) → IsRun code segment run → (state : State) → end_of run ≡ Running state
       → (index : ℕ) (insn : Insn) (base : ℕ) → index_at code state.place ≡ Some index → instruction_at code state.place ≡ Some insn → base_of insn ≡ Some base
       → IsPointerInto (register_value state base) (get_or areas index None)
 

@@ -2,7 +2,7 @@
 use Rattle.std.specs.Prelude.{◌≡◌, ℕ, ◌+◌, List, [], ◌∷◌, length, take}
 use Rattle.bpf_insn.specs.Code.{spelling, word_count}
 use Rattle.bpf_insn.specs.declared.instruction.Insn.{Insn}
-use Rattle.bpf_verify.specs.AbstractState.{AbstractState}
+use Rattle.bpf_verify.specs.LiftedState.{LiftedState}
 use Rattle.bpf_verify.specs.Annotation.{Annotation, IsLeastUpTo}
 use Rattle.bpf_verify.specs.declared.fault.VerifyFault.{VerifyFault}
 use Rattle.bpf_verify.specs.declared.fault.VerifyFault.TheVariants.{Refused, Memory}
@@ -11,7 +11,7 @@ use Rattle.bpf_verify.specs.declared.fault.VerifyFault.TheVariants.{Refused, Mem
 pub record Visit : Type 0 where
   pub place : ℕ
   pub insn : Insn
-  pub state : AbstractState
+  pub state : LiftedState
 
 -- the visit of an instruction at a place, under an annotation
 abbrev pub visit_at : Annotation → ℕ → Insn → Visit

@@ -1,10 +1,10 @@
 //! Calls of helper functions: their checks in order, and the state after them.
 ghost use Rattle.std.specs.Prelude.{◌≡◌, ◌≤◌, IfErr, IfOk, OnOk, Err, Ok};
 ghost use Rattle.bpf_kinds.specs.Kind as kinds;
-ghost use Rattle.bpf_verify.specs.AbstractState.{IsProperKnown};
+ghost use Rattle.bpf_verify.specs.LiftedState.{IsProperState};
 ghost use Rattle.bpf_verify.specs.Transfer.{AreProper, LieWithinFrame, are_allowed, argument_in, argument_kind, arguments_in, call, lend_bytes, lend_frame, lend_read};
 
-use crate::known::Known;
+use crate::abstract_state::AbstractState;
 use crate::memory::lie_within;
 use bpf_helpers::{Argument, FrameUse, Helper};
 use bpf_insn::FRAME_LENGTH;
@@ -21,26 +21,26 @@ pub(crate) struct LentBytes {
 }
 
 /// Checks a call of a helper function and updates the state. `None` stands for an unknown function, which is an error.
-pub(crate) fn call(known: &mut Known, helper: Option<Helper>) -> Result<(), Cause>
-    requires { IsProperKnown known.old }
+pub(crate) fn call(known: &mut AbstractState, helper: Option<Helper>) -> Result<(), Cause>
+    requires { IsProperState known.old }
     ensures ok { OnOk result (call known.old helper ≡ Ok known.new) }
     ensures err { IfErr result (λ cause. call known.old helper ≡ Err cause) }
-    ensures proper { OnOk result (IsProperKnown known.new) }
+    ensures proper { OnOk result (IsProperState known.new) }
 {
     let signature = helper.ok_or(Cause::UnknownHelper)?.signature();
     let arguments = arguments_in(known, signature.arguments)?;
     lend_frame(known, signature.shape.frame_use(), arguments)?;
-    known.go_behind_call(signature.answer);
+    known.clobber_for_call(signature.answer);
     Ok(())
 }
 
 /// Returns the kinds of the arguments that a prototype requires, in order. Each one is checked before the next one is read.
-fn arguments_in(known: &Known, wanted: [Argument; 3]) -> Result<[Kind; 3], Cause>
-    requires { IsProperKnown known.now }
-    ensures value { result ≡ arguments_in known.now wanted }
+fn arguments_in(known: &AbstractState, required: [Argument; 3]) -> Result<[Kind; 3], Cause>
+    requires { IsProperState known.now }
+    ensures value { result ≡ arguments_in known.now required }
     ensures proper { IfOk result AreProper }
 {
-    let [first, second, third] = wanted;
+    let [first, second, third] = required;
     let first = argument_in(known, 1, first)?;
     let second = argument_in(known, 2, second)?;
     let third = argument_in(known, 3, third)?;
@@ -48,25 +48,25 @@ fn arguments_in(known: &Known, wanted: [Argument; 3]) -> Result<[Kind; 3], Cause
 }
 
 /// Returns the kind of an argument, numbered from 1. An unused argument isn't read.
-fn argument_in(known: &Known, number: u8, wanted: Argument) -> Result<Kind, Cause>
+fn argument_in(known: &AbstractState, number: u8, required: Argument) -> Result<Kind, Cause>
     requires number { number ≤ 10 }
-    requires proper { IsProperKnown known.now }
-    ensures value { result ≡ argument_in known.now number wanted }
+    requires proper { IsProperState known.now }
+    ensures value { result ≡ argument_in known.now number required }
     ensures proper { IfOk result kinds.IsProper }
 {
-    match wanted {
+    match required {
         Argument::Unused => Ok(Kind::Nothing),
-        _ => argument_kind(number, wanted, known.read(number)?),
+        _ => argument_kind(number, required, known.read(number)?),
     }
 }
 
 /// Returns the kind of an argument if the prototype accepts all of its values.
-fn argument_kind(number: u8, wanted: Argument, kind: Kind) -> Result<Kind, Cause>
+fn argument_kind(number: u8, required: Argument, kind: Kind) -> Result<Kind, Cause>
     requires { kinds.IsProper kind }
-    ensures value { result ≡ argument_kind number wanted kind }
+    ensures value { result ≡ argument_kind number required kind }
     ensures proper { IfOk result kinds.IsProper }
 {
-    match (wanted, kind) {
+    match (required, kind) {
         (Argument::Unused, _) => Ok(Kind::Nothing),
         (Argument::Number(allowed), Kind::Number(x)) if are_allowed(allowed, x) => Ok(kind),
         (Argument::Frame, Kind::Frame(_)) => Ok(kind),
@@ -82,12 +82,12 @@ fn are_allowed(allowed: Interval, x: Interval) -> bool
 }
 
 /// Checks a call's use of the frame and updates the state.
-fn lend_frame(known: &mut Known, frame: FrameUse, arguments: [Kind; 3]) -> Result<(), Cause>
-    requires known { IsProperKnown known.old }
+fn lend_frame(known: &mut AbstractState, frame: FrameUse, arguments: [Kind; 3]) -> Result<(), Cause>
+    requires known { IsProperState known.old }
     requires arguments { AreProper arguments }
     ensures ok { OnOk result (lend_frame known.old frame arguments ≡ Ok known.new) }
     ensures err { IfErr result (λ cause. lend_frame known.old frame arguments ≡ Err cause) }
-    ensures proper { OnOk result (IsProperKnown known.new) }
+    ensures proper { OnOk result (IsProperState known.new) }
 {
     let [_, second, third] = arguments;
     match frame {
@@ -124,8 +124,8 @@ fn lend_bytes(second: Kind, third: Kind) -> Result<LentBytes, Cause>
 }
 
 /// Checks that every byte of the frame that a call may read is written.
-fn lend_read(known: &Known, bytes: LentBytes) -> Result<(), Cause>
-    requires known { IsProperKnown known.now }
+fn lend_read(known: &AbstractState, bytes: LentBytes) -> Result<(), Cause>
+    requires known { IsProperState known.now }
     requires within { LieWithinFrame bytes }
     ensures ok { OnOk result (lend_read known.now bytes ≡ Ok known.now) }
     ensures err { IfErr result (λ cause. lend_read known.now bytes ≡ Err cause) }

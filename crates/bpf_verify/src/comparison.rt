@@ -1,10 +1,10 @@
 //! Conditional jumps, and what they add on each of their edges.
 ghost use Rattle.std.specs.Prelude.{◌≡◌};
 ghost use Rattle.bpf_kinds.specs.Interval as interval;
-ghost use Rattle.bpf_verify.specs.AbstractState.{IsProper, IsProperKnown};
+ghost use Rattle.bpf_verify.specs.LiftedState.{IsProper, IsProperState};
 ghost use Rattle.bpf_verify.specs.Transfer.{branch, on_edge, with_narrowed};
 
-use crate::known::Known;
+use crate::abstract_state::AbstractState;
 use bpf_insn::{Condition, Register, Source, Width};
 use bpf_kinds::{Interval, Kind, Narrowed, refine};
 
@@ -29,8 +29,8 @@ pub(crate) enum Edge {
 
 impl Comparison {
     /// Returns what the jump adds on an edge. Comparing a register with itself adds nothing.
-    pub(crate) fn branch(self, known: &Known, x: Interval, y: Interval, taken: bool) -> Edge
-        requires known { IsProperKnown known.now }
+    pub(crate) fn branch(self, known: &AbstractState, x: Interval, y: Interval, taken: bool) -> Edge
+        requires known { IsProperState known.now }
         requires left { interval.IsProper x }
         requires right { interval.IsProper y }
         ensures value { result ≡ branch self x y taken }
@@ -46,7 +46,7 @@ impl Comparison {
     }
 
     /// Narrows the operands to what is known of them on an edge.
-    pub fn narrow(self, known: &mut Known, both: Narrowed)
+    pub fn narrow(self, known: &mut AbstractState, both: Narrowed)
         ensures { known.new ≡ with_narrowed known.old self.left.number self.right both }
     {
         known.registers[usize::from(self.left.number)] = Kind::Number(both.left);

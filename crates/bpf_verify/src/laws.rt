@@ -17,11 +17,11 @@ ghost use Rattle.bpf_meaning.specs.Run.{IsSafe};
 ghost use Rattle.bpf_meaning.specs.declared.cause.Cause.{Cause};
 ghost use Rattle.bpf_meaning.specs.declared.state.State.{State};
 ghost use Rattle.bpf_verify.specs.Annotation.{HasGoodAnnotation, IsAccepted, IsRefusedAt};
-ghost use Rattle.bpf_verify.specs.AbstractState.{AbstractState, Admits, AreEdgesWithin, Edges, IsBelow, IsProper, IsWithin, IsWithinKnown, Unreached, join};
+ghost use Rattle.bpf_verify.specs.LiftedState.{LiftedState, Admits, AreEdgesWithin, Edges, IsBelow, IsProper, IsWithin, IsWithinState, Unreached, join};
 ghost use Rattle.bpf_verify.specs.Transfer.{ArePointersWithin, argument_in, call, compare, load_from, pointers_in, read, store_at, transfer};
 ghost use Rattle.bpf_verify.specs.declared.comparison.Comparison.{Comparison};
 ghost use Rattle.bpf_verify.specs.declared.memory.Pointers.{Pointers};
-ghost use Rattle.bpf_verify.specs.declared.known.Known.{Known};
+ghost use Rattle.bpf_verify.specs.declared.abstract_state.AbstractState.{AbstractState};
 ghost use Rattle.bpf_verify.specs.Verified.{HasBaseAreas};
 
 /// Soundness: a code never gets stuck on a segment, and exits in no more steps than it has instructions, if its jumps go forward, it ends in EXIT,
@@ -39,36 +39,36 @@ pub fn accepted_areas_hold()
 
 /// Abstract states are partially ordered, with the unreached state at the bottom. A join is the least upper bound of two states, and a higher state
 /// admits everything that a lower one admits.
-pub fn states_stand_in_order()
-    ensures reflexive { (x : AbstractState) → IsWithin x x }
-    ensures transitive { (x y z : AbstractState) → IsWithin x y → IsWithin y z → IsWithin x z }
-    ensures antisymmetric { (x y : AbstractState) → IsProper x → IsProper y → IsWithin x y → IsWithin y x → x ≡ y }
-    ensures bottom { (x : AbstractState) → IsWithin Unreached x }
-    ensures join_is_proper { (x y : AbstractState) → IsProper x → IsProper y → IsProper (join x y) }
-    ensures left_below_join { (x y : AbstractState) → IsProper x → IsProper y → IsWithin x (join x y) }
-    ensures right_below_join { (x y : AbstractState) → IsProper x → IsProper y → IsWithin y (join x y) }
-    ensures join_is_least { (x y z : AbstractState) → IsProper x → IsProper y → IsWithin x z → IsWithin y z → IsWithin (join x y) z }
-    ensures admits_more { (x y : AbstractState) (state : State) → IsWithin x y → Admits x state → Admits y state }
+pub fn states_form_a_lattice()
+    ensures reflexive { (x : LiftedState) → IsWithin x x }
+    ensures transitive { (x y z : LiftedState) → IsWithin x y → IsWithin y z → IsWithin x z }
+    ensures antisymmetric { (x y : LiftedState) → IsProper x → IsProper y → IsWithin x y → IsWithin y x → x ≡ y }
+    ensures bottom { (x : LiftedState) → IsWithin Unreached x }
+    ensures join_is_proper { (x y : LiftedState) → IsProper x → IsProper y → IsProper (join x y) }
+    ensures left_below_join { (x y : LiftedState) → IsProper x → IsProper y → IsWithin x (join x y) }
+    ensures right_below_join { (x y : LiftedState) → IsProper x → IsProper y → IsWithin y (join x y) }
+    ensures join_is_least { (x y z : LiftedState) → IsProper x → IsProper y → IsWithin x z → IsWithin y z → IsWithin (join x y) z }
+    ensures admits_more { (x y : LiftedState) (state : State) → IsWithin x y → Admits x state → Admits y state }
 {}
 
 /// Each check is monotone: a lower state passes every check that a higher one passes, with a lower result. Results of operations, narrowing, moves
 /// of pointers and marks are monotone by the laws of `bpf_kinds` and `bpf_frame`.
-pub fn checks_rise()
-    ensures read { (lower higher : Known) (register : ℕ) → IsBelow lower higher
+pub fn checks_are_monotone()
+    ensures read { (lower higher : AbstractState) (register : ℕ) → IsBelow lower higher
         → Sound (λ x n. kinds.IsWithin n x) (read higher register) (read lower register) }
-    ensures base { (lower higher : Known) (base : ℕ) → IsBelow lower higher
+    ensures base { (lower higher : AbstractState) (base : ℕ) → IsBelow lower higher
         → Sound (λ x n. ArePointersWithin n x) (pointers_in higher base) (pointers_in lower base) }
-    ensures load { (lower higher : Known) (format : LoadFormat) (x n : Pointers) (offset : ℤ) → IsBelow lower higher
+    ensures load { (lower higher : AbstractState) (format : LoadFormat) (x n : Pointers) (offset : ℤ) → IsBelow lower higher
         → pointer_offsets.IsProper n.offsets → ArePointersWithin n x
         → Sound (λ x n. kinds.IsWithin n x) (load_from higher format x offset) (load_from lower format n offset) }
-    ensures store { (lower higher : Known) (x n : Offsets) (offset : ℤ) (size : StoreSize) (k l : Kind) → IsBelow lower higher
+    ensures store { (lower higher : AbstractState) (x n : Offsets) (offset : ℤ) (size : StoreSize) (k l : Kind) → IsBelow lower higher
         → pointer_offsets.IsProper n → pointer_offsets.IsWithin n x → kinds.IsProper l → kinds.IsWithin l k
-        → Sound (λ x n. IsWithinKnown n x) (store_at higher x offset size k) (store_at lower n offset size l) }
-    ensures argument { (lower higher : Known) (number : ℕ) (wanted : Argument) → IsBelow lower higher
-        → Sound (λ x n. kinds.IsWithin n x) (argument_in higher number wanted) (argument_in lower number wanted) }
-    ensures call { (lower higher : Known) (helper : Helper) → IsBelow lower higher
-        → Sound (λ x n. IsWithinKnown n x) (call higher (Some helper)) (call lower (Some helper)) }
-    ensures compare { (lower higher : Known) (comparison : Comparison) (x y m n : Kind) → IsBelow lower higher
+        → Sound (λ x n. IsWithinState n x) (store_at higher x offset size k) (store_at lower n offset size l) }
+    ensures argument { (lower higher : AbstractState) (number : ℕ) (required : Argument) → IsBelow lower higher
+        → Sound (λ x n. kinds.IsWithin n x) (argument_in higher number required) (argument_in lower number required) }
+    ensures call { (lower higher : AbstractState) (helper : Helper) → IsBelow lower higher
+        → Sound (λ x n. IsWithinState n x) (call higher (Some helper)) (call lower (Some helper)) }
+    ensures compare { (lower higher : AbstractState) (comparison : Comparison) (x y m n : Kind) → IsBelow lower higher
         → kinds.IsProper m → kinds.IsProper n → kinds.IsWithin m x → kinds.IsWithin n y
         → Sound (λ x n. AreEdgesWithin n x) (compare higher comparison x y) (compare lower comparison m n) }
 {}
@@ -76,7 +76,7 @@ pub fn checks_rise()
 /// The transfer function is monotone: if no check of an instruction fails in a state, none fails in a state below it, and the states on its edges
 /// are lower too.
 pub fn upward()
-    ensures { (insn : Insn) (lower higher : AbstractState) (edges : Edges) → IsProper lower → IsProper higher → IsWithin lower higher
+    ensures { (insn : Insn) (lower higher : LiftedState) (edges : Edges) → IsProper lower → IsProper higher → IsWithin lower higher
         → transfer higher insn ≡ Ok edges → (below : Edges) × (transfer lower insn ≡ Ok below) × AreEdgesWithin below edges }
 {}
 

@@ -3,16 +3,16 @@ ghost use Rattle.std.specs.Prelude.{◌≡◌, ◌≤◌, ◌<◌, IfErr, IfOk, 
 ghost use Rattle.bpf_kinds.specs.Kind as kinds;
 ghost use Rattle.bpf_kinds.specs.Offsets as pointer_offsets;
 ghost use Rattle.bpf_verify.specs.Annotation.{area_of, area_of_kind};
-ghost use Rattle.bpf_verify.specs.AbstractState.{IsProperKnown, Reached};
+ghost use Rattle.bpf_verify.specs.LiftedState.{IsProperState, Reached};
 ghost use Rattle.bpf_meaning.specs.Walk.{load_value, store};
-ghost use Rattle.bpf_verify.specs.Transfer.{area_length, kept_kind, known_slot, lie_within, load_area, load_from, pointers_in, storable, store_at};
+ghost use Rattle.bpf_verify.specs.Transfer.{area_length, slot_kind_or_nothing, known_slot, lie_within, load_area, load_from, pointers_in, storable, store_at};
 ghost use Rattle.bpf_verify.specs.Transfer.{kinds as known_kinds};
 ghost use Rattle.bpf_verify.specs.Verified.{base_of};
 ghost use Rattle.bpf_insn.specs.declared.memory.TheConstants.{FRAME_LENGTH, SLOTS};
 ghost use Rattle.bpf_insn.specs.Memory.{load_length};
 ghost use Rattle.bpf_insn.specs.declared.value.Area.TheVariants as Area;
 
-use crate::known::Known;
+use crate::abstract_state::AbstractState;
 use crate::operands::operand;
 use bpf_insn::{
     Area, FRAME_LENGTH, Insn, LoadFormat, Register, Source, StoreSize, load_length, slot_at,
@@ -53,8 +53,8 @@ fn area_of_kind(kind: Kind) -> Option<Area>
 }
 
 /// Returns the area that the base of an instruction points into, if it's a load or a store.
-pub(crate) fn area_of(known: &Known, insn: Insn) -> Option<Area>
-    requires { IsProperKnown known.now }
+pub(crate) fn area_of(known: &AbstractState, insn: Insn) -> Option<Area>
+    requires { IsProperState known.now }
     ensures { result ≡ area_of (Reached known.now) insn }
 {
     let base = base_of(insn)?;
@@ -62,8 +62,8 @@ pub(crate) fn area_of(known: &Known, insn: Insn) -> Option<Area>
 }
 
 /// Returns the pointers in the base register of a load or a store.
-fn pointers_in(known: &Known, register: Register) -> Result<Pointers, Cause>
-    requires { IsProperKnown known.now }
+fn pointers_in(known: &AbstractState, register: Register) -> Result<Pointers, Cause>
+    requires { IsProperState known.now }
     ensures value { result ≡ pointers_in known.now register.number }
     ensures proper { IfOk result (λ pointers. pointer_offsets.IsProper pointers.offsets) }
 {
@@ -104,12 +104,12 @@ fn area_length(area: Area) -> usize
 
 /// Returns the kind of a load's result.
 pub(crate) fn load_kind(
-    known: &Known,
+    known: &AbstractState,
     format: LoadFormat,
     base: Register,
     offset: i16,
 ) -> Result<Kind, Cause>
-    requires { IsProperKnown known.now }
+    requires { IsProperState known.now }
     ensures value { result ≡ load_value (known_kinds known.now) format base.number offset }
     ensures proper { IfOk result kinds.IsProper }
 {
@@ -119,12 +119,12 @@ pub(crate) fn load_kind(
 
 /// Returns the kind of a load's result, given the pointers in its base register.
 fn load_from(
-    known: &Known,
+    known: &AbstractState,
     format: LoadFormat,
     pointers: Pointers,
     offset: i16,
 ) -> Result<Kind, Cause>
-    requires known { IsProperKnown known.now }
+    requires known { IsProperState known.now }
     requires pointers { pointer_offsets.IsProper pointers.offsets }
     ensures value { result ≡ load_from known.now format pointers offset }
     ensures proper { IfOk result kinds.IsProper }
@@ -142,19 +142,19 @@ fn load_from(
 
 /// Returns the kind of a load within the frame: the kind in a slot, or a number if all of the bytes are written.
 fn load_frame(
-    known: &Known,
+    known: &AbstractState,
     format: LoadFormat,
     offsets: Offsets,
     offset: i16,
 ) -> Result<Kind, Cause>
-    requires known { IsProperKnown known.now }
+    requires known { IsProperState known.now }
     requires offsets { pointer_offsets.IsProper offsets }
     requires within { IsTrue (lie_within offsets offset (load_length format) FRAME_LENGTH) }
     ensures value { result ≡ load_area known.now format (record { area = Area.Frame; offsets = offsets }) offset }
     ensures proper { IfOk result kinds.IsProper }
 {
     let count = load_length(format);
-    match kept_kind(known, known_slot(offsets, offset, count)) {
+    match slot_kind_or_nothing(known, known_slot(offsets, offset, count)) {
         Kind::Nothing if known.all_marked(offsets, offset, count) => Ok(Kind::Number(load(format))),
         Kind::Nothing => Err(Cause::UnwrittenFrame),
         kind => Ok(kind),
@@ -173,10 +173,10 @@ fn known_slot(offsets: Offsets, offset: i16, count: usize) -> Option<usize>
 }
 
 /// Returns the kind in a slot, or `Kind::Nothing` if there is no slot.
-fn kept_kind(known: &Known, slot: Option<usize>) -> Kind
-    requires known { IsProperKnown known.now }
+fn slot_kind_or_nothing(known: &AbstractState, slot: Option<usize>) -> Kind
+    requires known { IsProperState known.now }
     requires within { IfSome slot (λ slot. slot < SLOTS) }
-    ensures value { result ≡ kept_kind known.now slot }
+    ensures value { result ≡ slot_kind_or_nothing known.now slot }
     ensures proper { kinds.IsProper result }
 {
     match slot {
@@ -187,16 +187,16 @@ fn kept_kind(known: &Known, slot: Option<usize>) -> Kind
 
 /// Checks a store and updates the state.
 pub(crate) fn store(
-    known: &mut Known,
+    known: &mut AbstractState,
     size: StoreSize,
     base: Register,
     offset: i16,
     source: Source,
 ) -> Result<(), Cause>
-    requires { IsProperKnown known.old }
+    requires { IsProperState known.old }
     ensures ok { OnOk result (store (known_kinds known.old) size base.number offset source ≡ Ok known.new) }
     ensures err { IfErr result (λ cause. store (known_kinds known.old) size base.number offset source ≡ Err cause) }
-    ensures proper { OnOk result (IsProperKnown known.new) }
+    ensures proper { OnOk result (IsProperState known.new) }
 {
     let pointers = pointers_in(known, base)?;
     let Area::Frame = pointers.area else {
@@ -208,18 +208,18 @@ pub(crate) fn store(
 
 /// Checks a store of a value of a kind to the frame and updates the state.
 fn store_at(
-    known: &mut Known,
+    known: &mut AbstractState,
     offsets: Offsets,
     offset: i16,
     size: StoreSize,
     kind: Kind,
 ) -> Result<(), Cause>
-    requires known { IsProperKnown known.old }
+    requires known { IsProperState known.old }
     requires offsets { pointer_offsets.IsProper offsets }
     requires kind { kinds.IsProper kind }
     ensures ok { OnOk result (store_at known.old offsets offset size kind ≡ Ok known.new) }
     ensures err { IfErr result (λ cause. store_at known.old offsets offset size kind ≡ Err cause) }
-    ensures proper { OnOk result (IsProperKnown known.new) }
+    ensures proper { OnOk result (IsProperState known.new) }
 {
     let count = store_length(size);
     let slot = known_slot(offsets, offset, count);
@@ -228,7 +228,7 @@ fn store_at(
         return Err(Cause::OutOfBounds);
     }
     match slot {
-        Some(slot) => known.keep(slot, kind),
+        Some(slot) => known.store_kind(slot, kind),
         None => known.write_bytes(offsets, offset, count, count),
     }
     Ok(())

@@ -3,12 +3,12 @@ ghost use Rattle.std.specs.Prelude.{◌≡◌, ◌≤◌, IfOk};
 ghost use Rattle.bpf_kinds.specs.Interval as interval;
 ghost use Rattle.bpf_kinds.specs.Kind as kinds;
 ghost use Rattle.bpf_kinds.specs.Offsets as offset;
-ghost use Rattle.bpf_verify.specs.AbstractState.{IsProperKnown};
+ghost use Rattle.bpf_verify.specs.LiftedState.{IsProperState};
 ghost use Rattle.bpf_meaning.specs.Tags.{move, move_pointer, move_pointer_back, operate, operate_on_pointer, operate_with_pointer};
 ghost use Rattle.bpf_meaning.specs.Walk.{number_in, operand, operation_value};
 ghost use Rattle.bpf_verify.specs.Transfer.{kind_registers, kind_tags, number_or};
 
-use crate::known::Known;
+use crate::abstract_state::AbstractState;
 use bpf_insn::{Operation, Source, Width, WritableRegister};
 use bpf_kinds::{Interval, Kind, NumberWidth, Offsets, alu, immediate_operand, near_distances};
 use bpf_meaning::Cause;
@@ -24,9 +24,9 @@ pub(crate) fn number_or(cause: Cause, kind: Kind) -> Result<Interval, Cause>
 }
 
 /// Returns the interval of the number in a register that an instruction computes with.
-pub(crate) fn number_in(known: &Known, register: u8) -> Result<Interval, Cause>
+pub(crate) fn number_in(known: &AbstractState, register: u8) -> Result<Interval, Cause>
     requires in_range { register ≤ 10 }
-    requires proper { IsProperKnown known.now }
+    requires proper { IsProperState known.now }
     ensures value { result ≡ number_in (kind_registers known.now) register }
     ensures proper { IfOk result interval.IsProper }
 {
@@ -34,8 +34,8 @@ pub(crate) fn number_in(known: &Known, register: u8) -> Result<Interval, Cause>
 }
 
 /// Returns the kind of the second operand.
-pub(crate) fn operand(known: &Known, source: Source) -> Result<Kind, Cause>
-    requires { IsProperKnown known.now }
+pub(crate) fn operand(known: &AbstractState, source: Source) -> Result<Kind, Cause>
+    requires { IsProperState known.now }
     ensures value { result ≡ operand (kind_registers known.now) source }
     ensures proper { IfOk result kinds.IsProper }
 {
@@ -47,13 +47,13 @@ pub(crate) fn operand(known: &Known, source: Source) -> Result<Kind, Cause>
 
 /// Returns the kind of an arithmetic instruction's result. A move doesn't read its destination.
 pub(crate) fn operation_kind(
-    known: &Known,
+    known: &AbstractState,
     operation: Operation,
     width: Width,
     destination: WritableRegister,
     source: Source,
 ) -> Result<Kind, Cause>
-    requires { IsProperKnown known.now }
+    requires { IsProperState known.now }
     ensures value { result ≡ operation_value (kind_registers known.now) operation width destination.number source }
     ensures proper { IfOk result kinds.IsProper }
 {

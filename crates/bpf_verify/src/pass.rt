@@ -4,20 +4,20 @@ ghost use Rattle.bpf_insn.specs.Code.{HasProgramSize, instruction_at, word_count
 ghost use Rattle.bpf_insn.specs.Immediates.{HasImmediates};
 ghost use Rattle.bpf_meaning.specs.Run.{IsSafe};
 ghost use Rattle.bpf_verify.specs.Annotation.{HasGoodAnnotation, IsAccepted, IsVerifyFault, area_of};
-ghost use Rattle.bpf_verify.specs.Pass.{AreProper, IsRefusedVisit, IsVisitFault, Visits, edges_of, kept, state_of, visit_of};
+ghost use Rattle.bpf_verify.specs.Pass.{AreProper, IsRefusedVisit, IsVisitFault, Visits, edges_of, pending, state_of, visit_of};
 ghost use Rattle.bpf_verify.specs.Transfer.{edges_to, on_edge};
 ghost use Rattle.bpf_verify.specs.Visit.{IsShown, IsShownRefusal};
 ghost use Rattle.bpf_verify.specs.declared.fault.VerifyFault.TheVariants.{Memory};
 
-use crate::ahead::{KnownEdges, StatesAhead};
+use crate::abstract_state::AbstractState;
 use crate::comparison::{Comparison, Edge};
 use crate::fault::VerifyFault;
-use crate::known::Known;
 use crate::memory::area_of;
 use crate::successors::Successors;
 use crate::table::transfer;
 use crate::verified::Verified;
 use crate::visitor::Visitor;
+use crate::worklist::{EdgeStates, Worklist};
 use bpf_flow::Flow;
 use bpf_insn::{Area, Insn};
 use std::alloc::{AllocError, Allocator};
@@ -81,9 +81,9 @@ fn pass<A: Allocator + Copy, V: Visitor>(
 {
     let instructions = flow.code().instructions();
     let mut areas = Vec::with_capacity(alloc, instructions.len())?;
-    let mut ahead = StatesAhead::first(alloc, flow)?;
+    let mut worklist = Worklist::new(alloc, flow)?;
     for insn in instructions {
-        areas.push_reserved(visit(alloc, *insn, &mut ahead, visitor)?);
+        areas.push_reserved(visit(alloc, *insn, &mut worklist, visitor)?);
     }
     Ok(areas)
 }
@@ -93,22 +93,22 @@ fn pass<A: Allocator + Copy, V: Visitor>(
 fn visit<A: Allocator + Copy, V: Visitor>(
     alloc: A,
     insn: Insn,
-    ahead: &mut StatesAhead<'_, A>,
+    worklist: &mut Worklist<'_, A>,
     visitor: &mut V,
 ) -> Result<Option<Area>, VerifyFault>
-    requires sized { HasProgramSize (word_count ahead.old.code) }
-    requires stands { instruction_at ahead.old.code ahead.old.place ≡ Some insn }
-    ensures area { IfOk result (λ area. area ≡ area_of (kept ahead.old ahead.old.place) insn) }
-    ensures ok { OnOk result (Visits insn ahead.old ahead.new) }
-    ensures proper { OnOk result (AreProper (kept ahead.new)) }
+    requires sized { HasProgramSize (word_count worklist.old.code) }
+    requires is_insn { instruction_at worklist.old.code worklist.old.place ≡ Some insn }
+    ensures area { IfOk result (λ area. area ≡ area_of (pending worklist.old worklist.old.place) insn) }
+    ensures ok { OnOk result (Visits insn worklist.old worklist.new) }
+    ensures proper { OnOk result (AreProper (pending worklist.new)) }
     ensures immediates { HasImmediates insn }
-    ensures err { IfErr result (IsVisitFault ahead.old insn) }
-    ensures shown { OnOk result (visitor.new ≡ V.visited visitor.old (visit_of ahead.old insn)) }
-    ensures shown_refusal { IfErr result (λ fault. IsRefusedVisit V.visited (visit_of ahead.old insn) fault visitor.old visitor.new) }
+    ensures err { IfErr result (IsVisitFault worklist.old insn) }
+    ensures shown { OnOk result (visitor.new ≡ V.visited visitor.old (visit_of worklist.old insn)) }
+    ensures shown_refusal { IfErr result (λ fault. IsRefusedVisit V.visited (visit_of worklist.old insn) fault visitor.old visitor.new) }
 {
-    let place = ahead.place();
-    let target = ahead.target();
-    let Some(mut known) = ahead.take(insn) else {
+    let place = worklist.place();
+    let target = worklist.target();
+    let Some(mut known) = worklist.pop(insn) else {
         visitor.unreached(place, insn)?;
         return Ok(None);
     };
@@ -118,28 +118,28 @@ fn visit<A: Allocator + Copy, V: Visitor>(
         Ok(successors) => successors,
         Err(cause) => return Err(VerifyFault::Refused { place, cause }),
     };
-    ahead.propagate(target, follow(alloc, known, successors)?)?;
+    worklist.push_edges(target, follow(alloc, known, successors)?)?;
     Ok(area)
 }
 
 /// Returns the states on the edges out of an instruction, from the state after it and where control goes.
 fn follow<A: Allocator + Copy>(
     alloc: A,
-    known: Box<Known, A>,
+    known: Box<AbstractState, A>,
     successors: Successors,
-) -> Result<KnownEdges<A>, AllocError>
+) -> Result<EdgeStates<A>, AllocError>
     ensures { IfOk result (λ edges. edges_of edges ≡ edges_to known.value successors) }
 {
     match successors {
-        Successors::End => Ok(KnownEdges {
+        Successors::End => Ok(EdgeStates {
             next: None,
             target: None,
         }),
-        Successors::Next => Ok(KnownEdges {
+        Successors::Next => Ok(EdgeStates {
             next: Some(known),
             target: None,
         }),
-        Successors::Target => Ok(KnownEdges {
+        Successors::Target => Ok(EdgeStates {
             next: None,
             target: Some(known),
         }),
@@ -154,26 +154,26 @@ fn follow<A: Allocator + Copy>(
 /// Returns the states on the edges of a conditional jump. A state is copied only here, where two edges leave an instruction.
 fn branch<A: Allocator + Copy>(
     alloc: A,
-    known: Box<Known, A>,
+    known: Box<AbstractState, A>,
     comparison: Comparison,
     next: Edge,
     target: Edge,
-) -> Result<KnownEdges<A>, AllocError>
+) -> Result<EdgeStates<A>, AllocError>
     ensures next { IfOk result (λ edges. (edges_of edges).next ≡ on_edge known.value comparison next) }
     ensures target { IfOk result (λ edges. (edges_of edges).target ≡ on_edge known.value comparison target) }
 {
     match (next, target) {
-        (Edge::Unreached, _) => Ok(KnownEdges {
+        (Edge::Unreached, _) => Ok(EdgeStates {
             next: None,
             target: on_edge(known, comparison, target),
         }),
-        (_, Edge::Unreached) => Ok(KnownEdges {
+        (_, Edge::Unreached) => Ok(EdgeStates {
             next: on_edge(known, comparison, next),
             target: None,
         }),
         _ => {
             let taken = Box::new(alloc, known.duplicate())?;
-            Ok(KnownEdges {
+            Ok(EdgeStates {
                 next: on_edge(known, comparison, next),
                 target: on_edge(taken, comparison, target),
             })
@@ -183,10 +183,10 @@ fn branch<A: Allocator + Copy>(
 
 /// Returns the state on one edge of a conditional jump.
 fn on_edge<A: Allocator>(
-    mut known: Box<Known, A>,
+    mut known: Box<AbstractState, A>,
     comparison: Comparison,
     edge: Edge,
-) -> Option<Box<Known, A>>
+) -> Option<Box<AbstractState, A>>
     ensures { state_of result ≡ on_edge known.value comparison edge }
 {
     match edge {

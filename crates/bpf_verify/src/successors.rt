@@ -2,11 +2,11 @@
 ghost use Rattle.std.specs.Prelude.{◌≡◌, IfErr, IfOk, Err, Ok};
 ghost use Rattle.bpf_kinds.specs.Kind as kinds;
 ghost use Rattle.bpf_meaning.specs.Walk.{compared_operand};
-ghost use Rattle.bpf_verify.specs.AbstractState.{AreProperEdges, IsProperKnown};
+ghost use Rattle.bpf_verify.specs.LiftedState.{AreProperEdges, IsProperState};
 ghost use Rattle.bpf_verify.specs.Transfer.{branches, compare, edges_to, kind_registers};
 
+use crate::abstract_state::AbstractState;
 use crate::comparison::{Comparison, Edge};
-use crate::known::Known;
 use bpf_insn::{Source, Width, immediate_operand};
 use bpf_kinds::{Interval, Kind};
 use bpf_meaning::Cause;
@@ -30,8 +30,8 @@ pub(crate) enum Successors {
 
 impl Comparison {
     /// Returns where control goes after the jump.
-    pub fn successors(self, known: &Known) -> Result<Successors, Cause>
-        requires { IsProperKnown known.now }
+    pub fn successors(self, known: &AbstractState) -> Result<Successors, Cause>
+        requires { IsProperState known.now }
         ensures ok { IfOk result (λ successors. branches known.now self ≡ Ok (edges_to known.now successors)) }
         ensures err { IfErr result (λ cause. branches known.now self ≡ Err cause) }
         ensures proper { IfOk result (λ successors. AreProperEdges (edges_to known.now successors)) }
@@ -42,8 +42,8 @@ impl Comparison {
     }
 
     /// Returns the kind of the right operand. An immediate is truncated to the width of the comparison.
-    fn compared_operand(self, known: &Known) -> Result<Kind, Cause>
-        requires { IsProperKnown known.now }
+    fn compared_operand(self, known: &AbstractState) -> Result<Kind, Cause>
+        requires { IsProperState known.now }
         ensures value { result ≡ compared_operand (kind_registers known.now) self.width self.right }
         ensures proper { IfOk result kinds.IsProper }
     {
@@ -60,8 +60,8 @@ impl Comparison {
     }
 
     /// Returns where control goes, given the operands' kinds.
-    fn compare(self, known: &Known, x: Kind, y: Kind) -> Result<Successors, Cause>
-        requires known { IsProperKnown known.now }
+    fn compare(self, known: &AbstractState, x: Kind, y: Kind) -> Result<Successors, Cause>
+        requires known { IsProperState known.now }
         requires left { kinds.IsProper x }
         requires right { kinds.IsProper y }
         ensures ok { IfOk result (λ successors. compare known.now self x y ≡ Ok (edges_to known.now successors)) }

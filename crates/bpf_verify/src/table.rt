@@ -1,13 +1,13 @@
 //! The instruction table: the checks of each instruction in order, and the abstract state after it.
 ghost use Rattle.std.specs.Prelude.{◌≡◌, IfErr, IfOk, Err, Ok};
 ghost use Rattle.bpf_meaning.specs.Walk.{walk};
-ghost use Rattle.bpf_verify.specs.AbstractState.{AreProperEdges, IsProperKnown};
+ghost use Rattle.bpf_verify.specs.LiftedState.{AreProperEdges, IsProperState};
 ghost use Rattle.bpf_verify.specs.Transfer.{edges_to};
 ghost use Rattle.bpf_verify.specs.Transfer.{kinds as known_kinds};
 
+use crate::abstract_state::AbstractState;
 use crate::calls::call;
 use crate::comparison::Comparison;
-use crate::known::Known;
 use crate::memory::{load_kind, store};
 use crate::operands::{number_in, number_or, operation_kind};
 use crate::successors::Successors;
@@ -18,8 +18,8 @@ use bpf_meaning::Cause;
 
 /// Applies the transfer function: updates `known` to the state after the instruction, and returns where control goes next. Returns the first check
 /// that fails for some of the possible values; `known` is then meaningless.
-pub(crate) fn transfer(known: &mut Known, insn: Insn) -> Result<Successors, Cause>
-    requires { IsProperKnown known.old }
+pub(crate) fn transfer(known: &mut AbstractState, insn: Insn) -> Result<Successors, Cause>
+    requires { IsProperState known.old }
     ensures ok { IfOk result (λ successors. walk (known_kinds known.old) insn ≡ Ok (edges_to known.new successors)) }
     ensures err { IfErr result (λ cause. walk (known_kinds known.old) insn ≡ Err cause) }
     ensures proper { IfOk result (λ successors. AreProperEdges (edges_to known.new successors)) }

@@ -1,9 +1,9 @@
 //! Visitors, which observe the pass over a code.
 ghost use Rattle.std.specs.Prelude.{◌≡◌, OnOk};
-ghost use Rattle.bpf_verify.specs.AbstractState.{IsProperKnown, Reached, Unreached};
+ghost use Rattle.bpf_verify.specs.LiftedState.{IsProperState, Reached, Unreached};
 ghost use Rattle.bpf_verify.specs.Visit.{Visit};
 
-use crate::known::Known;
+use crate::abstract_state::AbstractState;
 use bpf_insn::Insn;
 use std::alloc::AllocError;
 
@@ -13,8 +13,8 @@ pub trait Visitor {
     ghost visited: { Self → Visit → Self };
 
     /// Visits an instruction that is reached. The state is only valid during the call.
-    fn reached(&mut self, place: usize, insn: Insn, known: &Known) -> Result<(), AllocError>
-        requires { IsProperKnown known.now }
+    fn reached(&mut self, place: usize, insn: Insn, known: &AbstractState) -> Result<(), AllocError>
+        requires { IsProperState known.now }
         ensures { OnOk result (self.new ≡ visited self.old (record { place = place; insn = insn; state = Reached known.now })) };
 
     /// Visits an instruction that no edge leads to.
@@ -26,7 +26,12 @@ pub trait Visitor {
 impl Visitor for () {
     ghost visited = { λ visitor visit. visitor };
 
-    fn reached(&mut self, _place: usize, _insn: Insn, _known: &Known) -> Result<(), AllocError> {
+    fn reached(
+        &mut self,
+        _place: usize,
+        _insn: Insn,
+        _known: &AbstractState,
+    ) -> Result<(), AllocError> {
         Ok(())
     }
 

@@ -32,7 +32,7 @@ mod verify;
 use crate::fault::ArgumentsFault;
 use clap::error::ErrorKind;
 use clap::{ArgMatches, Command, Error};
-use commands::{Line, Request};
+use commands::{DiagnosticLine, Request};
 use counted_io::Counting;
 pub use serve::Serve;
 use std::alloc::{AllocError, Global};
@@ -97,7 +97,7 @@ fn echoed<'a>(
 /// Returns an argument with its control characters escaped.
 fn escaped<'a>(alloc: Global, argument: &str) -> Result<String, ArgumentsFault<'a>> {
     let mut bytes = Counting::new(Vec::new(alloc));
-    if Line::new(&mut bytes).echo(argument).is_err() {
+    if DiagnosticLine::new(&mut bytes).echo(argument).is_err() {
         return Err(ArgumentsFault::Memory);
     }
     Ok(String::from_utf8_lossy(alloc, bytes.get_ref().as_slice())?)

@@ -1,8 +1,8 @@
 //! A command, from its arguments to its exit status.
 ghost use Rattle.std.specs.Prelude.{◌≡◌, ◌≢◌, ◌≤◌, ◌⊎◌};
-ghost use Rattle.counted_io.specs.Device.{writer};
+ghost use Rattle.counted_io.specs.ReaderWriter.{writer};
 ghost use Rattle.commands.specs.Command.{IsDone, IsOutOfMemory, IsRefusal, IsUnusable};
-ghost use Rattle.commands.specs.Failure.{SaysMemory};
+ghost use Rattle.commands.specs.Failure.{ReportsMemory};
 ghost use Rattle.named_files.specs.Files.{disk};
 ghost use Rattle.commands.specs.declared.request.Request.{Request};
 
@@ -36,7 +36,7 @@ pub fn command<F: Files, W: CountedWrite, E: CountedWrite>(
         (writer E.contents E.counts errors.old) (writer E.contents E.counts errors.new) }
     // Nothing is written if reading the arguments runs out of memory.
     ensures memory { result ≡ 4
-        → ((out.new ≡ out.old) × SaysMemory (writer E.contents E.counts errors.old) (writer E.contents E.counts errors.new))
+        → ((out.new ≡ out.old) × ReportsMemory (writer E.contents E.counts errors.old) (writer E.contents E.counts errors.new))
         ⊎ ((request : Request) × IsOutOfMemory request (F.bytes files.old)
         (writer W.contents W.counts out.old) (writer W.contents W.counts out.new)
         (writer E.contents E.counts errors.old) (writer E.contents E.counts errors.new)) }

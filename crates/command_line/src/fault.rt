@@ -2,14 +2,14 @@
 ghost use Rattle.std.specs.Prelude.{◌≡◌, ◌≢◌};
 ghost use Rattle.std.specs.IoError.{error_kind};
 ghost use Rattle.std.specs.declared.io.ErrorKind.TheVariants as io_kind;
-ghost use Rattle.counted_io.specs.Device.{writer};
-ghost use Rattle.commands.specs.Failure.{SaysMemory};
+ghost use Rattle.counted_io.specs.ReaderWriter.{writer};
+ghost use Rattle.commands.specs.Failure.{ReportsMemory};
 ghost use Rattle.clap.specs.Values.{kind_of};
 ghost use Rattle.clap.specs.declared.error.kind.ErrorKind.TheVariants as usage_kind;
 ghost use Rattle.command_line.specs.declared.fault.ArgumentsFault.TheVariants.{Memory, NotUtf8, Usage};
 
 use clap::error::ErrorKind as UsageKind;
-use commands::{Failure, Line, OUT_OF_MEMORY, USAGE};
+use commands::{DiagnosticLine, Failure, OUT_OF_MEMORY, USAGE};
 use counted_io::CountedWrite;
 use std::alloc::{AllocError, AllocFailed};
 use std::fmt::Write;
@@ -66,24 +66,24 @@ impl ArgumentsFault<'_> {
     /// Reports the fault on `errors`, up to the first write that fails or writes 0 bytes.
     pub fn report<E: CountedWrite>(&self, errors: &mut E)
         ensures memory { self.now ≡ ArgumentsFault.Memory
-            → SaysMemory (writer E.contents E.counts errors.old) (writer E.contents E.counts errors.new) }
+            → ReportsMemory (writer E.contents E.counts errors.old) (writer E.contents E.counts errors.new) }
     {
         if let ArgumentsFault::Memory = self {
             Failure::Memory.report(errors);
             return;
         }
-        let _ = self.say(&mut Line::new(errors));
+        let _ = self.write_report(&mut DiagnosticLine::new(errors));
     }
 
     /// Writes the report, except for `Memory`.
-    fn say<E: CountedWrite>(&self, line: &mut Line<'_, E>) -> fmt::Result {
+    fn write_report<E: CountedWrite>(&self, line: &mut DiagnosticLine<'_, E>) -> fmt::Result {
         match self {
             ArgumentsFault::NotUtf8 => write!(line, "error: an argument isn't UTF-8\n"),
             ArgumentsFault::Usage(error) => write!(line, "{error}"),
             ArgumentsFault::Missing(name) => write!(line, "error: {name} is missing\n"),
             ArgumentsFault::Code(code) => {
                 write!(line, "error: CODE is five digits")?;
-                say_given(line, code)
+                end_with_value(line, code)
             }
             ArgumentsFault::TooManyCodes(count) => {
                 write!(
@@ -97,19 +97,19 @@ impl ArgumentsFault<'_> {
                 text,
             } => {
                 write!(line, "error: --{name} is 1 to {most_digits} digits")?;
-                say_given(line, text)
+                end_with_value(line, text)
             }
             ArgumentsFault::Name(name) => {
                 write!(line, "error: --name is 1 to {NAME_LENGTH} characters")?;
-                say_given(line, name)
+                end_with_value(line, name)
             }
             ArgumentsFault::Score(name) => {
                 write!(line, "error: --score is a column with numbers")?;
-                say_given(line, name)
+                end_with_value(line, name)
             }
             ArgumentsFault::Port(text) => {
                 write!(line, "error: --port is 1 to 65535")?;
-                say_given(line, text)
+                end_with_value(line, text)
             }
             ArgumentsFault::Serve => write!(line, "error: serve needs a socket\n"),
             ArgumentsFault::Memory => Ok(()),
@@ -118,7 +118,7 @@ impl ArgumentsFault<'_> {
 }
 
 /// Ends a line with the value that was given.
-fn say_given<E: CountedWrite>(line: &mut Line<'_, E>, text: &str) -> fmt::Result {
+fn end_with_value<E: CountedWrite>(line: &mut DiagnosticLine<'_, E>, text: &str) -> fmt::Result {
     write!(line, ", and \"")?;
     line.echo(text)?;
     write!(line, "\" isn't\n")

@@ -3,7 +3,7 @@ ghost use Rattle.std.specs.Prelude.{◌≤◌, IfOk, vec_len};
 
 use crate::fault::{ArgumentsFault, CODE_LIMIT};
 use clap::{Arg, ArgAction, ArgMatches};
-use commands::Compiling;
+use commands::FilterOptions;
 use cql2::{Column, NumericColumn};
 use cql2_text::column_named;
 use decimal::are_digits;
@@ -105,16 +105,16 @@ pub fn score_option<'a>(alloc: Global) -> Arg<'a> {
 }
 
 /// Returns the options for compiling a filter.
-pub fn compiling<'a>(
+pub fn filter_options<'a>(
     alloc: Global,
     matches: &ArgMatches<'a>,
-) -> Result<Compiling, ArgumentsFault<'a>> {
-    Ok(Compiling {
+) -> Result<FilterOptions, ArgumentsFault<'a>> {
+    Ok(FilterOptions {
         score: match matches.get_str("score") {
             Some(name) => Some(numeric_column(name)?),
             None => None,
         },
-        filters: alloc,
+        filter_alloc: alloc,
     })
 }
 

@@ -1,5 +1,7 @@
 //! Files of addresses whose contents were worked out by hand.
-use addresses::{Address, AddressFault, AddressFlaw, Addresses, RECORD_LIMIT, Row};
+use addresses::{
+    Address, AddressFault, AddressFaultKind, AddressRow, Addresses, MAX_RECORD_LENGTH,
+};
 use fixtures::{Table, TableFault, bytes, cells};
 use refusals::Fault;
 use std::alloc::{AllocError, Global};
@@ -80,7 +82,7 @@ fn written(alloc: Global, address: Address<'_>) -> Result<String, AllocError> {
 /// Returns what is read from a file.
 fn outcome(alloc: Global, file: &[u8]) -> Result<String, AllocError> {
     let mut text = String::new(alloc);
-    let mut row = Row::new(alloc);
+    let mut row = AddressRow::new(alloc);
     let mut addresses = match Addresses::of(alloc, file) {
         Ok(addresses) => addresses,
         Err(fault) => {
@@ -131,19 +133,19 @@ fn with_record(alloc: Global, length: usize) -> Result<Vec<u8>, AllocError> {
 
 #[test]
 fn longest_record(rt: HostRuntime) -> Result<(), Fail> {
-    let file = with_record(rt.alloc(), RECORD_LIMIT)?;
+    let file = with_record(rt.alloc(), MAX_RECORD_LENGTH)?;
     let mut addresses = Addresses::of(rt.alloc(), &file)?;
-    let mut row = Row::new(rt.alloc());
+    let mut row = AddressRow::new(rt.alloc());
     assert!(rt; addresses.read(&mut row)?);
     assert!(rt; addresses.read(&mut row)?);
     assert!(rt; row.address().name.len() == 65_533);
     assert!(rt; !addresses.read(&mut row)?);
-    let file = with_record(rt.alloc(), RECORD_LIMIT + 1)?;
+    let file = with_record(rt.alloc(), MAX_RECORD_LENGTH + 1)?;
     let mut addresses = Addresses::of(rt.alloc(), &file)?;
     assert!(rt; addresses.read(&mut row)?);
     let fault = AddressFault::At {
         line: 3,
-        flaw: AddressFlaw::LineTooLong,
+        flaw: AddressFaultKind::LineTooLong,
     };
     assert!(rt; addresses.read(&mut row).err() == Some(fault));
     assert!(rt; addresses.read(&mut row).err() == Some(fault));

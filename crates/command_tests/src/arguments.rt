@@ -2,7 +2,7 @@
 use super::cases::{Ending, Faults, ended, status_of};
 use super::files::failing;
 use command_line::{ArgumentsFault, Serve, read_request, read_serve};
-use fixtures::{Device, Table, TableFault, bytes, cells, number, size, taken, writer};
+use fixtures::{FaultPlan, Table, TableFault, bytes, cells, number, size, taken, writer};
 use std::alloc::Global;
 
 // A command line, and the start of the text for the user.
@@ -152,14 +152,14 @@ extractd dis --help; extractd dis --program street.bpf
 fn is_start(alloc: Global, row: &str) -> Result<bool, TableFault> {
     let (line, start) = texts(row)?;
     let ending = ended(alloc, None, line, &[], Faults::none())?;
-    Ok(is_usage(&ending) && ending.said().starts_with(start))
+    Ok(is_usage(&ending) && ending.expected().starts_with(start))
 }
 
 /// Returns whether the row's part is in the text for the user.
 fn is_part(alloc: Global, row: &str) -> Result<bool, TableFault> {
     let (line, part) = texts(row)?;
     let ending = ended(alloc, None, line, &[], Faults::none())?;
-    Ok(is_usage(&ending) && ending.said().contains(part))
+    Ok(is_usage(&ending) && ending.expected().contains(part))
 }
 
 /// Returns a row's command line and its text, which isn't empty.
@@ -242,7 +242,7 @@ fn is_fault(alloc: Global, row: &str) -> Result<bool, TableFault> {
     let text = bytes(alloc, text)?;
     let words: Vec<&str> = line.split(' ').collect(alloc)?;
     match fault_of(alloc, &words) {
-        Some(fault) => Ok(fault.status() == status && is_said(alloc, &fault, &text)?),
+        Some(fault) => Ok(fault.status() == status && is_expected(alloc, &fault, &text)?),
         None => Ok(false),
     }
 }
@@ -256,10 +256,10 @@ fn fault_of<'a>(alloc: Global, words: &'a [&'a str]) -> Option<ArgumentsFault<'a
 }
 
 /// Returns whether a fault's text is written up to the point at which standard error fails.
-fn is_said(alloc: Global, fault: &ArgumentsFault<'_>, text: &[u8]) -> Result<bool, TableFault> {
+fn is_expected(alloc: Global, fault: &ArgumentsFault<'_>, text: &[u8]) -> Result<bool, TableFault> {
     let ways = WAYS.joined(alloc)?;
-    for way in ways.lines() {
-        if !is_cut(alloc, fault, text, failing(way)?) {
+    for method in ways.lines() {
+        if !is_cut(alloc, fault, text, failing(method)?) {
             return Ok(false);
         }
     }
@@ -267,9 +267,9 @@ fn is_said(alloc: Global, fault: &ArgumentsFault<'_>, text: &[u8]) -> Result<boo
 }
 
 /// Returns whether a fault's text is written up to each point at which standard error fails in this way.
-fn is_cut(alloc: Global, fault: &ArgumentsFault<'_>, text: &[u8], way: Device) -> bool {
+fn is_cut(alloc: Global, fault: &ArgumentsFault<'_>, text: &[u8], method: FaultPlan) -> bool {
     for count in 0..=text.len() {
-        let mut errors = writer(alloc, way.after(count));
+        let mut errors = writer(alloc, method.after(count));
         fault.report(&mut errors);
         if text.get(..count) != Some(taken(&errors)) {
             return false;

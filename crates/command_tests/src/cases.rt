@@ -3,7 +3,7 @@ use super::files::{Access, MemoryFile, MemoryFiles, failing_call, file_named};
 use arrayvec::ArrayString;
 use command_line::{command, read_request};
 use commands::Request;
-use fixtures::{Device, Refusing, TableFault, Writer, bytes, number, taken, writer};
+use fixtures::{FaultPlan, Refusing, TableFault, Writer, bytes, number, taken, writer};
 use std::alloc::{AllocError, Global};
 
 /// A row: a command line, the output, the status, the text on standard error, and then the files with their names. No other file exists.
@@ -15,9 +15,9 @@ pub struct Row<'a> {
     pub line: &'a str,
     pub names: Option<&'a str>,
     pub written: &'a str,
-    pub out: Option<Device>,
+    pub out: Option<FaultPlan>,
     pub status: u8,
-    pub said: &'a str,
+    pub expected: &'a str,
     pub files: Option<&'a str>,
 }
 
@@ -26,7 +26,7 @@ pub struct Row<'a> {
 pub struct Case<'a> {
     pub row: Row<'a>,
     pub written: Vec<u8>,
-    pub said: Vec<u8>,
+    pub expected: Vec<u8>,
     pub files: Vec<MemoryFile<'a>>,
 }
 
@@ -38,8 +38,8 @@ const SEPARATORS: [(&str, &str); 4] = [("''", ""), (" ", "\x1f"), ("_", " "), ("
 pub struct Faults<'a> {
     pub name: &'a str,
     pub access: Access,
-    pub out: Device,
-    pub errors: Device,
+    pub out: FaultPlan,
+    pub errors: FaultPlan,
 }
 
 /// How a command ended.
@@ -58,8 +58,8 @@ impl<'a> Row<'a> {
         let (line, row) = row.split_once(';').ok_or(TableFault::Cells)?;
         let (written, row) = row.split_once(';').ok_or(TableFault::Cells)?;
         let (status, row) = row.split_once(';').ok_or(TableFault::Cells)?;
-        let (said, files) = match row.split_once(';') {
-            Some((said, files)) => (said, Some(files)),
+        let (expected, files) = match row.split_once(';') {
+            Some((expected, files)) => (expected, Some(files)),
             None => (row, None),
         };
         let (line, names) = parts(line, '>')?;
@@ -70,7 +70,7 @@ impl<'a> Row<'a> {
             written,
             out: out.map(failing_call).transpose()?,
             status: status_of(status.trim())?,
-            said: said.trim(),
+            expected: expected.trim(),
             files,
         })
     }
@@ -80,11 +80,11 @@ impl<'a> Case<'a> {
     pub fn new(alloc: Global, row: &'a str) -> Result<Self, TableFault> {
         let row = Row::new(row)?;
         let written = bytes(alloc, row.written)?;
-        let said = line_of(alloc, row.said)?;
+        let expected = line_of(alloc, row.expected)?;
         Ok(Case {
             row,
             written,
-            said,
+            expected,
             files: files_of(alloc, row)?,
         })
     }
@@ -115,7 +115,7 @@ impl<'a> Case<'a> {
             None => true,
         };
         ending.is_with(self.row.status, &self.written)
-            && taken(&ending.errors) == self.said.as_slice()
+            && taken(&ending.errors) == self.expected.as_slice()
             && are_named
     }
 
@@ -130,8 +130,8 @@ impl Faults<'_> {
         Faults {
             name: "",
             access: Access::Sound,
-            out: Device::sound(),
-            errors: Device::sound(),
+            out: FaultPlan::sound(),
+            errors: FaultPlan::sound(),
         }
     }
 }
@@ -145,9 +145,9 @@ impl Ending {
     }
 
     /// Returns the line on standard error, without its end of line.
-    pub fn said(&self) -> &str {
-        let said = str::from_utf8(taken(&self.errors)).unwrap_or("");
-        said.strip_suffix("\n").unwrap_or("")
+    pub fn expected(&self) -> &str {
+        let expected = str::from_utf8(taken(&self.errors)).unwrap_or("");
+        expected.strip_suffix("\n").unwrap_or("")
     }
 }
 

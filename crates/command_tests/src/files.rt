@@ -1,7 +1,7 @@
 //! Files in memory.
 use arrayvec::ArrayString;
 use counted_io::count_one;
-use fixtures::{Device, Reader, TableFault, error_kind, reader, size};
+use fixtures::{FaultPlan, Reader, TableFault, error_kind, reader, size};
 use named_files::Files;
 use std::io;
 use std::io::ErrorKind;
@@ -22,7 +22,7 @@ pub enum Access {
     /// Nothing fails, and this number of reads doesn't reach the end.
     Partial(usize),
     /// A read fails as the device says.
-    Failing(Device),
+    Failing(FaultPlan),
     /// The open fails.
     Closed(ErrorKind),
 }
@@ -40,7 +40,7 @@ impl Access {
 }
 
 /// Parses which call of a reader or writer fails, and how: `call 3 pipe`.
-pub fn failing_call(text: &str) -> Result<Device, TableFault> {
+pub fn failing_call(text: &str) -> Result<FaultPlan, TableFault> {
     if text.starts_with("call ") {
         failing(text)
     } else {
@@ -48,13 +48,13 @@ pub fn failing_call(text: &str) -> Result<Device, TableFault> {
     }
 }
 
-/// Parses how calls of a reader or writer fail: a `Device`'s text that ends with a kind of error or with `nothing`.
-pub fn failing(text: &str) -> Result<Device, TableFault> {
+/// Parses how calls of a reader or writer fail: a `FaultPlan`'s text that ends with a kind of error or with `nothing`.
+pub fn failing(text: &str) -> Result<FaultPlan, TableFault> {
     let kind = text.rsplit(' ').next().unwrap_or("");
     if kind != "nothing" {
         error_kind(kind)?;
     }
-    Device::new(text)
+    FaultPlan::new(text)
 }
 
 /// Files in memory with distinct names, one of which may be given another access. No other file exists.
@@ -77,7 +77,7 @@ impl<'a> Files for MemoryFiles<'a> {
     ghost failed_reads = { λ files. files.failed_reads };
 
     fn open(&mut self, name: &str) -> io::Result<Reader<'a>> {
-        match self.open_if_there(name) {
+        match self.open_optional(name) {
             Ok(Some(reader)) => Ok(reader),
             Ok(None) => {
                 count_one(&mut self.failed_opens);
@@ -87,7 +87,7 @@ impl<'a> Files for MemoryFiles<'a> {
         }
     }
 
-    fn open_if_there(&mut self, name: &str) -> io::Result<Option<Reader<'a>>> {
+    fn open_optional(&mut self, name: &str) -> io::Result<Option<Reader<'a>>> {
         let _ = self.opened.try_push_str(name);
         let _ = self.opened.try_push_str(" ");
         let Some(file) = file_named(self.files, name) else {
@@ -99,8 +99,8 @@ impl<'a> Files for MemoryFiles<'a> {
             file.access
         };
         match access {
-            Access::Sound | Access::Partial(_) => Ok(Some(reader(&file.bytes, Device::sound()))),
-            Access::Failing(device) => Ok(Some(reader(&file.bytes, device))),
+            Access::Sound | Access::Partial(_) => Ok(Some(reader(&file.bytes, FaultPlan::sound()))),
+            Access::Failing(plan) => Ok(Some(reader(&file.bytes, plan))),
             Access::Closed(kind) => {
                 if kind != ErrorKind::OutOfMemory {
                     count_one(&mut self.failed_opens);

@@ -1,6 +1,6 @@
 //! Filters read from texts, with results worked out by hand.
 use cql2::{Column, Comparison, Filter, NumericColumn, Pattern, PatternByte};
-use cql2_text::{Expected, FilterFault, FilterFlaw, column_named, read};
+use cql2_text::{Expected, FilterFault, FilterFaultKind, column_named, read};
 use fixtures::{Table, TableFault, bytes, cells};
 use refusals::Fault;
 use std::alloc::{AllocError, Global};
@@ -268,15 +268,15 @@ fn push_filter(
 }
 
 /// Returns the flaw's name in a row.
-fn flaw_name(flaw: FilterFlaw) -> &'static str {
+fn flaw_name(flaw: FilterFaultKind) -> &'static str {
     match flaw {
-        FilterFlaw::Syntax(_expected) => "Syntax",
-        FilterFlaw::UnknownColumn => "UnknownColumn",
-        FilterFlaw::WrongType => "WrongType",
-        FilterFlaw::NumberRange => "NumberRange",
-        FilterFlaw::LongText => "LongText",
-        FilterFlaw::TooDeep => "TooDeep",
-        FilterFlaw::TooLong => "TooLong",
+        FilterFaultKind::Syntax(_expected) => "Syntax",
+        FilterFaultKind::UnknownColumn => "UnknownColumn",
+        FilterFaultKind::WrongType => "WrongType",
+        FilterFaultKind::NumberRange => "NumberRange",
+        FilterFaultKind::LongText => "LongText",
+        FilterFaultKind::TooDeep => "TooDeep",
+        FilterFaultKind::TooLong => "TooLong",
     }
 }
 
@@ -325,7 +325,7 @@ fn bad_bytes(rt: HostRuntime) {
     let fault = FilterFault::At {
         line: 2,
         column: 3,
-        flaw: FilterFlaw::Syntax(Expected::Utf8),
+        flaw: FilterFaultKind::Syntax(Expected::Utf8),
     };
     let given = read(rt.alloc(), b"\n'\xc3\xa9\xff'").err();
     assert!(rt; given == Some(fault));

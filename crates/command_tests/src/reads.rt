@@ -1,7 +1,7 @@
 //! Injects a failure into each read and refuses each growth while a program or another file is read: no read is retried.
 use super::files::failing;
 use bpf_insn::CodeFault;
-use fixtures::{Device, Refusing, Table, TableFault, bytes, cells, number, reader, size};
+use fixtures::{FaultPlan, Refusing, Table, TableFault, bytes, cells, number, reader, size};
 use named_files::{FileFault, ProgramInputFault, read_program, read_to_end};
 use std::alloc::Global;
 use std::test::Fail;
@@ -42,7 +42,7 @@ late",
 };
 
 // If there are more reads, only this number of the last ones fail.
-const MOST_READS: u64 = 10;
+const MAX_READS: u64 = 10;
 
 /// A row of the table: the reading of a file, and how it ends.
 #[derive(Clone, Copy)]
@@ -72,8 +72,8 @@ impl<'a> Reading<'a> {
     }
 
     /// Returns the outcome of reading the file with these failures: `kept` if all of its bytes were read, and otherwise the reason.
-    fn outcome(&self, heap: &Refusing<Global>, device: Device) -> &'static str {
-        let mut input = reader(self.bytes, device);
+    fn outcome(&self, heap: &Refusing<Global>, plan: FaultPlan) -> &'static str {
+        let mut input = reader(self.bytes, plan);
         let read = if self.is_program {
             read_program(heap, &mut input)
         } else {
@@ -94,16 +94,16 @@ impl<'a> Reading<'a> {
     }
 
     /// Returns whether the reading ends as it should when any one read fails in this way, and as the row says when no read fails.
-    fn is_read(&self, alloc: Global, way: Device) -> bool {
+    fn is_read(&self, alloc: Global, method: FaultPlan) -> bool {
         let heap = Refusing::new(alloc);
-        for call in self.reads.saturating_sub(MOST_READS)..=self.reads {
-            let device = way.at_call(call.wrapping_add(1));
+        for call in self.reads.saturating_sub(MAX_READS)..=self.reads {
+            let plan = method.at_call(call.wrapping_add(1));
             let expected = if call < self.reads {
                 "unusable"
             } else {
                 self.outcome
             };
-            if self.outcome(&heap, device) != expected {
+            if self.outcome(&heap, plan) != expected {
                 return false;
             }
         }
@@ -112,7 +112,7 @@ impl<'a> Reading<'a> {
 
     /// Returns whether the row's number of growths is refused, one at a time.
     fn is_grown(&self, alloc: Global) -> bool {
-        let (heap, sound) = (Refusing::new(alloc), Device::sound());
+        let (heap, sound) = (Refusing::new(alloc), FaultPlan::sound());
         let is_right = self.outcome(&heap, sound) == self.outcome;
         let growths = heap.count();
         for nth in 1..=growths {
@@ -141,8 +141,8 @@ fn is_right(alloc: Global, row: &str, bytes: &[u8]) -> Result<bool, TableFault> 
         return Ok(false);
     }
     let ways = WAYS.joined(alloc)?;
-    for way in ways.lines() {
-        if !reading.is_read(alloc, failing(way)?) {
+    for method in ways.lines() {
+        if !reading.is_read(alloc, failing(method)?) {
             return Ok(false);
         }
     }

@@ -2,7 +2,7 @@
 use super::batches::WORDS;
 use super::cases::{Case, Ending, Faults, filled, status_of};
 use super::files::{Access, failing};
-use fixtures::{Device, Refusing, Table, TableFault, cells, error_kind, size, taken};
+use fixtures::{FaultPlan, Refusing, Table, TableFault, cells, error_kind, size, taken};
 use std::alloc::{AllocError, Global};
 use std::io::ErrorKind;
 use std::test::Fail;
@@ -165,13 +165,13 @@ word; by 1 interrupted;;; 1",
 const UNREAD: &str = "refused 5 rtTYPE line LINE Read";
 
 // Writes of requests that write more bytes don't fail: those bytes are passed on in one write, as fewer bytes are.
-const MOST_WRITTEN: usize = 1000;
+const MAX_WRITTEN: usize = 1000;
 
 // How a refused growth ends.
-const GROWTH: Way<'static> = Way {
+const GROWTH: Method<'static> = Method {
     call: Call::Growth,
     status: Some(4),
-    said: "refused memory",
+    expected: "refused memory",
     step: 1,
 };
 
@@ -179,11 +179,11 @@ const GROWTH: Way<'static> = Way {
 #[derive(Clone, Copy)]
 enum Call {
     Open(ErrorKind),
-    Read(Device),
-    Write(Device),
-    Flush(Device),
+    Read(FaultPlan),
+    Write(FaultPlan),
+    Flush(FaultPlan),
     /// A write to standard error.
-    Word(Device),
+    Word(FaultPlan),
     Growth,
 }
 
@@ -203,31 +203,31 @@ impl Call {
 
 /// How calls fail, and how the command ends then.
 #[derive(Clone, Copy)]
-struct Way<'a> {
+struct Method<'a> {
     call: Call,
     /// The status, or `None` if it is that of the command without a failure.
     status: Option<u8>,
-    said: &'a str,
+    expected: &'a str,
     /// The distance from one failing call to the next.
     step: usize,
 }
 
-impl<'a> Way<'a> {
+impl<'a> Method<'a> {
     /// Parses a row of a table above.
     fn new(row: &'a str) -> Result<Self, TableFault> {
-        let (call, fault, status, said, step) = cells(row)?.five()?;
+        let (call, fault, status, expected, step) = cells(row)?.five()?;
         let call = Call::new(call, fault)?;
         let status = match call {
-            Call::Word(_) if status.is_empty() && said.is_empty() => None,
+            Call::Word(_) if status.is_empty() && expected.is_empty() => None,
             Call::Word(_) => return Err(TableFault::Cells),
             _ => Some(status_of(status)?),
         };
         match size(step)? {
             0 => Err(TableFault::Number),
-            step => Ok(Way {
+            step => Ok(Method {
                 call,
                 status,
-                said,
+                expected,
                 step,
             }),
         }
@@ -240,7 +240,7 @@ struct Trial<'a, 'b, 'c> {
     case: &'a Case<'c>,
     /// The memory of the request, or `None` for the command line.
     heap: Option<&'b Refusing<Global>>,
-    way: Way<'b>,
+    method: Method<'b>,
     /// The index of the file that fails.
     file: usize,
 }
@@ -249,20 +249,20 @@ impl<'c> Trial<'_, '_, 'c> {
     /// Returns the faults with which the call at this index fails, counted from 0.
     fn faults(&self, place: usize) -> Faults<'c> {
         let faults = self.case.faults();
-        match self.way.call {
+        match self.method.call {
             Call::Open(kind) if place == 0 => self.file_faults(Access::Closed(kind)),
             Call::Open(_) => self.file_faults(Access::Sound),
-            Call::Read(device) => self.file_faults(Access::Failing(at_call(device, place))),
-            Call::Write(device) => Faults {
-                out: device.after(place),
+            Call::Read(plan) => self.file_faults(Access::Failing(at_call(plan, place))),
+            Call::Write(plan) => Faults {
+                out: plan.after(place),
                 ..faults
             },
-            Call::Flush(device) => Faults {
-                out: at_call(device, self.case.written.len().saturating_add(place)),
+            Call::Flush(plan) => Faults {
+                out: at_call(plan, self.case.written.len().saturating_add(place)),
                 ..faults
             },
-            Call::Word(device) => Faults {
-                errors: device.after(place),
+            Call::Word(plan) => Faults {
+                errors: plan.after(place),
                 ..faults
             },
             Call::Growth => faults,
@@ -288,13 +288,13 @@ impl<'c> Trial<'_, '_, 'c> {
     /// Returns the number of such calls, or `None` if they aren't made to fail.
     fn calls(&self) -> Option<usize> {
         let length = self.case.written.len();
-        match self.way.call {
+        match self.method.call {
             Call::Open(_) => self.reads().and(Some(1)),
             Call::Read(_) => self.reads(),
             _ if self.file > 0 => None,
-            Call::Word(_) => Some(self.case.said.len()),
+            Call::Word(_) => Some(self.case.expected.len()),
             _ if self.case.row.out.is_some() => None,
-            Call::Write(_) => (length <= MOST_WRITTEN).then_some(length),
+            Call::Write(_) => (length <= MAX_WRITTEN).then_some(length),
             Call::Flush(_) => Some(usize::from(self.case.row.status != 2)),
             Call::Growth => None,
         }
@@ -316,9 +316,9 @@ impl<'c> Trial<'_, '_, 'c> {
     /// Returns whether an ending is that of the failed call at this index.
     fn is_failure(&self, alloc: Global, ending: &Ending, place: usize) -> Result<bool, TableFault> {
         let written = self.case.written.as_slice();
-        let is_refused = self.is_said(ending, self.way.said);
+        let is_refused = self.is_expected(ending, self.method.expected);
         let status = self.status();
-        Ok(match self.way.call {
+        Ok(match self.method.call {
             Call::Open(_) | Call::Read(_) => self.is_unusable(alloc, ending, place)?,
             Call::Growth => is_refused && self.is_with_rows(ending),
             Call::Write(_) => {
@@ -326,7 +326,7 @@ impl<'c> Trial<'_, '_, 'c> {
             }
             Call::Word(_) => {
                 ending.is_with(status, written)
-                    && Some(taken(&ending.errors)) == self.case.said.get(..place)
+                    && Some(taken(&ending.errors)) == self.case.expected.get(..place)
             }
             Call::Flush(_) if self.case.row.status == 0 => {
                 is_refused && ending.is_with(status, written)
@@ -337,7 +337,7 @@ impl<'c> Trial<'_, '_, 'c> {
 
     /// Returns the status with which the request ends if a call fails.
     fn status(&self) -> u8 {
-        self.way.status.unwrap_or(self.case.row.status)
+        self.method.status.unwrap_or(self.case.row.status)
     }
 
     /// Returns whether an ending is that of a file that can't be used: nothing is written, except that an extract has the rows of the lines
@@ -358,7 +358,7 @@ impl<'c> Trial<'_, '_, 'c> {
             self.is_with_rows(ending)
                 && line_count(taken(&ending.out)) == rows
                 && ending.opened.contains(self.name())
-                && self.is_said(ending, refusal.as_str()),
+                && self.is_expected(ending, refusal.as_str()),
         )
     }
 
@@ -372,10 +372,10 @@ impl<'c> Trial<'_, '_, 'c> {
     }
 
     /// Returns whether this text is on standard error, with the county's code on a second line if one of several counties is refused.
-    fn is_said(&self, ending: &Ending, text: &str) -> bool {
-        let said = ending.said();
-        let is_county = self.is_select() && said.strip_suffix("\ncounty 01001") == Some(text);
-        said == text || is_county
+    fn is_expected(&self, ending: &Ending, text: &str) -> bool {
+        let expected = ending.expected();
+        let is_county = self.is_select() && expected.strip_suffix("\ncounty 01001") == Some(text);
+        expected == text || is_county
     }
 
     /// Returns whether the row's command is this one.
@@ -408,8 +408,8 @@ impl<'c> Trial<'_, '_, 'c> {
     /// Returns the text on standard error when a read of the file fails after this number of lines.
     fn refusal(&self, alloc: Global, lines: usize) -> Result<String, AllocError> {
         let name = self.name();
-        if matches!(self.way.call, Call::Open(_)) || !name.starts_with("d/") {
-            return filled(alloc, self.way.said, &[("FILE", name)]);
+        if matches!(self.method.call, Call::Open(_)) || !name.starts_with("d/") {
+            return filled(alloc, self.method.expected, &[("FILE", name)]);
         }
         let kind = name.get(name.len().saturating_sub(1)..).unwrap_or("");
         let line = "1234".get(lines..=lines).unwrap_or("");
@@ -447,7 +447,7 @@ impl<'c> Trial<'_, '_, 'c> {
             return Ok(true);
         };
         for place in 0..=end {
-            let is_due = place == end || place.checked_rem(self.way.step) == Some(0);
+            let is_due = place == end || place.checked_rem(self.method.step) == Some(0);
             if is_due && !self.is_right(alloc, place, end)? {
                 return Ok(false);
             }
@@ -457,8 +457,8 @@ impl<'c> Trial<'_, '_, 'c> {
 }
 
 /// Returns the device whose call at this index fails, counted from 0.
-fn at_call(device: Device, place: usize) -> Device {
-    device.at_call((place as u64).wrapping_add(1))
+fn at_call(plan: FaultPlan, place: usize) -> FaultPlan {
+    plan.at_call((place as u64).wrapping_add(1))
 }
 
 fn line_count(bytes: &[u8]) -> usize {
@@ -475,8 +475,8 @@ fn is_swept(alloc: Global, row: &str, ways: Table, is_line: bool) -> Result<bool
     let heap = Refusing::new(alloc);
     let heap = if is_line { None } else { Some(&heap) };
     let ways = ways.joined(alloc)?;
-    for way in ways.lines() {
-        if !is_case_swept(alloc, &case, heap, Way::new(way)?)? {
+    for method in ways.lines() {
+        if !is_case_swept(alloc, &case, heap, Method::new(method)?)? {
             return Ok(false);
         }
     }
@@ -488,13 +488,13 @@ fn is_case_swept(
     alloc: Global,
     case: &Case<'_>,
     heap: Option<&Refusing<Global>>,
-    way: Way<'_>,
+    method: Method<'_>,
 ) -> Result<bool, TableFault> {
     for file in 0..case.files.len().max(1) {
         let trial = Trial {
             case,
             heap,
-            way,
+            method,
             file,
         };
         if !trial.is_swept(alloc)? {
@@ -559,7 +559,7 @@ fn is_grown(alloc: Global, row: &str) -> Result<bool, TableFault> {
     let trial = Trial {
         case: &case,
         heap: Some(&heap),
-        way: GROWTH,
+        method: GROWTH,
         file: 0,
     };
     trial.is_grown(alloc, &heap)

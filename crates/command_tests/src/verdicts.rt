@@ -137,8 +137,8 @@ extractd run --program p.bpf --data d 01001; ! call 1 full; 1; SAID; p.bpf: {asm
 
 /// Returns whether both commands refuse a program as a row says.
 fn is_refused(alloc: Global, row: &str) -> Result<bool, TableFault> {
-    let (program, said) = cells(row)?.two()?;
-    are_right(alloc, REFUSED, &[("PROGRAM", program), ("SAID", said)])
+    let (program, expected) = cells(row)?.two()?;
+    are_right(alloc, REFUSED, &[("PROGRAM", program), ("SAID", expected)])
 }
 
 /// Returns whether both commands accept a program, and one selects the rows that a row says.

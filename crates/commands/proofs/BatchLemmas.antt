@@ -16,14 +16,14 @@ use Rattle.addresses.proofs.ListingLaws.{all_read_lem, one_more_lem}
 use Rattle.batch.specs.Batch.{BatchParts}
 use Rattle.batch.specs.Lines.{header, lines_of, lines_of_all}
 use Rattle.refusals.specs.Refusal.{memory}
-use Rattle.counted_io.specs.Device.{WriteCounts, Writer}
+use Rattle.counted_io.specs.ReaderWriter.{WriteCounts, Writer}
 use Rattle.counted_io.specs.Writing.{WritesText}
 use Rattle.tl_segments.specs.County.{CountyParts}
 use Rattle.commands.specs.Command.{CarriesOut}
-use Rattle.commands.specs.Counties.{AreCountiesOf, HaveRefusedCounty, IsFileOfCounties, TellsLoad}
-use Rattle.commands.specs.Failure.{IsOfAddresses, NamesFile, TellsCounts, WritesAs, refusal_status, status}
+use Rattle.commands.specs.Counties.{AreCountiesOf, HaveRefusedCounty, IsFileOfCounties, IsLoadFailure}
+use Rattle.commands.specs.Failure.{IsOfAddresses, NamesFile, IsUnfailedUnlessUnusable, WritesAs, refusal_status, status}
 use Rattle.named_files.specs.Files.{Disk, IsUnfailed}
-use Rattle.commands.specs.GeocodeBatch.{AreAddressesOf, Inputs, IsFaultOf, TellsAddresses, WritesBatch, WritesUnlessMemory, codes_of, fault_of}
+use Rattle.commands.specs.GeocodeBatch.{AreAddressesOf, Inputs, IsFaultOf, IsAddressesFault, WritesBatch, WritesUnlessMemory, codes_of, fault_of}
 use Rattle.commands.specs.GeocodeBatch.{of_county, of_memory, output}
 use Rattle.commands.specs.declared.failure.Failure.{Failure}
 use Rattle.commands.specs.declared.failure.Failure.TheVariants as failure
@@ -65,17 +65,17 @@ module _ (file : List ℕ) (rows : List AddressParts) (left : Listing) (read : I
       grind (arith, same)
 
 -- a failed read of the next address implies why not all addresses are read
-pub read_told : (file : List ℕ) (rows : List AddressParts) (left new : Listing) (address : AddressParts) (fault : AddressFault)
-    → IsReadTo file rows left → IsAddressRead (Err fault) address left new → TellsAddresses file fault
-read_told file rows left new address (At line flaw) read is = read_until file rows left read (At line flaw) is
-read_told file rows left new address NoHeader read is = absurd is
-read_told file rows left new address Memory read is = tt
+pub read_failure : (file : List ℕ) (rows : List AddressParts) (left new : Listing) (address : AddressParts) (fault : AddressFault)
+    → IsReadTo file rows left → IsAddressRead (Err fault) address left new → IsAddressesFault file fault
+read_failure file rows left new address (At line flaw) read is = read_until file rows left read (At line flaw) is
+read_failure file rows left new address NoHeader read is = absurd is
+read_failure file rows left new address Memory read is = tt
 
 -- a failed read of the header implies it too
-pub header_told : (file : List ℕ) (fault : AddressFault) → IsHeaderRead (Err fault) (addresses_in file) → TellsAddresses file fault
-header_told file (At line flaw) is = ap fault_of is
-header_told file NoHeader is = ap fault_of is
-header_told file Memory is = tt
+pub header_failure : (file : List ℕ) (fault : AddressFault) → IsHeaderRead (Err fault) (addresses_in file) → IsAddressesFault file fault
+header_failure file (At line flaw) is = ap fault_of is
+header_failure file NoHeader is = ap fault_of is
+header_failure file Memory is = tt
 
 -- a file whose header is read has no fault of its header
 is_listing : {held : Result Listing AddressFault} {left : Listing} → held ≡ Ok left → (fault : AddressFault) → held ≢ Err fault
@@ -204,47 +204,47 @@ pub batch_usage : (text : List ℕ) (WritesBefore : Writer → Writer → Type 0
 batch_usage text WritesBefore (Ok done) a b wrote = tt
 batch_usage text WritesBefore (Err failure) a b wrote = λ two. grind (arith, refusal_not_usage, wrote, two)
 
-told_fault : (file : List ℕ) (fault : AddressFault) → TellsAddresses file fault → fault ≢ Memory → IsFaultOf file fault
-told_fault file Memory told other = absurd (other refl)
-told_fault file NoHeader told other = told
-told_fault file (At line flaw) told other = told
+addresses_fault : (file : List ℕ) (fault : AddressFault) → IsAddressesFault file fault → fault ≢ Memory → IsFaultOf file fault
+addresses_fault file Memory is_failure other = absurd (other refl)
+addresses_fault file NoHeader is_failure other = is_failure
+addresses_fault file (At line flaw) is_failure other = is_failure
 
 -- The file of addresses was read, and what is known of the files stays the same. Then a county can't be loaded.
 module _ (batch : GeocodeBatch) {disk later disk' : Disk} {out : Writer} (before : IsUnfailed disk later)
     (same : (name : List ℕ) → later.known name ≡ disk.known name) where
-  county_failed : (failure : Failure) → TellsLoad (HaveRefusedCounty later.known batch.«data».now (codes_of batch)) later disk' failure
-      → NamesFile (IsFileOfCounties batch.«data».now (codes_of batch)) failure → TellsCounts {T = ℕ} (Err failure) later disk'
+  county_failed : (failure : Failure) → IsLoadFailure (HaveRefusedCounty later.known batch.«data».now (codes_of batch)) later disk' failure
+      → NamesFile (IsFileOfCounties batch.«data».now (codes_of batch)) failure → IsUnfailedUnlessUnusable {T = ℕ} (Err failure) later disk'
       → CarriesOut (request.GeocodeBatch batch) (Err failure) disk disk' out out
-  county_failed (failure.Refusal refusal) told names counts = record {
+  county_failed (failure.Refusal refusal) is_failure names counts = record {
     outcome = (
-      of_county (subst (λ known. HaveRefusedCounty known batch.«data».now (codes_of batch) refusal) (fun_ext same) told.0) refl,
-      λ three as_before. told.1 three (as_before ∙ sym before.reads),
+      of_county (subst (λ known. HaveRefusedCounty known batch.«data».now (codes_of batch) refusal) (fun_ext same) is_failure.0) refl,
+      λ three as_before. is_failure.1 three (as_before ∙ sym before.reads),
     );
     names = tt;
     counts = λ other. unfailed_both before (counts other);
     unflushed = refl;
   }
-  county_failed (failure.CountyFile folder code file error) told names counts = record {
-    outcome = (refl, λ as_before. told (as_before ∙ sym before.opens));
+  county_failed (failure.CountyFile folder code file error) is_failure names counts = record {
+    outcome = (refl, λ as_before. is_failure (as_before ∙ sym before.opens));
     names = inr names;
     counts = λ other. unfailed_both before (counts other);
     unflushed = refl;
   }
-  county_failed failure.Memory told names counts = record {
+  county_failed failure.Memory is_failure names counts = record {
     outcome = refl;
     names = tt;
     counts = λ other. unfailed_both before (counts other);
     unflushed = refl;
   }
-  county_failed failure told names counts = absurd told
+  county_failed failure is_failure names counts = absurd is_failure
 
   module _ (codes : List (Bor (List ℕ))) (lent : codes ≡ batch.codes.items) where
-    pub counties_failed : (failure : Failure) → TellsLoad (HaveRefusedCounty later.known batch.«data».now (texts codes)) later disk' failure
-        → NamesFile (IsFileOfCounties batch.«data».now (texts codes)) failure → TellsCounts {T = ℕ} (Err failure) later disk'
+    pub counties_failed : (failure : Failure) → IsLoadFailure (HaveRefusedCounty later.known batch.«data».now (texts codes)) later disk' failure
+        → NamesFile (IsFileOfCounties batch.«data».now (texts codes)) failure → IsUnfailedUnlessUnusable {T = ℕ} (Err failure) later disk'
         → CarriesOut (request.GeocodeBatch batch) (Err failure) disk disk' out out
-    counties_failed failure told names =
+    counties_failed failure is_failure names =
         county_failed failure
-        (subst (λ codes. TellsLoad (HaveRefusedCounty later.known batch.«data».now (texts codes)) later disk' failure) lent told)
+        (subst (λ codes. IsLoadFailure (HaveRefusedCounty later.known batch.«data».now (texts codes)) later disk' failure) lent is_failure)
         (subst (λ codes. NamesFile (IsFileOfCounties batch.«data».now (texts codes)) failure) lent names)
 
 -- the counties are loaded
@@ -262,17 +262,17 @@ inputs_of batch {later = later} same codes lent file is_file counties are = reco
 -- The file of addresses and the counties are loaded.
 module _ (batch : GeocodeBatch) {disk disk' : Disk} (inputs : Inputs batch disk.known) (counts : IsUnfailed disk disk') {out : Writer} where
   -- not all of the file's addresses are read
-  pub addresses_failed : (fault : AddressFault) (failed : Failure) → TellsAddresses inputs.file fault → IsOfAddresses fault failed
+  pub addresses_failed : (fault : AddressFault) (failed : Failure) → IsAddressesFault inputs.file fault → IsOfAddresses fault failed
       → CarriesOut (request.GeocodeBatch batch) (Err failed) disk disk' out out
-  addresses_failed fault (failure.Noted refusal note) told is = record {
-    outcome = (record { inputs = inputs; fault = fault; is_fault = told_fault inputs.file fault told is.0; refused = is.1 }, refl);
+  addresses_failed fault (failure.Noted refusal note) is_failure is = record {
+    outcome = (record { inputs = inputs; fault = fault; is_fault = addresses_fault inputs.file fault is_failure is.0; refused = is.1 }, refl);
     names = tt;
     counts = λ other. counts;
     unflushed = refl;
   }
-  addresses_failed fault (failure.Refusal refusal) told is =
+  addresses_failed fault (failure.Refusal refusal) is_failure is =
       rw is.1 (refused_carried memory (of_memory refl (inl refl)) counts.opens (sound (address_status Memory) counts.reads) refl)
-  addresses_failed fault failed told is = absurd is
+  addresses_failed fault failed is_failure is = absurd is
 
   -- all are read, and then the output is written
   pub batch_carried : {out' : Writer} (addresses : List AddressParts) (result : Result (Unit {0}) Failure)

@@ -3,14 +3,14 @@ use Rattle.std.proofs.Common.{◌≡◌, ◌≢◌, ℕ, List, Option, Bor, Resu
 use Rattle.bpf_insn.specs.CodeFault as code_fault
 use Rattle.bpf_insn.specs.declared.fault.CodeFault.{CodeFault}
 use Rattle.refusals.specs.Refusal.{RefusalParts}
-use Rattle.counted_io.specs.Counted.{CountsFault}
-use Rattle.counted_io.specs.Device.{WriteCounts, Writer}
+use Rattle.counted_io.specs.Counting.{CountsFault}
+use Rattle.counted_io.specs.ReaderWriter.{WriteCounts, Writer}
 use Rattle.counted_io.specs.Writing.{WritesText}
 use Rattle.counted_io.specs.declared.writing.WriteFault.{WriteFault}
 use Rattle.commands.specs.Command.{CarriesOut, IsFileOf, IsRefused, Writes, WritesBefore}
-use Rattle.commands.specs.Failure.{KeepsOnUsage, NamesFile, TellsCounts, WritesAs, of_file, of_program, refusal_status}
-use Rattle.named_files.specs.Files.{CountsUse, Disk, IsTooLong, IsUnfailed, TellsProgram, TellsProgramUse}
-use Rattle.commands.specs.Inputs.{HoldTooLong, TellsInputs}
+use Rattle.commands.specs.Failure.{IsUnchangedOnUsage, NamesFile, IsUnfailedUnlessUnusable, WritesAs, of_file, of_program, refusal_status}
+use Rattle.named_files.specs.Files.{CountsUse, Disk, IsTooLong, IsUnfailed, IsProgramInputFault, CountsProgramUse}
+use Rattle.commands.specs.Inputs.{HoldTooLong, IsInputsFailure}
 use Rattle.commands.specs.declared.request.Request.{Request}
 use Rattle.commands.specs.declared.failure.Failure.{Failure}
 use Rattle.commands.specs.declared.failure.Failure.TheVariants.{Refusal}
@@ -25,7 +25,7 @@ refusal_not_usage refusal two = grind (arith, two)
 
 -- nor is a fault of the output
 pub written_usage : {W : Type 0} (text : List ℕ) (result : Result (Unit {0}) Failure) (out out' : Writer) (w w' : W)
-    → WritesAs text result out out' → KeepsOnUsage result w w'
+    → WritesAs text result out out' → IsUnchangedOnUsage result w w'
 written_usage text result out out' w w' wrote = grind (arith, wrote)
 
 -- a write's fault counts no flush
@@ -71,14 +71,14 @@ module _ {request : Request} {disk disk' : Disk} {out : Writer} where
 
   -- a program can't be read or is too long
   pub program_carried : (name : Bor (List ℕ)) (known : Option (List ℕ)) (fault : ProgramInputFault)
-      → IsFileOf request name.now → TellsProgram known fault → TellsProgramUse {T = ℕ} (Err fault) disk disk'
+      → IsFileOf request name.now → IsProgramInputFault known fault → CountsProgramUse {T = ℕ} (Err fault) disk disk'
       → ((code : CodeFault) → IsTooLong known code → IsRefused request disk.known (code_fault.refusal code) out out)
       → CarriesOut request (Err (of_program name fault)) disk disk' out out
-  program_carried name known fault is told uses each = grind (arith, is, told, uses, code_status)
+  program_carried name known fault is is_failure uses each = grind (arith, is, is_failure, uses, code_status)
 
   -- the program or the county can't be read
-  pub inputs_carried : (name folder code : List ℕ) (failure : Failure) → TellsInputs name folder code disk disk' failure
-      → NamesFile (IsFileOf request) failure → TellsCounts {T = ℕ} (Err failure) disk disk' → WritesBefore request disk.known out out
+  pub inputs_carried : (name folder code : List ℕ) (failure : Failure) → IsInputsFailure name folder code disk disk' failure
+      → NamesFile (IsFileOf request) failure → IsUnfailedUnlessUnusable {T = ℕ} (Err failure) disk disk' → WritesBefore request disk.known out out
       → ((refusal : RefusalParts) → HoldTooLong name folder code disk.known refusal → IsRefused request disk.known refusal out out)
       → CarriesOut request (Err failure) disk disk' out out
-  inputs_carried name folder code failure told names counts before each = grind (arith, before, code_status)
+  inputs_carried name folder code failure is_failure names counts before each = grind (arith, before, code_status)

@@ -18,7 +18,7 @@ use Rattle.cql2_text.specs.FilterFault as filter_fault
 use Rattle.cql2_text.specs.Spelled.{IsFilterText}
 use Rattle.cql2_text.specs.declared.fault.FilterFault.{FilterFault}
 use Rattle.cql2_text.specs.declared.fault.FilterFault.TheVariants as filter
-use Rattle.cql2_text.specs.declared.reader.TheConstants.{TEXT_LIMIT}
+use Rattle.cql2_text.specs.declared.reader.TheConstants.{MAX_TEXT_LENGTH}
 use Rattle.bpf_program.specs.ProgramFault as program_fault
 use Rattle.bpf_program.specs.declared.program.ProgramFault.{ProgramFault}
 use Rattle.refusals.specs.Refusal.{RefusalParts}
@@ -49,7 +49,7 @@ filter_status text score refusal (of_program filter spelled long is) three = gri
 
 -- a fault of a filter's text is a failure of the filter
 pub of_filter_failure : (text : List ℕ) (score : Option NumericColumn) (fault : FilterFault) (failure : Failure)
-    → (length text ≤ TEXT_LIMIT → IsUtf8 text → (made : AFilter Global) → IsFilterText text made → fault ≡ filter.Memory)
+    → (length text ≤ MAX_TEXT_LENGTH → IsUtf8 text → (made : AFilter Global) → IsFilterText text made → fault ≡ filter.Memory)
     → IsOfFilter fault failure → IsFilterFailure text score failure
 of_filter_failure text score fault (Noted refusal note) reads is =
     of_text fault (λ short utf8 made spelled. is.0 (reads short utf8 made spelled)) is.1

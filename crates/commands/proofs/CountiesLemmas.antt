@@ -7,7 +7,7 @@ use Rattle.std.proofs.lemmas.List.{map-append, map_more, take-append-drop}
 use Rattle.std.proofs.lemmas.Slice.Zip.{all_zipped_more}
 use Rattle.tl_segments.specs.County.{CountyParts}
 use Rattle.refusals.specs.Refusal.{RefusalParts}
-use Rattle.commands.specs.Counties.{AreCountiesOf, HaveRefusedCounty, IsCountyOf, IsFileOfCounties, IsRefusedCounty, TellsLoad}
+use Rattle.commands.specs.Counties.{AreCountiesOf, HaveRefusedCounty, IsCountyOf, IsFileOfCounties, IsRefusedCounty, IsLoadFailure}
 use Rattle.named_files.specs.County.{IsFileOfCounty, file_name}
 use Rattle.commands.specs.Failure.{NamesFile, of_county_file, status}
 use Rattle.named_files.specs.Files.{CountsFileFault, Disk, IsUnfailed}
@@ -25,7 +25,7 @@ pub codes_at : (codes : List (Bor (List ℕ))) (i : ℕ) (d : Bor (List ℕ)) �
     → texts codes ≡ texts (take i codes) ++ (get_or codes i d).now ∷ texts (drop (suc i) codes)
 codes_at codes i d inside =
     ap texts (sym (take-append-drop i codes)) ∙ map-append (λ code. code.now) (take i codes) (drop i codes)
-    ∙ ap (λ behind. texts (take i codes) ++ texts behind) (drop-cons codes i d inside)
+    ∙ ap (λ following. texts (take i codes) ++ texts following) (drop-cons codes i d inside)
 
 -- after the counties of the codes before it
 module _ {known later : List ℕ → Option (List ℕ)} (same : (name : List ℕ) → later name ≡ known name) {folder : List ℕ}
@@ -42,12 +42,12 @@ module _ {known later : List ℕ → Option (List ℕ)} (same : (name : List ℕ
       (all_zipped_more (IsCountyOf known folder) (texts (take i codes)) counties (get_or codes i d).now county so_far here)
 
   -- the refusal of one more code's county
-  pub refused_behind : {refusal : RefusalParts} → IsRefusedCounty later folder (get_or codes i d).now refusal
+  pub refused_after : {refusal : RefusalParts} → IsRefusedCounty later folder (get_or codes i d).now refusal
       → HaveRefusedCounty known folder (texts codes) refusal
-  refused_behind {refusal} is = record {
+  refused_after {refusal} is = record {
     before = texts (take i codes);
     code = (get_or codes i d).now;
-    behind = texts (drop (suc i) codes);
+    following = texts (drop (suc i) codes);
     are_codes = codes_at codes i d inside;
     counties = counties;
     loaded = so_far;
@@ -56,32 +56,32 @@ module _ {known later : List ℕ → Option (List ℕ)} (same : (name : List ℕ
 
 -- a file named in the failure of one county
 module _ (folder : List ℕ) (codes : List (Bor (List ℕ))) (i : ℕ) (d : Bor (List ℕ)) (inside : i < length codes) where
-  file_behind : (name : List ℕ) → IsFileOfCounty folder (get_or codes i d).now name → IsFileOfCounties folder (texts codes) name
-  file_behind name is = record {
+  file_after : (name : List ℕ) → IsFileOfCounty folder (get_or codes i d).now name → IsFileOfCounties folder (texts codes) name
+  file_after name is = record {
     before = texts (take i codes);
     code = (get_or codes i d).now;
-    behind = texts (drop (suc i) codes);
+    following = texts (drop (suc i) codes);
     are_codes = codes_at codes i d inside;
     is_file = is;
   }
 
-  pub named_behind : (failure : Failure) → NamesFile (IsFileOfCounty folder (get_or codes i d).now) failure
+  pub named_after : (failure : Failure) → NamesFile (IsFileOfCounty folder (get_or codes i d).now) failure
       → NamesFile (IsFileOfCounties folder (texts codes)) failure
-  named_behind (File name error) is = file_behind name.now is
-  named_behind (CountyFile of_folder of_code file error) is = file_behind (file_name of_folder.now of_code.now file) is
-  named_behind failure is = tt
+  named_after (File name error) is = file_after name.now is
+  named_after (CountyFile of_folder of_code file error) is = file_after (file_name of_folder.now of_code.now file) is
+  named_after failure is = tt
 
 -- the same failure, counted from an earlier point since which no open and no read failed
-pub load_told : {IsRefusedNow IsRefusedSo : RefusalParts → Type 0} (disk later disk' : Disk) (failure : Failure) → IsUnfailed disk later
-    → ((refusal : RefusalParts) → IsRefusedNow refusal → IsRefusedSo refusal) → TellsLoad IsRefusedNow later disk' failure
-    → TellsLoad IsRefusedSo disk disk' failure
-load_told disk later disk' failure unfailed so told = grind (arith, told)
+pub earlier_load_failure : {IsRefusedNow IsRefusedSo : RefusalParts → Type 0} (disk later disk' : Disk) (failure : Failure) → IsUnfailed disk later
+    → ((refusal : RefusalParts) → IsRefusedNow refusal → IsRefusedSo refusal) → IsLoadFailure IsRefusedNow later disk' failure
+    → IsLoadFailure IsRefusedSo disk disk' failure
+earlier_load_failure disk later disk' failure unfailed so is_failure = grind (arith, is_failure)
 
 -- a county's file can't be opened
-pub open_told : (IsRefusedSo : RefusalParts → Type 0) (disk disk' : Disk) (folder code : Bor (List ℕ)) (file : county_file.CountyFile)
+pub open_failure : (IsRefusedSo : RefusalParts → Type 0) (disk disk' : Disk) (folder code : Bor (List ℕ)) (file : county_file.CountyFile)
     (of : FileFault) → CountsFileFault of disk.failed_opens disk'.failed_opens
-    → TellsLoad IsRefusedSo disk disk' (of_county_file folder code file of)
-open_told IsRefusedSo disk disk' folder code file of opens = grind (arith, opens)
+    → IsLoadFailure IsRefusedSo disk disk' (of_county_file folder code file of)
+open_failure IsRefusedSo disk disk' folder code file of opens = grind (arith, opens)
 
 pub open_counts : {disk disk' : Disk} (folder code : Bor (List ℕ)) (file : county_file.CountyFile) (of : FileFault)
     → CountsFileFault of disk.failed_opens disk'.failed_opens → disk'.failed_reads ≡ disk.failed_reads
@@ -94,11 +94,11 @@ open_named folder code file (fault.Unusable error) = (file, refl)
 open_named folder code file fault.Memory = tt
 
 -- none of these is a usage error
-pub load_usage : (IsRefusedSo : RefusalParts → Type 0) (disk disk' : Disk) (failure : Failure) → TellsLoad IsRefusedSo disk disk' failure
+pub load_usage : (IsRefusedSo : RefusalParts → Type 0) (disk disk' : Disk) (failure : Failure) → IsLoadFailure IsRefusedSo disk disk' failure
     → status failure ≢ 2
-load_usage IsRefusedSo disk disk' failure told two = grind (arith, refusal_not_usage, told, two)
+load_usage IsRefusedSo disk disk' failure is_failure two = grind (arith, refusal_not_usage, is_failure, two)
 
 -- running out of memory implies nothing about the counties
-pub memory_told : {T : Type 0} (result : Result T Failure) (IsRefusedSo : RefusalParts → Type 0) (disk disk' : Disk)
-    → IsErrAnd result (λ failure. failure ≡ Memory) → IfErr result (TellsLoad IsRefusedSo disk disk')
-memory_told result IsRefusedSo disk disk' is = grind (arith, is)
+pub memory_failure : {T : Type 0} (result : Result T Failure) (IsRefusedSo : RefusalParts → Type 0) (disk disk' : Disk)
+    → IsErrAnd result (λ failure. failure ≡ Memory) → IfErr result (IsLoadFailure IsRefusedSo disk disk')
+memory_failure result IsRefusedSo disk disk' is = grind (arith, is)

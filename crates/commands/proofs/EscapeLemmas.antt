@@ -11,7 +11,7 @@ use Rattle.std.proofs.lemmas.Grind.{flat_map-append}
 use Rattle.std.proofs.lemmas.List.{append-nil, take_all}
 use Rattle.std.proofs.lemmas.List.Sums.{passes_at_first, split_at_first}
 use Rattle.bpf_assembler.proofs.WordLemmas.{position-found, position-missing}
-use Rattle.counted_io.specs.Device.{Writer}
+use Rattle.counted_io.specs.ReaderWriter.{Writer}
 use Rattle.counted_io.specs.Writing.{WritesText}
 use Rattle.counted_io.specs.declared.writing.WriteFault.{WriteFault}
 use Rattle.counted_io.proofs.KnownBytesLemmas.{Appends-refl}

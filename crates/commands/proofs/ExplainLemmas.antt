@@ -15,7 +15,7 @@ use Rattle.refusals.specs.Refusal.{RefusalParts, memory}
 use Rattle.bpf_verify.specs.VerifyFault as verify_fault
 use Rattle.bpf_verify.specs.declared.fault.VerifyFault.{VerifyFault}
 use Rattle.bpf_verify.specs.declared.fault.VerifyFault.TheVariants as verify
-use Rattle.counted_io.specs.Device.{WriteCounts, Writer}
+use Rattle.counted_io.specs.ReaderWriter.{WriteCounts, Writer}
 use Rattle.counted_io.specs.Writing.{WritesText}
 use Rattle.commands.specs.Command.{CarriesOut}
 use Rattle.commands.specs.Explain.{HoldsLines, Inputs, IsFlowFault, WritesExplained, of_lines, of_memory, of_program, of_verdict}

@@ -7,8 +7,8 @@ use Rattle.std.proofs.Math.Nat.{min-le_right}
 use Rattle.std.proofs.lemmas.Grind.{flat_map-append, take_at_read}
 use Rattle.std.proofs.lemmas.List.{flat_map_more, take-append-drop, take-append-le, take_all, take_min}
 use Rattle.std.specs.Io.KnownBytes.{Appends}
-use Rattle.counted_io.specs.Counted.{CountsFault}
-use Rattle.counted_io.specs.Device.{WriteCounts, Writer}
+use Rattle.counted_io.specs.Counting.{CountsFault}
+use Rattle.counted_io.specs.ReaderWriter.{WriteCounts, Writer}
 use Rattle.counted_io.specs.Writing.{AppendsBeginning, WritesText}
 use Rattle.counted_io.specs.declared.writing.WriteFault.{WriteFault}
 use Rattle.counted_io.proofs.KnownBytesLemmas.{Appends-append, AppendsBeginning-further}
@@ -43,7 +43,7 @@ stopped_further first second more fault a b c before stopped = (
 module _ {A : Type 0} (f : A → List ℕ) (xs : List A) (i : ℕ) (d : A) (inside : i < length xs) where
   all_pieces : flat_map f (take i xs) ++ (f (get_or xs i d) ++ flat_map f (drop (suc i) xs)) ≡ flat_map f xs
   all_pieces =
-      ap (λ (behind : List A). flat_map f (take i xs) ++ flat_map f behind) (sym (drop-cons xs i d inside))
+      ap (λ (following : List A). flat_map f (take i xs) ++ flat_map f following) (sym (drop-cons xs i d inside))
       ∙ sym (flat_map-append f (take i xs) (drop i xs)) ∙ ap (flat_map f) (take-append-drop i xs)
 
   -- one more piece is written

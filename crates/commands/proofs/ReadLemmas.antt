@@ -1,12 +1,12 @@
 -- Which refusals are for a failed read, and what closing a county's readers then counts.
 use Rattle.std.proofs.Common.{◌≡◌, ◌≢◌, ℕ, List, Option, refl, ap, sym, subst, ◌∙◌, arith}
 use Rattle.bpf_insn.specs.declared.instruction.Insn.{Insn}
-use Rattle.counted_io.specs.Device.{Reader, Writer}
-use Rattle.tl_records.specs.LineFlaw as line_flaw
-use Rattle.tl_records.specs.declared.fault.LineFlaw.{LineFlaw}
+use Rattle.counted_io.specs.ReaderWriter.{Reader, Writer}
+use Rattle.tl_records.specs.LineFaultKind as line_fault_kind
+use Rattle.tl_records.specs.declared.fault.LineFaultKind.{LineFaultKind}
 use Rattle.tl_segments.specs.County.{CountyParts, CountyReaders, IsCountyFault, LoadsCounty, before_rt1, in_rt1}
 use Rattle.tl_segments.specs.LoadFault as load_fault
-use Rattle.tl_segments.specs.Loading.{ComesAfter, IsFileFault, IsJoinedFault, in_rt4, in_rt5, in_rt6}
+use Rattle.tl_segments.specs.Loading.{IsFaultAfter, IsFileFault, IsJoinedFault, in_rt4, in_rt5, in_rt6}
 use Rattle.tl_segments.specs.declared.fault.CountyFile as county_file
 use Rattle.tl_segments.specs.declared.fault.CountyFile.TheVariants.{Rt1, Rt4, Rt5, Rt6}
 use Rattle.tl_segments.specs.declared.fault.LoadFault.{LoadFault}
@@ -25,13 +25,13 @@ pub record ReadsAs (status failed failed' : ℕ) : Type 0 where
 pub sound : {status failed failed' : ℕ} → status ≢ 3 → failed' ≡ failed → ReadsAs status failed failed'
 sound other same = record { fails = λ three. absurd (other three); stays = λ _. same }
 
-flaw_reads : (file : county_file.CountyFile) (of : LineFlaw) (number : ℕ) (lines : List (List ℕ)) (old new : Reader)
-    → ComesAfter file of number lines old new → ReadsAs (refusal_status (line_flaw.refusal of)) old.failed new.failed
-flaw_reads file of number lines old new after = grind (arith, after)
+fault_reads : (file : county_file.CountyFile) (of : LineFaultKind) (number : ℕ) (lines : List (List ℕ)) (old new : Reader)
+    → IsFaultAfter file of number lines old new → ReadsAs (refusal_status (line_fault_kind.refusal of)) old.failed new.failed
+fault_reads file of number lines old new after = grind (arith, after)
 
 file_reads : (file : county_file.CountyFile) (of : LoadFault) (old new : Reader) → IsFileFault file of old new
     → ReadsAs (refusal_status (load_fault.refusal of)) old.failed new.failed
-file_reads file of old new is = grind (arith, flaw_reads, is)
+file_reads file of old new is = grind (arith, fault_reads, is)
 
 -- a count after one reader is closed, together with others none of whose reads failed
 module _ {status a b c : ℕ} where

@@ -6,15 +6,15 @@ use Rattle.std.proofs.lemmas.List.{map_more}
 use Rattle.bpf_insn.specs.declared.instruction.Insn.{Insn}
 use Rattle.cql2.specs.declared.column.NumericColumn.{NumericColumn}
 use Rattle.extract.specs.declared.fault.ExtractFault.TheVariants as extract
-use Rattle.counted_io.specs.Device.{Writer}
+use Rattle.counted_io.specs.ReaderWriter.{Writer}
 use Rattle.refusals.specs.Refusal.{RefusalParts}
 use Rattle.commands.specs.Command.{CarriesOut, IsTextRefused}
 use Rattle.commands.specs.Counties.{IsFileOfCounties}
-use Rattle.commands.specs.Failure.{NamesFile, TellsCounts}
+use Rattle.commands.specs.Failure.{NamesFile, IsUnfailedUnlessUnusable}
 use Rattle.named_files.specs.Files.{Disk, IsUnfailed}
 use Rattle.commands.specs.Filter.{IsCodeOfText, IsFilterFailure, IsFilterRefusal}
-use Rattle.commands.specs.Select.{FailsAs, IsCountyOutcome, IsCountyRefusal, Selecting, SelectsCounties, SelectsCounty, StopsAt}
-use Rattle.commands.specs.Select.{WritesCounties, WritesCounty, codes_of, more, none, selecting}
+use Rattle.commands.specs.Select.{FailsAs, IsCountyOutcome, IsCountyRefusal, Selection, SelectsCounties, SelectsCounty, StopsAt}
+use Rattle.commands.specs.Select.{WritesCounties, WritesCounty, codes_of, more, none, selection}
 use Rattle.commands.specs.declared.request.Request.{Request}
 use Rattle.commands.specs.declared.request.Request.TheVariants as request
 use Rattle.commands.specs.declared.select.Select.{Select}
@@ -23,7 +23,7 @@ use Rattle.commands.specs.declared.failure.Failure.TheVariants.{Memory, Write, C
 use Rattle.commands.proofs.CountiesLemmas.{codes_at, texts}
 
 -- written extracts count no fault and no flush
-pub counties_counts : {over : Selecting} {out : Writer} {codes : List (List ℕ)} {out' : Writer} → WritesCounties over out codes out'
+pub counties_counts : {over : Selection} {out : Writer} {codes : List (List ℕ)} {out' : Writer} → WritesCounties over out codes out'
     → out'.counts ≡ out.counts
 counties_counts none = refl
 counties_counts (more code before wrote) = wrote.1.outcome.counts ∙ counties_counts before
@@ -31,25 +31,25 @@ counties_counts (more code before wrote) = wrote.1.outcome.counts ∙ counties_c
 -- after the counties of the codes before it
 module _ (known later : List ℕ → Option (List ℕ)) (same : (name : List ℕ) → later name ≡ known name) {folder : List ℕ} {program : List Insn}
     (codes : List (Bor (List ℕ))) (i : ℕ) (d : Bor (List ℕ)) (inside : i < length codes) {out between : Writer}
-    (so_far : WritesCounties (selecting known folder program) out (texts (take i codes)) between) where
-  earlier : (IsSo : Selecting → Type 0) → IsSo (selecting later folder program) → IsSo (selecting known folder program)
-  earlier IsSo = subst (λ (known : List ℕ → Option (List ℕ)). IsSo (selecting known folder program)) (fun_ext same)
+    (so_far : WritesCounties (selection known folder program) out (texts (take i codes)) between) where
+  earlier : (IsSo : Selection → Type 0) → IsSo (selection later folder program) → IsSo (selection known folder program)
+  earlier IsSo = subst (λ (known : List ℕ → Option (List ℕ)). IsSo (selection known folder program)) (fun_ext same)
 
   -- the county of one more code
-  pub written_more : {out' : Writer} → WritesCounty (selecting later folder program) (get_or codes i d).now between out'
-      → WritesCounties (selecting known folder program) out (texts (take (i + 1) codes)) out'
+  pub written_more : {out' : Writer} → WritesCounty (selection later folder program) (get_or codes i d).now between out'
+      → WritesCounties (selection known folder program) out (texts (take (i + 1) codes)) out'
   written_more {out'} wrote =
-      subst (λ (codes : List (List ℕ)). WritesCounties (selecting known folder program) out codes out')
+      subst (λ (codes : List (List ℕ)). WritesCounties (selection known folder program) out codes out')
       (sym (map_more (λ (code : Bor (List ℕ)). code.now) codes i d inside))
       (more (get_or codes i d).now so_far (earlier (λ over. WritesCounty over (get_or codes i d).now between out') wrote))
 
   -- the command stops at that code
-  stopped_behind : {StopsSo : List ℕ → Writer → Type 0} → StopsSo (get_or codes i d).now between
-      → StopsAt (selecting known folder program) (texts codes) out StopsSo
-  stopped_behind is = record {
+  stopped_after : {StopsSo : List ℕ → Writer → Type 0} → StopsSo (get_or codes i d).now between
+      → StopsAt (selection known folder program) (texts codes) out StopsSo
+  stopped_after is = record {
     before = texts (take i codes);
     code = (get_or codes i d).now;
-    behind = texts (drop (suc i) codes);
+    following = texts (drop (suc i) codes);
     are_codes = codes_at codes i d inside;
     between = between;
     written = so_far;
@@ -57,21 +57,21 @@ module _ (known later : List ℕ → Option (List ℕ)) (same : (name : List ℕ
   }
 
   pub counties_stopped : (out' : Writer) (failure : Failure)
-      → SelectsCounty (selecting later folder program) (get_or codes i d).now (Err failure) between out'
-      → SelectsCounties (selecting known folder program) (texts codes) (Err failure) out out'
+      → SelectsCounty (selection later folder program) (get_or codes i d).now (Err failure) between out'
+      → SelectsCounties (selection known folder program) (texts codes) (Err failure) out out'
   counties_stopped out' (Write fault) is =
-      stopped_behind (earlier (λ over. IsCountyOutcome over (get_or codes i d).now (Err (extract.Write fault)) between out') is)
+      stopped_after (earlier (λ over. IsCountyOutcome over (get_or codes i d).now (Err (extract.Write fault)) between out') is)
   counties_stopped out' (County code refusal) is =
-      stopped_behind (sym is.0, earlier (λ over. IsCountyRefusal over (get_or codes i d).now refusal between out') is.1)
-  counties_stopped out' (CountyFile of_folder code file error) is = stopped_behind is
+      stopped_after (sym is.0, earlier (λ over. IsCountyRefusal over (get_or codes i d).now refusal between out') is.1)
+  counties_stopped out' (CountyFile of_folder code file error) is = stopped_after is
   counties_stopped out' failure is = absurd is
 
 -- the same failure, counted from an earlier point since which no open and no read failed
-pub fails_behind : (failure : Failure) (disk later disk' : Disk) → IsUnfailed disk later → FailsAs failure later disk'
+pub fails_after : (failure : Failure) (disk later disk' : Disk) → IsUnfailed disk later → FailsAs failure later disk'
     → FailsAs failure disk disk'
-fails_behind (County code refusal) disk later disk' unfailed is = λ three as_before. is three (as_before ∙ sym unfailed.reads)
-fails_behind (CountyFile folder code file error) disk later disk' unfailed is = λ as_before. is (as_before ∙ sym unfailed.opens)
-fails_behind failure disk later disk' unfailed is = tt
+fails_after (County code refusal) disk later disk' unfailed is = λ three as_before. is three (as_before ∙ sym unfailed.reads)
+fails_after (CountyFile folder code file error) disk later disk' unfailed is = λ as_before. is (as_before ∙ sym unfailed.opens)
+fails_after failure disk later disk' unfailed is = tt
 
 -- a filter is refused
 pub filter_carried : {request : Request} {disk disk' : Disk} {out : Writer} (text : List ℕ) (score : Option NumericColumn)
@@ -85,13 +85,13 @@ filter_carried text score Memory is each counts =
 filter_carried text score failure is each counts = absurd is
 
 -- the extracts of its program
-module _ {disk disk' : Disk} {out out' : Writer} (asked : Select) {program : List Insn}
-    (is_program : IsCodeOfText asked.filter.now asked.compiling.score program) where
+module _ {disk disk' : Disk} {out out' : Writer} (arguments : Select) {program : List Insn}
+    (is_program : IsCodeOfText arguments.filter.now arguments.filter_options.score program) where
   pub select_carried : (result : Result (Unit {0}) Failure)
-      → SelectsCounties (selecting disk.known asked.«data».now program) (codes_of asked) result out out'
+      → SelectsCounties (selection disk.known arguments.«data».now program) (codes_of arguments) result out out'
       → IfErr result (λ failure. FailsAs failure disk disk')
-      → IfErr result (NamesFile (IsFileOfCounties asked.«data».now (codes_of asked))) → TellsCounts result disk disk'
-      → out'.counts.flushes ≡ out.counts.flushes → CarriesOut (request.Select asked) result disk disk' out out'
+      → IfErr result (NamesFile (IsFileOfCounties arguments.«data».now (codes_of arguments))) → IsUnfailedUnlessUnusable result disk disk'
+      → out'.counts.flushes ≡ out.counts.flushes → CarriesOut (request.Select arguments) result disk disk' out out'
   select_carried (Ok done) is fails names counts unflushed =
       record { outcome = (program, is_program, is); names = names; counts = counts; unflushed = unflushed }
   select_carried (Err (Write fault)) is fails names counts unflushed =
@@ -103,16 +103,16 @@ module _ {disk disk' : Disk} {out out' : Writer} (asked : Select) {program : Lis
   select_carried (Err failure) is fails names counts unflushed = absurd is
 
 -- the same for the call's arguments: the text and the codes are borrowed
-pub select_lent : {disk disk' : Disk} {out out' : Writer} (asked : Select) {text : List ℕ} {program : List Insn} {codes : List (Bor (List ℕ))}
-    (result : Result (Unit {0}) Failure) → text ≡ asked.filter.now → codes ≡ asked.codes.items
-    → IsCodeOfText text asked.compiling.score program
-    → SelectsCounties (selecting disk.known asked.«data».now program) (texts codes) result out out'
+pub select_lent : {disk disk' : Disk} {out out' : Writer} (arguments : Select) {text : List ℕ} {program : List Insn} {codes : List (Bor (List ℕ))}
+    (result : Result (Unit {0}) Failure) → text ≡ arguments.filter.now → codes ≡ arguments.codes.items
+    → IsCodeOfText text arguments.filter_options.score program
+    → SelectsCounties (selection disk.known arguments.«data».now program) (texts codes) result out out'
     → IfErr result (λ failure. FailsAs failure disk disk')
-    → IfErr result (NamesFile (IsFileOfCounties asked.«data».now (texts codes))) → TellsCounts result disk disk'
-    → out'.counts.flushes ≡ out.counts.flushes → CarriesOut (request.Select asked) result disk disk' out out'
-select_lent {disk} {disk'} {out} {out'} asked {program = program} {codes = codes} result same_text same_codes is selects fails names =
-    select_carried asked (subst (λ (text : List ℕ). IsCodeOfText text asked.compiling.score program) same_text is) result
+    → IfErr result (NamesFile (IsFileOfCounties arguments.«data».now (texts codes))) → IsUnfailedUnlessUnusable result disk disk'
+    → out'.counts.flushes ≡ out.counts.flushes → CarriesOut (request.Select arguments) result disk disk' out out'
+select_lent {disk} {disk'} {out} {out'} arguments {program = program} {codes = codes} result same_text same_codes is selects fails names =
+    select_carried arguments (subst (λ (text : List ℕ). IsCodeOfText text arguments.filter_options.score program) same_text is) result
     (subst (λ (codes : List (Bor (List ℕ))).
-    SelectsCounties (selecting disk.known asked.«data».now program) (texts codes) result out out') same_codes selects)
+    SelectsCounties (selection disk.known arguments.«data».now program) (texts codes) result out out') same_codes selects)
     fails
-    (subst (λ (codes : List (Bor (List ℕ))). IfErr result (NamesFile (IsFileOfCounties asked.«data».now (texts codes)))) same_codes names)
+    (subst (λ (codes : List (Bor (List ℕ))). IfErr result (NamesFile (IsFileOfCounties arguments.«data».now (texts codes)))) same_codes names)

@@ -2,14 +2,14 @@
 use Rattle.std.proofs.Common.{◌≡◌, ℕ, List, Option, Result, Err, refl, ap, sym, subst, ◌∙◌}
 use Rattle.bpf_meaning.specs.declared.outcome.Outcome.{Outcome}
 use Rattle.refusals.specs.Refusal.{RefusalParts}
-use Rattle.counted_io.specs.Device.{Writer}
+use Rattle.counted_io.specs.ReaderWriter.{Writer}
 use Rattle.tl_segments.specs.County.{CountyReaders}
 use Rattle.commands.specs.Command.{CarriesOut}
 use Rattle.named_files.specs.County.{ClosesCounty, HoldCounty}
 use Rattle.commands.specs.Failure.{WritesAs, refusal_status}
 use Rattle.named_files.specs.Files.{Closes, Disk, IsUnfailed}
 use Rattle.commands.specs.Inputs.{HoldTooLong}
-use Rattle.commands.specs.Trace.{EndsAs, HoldAsked, IsOutcomeOn, IsRefused, IsTraceFault, of_code, of_county, outcome_line}
+use Rattle.commands.specs.Trace.{IsTraceResult, HoldRequested, IsOutcomeOn, IsRefused, IsTraceFault, of_code, of_county, outcome_line}
 use Rattle.commands.specs.declared.failure.Failure.{Failure}
 use Rattle.commands.specs.declared.failure.Failure.TheVariants.{Refusal, NoLine}
 use Rattle.commands.specs.declared.request.Request.TheVariants as request
@@ -40,7 +40,7 @@ fault_closed {failed = failed} {failed' = failed'} hold closes refusal (of_count
     subst (λ (refusal : RefusalParts). ReadsAs (refusal_status refusal) failed failed') (sym is) (county_closed hold closes fault loads)
 
 module _ {trace : Trace} {disk between disk' : Disk} {program bytes : List ℕ} {old new : CountyReaders}
-    (hold : HoldAsked trace disk.known program old) (before : IsUnfailed disk between) (closes : Closes (ClosesCounty new) between disk')
+    (hold : HoldRequested trace disk.known program old) (before : IsUnfailed disk between) (closes : Closes (ClosesCounty new) between disk')
     (same : bytes ≡ program) where
   -- the outcome was passed to the output
   pub outcome_written : {outcome : Outcome} (result : Result (Unit {0}) Failure) {out out' : Writer}
@@ -60,7 +60,7 @@ module _ {trace : Trace} {disk between disk' : Disk} {program bytes : List ℕ} 
       })
 
   -- there is no outcome
-  stopped : (failure : Failure) {out : Writer} → EndsAs trace program old new (Err failure)
+  stopped : (failure : Failure) {out : Writer} → IsTraceResult trace program old new (Err failure)
       → CarriesOut (request.Trace trace) (Err failure) disk disk' out out
   stopped (Refusal refusal) is =
       refused_carried refusal (record { program = program; old = old; hold = hold; new = new; fault = is; unwritten = refl })
@@ -76,6 +76,6 @@ module _ {trace : Trace} {disk between disk' : Disk} {program bytes : List ℕ} 
   }
   stopped failure is = absurd is
 
-  pub no_outcome : (failure : Failure) {out : Writer} → EndsAs trace bytes old new (Err failure)
+  pub no_outcome : (failure : Failure) {out : Writer} → IsTraceResult trace bytes old new (Err failure)
       → CarriesOut (request.Trace trace) (Err failure) disk disk' out out
-  no_outcome failure is = stopped failure (subst (λ (bytes : List ℕ). EndsAs trace bytes old new (Err failure)) same is)
+  no_outcome failure is = stopped failure (subst (λ (bytes : List ℕ). IsTraceResult trace bytes old new (Err failure)) same is)

@@ -7,7 +7,7 @@ use Rattle.bpf_assembler.specs.Text.{IsFirstFault, Means}
 use Rattle.bpf_assembler.specs.TextFault as text_fault
 use Rattle.bpf_assembler.specs.declared.fault.TextFault.{TextFault}
 use Rattle.refusals.specs.Refusal.{RefusalParts}
-use Rattle.counted_io.specs.Device.{Writer}
+use Rattle.counted_io.specs.ReaderWriter.{Writer}
 use Rattle.counted_io.specs.Writing.{WritesText}
 use Rattle.counted_io.specs.declared.writing.WriteFault.{WriteFault}
 use Rattle.commands.specs.declared.assemble.Assemble.{Assemble}

@@ -3,8 +3,8 @@ use Rattle.std.specs.Prelude.{◌≡◌, ◌≢◌, ℕ, List, [], ◌∷◌, �
 use Rattle.std.specs.Io.KnownBytes.{Keeps}
 use Rattle.std.specs.declared.io.Error.{Error}
 use Rattle.refusals.specs.Refusal.{RefusalParts, line}
-use Rattle.counted_io.specs.Counted.{CountsFault, CountsFlush}
-use Rattle.counted_io.specs.Device.{Writer}
+use Rattle.counted_io.specs.Counting.{CountsFault, CountsFlush}
+use Rattle.counted_io.specs.ReaderWriter.{Writer}
 use Rattle.counted_io.specs.Writing as write_fault
 use Rattle.counted_io.specs.declared.writing.WriteFault.{WriteFault}
 use Rattle.commands.specs.Assemble as assemble
@@ -12,7 +12,7 @@ use Rattle.commands.specs.Compile as compile
 use Rattle.commands.specs.Counties.{IsFileOfCounties}
 use Rattle.commands.specs.Disassemble as disassemble
 use Rattle.commands.specs.Explain as explain
-use Rattle.commands.specs.Failure.{NamesFile, Says, SaysFile, SaysLine, SaysMemory, SaysNotUtf8, SaysOutput, SaysText, TellsCounts, refusal_status}
+use Rattle.commands.specs.Failure.{NamesFile, Reports, ReportsFile, ReportsLine, ReportsMemory, ReportsNotUtf8, ReportsOutput, ReportsText, IsUnfailedUnlessUnusable, refusal_status}
 use Rattle.commands.specs.Failure.{status as status_of}
 use Rattle.named_files.specs.Files.{Disk, IsFailed}
 use Rattle.commands.specs.Filter.{IsFilterRefusal}
@@ -30,16 +30,16 @@ use Rattle.commands.specs.declared.failure.Failure.TheVariants.{Refusal, Memory,
 
 -- the request's output was written, completely or until the output failed
 abbrev pub Writes : Request → (List ℕ → Option (List ℕ)) → Result (Unit {0}) WriteFault → Writer → Writer → Type 0
-Writes (Run asked) known result out out' = run.Writes asked known result out out'
-Writes (Trace asked) known result out out' = trace.Writes asked known result out out'
-Writes (Geocode asked) known result out out' = geocode.Writes asked known result out out'
-Writes (GeocodeBatch asked) known result out out' = geocode_batch.Writes asked known result out out'
-Writes (Verify asked) known result out out' = verify.Writes asked known result out out'
-Writes (Explain asked) known result out out' = explain.Writes asked known result out out'
-Writes (Assemble asked) known result out out' = assemble.Writes asked known result out out'
-Writes (Disassemble asked) known result out out' = disassemble.Writes asked known result out out'
-Writes (Compile asked) known result out out' = compile.Writes asked known result out out'
-Writes (Select asked) known result out out' = select.Writes asked known result out out'
+Writes (Run arguments) known result out out' = run.Writes arguments known result out out'
+Writes (Trace arguments) known result out out' = trace.Writes arguments known result out out'
+Writes (Geocode arguments) known result out out' = geocode.Writes arguments known result out out'
+Writes (GeocodeBatch arguments) known result out out' = geocode_batch.Writes arguments known result out out'
+Writes (Verify arguments) known result out out' = verify.Writes arguments known result out out'
+Writes (Explain arguments) known result out out' = explain.Writes arguments known result out out'
+Writes (Assemble arguments) known result out out' = assemble.Writes arguments known result out out'
+Writes (Disassemble arguments) known result out out' = disassemble.Writes arguments known result out out'
+Writes (Compile arguments) known result out out' = compile.Writes arguments known result out out'
+Writes (Select arguments) known result out out' = select.Writes arguments known result out out'
 
 -- the request's output was written completely
 abbrev pub IsWritten : Request → (List ℕ → Option (List ℕ)) → Writer → Writer → Type 0
@@ -48,26 +48,26 @@ IsWritten request known out out' = Writes request known (Ok tt) out out'
 -- A library refused the request with this refusal. `compile` and `select` don't appear here: they are refused for their filter, or for one of
 -- several counties.
 abbrev pub IsRefused : Request → (List ℕ → Option (List ℕ)) → RefusalParts → Writer → Writer → Type 0
-IsRefused (Run asked) known refusal out out' = run.IsRefused asked known refusal out out'
-IsRefused (Trace asked) known refusal out out' = trace.IsRefused asked known refusal out out'
-IsRefused (Geocode asked) known refusal out out' = geocode.IsRefused asked known refusal out out'
-IsRefused (GeocodeBatch asked) known refusal out out' = geocode_batch.IsRefused asked known refusal out out'
-IsRefused (Verify asked) known refusal out out' = verify.IsRefused asked known refusal out out'
-IsRefused (Explain asked) known refusal out out' = explain.IsRefused asked known refusal out out'
-IsRefused (Assemble asked) known refusal out out' = assemble.IsRefused asked known refusal out out'
-IsRefused (Disassemble asked) known refusal out out' = disassemble.IsRefused asked known refusal out out'
+IsRefused (Run arguments) known refusal out out' = run.IsRefused arguments known refusal out out'
+IsRefused (Trace arguments) known refusal out out' = trace.IsRefused arguments known refusal out out'
+IsRefused (Geocode arguments) known refusal out out' = geocode.IsRefused arguments known refusal out out'
+IsRefused (GeocodeBatch arguments) known refusal out out' = geocode_batch.IsRefused arguments known refusal out out'
+IsRefused (Verify arguments) known refusal out out' = verify.IsRefused arguments known refusal out out'
+IsRefused (Explain arguments) known refusal out out' = explain.IsRefused arguments known refusal out out'
+IsRefused (Assemble arguments) known refusal out out' = assemble.IsRefused arguments known refusal out out'
+IsRefused (Disassemble arguments) known refusal out out' = disassemble.IsRefused arguments known refusal out out'
 IsRefused request known refusal out out' = ⊥
 
 -- the request's filter or file of addresses is refused with this refusal
 abbrev pub IsTextRefused : Request → (List ℕ → Option (List ℕ)) → RefusalParts → Type 0
-IsTextRefused (Compile asked) known refusal = compile.IsRefused asked known refusal
-IsTextRefused (Select asked) known refusal = IsFilterRefusal asked.filter.now asked.compiling.score refusal
-IsTextRefused (GeocodeBatch asked) known refusal = geocode_batch.AreAddressesRefused asked known refusal
+IsTextRefused (Compile arguments) known refusal = compile.IsRefused arguments known refusal
+IsTextRefused (Select arguments) known refusal = IsFilterRefusal arguments.filter.now arguments.filter_options.score refusal
+IsTextRefused (GeocodeBatch arguments) known refusal = geocode_batch.AreAddressesRefused arguments known refusal
 IsTextRefused request known refusal = ⊥
 
 -- the county of this code, one of several, is refused with this refusal
 abbrev pub IsCountyRefused : Request → (List ℕ → Option (List ℕ)) → List ℕ → RefusalParts → Writer → Writer → Type 0
-IsCountyRefused (Select asked) known code refusal out out' = select.IsRefusedAt asked known code refusal out out'
+IsCountyRefused (Select arguments) known code refusal out out' = select.IsRefusedAt arguments known code refusal out out'
 IsCountyRefused request known code refusal out out' = ⊥
 
 -- a library refused the request, which is reported as this failure
@@ -79,17 +79,17 @@ IsRefusedWith request known failure out out' = ⊥
 
 -- what was written before a file turned out to be unusable: nothing, except that `select` has written the extracts of the counties before it
 abbrev pub WritesBefore : Request → (List ℕ → Option (List ℕ)) → Writer → Writer → Type 0
-WritesBefore (Select asked) known out out' = select.WritesBefore asked known out out'
+WritesBefore (Select arguments) known out out' = select.WritesBefore arguments known out out'
 WritesBefore request known out out' = out' ≡ out
 
 -- the requested line isn't in the type 1 file; only `trace` requests a line
-abbrev pub LacksLine : Request → (List ℕ → Option (List ℕ)) → ℕ → Type 0
-LacksLine (Trace asked) known number = trace.LacksLine asked known number
-LacksLine request known number = ⊥
+abbrev pub IsMissingLine : Request → (List ℕ → Option (List ℕ)) → ℕ → Type 0
+IsMissingLine (Trace arguments) known number = trace.IsMissingLine arguments known number
+IsMissingLine request known number = ⊥
 
 -- the name of the request's source; only `asm` has one
 abbrev pub source_of : Request → Option (List ℕ)
-source_of (Assemble asked) = Some asked.source.now
+source_of (Assemble arguments) = Some arguments.source.now
 source_of request = None
 
 -- this is the name of the request's source, which isn't UTF-8
@@ -101,16 +101,16 @@ pub record IsNotUtf8 (request : Request) (known : List ℕ → Option (List ℕ)
 
 -- the request reads a file of this name
 abbrev pub IsFileOf : Request → List ℕ → Type 0
-IsFileOf (Run asked) name = IsInput asked.program.now asked.«data».now asked.code.now name
-IsFileOf (Trace asked) name = IsInput asked.program.now asked.«data».now asked.code.now name
-IsFileOf (Geocode asked) name = IsFileOfCounties asked.«data».now (geocode.codes_of asked) name
-IsFileOf (GeocodeBatch asked) name = geocode_batch.IsFileOf asked name
-IsFileOf (Verify asked) name = name ≡ asked.program.now
-IsFileOf (Explain asked) name = explain.IsFileOf asked name
-IsFileOf (Assemble asked) name = name ≡ asked.source.now
-IsFileOf (Disassemble asked) name = name ≡ asked.program.now
-IsFileOf (Compile asked) name = name ≡ asked.filter.now
-IsFileOf (Select asked) name = IsFileOfCounties asked.«data».now (select.codes_of asked) name
+IsFileOf (Run arguments) name = IsInput arguments.program.now arguments.«data».now arguments.code.now name
+IsFileOf (Trace arguments) name = IsInput arguments.program.now arguments.«data».now arguments.code.now name
+IsFileOf (Geocode arguments) name = IsFileOfCounties arguments.«data».now (geocode.codes_of arguments) name
+IsFileOf (GeocodeBatch arguments) name = geocode_batch.IsFileOf arguments name
+IsFileOf (Verify arguments) name = name ≡ arguments.program.now
+IsFileOf (Explain arguments) name = explain.IsFileOf arguments name
+IsFileOf (Assemble arguments) name = name ≡ arguments.source.now
+IsFileOf (Disassemble arguments) name = name ≡ arguments.program.now
+IsFileOf (Compile arguments) name = name ≡ arguments.filter.now
+IsFileOf (Select arguments) name = IsFileOfCounties arguments.«data».now (select.codes_of arguments) name
 
 -- The outcome of a request. Its output was written, completely or until the output failed. Or a library refuses it; if the status is 3, a read
 -- failed. Or a file can't be used. Or memory ran out or the requested line doesn't exist, and nothing was written. The output isn't flushed.
@@ -126,7 +126,7 @@ IsCarriedOut request (Err (File name error)) disk disk' out out' = (out' ≡ out
 IsCarriedOut request (Err (CountyFile folder code file error)) disk disk' out out' =
     WritesBefore request disk.known out out' × (disk'.failed_opens ≢ disk.failed_opens)
 IsCarriedOut request (Err (NotUtf8 name)) disk disk' out out' = (out' ≡ out) × IsNotUtf8 request disk.known name.now
-IsCarriedOut request (Err (NoLine number)) disk disk' out out' = (out' ≡ out) × LacksLine request disk.known number
+IsCarriedOut request (Err (NoLine number)) disk disk' out out' = (out' ≡ out) × IsMissingLine request disk.known number
 IsCarriedOut request (Err Memory) disk disk' out out' = out' ≡ out
 IsCarriedOut request (Err (Output error)) disk disk' out out' = ⊥
 
@@ -135,21 +135,21 @@ IsCarriedOut request (Err (Output error)) disk disk' out out' = ⊥
 pub record CarriesOut (request : Request) (result : Result (Unit {0}) Failure) (disk disk' : Disk) (out out' : Writer) : Type 0 where
   pub outcome : IsCarriedOut request result disk disk' out out'
   pub names : IfErr result (NamesFile (IsFileOf request))
-  pub counts : TellsCounts result disk disk'
+  pub counts : IsUnfailedUnlessUnusable result disk disk'
   pub unflushed : out'.counts.flushes ≡ out.counts.flushes
 
 -- the output was flushed and keeps what it held; its other counts are unchanged
 pub record IsFlushed (out out' : Writer) : Type 0 where
-  pub kept : Keeps out.held out'.held
+  pub unchanged : Keeps out.held out'.held
   pub flushes : out'.counts.flushes ≢ out.counts.flushes
   pub failed : out'.counts.failed ≡ out.counts.failed
   pub empty : out'.counts.empty ≡ out.counts.empty
 
 -- The flush of the output failed, and the failure was reported. The output keeps what it held.
 pub record FailsFlush (out out' errors errors' : Writer) : Type 0 where
-  pub kept : Keeps out.held out'.held
+  pub unchanged : Keeps out.held out'.held
   pub failed : out'.counts.failed ≢ out.counts.failed
-  pub said : SaysOutput errors errors'
+  pub reported : ReportsOutput errors errors'
 
 -- the request's output was written completely, after what the output held before, and then the output was flushed
 pub record IsDone (request : Request) (known : List ℕ → Option (List ℕ)) (out out' : Writer) : Type 0 where
@@ -163,40 +163,40 @@ pub record IsRefusalOf (status : ℕ) (request : Request) (known : List ℕ → 
   pub is_status : status_of failure ≡ status
   pub unflushed : Writer
   pub refused : IsRefusedWith request known failure out unflushed
-  pub kept : Keeps unflushed.held out'.held
-  pub said : Says failure errors errors'
+  pub unchanged : Keeps unflushed.held out'.held
+  pub reported : Reports failure errors errors'
 
 -- the request was refused, and neither I/O nor an allocation failed
 abbrev pub IsRefusal : Request → (List ℕ → Option (List ℕ)) → Writer → Writer → Writer → Writer → Type 0
 IsRefusal request known out out' errors errors' = IsRefusalOf 1 request known out out' errors errors'
 
 -- the requested line doesn't exist, and this was reported
-pub record IsLackOfLine (request : Request) (known : List ℕ → Option (List ℕ)) (errors errors' : Writer) : Type 0 where
+pub record ReportsMissingLine (request : Request) (known : List ℕ → Option (List ℕ)) (errors errors' : Writer) : Type 0 where
   pub number : ℕ
-  pub lacks : LacksLine request known number
-  pub said : SaysText (codes "error: the type 1 file has no line " ++ decimal number ++ 10 ∷ []) errors errors'
+  pub missing : IsMissingLine request known number
+  pub reported : ReportsText (codes "error: the type 1 file has no line " ++ decimal number ++ 10 ∷ []) errors errors'
 
 -- An allocation failed, and this was reported: either in a library, which refused the request for it, or elsewhere, and nothing was written.
 pub data IsOutOfMemory (request : Request) (known : List ℕ → Option (List ℕ)) (out out' errors errors' : Writer) : Type 0 where
   of_library : IsRefusalOf 4 request known out out' errors errors' → IsOutOfMemory request known out out' errors errors'
-  of_other : Keeps out.held out'.held → SaysMemory errors errors' → IsOutOfMemory request known out out' errors errors'
+  of_other : Keeps out.held out'.held → ReportsMemory errors errors' → IsOutOfMemory request known out out' errors errors'
 
 -- Why a request fails with status 3. An open or a read failed, so one of the request's files can't be used, and nothing was written. Or a
 -- county's file can't be opened, and only the extracts of the counties before it were written. Or a read of a county's file failed, and a library
 -- refused the request. Or a source isn't UTF-8, and nothing was written. Or a write failed or wrote 0 bytes: a prefix was written, and a flush was
 -- attempted. Or everything was written, but the flush failed. Each of these was reported.
 pub data IsUnusable (request : Request) (disk disk' : Disk) (out out' errors errors' : Writer) : Type 0 where
-  of_file : (name : List ℕ) → IsFileOf request name → IsFailed disk disk' → Keeps out.held out'.held → SaysFile name errors errors'
+  of_file : (name : List ℕ) → IsFileOf request name → IsFailed disk disk' → Keeps out.held out'.held → ReportsFile name errors errors'
       → IsUnusable request disk disk' out out' errors errors'
   of_county_file : (name : List ℕ) → IsFileOf request name → disk'.failed_opens ≢ disk.failed_opens → (unflushed : Writer)
-      → WritesBefore request disk.known out unflushed → Keeps unflushed.held out'.held → SaysFile name errors errors'
+      → WritesBefore request disk.known out unflushed → Keeps unflushed.held out'.held → ReportsFile name errors errors'
       → IsUnusable request disk disk' out out' errors errors'
   of_county : disk'.failed_reads ≢ disk.failed_reads → IsRefusalOf 3 request disk.known out out' errors errors'
       → IsUnusable request disk disk' out out' errors errors'
-  of_source : (name : List ℕ) → IsNotUtf8 request disk.known name → Keeps out.held out'.held → SaysNotUtf8 name errors errors'
+  of_source : (name : List ℕ) → IsNotUtf8 request disk.known name → Keeps out.held out'.held → ReportsNotUtf8 name errors errors'
       → IsUnusable request disk disk' out out' errors errors'
   of_write : (fault : WriteFault) (unflushed : Writer) → Writes request disk.known (Err fault) out unflushed
-      → CountsFault fault out.counts unflushed.counts → SaysLine (line (write_fault.refusal fault)) errors errors'
+      → CountsFault fault out.counts unflushed.counts → ReportsLine (line (write_fault.refusal fault)) errors errors'
       → Keeps unflushed.held out'.held → (flush : Result (Unit {0}) Error) → CountsFlush flush unflushed.counts out'.counts
       → IsUnusable request disk disk' out out' errors errors'
   of_flush : (unflushed : Writer) → IsWritten request disk.known out unflushed → FailsFlush unflushed out' errors errors'

@@ -2,7 +2,7 @@
 use Rattle.std.specs.Prelude.{ℕ, List, Option, Some, Result}
 use Rattle.std.specs.Io.KnownBytes.{Keeps}
 use Rattle.refusals.specs.Refusal.{RefusalParts}
-use Rattle.counted_io.specs.Device.{Writer}
+use Rattle.counted_io.specs.ReaderWriter.{Writer}
 use Rattle.counted_io.specs.Writing.{WritesText}
 use Rattle.counted_io.specs.declared.writing.WriteFault.{WriteFault}
 use Rattle.commands.specs.Filter.{IsFilterRefusal, IsProgramOf}
@@ -15,11 +15,11 @@ pub record Writes (compile : Compile) (known : List ℕ → Option (List ℕ)) (
   pub text : List ℕ
   pub is_text : Keeps (known compile.filter.now) (Some text)
   pub program : List ℕ
-  pub is_program : IsProgramOf text compile.compiling.score program
+  pub is_program : IsProgramOf text compile.filter_options.score program
   pub written : WritesText program result out out'
 
 -- The filter's text, whose bytes agree with what is known of them, is refused with this refusal.
 pub record IsRefused (compile : Compile) (known : List ℕ → Option (List ℕ)) (refusal : RefusalParts) : Type 0 where
   pub text : List ℕ
   pub is_text : Keeps (known compile.filter.now) (Some text)
-  pub refused : IsFilterRefusal text compile.compiling.score refusal
+  pub refused : IsFilterRefusal text compile.filter_options.score refusal

@@ -36,8 +36,8 @@ pub record HaveRefusedCounty (known : List ℕ → Option (List ℕ)) (folder : 
     (refusal : RefusalParts) : Type 0 where
   pub before : List (List ℕ)
   pub code : List ℕ
-  pub behind : List (List ℕ)
-  pub are_codes : codes ≡ before ++ code ∷ behind
+  pub following : List (List ℕ)
+  pub are_codes : codes ≡ before ++ code ∷ following
   pub counties : List CountyParts
   pub loaded : AreCountiesOf known folder before counties
   pub refused : IsRefusedCounty known folder code refusal
@@ -46,15 +46,15 @@ pub record HaveRefusedCounty (known : List ℕ → Option (List ℕ)) (folder : 
 pub record IsFileOfCounties (folder : List ℕ) (codes : List (List ℕ)) (name : List ℕ) : Type 0 where
   pub before : List (List ℕ)
   pub code : List ℕ
-  pub behind : List (List ℕ)
-  pub are_codes : codes ≡ before ++ code ∷ behind
+  pub following : List (List ℕ)
+  pub are_codes : codes ≡ before ++ code ∷ following
   pub is_file : IsFileOfCounty folder code name
 
 -- Why counties can't be loaded: one is refused with this refusal, and a read failed if the status is 3; or one of their files can't be opened; or
 -- an allocation fails.
-abbrev pub TellsLoad : (RefusalParts → Type 0) → Disk → Disk → Failure → Type 0
-TellsLoad IsRefusedSo disk disk' (Refusal refusal) =
+abbrev pub IsLoadFailure : (RefusalParts → Type 0) → Disk → Disk → Failure → Type 0
+IsLoadFailure IsRefusedSo disk disk' (Refusal refusal) =
     IsRefusedSo refusal × (refusal_status refusal ≡ 3 → disk'.failed_reads ≢ disk.failed_reads)
-TellsLoad IsRefusedSo disk disk' (CountyFile folder code file error) = disk'.failed_opens ≢ disk.failed_opens
-TellsLoad IsRefusedSo disk disk' Memory = ⊤
-TellsLoad IsRefusedSo disk disk' failure = ⊥
+IsLoadFailure IsRefusedSo disk disk' (CountyFile folder code file error) = disk'.failed_opens ≢ disk.failed_opens
+IsLoadFailure IsRefusedSo disk disk' Memory = ⊤
+IsLoadFailure IsRefusedSo disk disk' failure = ⊥

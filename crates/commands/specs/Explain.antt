@@ -20,7 +20,7 @@ use Rattle.bpf_program.specs.ProgramFault as program_fault
 use Rattle.bpf_program.specs.declared.program.ProgramFault.{ProgramFault}
 use Rattle.bpf_program.specs.declared.program.ProgramFault.TheVariants.{Code, Flow, Verify, Memory}
 use Rattle.refusals.specs.Refusal.{RefusalParts, memory}
-use Rattle.counted_io.specs.Device.{Writer}
+use Rattle.counted_io.specs.ReaderWriter.{Writer}
 use Rattle.counted_io.specs.Writing.{WritesText}
 use Rattle.counted_io.specs.declared.writing.WriteFault.{WriteFault}
 use Rattle.named_files.specs.Files.{Disk, IsFailed}
@@ -39,10 +39,10 @@ IsLinesFile None name = ⊥
 IsLinesFile (Some lines) name = name ≡ lines.now
 
 -- why the file of source lines can't be read: it can't be used, or an allocation fails
-abbrev pub TellsLines : Option (Bor (List ℕ)) → Disk → Disk → Failure → Type 0
-TellsLines lines disk disk' (failure.File name error) = IsLinesFile lines name.now × IsFailed disk disk'
-TellsLines lines disk disk' failure.Memory = ⊤
-TellsLines lines disk disk' failure = ⊥
+abbrev pub IsLinesFailure : Option (Bor (List ℕ)) → Disk → Disk → Failure → Type 0
+IsLinesFailure lines disk disk' (failure.File name error) = IsLinesFile lines name.now × IsFailed disk disk'
+IsLinesFailure lines disk disk' failure.Memory = ⊤
+IsLinesFailure lines disk disk' failure = ⊥
 
 -- the first fault of a program's bytes, or if they have none, of its jumps and its end
 abbrev pub IsFlowFault : List ℕ → ProgramFault → Type 0

@@ -21,7 +21,7 @@ use Rattle.extract.specs.declared.fault.ExtractFault.TheVariants as extract
 use Rattle.refusals.specs.Refusal.{RefusalParts, line, memory}
 use Rattle.refusals.specs.declared.refusal.Class.{Class}
 use Rattle.refusals.specs.declared.refusal.Class.TheVariants as class
-use Rattle.counted_io.specs.Device.{Writer}
+use Rattle.counted_io.specs.ReaderWriter.{Writer}
 use Rattle.counted_io.specs.Writing as write_fault
 use Rattle.counted_io.specs.Writing.{WritesText}
 use Rattle.counted_io.specs.declared.writing.WriteFault.{WriteFault}
@@ -41,7 +41,7 @@ use Rattle.commands.specs.declared.failure.Piece.TheVariants.{Text, Echo}
 -- the exit status for a class of refusals
 abbrev pub class_status : Class → ℕ
 class_status class.Refused = 1
-class_status class.Device = 3
+class_status class.Io = 3
 class_status class.Memory = 4
 
 abbrev pub refusal_status : RefusalParts → ℕ
@@ -109,48 +109,48 @@ of_opening folder code file (fault.Unusable error) = CountyFile folder code file
 of_opening folder code file fault.Memory = County code memory
 
 -- the text was written, unless a write failed or wrote 0 bytes
-abbrev pub SaysText : List ℕ → Writer → Writer → Type 0
-SaysText text errors errors' = (written : Result (Unit {0}) WriteFault) × WritesText text written errors errors'
+abbrev pub ReportsText : List ℕ → Writer → Writer → Type 0
+ReportsText text errors errors' = (written : Result (Unit {0}) WriteFault) × WritesText text written errors errors'
 
 -- the line was written, with its end of line
-abbrev pub SaysLine : List ℕ → Writer → Writer → Type 0
-SaysLine text errors errors' = SaysText (text ++ 10 ∷ []) errors errors'
+abbrev pub ReportsLine : List ℕ → Writer → Writer → Type 0
+ReportsLine text errors errors' = ReportsText (text ++ 10 ∷ []) errors errors'
 
 -- the bytes that report a piece
-abbrev pub said : Piece → List ℕ
-said (Text text) = text.now
-said (Echo text) = escaped text.now
+abbrev pub reported : Piece → List ℕ
+reported (Text text) = text.now
+reported (Echo text) = escaped text.now
 
 -- the report that memory ran out was written
-abbrev pub SaysMemory : Writer → Writer → Type 0
-SaysMemory errors errors' = SaysLine (line memory) errors errors'
+abbrev pub ReportsMemory : Writer → Writer → Type 0
+ReportsMemory errors errors' = ReportsLine (line memory) errors errors'
 
 -- the reason why the file of this name can't be used was reported, with the control characters of the name escaped
-abbrev pub SaysFile : List ℕ → Writer → Writer → Type 0
-SaysFile name errors errors' =
-    (reason : List ℕ) × SaysText (codes "error: " ++ escaped name ++ codes ": " ++ reason ++ 10 ∷ []) errors errors'
+abbrev pub ReportsFile : List ℕ → Writer → Writer → Type 0
+ReportsFile name errors errors' =
+    (reason : List ℕ) × ReportsText (codes "error: " ++ escaped name ++ codes ": " ++ reason ++ 10 ∷ []) errors errors'
 
 -- it was reported that the source of this name isn't UTF-8
-abbrev pub SaysNotUtf8 : List ℕ → Writer → Writer → Type 0
-SaysNotUtf8 name errors errors' = SaysText (codes "error: " ++ escaped name ++ codes ": not UTF-8" ++ 10 ∷ []) errors errors'
+abbrev pub ReportsNotUtf8 : List ℕ → Writer → Writer → Type 0
+ReportsNotUtf8 name errors errors' = ReportsText (codes "error: " ++ escaped name ++ codes ": not UTF-8" ++ 10 ∷ []) errors errors'
 
 -- the reason why the output can't be written was reported
-abbrev pub SaysOutput : Writer → Writer → Type 0
-SaysOutput errors errors' = (reason : List ℕ) × SaysText (codes "error: the output can't be written: " ++ reason ++ 10 ∷ []) errors errors'
+abbrev pub ReportsOutput : Writer → Writer → Type 0
+ReportsOutput errors errors' = (reason : List ℕ) × ReportsText (codes "error: the output can't be written: " ++ reason ++ 10 ∷ []) errors errors'
 
 -- the report of a failure: for a refusal its line, followed by a note for a text or by the code for one of several counties, on a second line;
 -- otherwise a line that starts with `error: `
-abbrev pub Says : Failure → Writer → Writer → Type 0
-Says (Refusal refusal) errors errors' = SaysLine (line refusal) errors errors'
-Says (Noted refusal note) errors errors' = SaysText (line refusal ++ 10 ∷ note.bytes ++ 10 ∷ []) errors errors'
-Says (County code refusal) errors errors' = SaysText (line refusal ++ 10 ∷ codes "county " ++ escaped code.now ++ 10 ∷ []) errors errors'
-Says Memory errors errors' = SaysMemory errors errors'
-Says (Write fault) errors errors' = SaysLine (line (write_fault.refusal fault)) errors errors'
-Says (File name error) errors errors' = SaysFile name.now errors errors'
-Says (CountyFile folder code file error) errors errors' = SaysFile (file_name folder.now code.now file) errors errors'
-Says (NotUtf8 name) errors errors' = SaysNotUtf8 name.now errors errors'
-Says (NoLine number) errors errors' = SaysText (codes "error: the type 1 file has no line " ++ decimal number ++ 10 ∷ []) errors errors'
-Says (Output error) errors errors' = SaysOutput errors errors'
+abbrev pub Reports : Failure → Writer → Writer → Type 0
+Reports (Refusal refusal) errors errors' = ReportsLine (line refusal) errors errors'
+Reports (Noted refusal note) errors errors' = ReportsText (line refusal ++ 10 ∷ note.bytes ++ 10 ∷ []) errors errors'
+Reports (County code refusal) errors errors' = ReportsText (line refusal ++ 10 ∷ codes "county " ++ escaped code.now ++ 10 ∷ []) errors errors'
+Reports Memory errors errors' = ReportsMemory errors errors'
+Reports (Write fault) errors errors' = ReportsLine (line (write_fault.refusal fault)) errors errors'
+Reports (File name error) errors errors' = ReportsFile name.now errors errors'
+Reports (CountyFile folder code file error) errors errors' = ReportsFile (file_name folder.now code.now file) errors errors'
+Reports (NotUtf8 name) errors errors' = ReportsNotUtf8 name.now errors errors'
+Reports (NoLine number) errors errors' = ReportsText (codes "error: the type 1 file has no line " ++ decimal number ++ 10 ∷ []) errors errors'
+Reports (Output error) errors errors' = ReportsOutput errors errors'
 
 -- a file named in the failure satisfies the predicate
 abbrev pub NamesFile : (List ℕ → Type 0) → Failure → Type 0
@@ -159,14 +159,14 @@ NamesFile IsFile (CountyFile folder code file error) = IsFile (file_name folder.
 NamesFile IsFile failure = ⊤
 
 -- no open and no read failed, unless the status is 3
-abbrev pub TellsCounts : {T : Type 0} → Result T Failure → Disk → Disk → Type 0
-TellsCounts (Ok value) disk disk' = IsUnfailed disk disk'
-TellsCounts (Err failure) disk disk' = status failure ≢ 3 → IsUnfailed disk disk'
+abbrev pub IsUnfailedUnlessUnusable : {T : Type 0} → Result T Failure → Disk → Disk → Type 0
+IsUnfailedUnlessUnusable (Ok value) disk disk' = IsUnfailed disk disk'
+IsUnfailedUnlessUnusable (Err failure) disk disk' = status failure ≢ 3 → IsUnfailed disk disk'
 
 -- a value that a usage error leaves unchanged
-abbrev pub KeepsOnUsage : {T W : Type 0} → Result T Failure → W → W → Type 0
-KeepsOnUsage (Ok value) out out' = ⊤
-KeepsOnUsage (Err failure) out out' = status failure ≡ 2 → out' ≡ out
+abbrev pub IsUnchangedOnUsage : {T W : Type 0} → Result T Failure → W → W → Type 0
+IsUnchangedOnUsage (Ok value) out out' = ⊤
+IsUnchangedOnUsage (Err failure) out out' = status failure ≡ 2 → out' ≡ out
 
 -- the text was written, completely or until the output failed
 abbrev pub WritesAs : List ℕ → Result (Unit {0}) Failure → Writer → Writer → Type 0

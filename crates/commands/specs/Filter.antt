@@ -16,8 +16,8 @@ use Rattle.cql2_text.specs.FilterFault as filter_fault
 use Rattle.cql2_text.specs.Position.{fault_after}
 use Rattle.cql2_text.specs.Spelled.{IsFilterText}
 use Rattle.cql2_text.specs.declared.fault.FilterFault.{FilterFault}
-use Rattle.cql2_text.specs.declared.fault.FilterFlaw.TheVariants as flaw
-use Rattle.cql2_text.specs.declared.reader.TheConstants.{TEXT_LIMIT}
+use Rattle.cql2_text.specs.declared.fault.FilterFaultKind.TheVariants as flaw
+use Rattle.cql2_text.specs.declared.reader.TheConstants.{MAX_TEXT_LENGTH}
 use Rattle.refusals.specs.Refusal.{RefusalParts}
 use Rattle.commands.specs.declared.failure.Failure.{Failure}
 use Rattle.commands.specs.declared.failure.Failure.TheVariants.{Noted, Memory}
@@ -38,11 +38,11 @@ pub record IsProgramOf (text : List ℕ) (score : Option NumericColumn) (program
 
 -- the text doesn't spell a filter, provided that it is UTF-8 and within the limit of bytes
 abbrev pub IsNoFilter : List ℕ → Type 0
-IsNoFilter text = length text ≤ TEXT_LIMIT → IsUtf8 text → (filter : Filter Global) → ¬ IsFilterText text filter
+IsNoFilter text = length text ≤ MAX_TEXT_LENGTH → IsUtf8 text → (filter : Filter Global) → ¬ IsFilterText text filter
 
 -- the fault of a text that is longer than the limit of bytes
 abbrev pub length_fault : List ℕ → FilterFault
-length_fault text = fault_after (take TEXT_LIMIT text) flaw.TooLong
+length_fault text = fault_after (take MAX_TEXT_LENGTH text) flaw.TooLong
 
 -- why a text is refused: it doesn't spell a filter, or the filter's program is too long
 pub data IsFilterRefusal (text : List ℕ) (score : Option NumericColumn) (refusal : RefusalParts) : Type 0 where

@@ -8,7 +8,7 @@ use Rattle.addresses.specs.declared.fault.AddressFault.{AddressFault}
 use Rattle.addresses.specs.declared.fault.AddressFault.TheVariants as fault
 use Rattle.batch.specs.Lines.{lines_of_all}
 use Rattle.refusals.specs.Refusal.{RefusalParts, memory}
-use Rattle.counted_io.specs.Device.{Writer}
+use Rattle.counted_io.specs.ReaderWriter.{Writer}
 use Rattle.counted_io.specs.Writing.{WritesText}
 use Rattle.counted_io.specs.declared.writing.WriteFault.{WriteFault}
 use Rattle.tl_segments.specs.County.{CountyParts}
@@ -39,9 +39,9 @@ abbrev pub IsFaultOf : List ℕ → AddressFault → Type 0
 IsFaultOf file fault = fault_of (addresses_in file) ≡ Some fault
 
 -- why not all of a file's addresses are read: the file's fault, or an allocation failed
-abbrev pub TellsAddresses : List ℕ → AddressFault → Type 0
-TellsAddresses file fault.Memory = ⊤
-TellsAddresses file fault = IsFaultOf file fault
+abbrev pub IsAddressesFault : List ℕ → AddressFault → Type 0
+IsAddressesFault file fault.Memory = ⊤
+IsAddressesFault file fault = IsFaultOf file fault
 
 -- the file of addresses and the requested counties, whose files' bytes agree with what is known of them
 pub record Inputs (batch : GeocodeBatch) (known : List ℕ → Option (List ℕ)) : Type 0 where

@@ -28,9 +28,9 @@ pub record HoldTooLong (name folder code : List ℕ) (known : List ℕ → Optio
   pub hold : HoldCounty known folder code readers
 
 -- why a program and a county can't be read: the program is too long, a file can't be used, or an allocation fails
-abbrev pub TellsInputs : List ℕ → List ℕ → List ℕ → Disk → Disk → Failure → Type 0
-TellsInputs name folder code disk disk' (Refusal refusal) = HoldTooLong name folder code disk.known refusal
-TellsInputs name folder code disk disk' (File of error) = IsFailed disk disk'
-TellsInputs name folder code disk disk' (CountyFile of_folder of_code file error) = disk'.failed_opens ≢ disk.failed_opens
-TellsInputs name folder code disk disk' Memory = ⊤
-TellsInputs name folder code disk disk' failure = ⊥
+abbrev pub IsInputsFailure : List ℕ → List ℕ → List ℕ → Disk → Disk → Failure → Type 0
+IsInputsFailure name folder code disk disk' (Refusal refusal) = HoldTooLong name folder code disk.known refusal
+IsInputsFailure name folder code disk disk' (File of error) = IsFailed disk disk'
+IsInputsFailure name folder code disk disk' (CountyFile of_folder of_code file error) = disk'.failed_opens ≢ disk.failed_opens
+IsInputsFailure name folder code disk disk' Memory = ⊤
+IsInputsFailure name folder code disk disk' failure = ⊥

@@ -6,7 +6,7 @@ use Rattle.extract.specs.Extracting.{IsOutcomeOfCode}
 use Rattle.extract.specs.declared.fault.ExtractFault.{ExtractFault}
 use Rattle.extract.specs.declared.fault.ExtractFault.TheVariants as extract
 use Rattle.refusals.specs.Refusal.{RefusalParts, memory}
-use Rattle.counted_io.specs.Device.{Writer}
+use Rattle.counted_io.specs.ReaderWriter.{Writer}
 use Rattle.counted_io.specs.declared.writing.WriteFault.{WriteFault}
 use Rattle.tl_segments.specs.County.{CountyReaders}
 use Rattle.named_files.specs.County.{HoldCounty}
@@ -22,50 +22,50 @@ abbrev pub codes_of : Select → List (List ℕ)
 codes_of select = map (λ code. code.now) select.codes.items
 
 -- a program's instructions and the folder of the counties that it runs over, with what is known of the files' bytes by name
-pub record Selecting : Type 0 where
+pub record Selection : Type 0 where
   pub known : List ℕ → Option (List ℕ)
   pub folder : List ℕ
   pub program : List Insn
 
-abbrev pub selecting : (List ℕ → Option (List ℕ)) → List ℕ → List Insn → Selecting
-selecting known folder program = record { known = known; folder = folder; program = program }
+abbrev pub selection : (List ℕ → Option (List ℕ)) → List ℕ → List Insn → Selection
+selection known folder program = record { known = known; folder = folder; program = program }
 
 -- the outcome of the extract from the files of the county of this code
-pub record IsCountyOutcome (over : Selecting) (code : List ℕ) (result : Result ℕ ExtractFault) (out out' : Writer) : Type 0 where
+pub record IsCountyOutcome (over : Selection) (code : List ℕ) (result : Result ℕ ExtractFault) (out out' : Writer) : Type 0 where
   pub old : CountyReaders
   pub hold : HoldCounty over.known over.folder code old
   pub new : CountyReaders
   pub outcome : IsOutcomeOfCode over.program result old new out out'
 
 -- a county's extract was written
-abbrev pub WritesCounty : Selecting → List ℕ → Writer → Writer → Type 0
+abbrev pub WritesCounty : Selection → List ℕ → Writer → Writer → Type 0
 WritesCounty over code out out' = (rows : ℕ) × IsCountyOutcome over code (Ok rows) out out'
 
 -- the extracts of the counties of these codes were written, one after the other
-pub data WritesCounties (over : Selecting) (out : Writer) : List (List ℕ) → Writer → Type 0 where
+pub data WritesCounties (over : Selection) (out : Writer) : List (List ℕ) → Writer → Type 0 where
   none : WritesCounties over out [] out
   more : {codes : List (List ℕ)} {between out' : Writer} (code : List ℕ) → WritesCounties over out codes between
       → WritesCounty over code between out' → WritesCounties over out (codes ++ code ∷ []) out'
 
 -- the extracts of the counties before one of these codes were written, and the command stopped at that one, as `StopsSo` describes
-pub record StopsAt (over : Selecting) (codes : List (List ℕ)) (out : Writer) (StopsSo : List ℕ → Writer → Type 0) : Type 0 where
+pub record StopsAt (over : Selection) (codes : List (List ℕ)) (out : Writer) (StopsSo : List ℕ → Writer → Type 0) : Type 0 where
   pub before : List (List ℕ)
   pub code : List ℕ
-  pub behind : List (List ℕ)
-  pub are_codes : codes ≡ before ++ code ∷ behind
+  pub following : List (List ℕ)
+  pub are_codes : codes ≡ before ++ code ∷ following
   pub between : Writer
   pub written : WritesCounties over out before between
   pub stops : StopsSo code between
 
 -- a county's extract is refused with this refusal, or memory runs out before the county's files are open and nothing of it was written
-abbrev pub IsCountyRefusal : Selecting → List ℕ → RefusalParts → Writer → Writer → Type 0
+abbrev pub IsCountyRefusal : Selection → List ℕ → RefusalParts → Writer → Writer → Type 0
 IsCountyRefusal over code refusal out out' =
     ((fault : ExtractFault) × (refusal ≡ extract_fault.refusal fault) × IsCountyOutcome over code (Err fault) out out')
     ⊎ ((refusal ≡ memory) × (out' ≡ out))
 
 -- how one county's extract ends: it is written, completely or until the output fails; or it is refused; or a file of the county can't be opened,
 -- and nothing is written
-abbrev pub SelectsCounty : Selecting → List ℕ → Result (Unit {0}) Failure → Writer → Writer → Type 0
+abbrev pub SelectsCounty : Selection → List ℕ → Result (Unit {0}) Failure → Writer → Writer → Type 0
 SelectsCounty over code (Ok done) out out' = WritesCounty over code out out'
 SelectsCounty over code (Err (Write fault)) out out' = IsCountyOutcome over code (Err (extract.Write fault)) out out'
 SelectsCounty over code (Err (County of refusal)) out out' = (of.now ≡ code) × IsCountyRefusal over code refusal out out'
@@ -73,7 +73,7 @@ SelectsCounty over code (Err (CountyFile of_folder of_code file error)) out out'
 SelectsCounty over code (Err failure) out out' = ⊥
 
 -- how the extracts of several counties end
-abbrev pub SelectsCounties : Selecting → List (List ℕ) → Result (Unit {0}) Failure → Writer → Writer → Type 0
+abbrev pub SelectsCounties : Selection → List (List ℕ) → Result (Unit {0}) Failure → Writer → Writer → Type 0
 SelectsCounties over codes (Ok done) out out' = WritesCounties over out codes out'
 SelectsCounties over codes (Err (Write fault)) out out' =
     StopsAt over codes out (λ code between. IsCountyOutcome over code (Err (extract.Write fault)) between out')
@@ -90,9 +90,9 @@ FailsAs (CountyFile folder code file error) disk disk' = disk'.failed_opens ≢ 
 FailsAs failure disk disk' = ⊤
 
 -- the filter has a program, and its run over the requested counties is as `Selects` describes
-abbrev pub SelectsSo : Select → (List ℕ → Option (List ℕ)) → (Selecting → Type 0) → Type 0
-SelectsSo select known Selects = (program : List Insn) × IsCodeOfText select.filter.now select.compiling.score program
-    × Selects (selecting known select.«data».now program)
+abbrev pub SelectsSo : Select → (List ℕ → Option (List ℕ)) → (Selection → Type 0) → Type 0
+SelectsSo select known Selects = (program : List Insn) × IsCodeOfText select.filter.now select.filter_options.score program
+    × Selects (selection known select.«data».now program)
 
 -- the extracts of the counties were written in order, completely or until the output failed
 abbrev pub Writes : Select → (List ℕ → Option (List ℕ)) → Result (Unit {0}) WriteFault → Writer → Writer → Type 0

@@ -11,12 +11,12 @@ use Rattle.bpf_meaning.specs.Run.{IsTraced}
 use Rattle.bpf_meaning.specs.declared.outcome.Outcome.{Outcome}
 use Rattle.bpf_meaning.specs.declared.outcome.Outcome.TheVariants.{Running, Exit, Stuck}
 use Rattle.refusals.specs.Refusal.{RefusalParts}
-use Rattle.counted_io.specs.Device.{Writer}
+use Rattle.counted_io.specs.ReaderWriter.{Writer}
 use Rattle.counted_io.specs.Writing.{WritesText}
 use Rattle.counted_io.specs.declared.writing.WriteFault.{WriteFault}
 use Rattle.tl_segments.specs.County.{CountyParts, CountyReaders, IsCountyFault, LoadsCounty}
 use Rattle.tl_segments.specs.LoadFault as load_fault
-use Rattle.tl_segments.specs.Segment.{Contents}
+use Rattle.tl_segments.specs.Segment.{SegmentParts}
 use Rattle.tl_segments.specs.declared.fault.LoadFault.{LoadFault}
 use Rattle.commands.specs.Inputs.{HoldInputs}
 use Rattle.commands.specs.declared.trace.Trace.{Trace}
@@ -35,7 +35,7 @@ abbrev pub outcome_line : Outcome → List ℕ
 outcome_line outcome = outcome_text outcome ++ 10 ∷ []
 
 -- this is the segment on a line of type 1, counted from 1
-pub record IsSegmentOfLine (county : CountyParts) (line : ℕ) (segment : Contents) : Type 0 where
+pub record IsSegmentOfLine (county : CountyParts) (line : ℕ) (segment : SegmentParts) : Type 0 where
   pub place : ℕ
   pub is_place : line ≡ suc place
   pub is_segment : slice_get county.segments place ≡ Some segment
@@ -50,7 +50,7 @@ pub record IsOutcomeOn (trace : Trace) (program : List ℕ) (old new : CountyRea
   pub is_code : IsCodeOf program code
   pub county : CountyParts
   pub loads : LoadsCounty county old new
-  pub segment : Contents
+  pub segment : SegmentParts
   pub of_line : IsSegmentOfLine county trace.line segment
   pub traced : IsTraced code segment trace.limit outcome
 
@@ -70,22 +70,22 @@ pub data IsTraceFault (program : List ℕ) (old new : CountyReaders) (refusal : 
       → refusal ≡ load_fault.refusal fault → IsTraceFault program old new refusal
 
 -- how the trace ends: with an outcome, with a refusal, or because the line doesn't exist
-abbrev pub EndsAs : Trace → List ℕ → CountyReaders → CountyReaders → Result Outcome Failure → Type 0
-EndsAs trace program old new (Ok outcome) = IsOutcomeOn trace program old new outcome
-EndsAs trace program old new (Err (Refusal refusal)) = IsTraceFault program old new refusal
-EndsAs trace program old new (Err (NoLine line)) = (line ≡ trace.line) × IsWithoutLine trace program old new
-EndsAs trace program old new (Err failure) = ⊥
+abbrev pub IsTraceResult : Trace → List ℕ → CountyReaders → CountyReaders → Result Outcome Failure → Type 0
+IsTraceResult trace program old new (Ok outcome) = IsOutcomeOn trace program old new outcome
+IsTraceResult trace program old new (Err (Refusal refusal)) = IsTraceFault program old new refusal
+IsTraceResult trace program old new (Err (NoLine line)) = (line ≡ trace.line) × IsWithoutLine trace program old new
+IsTraceResult trace program old new (Err failure) = ⊥
 
 -- the program and the readers hold the requested program's and county's files
-abbrev pub HoldAsked : Trace → (List ℕ → Option (List ℕ)) → List ℕ → CountyReaders → Type 0
-HoldAsked trace known program readers = HoldInputs known trace.program.now trace.«data».now trace.code.now program readers
+abbrev pub HoldRequested : Trace → (List ℕ → Option (List ℕ)) → List ℕ → CountyReaders → Type 0
+HoldRequested trace known program readers = HoldInputs known trace.program.now trace.«data».now trace.code.now program readers
 
 -- The outcome was written, completely or until the output failed.
 pub record Writes (trace : Trace) (known : List ℕ → Option (List ℕ)) (result : Result (Unit {0}) WriteFault)
     (out out' : Writer) : Type 0 where
   pub program : List ℕ
   pub old : CountyReaders
-  pub hold : HoldAsked trace known program old
+  pub hold : HoldRequested trace known program old
   pub new : CountyReaders
   pub outcome : Outcome
   pub is_outcome : IsOutcomeOn trace program old new outcome
@@ -95,16 +95,16 @@ pub record Writes (trace : Trace) (known : List ℕ → Option (List ℕ)) (resu
 pub record IsRefused (trace : Trace) (known : List ℕ → Option (List ℕ)) (refusal : RefusalParts) (out out' : Writer) : Type 0 where
   pub program : List ℕ
   pub old : CountyReaders
-  pub hold : HoldAsked trace known program old
+  pub hold : HoldRequested trace known program old
   pub new : CountyReaders
   pub fault : IsTraceFault program old new refusal
   pub unwritten : out' ≡ out
 
 -- The requested line doesn't exist.
-pub record LacksLine (trace : Trace) (known : List ℕ → Option (List ℕ)) (line : ℕ) : Type 0 where
+pub record IsMissingLine (trace : Trace) (known : List ℕ → Option (List ℕ)) (line : ℕ) : Type 0 where
   pub is_line : line ≡ trace.line
   pub program : List ℕ
   pub old : CountyReaders
-  pub hold : HoldAsked trace known program old
+  pub hold : HoldRequested trace known program old
   pub new : CountyReaders
   pub without : IsWithoutLine trace program old new

@@ -6,7 +6,7 @@ use Rattle.bpf_program.specs.Program.{IsSafeProgram, IsProgramFault}
 use Rattle.bpf_program.specs.ProgramFault as program_fault
 use Rattle.bpf_program.specs.declared.program.ProgramFault.{ProgramFault}
 use Rattle.refusals.specs.Refusal.{RefusalParts}
-use Rattle.counted_io.specs.Device.{Writer}
+use Rattle.counted_io.specs.ReaderWriter.{Writer}
 use Rattle.counted_io.specs.Writing.{WritesText}
 use Rattle.counted_io.specs.declared.writing.WriteFault.{WriteFault}
 use Rattle.commands.specs.declared.verify.Verify.{Verify}

@@ -1,6 +1,6 @@
 //! `asm`: assembles a program text to instruction words.
 ghost use Rattle.std.specs.Prelude.{◌≢◌, IfErr};
-ghost use Rattle.counted_io.specs.Device.{writer};
+ghost use Rattle.counted_io.specs.ReaderWriter.{writer};
 ghost use Rattle.commands.specs.Command.{CarriesOut};
 ghost use Rattle.commands.specs.Failure.{status};
 ghost use Rattle.named_files.specs.Files.{disk};

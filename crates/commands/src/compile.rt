@@ -1,27 +1,27 @@
 //! `compile`: compiles a filter to a program.
 ghost use Rattle.std.specs.Prelude.{◌≢◌, IfErr};
-ghost use Rattle.counted_io.specs.Device.{writer};
+ghost use Rattle.counted_io.specs.ReaderWriter.{writer};
 ghost use Rattle.commands.specs.Command.{CarriesOut};
 ghost use Rattle.commands.specs.Failure.{status};
 ghost use Rattle.named_files.specs.Files.{disk};
 ghost use Rattle.commands.specs.declared.request.Request.{Request};
 
 use crate::failure::{Failure, write};
-use crate::filter::Compiling;
+use crate::filter::FilterOptions;
 use counted_io::CountedWrite;
-use cql2_text::TEXT_LIMIT;
-use named_files::{Files, read_file_front};
+use cql2_text::MAX_TEXT_LENGTH;
+use named_files::{Files, read_file_prefix};
 use std::alloc::Allocator;
 
 // The limit plus one byte, which shows that a filter's text is too long.
-const MOST_READ: usize = TEXT_LIMIT + 1;
+const MAX_READ: usize = MAX_TEXT_LENGTH + 1;
 
 /// The arguments of `compile`.
 #[derive(Clone, Copy)]
 pub struct Compile<'a> {
     /// The file of the filter's text (CQL2).
     pub filter: &'a str,
-    pub compiling: Compiling,
+    pub filter_options: FilterOptions,
 }
 
 impl<'a> Compile<'a> {
@@ -37,11 +37,11 @@ impl<'a> Compile<'a> {
             (writer W.contents W.counts out.old) (writer W.contents W.counts out.new) }
         ensures usage { IfErr result (λ failure. status failure ≢ 2) }
     {
-        let text = match read_file_front(alloc, files, self.filter, MOST_READ) {
+        let text = match read_file_prefix(alloc, files, self.filter, MAX_READ) {
             Ok(text) => text,
             Err(fault) => return Err(Failure::of_file(self.filter, fault)),
         };
-        match self.compiling.program(alloc, text.as_slice()) {
+        match self.filter_options.program(alloc, text.as_slice()) {
             Ok(program) => write(out, program.as_slice()),
             Err(failure) => Err(failure),
         }

@@ -1,8 +1,8 @@
 //! Counties, loaded one after the other.
 ghost use Rattle.std.specs.Prelude.{◌≡◌, ◌≢◌, ℕ, List, map, IfErr, IfOk};
-ghost use Rattle.commands.specs.Counties.{AreCountiesOf, HaveRefusedCounty, IsCountyOf, IsFileOfCounties, IsRefusedCounty, TellsLoad};
+ghost use Rattle.commands.specs.Counties.{AreCountiesOf, HaveRefusedCounty, IsCountyOf, IsFileOfCounties, IsRefusedCounty, IsLoadFailure};
 ghost use Rattle.named_files.specs.County.{IsFileOfCounty};
-ghost use Rattle.commands.specs.Failure.{NamesFile, TellsCounts, status};
+ghost use Rattle.commands.specs.Failure.{NamesFile, IsUnfailedUnlessUnusable, status};
 ghost use Rattle.named_files.specs.Files.{disk};
 
 use crate::failure::Failure;
@@ -20,11 +20,11 @@ pub fn load_counties<'a, A: Allocator + Copy, F: Files>(
 ) -> Result<Vec<County<A>, A>, Failure<'a>>
     ensures ok { IfOk result (λ counties.
         AreCountiesOf (F.bytes files.old) folder.now (map (λ code. code.now) codes.now) counties.items) }
-    ensures err { IfErr result (TellsLoad (HaveRefusedCounty (F.bytes files.old) folder.now (map (λ code. code.now) codes.now))
+    ensures err { IfErr result (IsLoadFailure (HaveRefusedCounty (F.bytes files.old) folder.now (map (λ code. code.now) codes.now))
         (disk F.bytes F.failed_opens F.failed_reads files.old) (disk F.bytes F.failed_opens F.failed_reads files.new)) }
     ensures names { IfErr result (NamesFile (IsFileOfCounties folder.now (map (λ code. code.now) codes.now))) }
     ensures usage { IfErr result (λ failure. status failure ≢ 2) }
-    ensures counts { TellsCounts result (disk F.bytes F.failed_opens F.failed_reads files.old)
+    ensures counts { IsUnfailedUnlessUnusable result (disk F.bytes F.failed_opens F.failed_reads files.old)
         (disk F.bytes F.failed_opens F.failed_reads files.new) }
 {
     let mut counties = Vec::new(alloc);
@@ -45,11 +45,11 @@ fn load_county<'a, A: Allocator + Copy, F: Files>(
     code: &'a str,
 ) -> Result<County<A>, Failure<'a>>
     ensures ok { IfOk result (IsCountyOf (F.bytes files.old) folder.now code.now) }
-    ensures err { IfErr result (TellsLoad (IsRefusedCounty (F.bytes files.old) folder.now code.now)
+    ensures err { IfErr result (IsLoadFailure (IsRefusedCounty (F.bytes files.old) folder.now code.now)
         (disk F.bytes F.failed_opens F.failed_reads files.old) (disk F.bytes F.failed_opens F.failed_reads files.new)) }
     ensures names { IfErr result (NamesFile (IsFileOfCounty folder.now code.now)) }
     ensures stay { (other : List ℕ) → F.bytes files.new other ≡ F.bytes files.old other }
-    ensures counts { TellsCounts result (disk F.bytes F.failed_opens F.failed_reads files.old)
+    ensures counts { IsUnfailedUnlessUnusable result (disk F.bytes F.failed_opens F.failed_reads files.old)
         (disk F.bytes F.failed_opens F.failed_reads files.new) }
 {
     let mut inputs = match open_county(alloc, files, folder, code) {

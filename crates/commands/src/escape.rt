@@ -2,11 +2,11 @@
 ghost use Rattle.std.specs.Prelude.{◌≡◌, ◌<◌, length, true, IfSome};
 ghost use Rattle.std.specs.Char.{digit_char, is_ascii_control};
 ghost use Rattle.std.specs.List.{position};
-ghost use Rattle.counted_io.specs.Device.{writer};
+ghost use Rattle.counted_io.specs.ReaderWriter.{writer};
 ghost use Rattle.counted_io.specs.Writing.{WritesText};
 ghost use Rattle.commands.specs.Escape.{escaped, escaped_byte};
 
-use counted_io::{CountedWrite, WriteFault, write_whole};
+use counted_io::{CountedWrite, WriteFault, write_text};
 
 /// Writes a text with its control characters escaped, or up to the fault of the writer. Nothing is tried again.
 pub fn write_escaped<W: CountedWrite>(out: &mut W, text: &str) -> Result<(), WriteFault>
@@ -14,7 +14,7 @@ pub fn write_escaped<W: CountedWrite>(out: &mut W, text: &str) -> Result<(), Wri
 {
     let mut rest = text.as_bytes();
     while let Some(place) = find_control(rest) {
-        match write_whole(out, &rest[..place]) {
+        match write_text(out, &rest[..place]) {
             Ok(()) => {}
             Err(fault) => return Err(fault),
         }
@@ -24,7 +24,7 @@ pub fn write_escaped<W: CountedWrite>(out: &mut W, text: &str) -> Result<(), Wri
         }
         rest = &rest[place + 1..];
     }
-    write_whole(out, rest)
+    write_text(out, rest)
 }
 
 /// Returns the index of the first control character.
@@ -43,11 +43,11 @@ fn write_escape<W: CountedWrite>(out: &mut W, control: u8) -> Result<(), WriteFa
 {
     let (high, low) = (hex_digit(control / 16), hex_digit(control % 16));
     match control {
-        b'\t' => write_whole(out, b"\\t"),
-        b'\n' => write_whole(out, b"\\n"),
-        b'\r' => write_whole(out, b"\\r"),
-        0..=15 => write_whole(out, &[b'\\', b'u', b'{', low, b'}']),
-        _ => write_whole(out, &[b'\\', b'u', b'{', high, low, b'}']),
+        b'\t' => write_text(out, b"\\t"),
+        b'\n' => write_text(out, b"\\n"),
+        b'\r' => write_text(out, b"\\r"),
+        0..=15 => write_text(out, &[b'\\', b'u', b'{', low, b'}']),
+        _ => write_text(out, &[b'\\', b'u', b'{', high, low, b'}']),
     }
 }
 

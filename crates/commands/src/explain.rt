@@ -2,10 +2,10 @@
 ghost use Rattle.std.specs.Prelude.{◌≢◌, IfOk, IfErr};
 ghost use Rattle.bpf_insn.specs.Code.{IsCodeOf};
 ghost use Rattle.bpf_source_lines.specs.SourceLines.{parts_of};
-ghost use Rattle.counted_io.specs.Device.{writer};
+ghost use Rattle.counted_io.specs.ReaderWriter.{writer};
 ghost use Rattle.commands.specs.Command.{CarriesOut};
-ghost use Rattle.commands.specs.Explain.{HoldsLines, IsFlowFault, TellsLines, WritesExplained};
-ghost use Rattle.commands.specs.Failure.{TellsCounts, status};
+ghost use Rattle.commands.specs.Explain.{HoldsLines, IsFlowFault, IsLinesFailure, WritesExplained};
+ghost use Rattle.commands.specs.Failure.{IsUnfailedUnlessUnusable, status};
 ghost use Rattle.named_files.specs.Files.{disk};
 ghost use Rattle.commands.specs.declared.request.Request.{Request};
 
@@ -70,9 +70,9 @@ fn read_lines_file<'a, A: Allocator, F: Files>(
     name: Option<&'a str>,
 ) -> Result<Vec<u8, A>, Failure<'a>>
     ensures hold { IfOk result (λ file. HoldsLines (F.bytes files.old) name.entry file.items) }
-    ensures err { IfErr result (TellsLines name.entry (disk F.bytes F.failed_opens F.failed_reads files.old)
+    ensures err { IfErr result (IsLinesFailure name.entry (disk F.bytes F.failed_opens F.failed_reads files.old)
         (disk F.bytes F.failed_opens F.failed_reads files.new)) }
-    ensures counts { TellsCounts result (disk F.bytes F.failed_opens F.failed_reads files.old)
+    ensures counts { IsUnfailedUnlessUnusable result (disk F.bytes F.failed_opens F.failed_reads files.old)
         (disk F.bytes F.failed_opens F.failed_reads files.new) }
 {
     let Some(name) = name else {

@@ -1,10 +1,10 @@
 //! Why a command fails: what it reports, and its exit status.
 ghost use Rattle.std.specs.Prelude.{◌≡◌, [], ◌∷◌, ◌++◌, codes};
 ghost use Rattle.std.specs.List.{flat_map};
-ghost use Rattle.counted_io.specs.Device.{writer};
+ghost use Rattle.counted_io.specs.ReaderWriter.{writer};
 ghost use Rattle.counted_io.specs.Writing.{WritesText};
 ghost use Rattle.commands.specs.Escape.{escaped};
-ghost use Rattle.commands.specs.Failure.{IsOfAddresses, IsOfCompile, IsOfFilter, Says, SaysFile, SaysLine, SaysText, WritesAs, class_status, of_county_extract, of_county_file, of_extract, of_file, of_opening, of_program, of_source, said, status};
+ghost use Rattle.commands.specs.Failure.{IsOfAddresses, IsOfCompile, IsOfFilter, Reports, ReportsFile, ReportsLine, ReportsText, WritesAs, class_status, of_county_extract, of_county_file, of_extract, of_file, of_opening, of_program, of_source, reported, status};
 ghost use Rattle.commands.specs.declared.failure.Failure.TheVariants.{Memory};
 
 use crate::escape::write_escaped;
@@ -12,7 +12,7 @@ use crate::failure::Piece::{Echo, Text};
 use addresses::AddressFault;
 use arrayvec::ArrayString;
 use bpf_text::{SourceFault, TextFault};
-use counted_io::{CountedWrite, WriteFault, write_whole};
+use counted_io::{CountedWrite, WriteFault, write_text};
 use cql2_code::CompileFault;
 use cql2_text::FilterFault;
 use extract::ExtractFault;
@@ -217,21 +217,21 @@ impl<'a> Failure<'a> {
 
     /// Reports the failure on `errors`, up to the first write that fails or writes 0 bytes.
     pub fn report<E: CountedWrite>(&self, errors: &mut E)
-        ensures { Says self.now (writer E.contents E.counts errors.old) (writer E.contents E.counts errors.new) }
+        ensures { Reports self.now (writer E.contents E.counts errors.old) (writer E.contents E.counts errors.new) }
     {
         match self {
-            Failure::Refusal(refusal) => say_line(errors, refusal.line().as_str()),
+            Failure::Refusal(refusal) => report_line(errors, refusal.line().as_str()),
             Failure::Noted { refusal, note } => {
-                say_noted(errors, refusal.line().as_str(), note.as_str());
+                report_noted(errors, refusal.line().as_str(), note.as_str());
             }
             Failure::County { code, refusal } => {
-                say_of_county(errors, refusal.line().as_str(), code);
+                report_county(errors, refusal.line().as_str(), code);
             }
-            Failure::Memory => say_line(errors, Refusal::memory().line().as_str()),
-            Failure::Write(fault) => say_line(errors, fault.line().as_str()),
+            Failure::Memory => report_line(errors, Refusal::memory().line().as_str()),
+            Failure::Write(fault) => report_line(errors, fault.line().as_str()),
             Failure::File { name, error } => {
                 let reason = reason(*error);
-                say_of_file(errors, name, reason.as_str());
+                report_file(errors, name, reason.as_str());
             }
             Failure::CountyFile {
                 data,
@@ -240,10 +240,10 @@ impl<'a> Failure<'a> {
                 error,
             } => {
                 let (end, reason) = (name_end(*file), reason(*error));
-                say_of_county_file(errors, data, code, end, reason.as_str());
+                report_county_file(errors, data, code, end, reason.as_str());
             }
             Failure::NotUtf8 { name } => {
-                say(
+                write_pieces(
                     errors,
                     &[Text("error: "), Echo(name), Text(": not UTF-8\n")],
                 )
@@ -251,7 +251,7 @@ impl<'a> Failure<'a> {
             Failure::NoLine { line } => {
                 let mut number = Buffer::new();
                 let number = number.format(*line);
-                say(
+                write_pieces(
                     errors,
                     &[
                         Text("error: the type 1 file has no line "),
@@ -262,7 +262,7 @@ impl<'a> Failure<'a> {
             }
             Failure::Output(error) => {
                 let reason = reason(*error);
-                say(
+                write_pieces(
                     errors,
                     &[
                         Text("error: the output can't be written: "),
@@ -297,7 +297,7 @@ fn class_status(class: Class) -> u8
 {
     match class {
         Class::Refused => REFUSED,
-        Class::Device => UNUSABLE,
+        Class::Io => UNUSABLE,
         Class::Memory => OUT_OF_MEMORY,
     }
 }
@@ -306,7 +306,7 @@ fn class_status(class: Class) -> u8
 pub fn write<'a, W: CountedWrite>(out: &mut W, text: &[u8]) -> Result<(), Failure<'a>>
     ensures { WritesAs text.now result (writer W.contents W.counts out.old) (writer W.contents W.counts out.new) }
 {
-    match write_whole(out, text) {
+    match write_text(out, text) {
         Ok(()) => Ok(()),
         Err(fault) => Err(Failure::Write(fault)),
     }
@@ -322,59 +322,59 @@ enum Piece<'p> {
 }
 
 /// Writes the pieces in order, up to the first that can't be written completely.
-fn say<E: CountedWrite>(errors: &mut E, pieces: &[Piece<'_>])
-    ensures { SaysText (flat_map said pieces.now)
+fn write_pieces<E: CountedWrite>(errors: &mut E, pieces: &[Piece<'_>])
+    ensures { ReportsText (flat_map reported pieces.now)
         (writer E.contents E.counts errors.old) (writer E.contents E.counts errors.new) }
 {
     for piece in pieces {
-        match say_piece(errors, piece) {
+        match write_piece(errors, piece) {
             Ok(()) => {}
             Err(_) => return,
         }
     }
 }
 
-fn say_piece<E: CountedWrite>(errors: &mut E, piece: &Piece<'_>) -> Result<(), WriteFault>
-    ensures { WritesText (said piece.now) result
+fn write_piece<E: CountedWrite>(errors: &mut E, piece: &Piece<'_>) -> Result<(), WriteFault>
+    ensures { WritesText (reported piece.now) result
         (writer E.contents E.counts errors.old) (writer E.contents E.counts errors.new) }
 {
     match piece {
-        Text(text) => write_whole(errors, text.as_bytes()),
+        Text(text) => write_text(errors, text.as_bytes()),
         Echo(text) => write_escaped(errors, text),
     }
 }
 
 /// Reports a line.
-fn say_line<E: CountedWrite>(errors: &mut E, line: &str)
-    ensures { SaysLine line.now (writer E.contents E.counts errors.old) (writer E.contents E.counts errors.new) }
+fn report_line<E: CountedWrite>(errors: &mut E, line: &str)
+    ensures { ReportsLine line.now (writer E.contents E.counts errors.old) (writer E.contents E.counts errors.new) }
 {
-    say(errors, &[Text(line), Text("\n")]);
+    write_pieces(errors, &[Text(line), Text("\n")]);
 }
 
 /// Reports why a text is refused.
-fn say_noted<'p, E: CountedWrite>(errors: &mut E, refusal: &'p str, note: &'p str)
-    ensures { SaysText (refusal.now ++ 10 ∷ note.now ++ 10 ∷ [])
+fn report_noted<'p, E: CountedWrite>(errors: &mut E, refusal: &'p str, note: &'p str)
+    ensures { ReportsText (refusal.now ++ 10 ∷ note.now ++ 10 ∷ [])
         (writer E.contents E.counts errors.old) (writer E.contents E.counts errors.new) }
 {
-    say(errors, &[Text(refusal), Text("\n"), Text(note), Text("\n")]);
+    write_pieces(errors, &[Text(refusal), Text("\n"), Text(note), Text("\n")]);
 }
 
 /// Reports why a county is refused.
-fn say_of_county<'p, E: CountedWrite>(errors: &mut E, refusal: &'p str, code: &'p str)
-    ensures { SaysText (refusal.now ++ 10 ∷ codes "county " ++ escaped code.now ++ 10 ∷ [])
+fn report_county<'p, E: CountedWrite>(errors: &mut E, refusal: &'p str, code: &'p str)
+    ensures { ReportsText (refusal.now ++ 10 ∷ codes "county " ++ escaped code.now ++ 10 ∷ [])
         (writer E.contents E.counts errors.old) (writer E.contents E.counts errors.new) }
 {
-    say(
+    write_pieces(
         errors,
         &[Text(refusal), Text("\ncounty "), Echo(code), Text("\n")],
     );
 }
 
 /// Reports why the file of this name can't be used.
-fn say_of_file<'p, E: CountedWrite>(errors: &mut E, name: &'p str, reason: &'p str)
-    ensures { SaysFile name.now (writer E.contents E.counts errors.old) (writer E.contents E.counts errors.new) }
+fn report_file<'p, E: CountedWrite>(errors: &mut E, name: &'p str, reason: &'p str)
+    ensures { ReportsFile name.now (writer E.contents E.counts errors.old) (writer E.contents E.counts errors.new) }
 {
-    say(
+    write_pieces(
         errors,
         &[
             Text("error: "),
@@ -387,17 +387,17 @@ fn say_of_file<'p, E: CountedWrite>(errors: &mut E, name: &'p str, reason: &'p s
 }
 
 /// Reports why a county's file, whose name has this extension, can't be used.
-fn say_of_county_file<'p, E: CountedWrite>(
+fn report_county_file<'p, E: CountedWrite>(
     errors: &mut E,
     data: &'p str,
     code: &'p str,
     end: &'p str,
     reason: &'p str,
 )
-    ensures { SaysFile («data».now ++ codes "/TGR" ++ code.now ++ end.now)
+    ensures { ReportsFile («data».now ++ codes "/TGR" ++ code.now ++ end.now)
         (writer E.contents E.counts errors.old) (writer E.contents E.counts errors.new) }
 {
-    say(
+    write_pieces(
         errors,
         &[
             Text("error: "),

@@ -1,6 +1,6 @@
 //! Filters' texts, and the programs they compile to.
 ghost use Rattle.std.specs.Prelude.{◌<◌, length, IfErr, IfOk, IsErrAnd};
-ghost use Rattle.cql2_text.specs.declared.reader.TheConstants.{TEXT_LIMIT};
+ghost use Rattle.cql2_text.specs.declared.reader.TheConstants.{MAX_TEXT_LENGTH};
 ghost use Rattle.commands.specs.Failure.{IsOfFilter};
 ghost use Rattle.commands.specs.Filter.{IsCodeOfText, IsFilterFailure, IsProgramOf, length_fault};
 
@@ -15,14 +15,14 @@ use std::alloc::{Allocator, Global};
 
 /// The options for compiling a filter.
 #[derive(Clone, Copy)]
-pub struct Compiling {
+pub struct FilterOptions {
     /// The column whose number is a selected segment's score. Without one, the score is 0.
     pub score: Option<NumericColumn>,
     /// The filter's allocator, which is part of its type.
-    pub filters: Global,
+    pub filter_alloc: Global,
 }
 
-impl Compiling {
+impl FilterOptions {
     /// Compiles the filter in a text and returns the program's bytes.
     pub fn program<'a, A: Allocator + Copy>(
         self,
@@ -31,7 +31,7 @@ impl Compiling {
     ) -> Result<Vec<u8, A>, Failure<'a>>
         ensures ok { IfOk result (λ program. IsProgramOf text.now self.score program.items) }
         ensures err { IfErr result (IsFilterFailure text.now self.score) }
-        ensures too_long { TEXT_LIMIT < length text.now → IsErrAnd result (IsOfFilter (length_fault text.now)) }
+        ensures too_long { MAX_TEXT_LENGTH < length text.now → IsErrAnd result (IsOfFilter (length_fault text.now)) }
     {
         match self.code(text) {
             Ok(code) => Ok(encode(alloc, &code)?),
@@ -43,13 +43,13 @@ impl Compiling {
     pub fn verified<'a>(self, text: &[u8]) -> Result<Verified<Global>, Failure<'a>>
         ensures ok { IfOk result (λ verified. IsCodeOfText text.now self.score verified.code) }
         ensures err { IfErr result (IsFilterFailure text.now self.score) }
-        ensures too_long { TEXT_LIMIT < length text.now → IsErrAnd result (IsOfFilter (length_fault text.now)) }
+        ensures too_long { MAX_TEXT_LENGTH < length text.now → IsErrAnd result (IsOfFilter (length_fault text.now)) }
     {
         let code = match self.code(text) {
             Ok(code) => code,
             Err(failure) => return Err(failure),
         };
-        match accept_code(self.filters, code) {
+        match accept_code(self.filter_alloc, code) {
             Ok(verified) => Ok(verified),
             // The verifier accepts the compiler's code, so only an allocation can fail.
             Err(_fault) => Err(Failure::Memory),
@@ -60,13 +60,13 @@ impl Compiling {
     fn code<'a>(self, text: &[u8]) -> Result<Code<Global>, Failure<'a>>
         ensures ok { IfOk result (IsCodeOfText text.now self.score) }
         ensures err { IfErr result (IsFilterFailure text.now self.score) }
-        ensures too_long { TEXT_LIMIT < length text.now → IsErrAnd result (IsOfFilter (length_fault text.now)) }
+        ensures too_long { MAX_TEXT_LENGTH < length text.now → IsErrAnd result (IsOfFilter (length_fault text.now)) }
     {
-        let filter = match read(self.filters, text) {
+        let filter = match read(self.filter_alloc, text) {
             Ok(filter) => filter,
             Err(fault) => return Err(Failure::of_filter(text, fault)),
         };
-        match compile(self.filters, &filter, self.score) {
+        match compile(self.filter_alloc, &filter, self.score) {
             Ok(code) => Ok(code),
             Err(fault) => Err(Failure::of_compile(fault)),
         }

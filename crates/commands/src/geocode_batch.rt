@@ -2,16 +2,16 @@
 ghost use Rattle.std.specs.Prelude.{◌≡◌, ◌≢◌, List, IfErr, IfOk};
 ghost use Rattle.addresses.specs.Address.{AddressParts, address_in};
 ghost use Rattle.batch.specs.Lines.{lines_of, lines_of_all};
-ghost use Rattle.counted_io.specs.Device.{writer};
+ghost use Rattle.counted_io.specs.ReaderWriter.{writer};
 ghost use Rattle.commands.specs.Command.{CarriesOut};
 ghost use Rattle.commands.specs.Failure.{status};
 ghost use Rattle.named_files.specs.Files.{disk};
-ghost use Rattle.commands.specs.GeocodeBatch.{AreAddressesOf, TellsAddresses, WritesBatch, WritesUnlessMemory};
+ghost use Rattle.commands.specs.GeocodeBatch.{AreAddressesOf, IsAddressesFault, WritesBatch, WritesUnlessMemory};
 ghost use Rattle.commands.specs.declared.request.Request.{Request};
 
 use crate::counties::load_counties;
 use crate::failure::{Failure, write};
-use addresses::{AddressFault, Addresses, Row};
+use addresses::{AddressFault, AddressRow, Addresses};
 use batch::{Batch, Lines, header};
 use counted_io::CountedWrite;
 use named_files::{Files, read_file};
@@ -66,10 +66,10 @@ impl<'a> GeocodeBatch<'a> {
 /// Reads all addresses of a file, or up to its fault.
 fn check_addresses(tables: Global, file: &[u8]) -> Result<(), AddressFault>
     ensures ok { IfOk result (λ _. (addresses : List AddressParts) × AreAddressesOf file.now addresses) }
-    ensures err { IfErr result (TellsAddresses file.now) }
+    ensures err { IfErr result (IsAddressesFault file.now) }
 {
     let mut addresses = Addresses::of(tables, file)?;
-    let mut row = Row::new(tables);
+    let mut row = AddressRow::new(tables);
     while addresses.read(&mut row)? {}
     Ok(())
 }
@@ -95,7 +95,7 @@ fn write_batch<'a, A: Allocator + Copy, W: CountedWrite>(
         Ok(addresses) => addresses,
         Err(fault) => return Err(Failure::Refusal(fault.refusal())),
     };
-    let mut row = Row::new(tables);
+    let mut row = AddressRow::new(tables);
     let mut lines = Lines::new(tables);
     loop {
         match addresses.read(&mut row) {
@@ -115,7 +115,7 @@ fn write_lines<'a, A: Allocator + Copy, W: CountedWrite>(
     alloc: A,
     tables: Global,
     batch: &Batch<'_, A>,
-    row: &Row,
+    row: &AddressRow,
     lines: &mut Lines,
     out: &mut W,
 ) -> Result<(), Failure<'a>>
@@ -125,7 +125,7 @@ fn write_lines<'a, A: Allocator + Copy, W: CountedWrite>(
     let address = row.address();
     match batch.write_lines(alloc, tables, &address, lines) {
         Ok(()) => {}
-        Err(_wanting) => return Err(Failure::Refusal(Refusal::memory())),
+        Err(_error) => return Err(Failure::Refusal(Refusal::memory())),
     }
     write(out, lines.as_bytes())
 }

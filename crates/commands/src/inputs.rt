@@ -1,9 +1,9 @@
 //! The inputs of `run` and `trace`: a program and a county.
 ghost use Rattle.std.specs.Prelude.{IfErr, IfOk};
 ghost use Rattle.named_files.specs.County.{IsOpened, county_readers};
-ghost use Rattle.commands.specs.Failure.{NamesFile, TellsCounts};
+ghost use Rattle.commands.specs.Failure.{NamesFile, IsUnfailedUnlessUnusable};
 ghost use Rattle.named_files.specs.Files.{disk};
-ghost use Rattle.commands.specs.Inputs.{HoldInputs, IsInput, TellsInputs};
+ghost use Rattle.commands.specs.Inputs.{HoldInputs, IsInput, IsInputsFailure};
 
 use crate::failure::Failure;
 use named_files::{CountyInputs, Files, close_county, open, open_county, read_program};
@@ -25,11 +25,11 @@ pub fn open_inputs<'a, A: Allocator + Copy, F: Files>(
 ) -> Result<Inputs<A, F::Reader>, Failure<'a>>
     ensures hold { IfOk result (λ inputs. HoldInputs (F.bytes files.old) name.now folder.now code.now inputs.program.items
         (county_readers F.Reader.remaining F.Reader.failed_reads inputs.county)) }
-    ensures there { IfOk result (λ inputs. IsOpened inputs.county.rt1) }
-    ensures err { IfErr result (TellsInputs name.now folder.now code.now
+    ensures is_open { IfOk result (λ inputs. IsOpened inputs.county.rt1) }
+    ensures err { IfErr result (IsInputsFailure name.now folder.now code.now
         (disk F.bytes F.failed_opens F.failed_reads files.old) (disk F.bytes F.failed_opens F.failed_reads files.new)) }
     ensures names { IfErr result (NamesFile (IsInput name.now folder.now code.now)) }
-    ensures counts { TellsCounts result (disk F.bytes F.failed_opens F.failed_reads files.old)
+    ensures counts { IsUnfailedUnlessUnusable result (disk F.bytes F.failed_opens F.failed_reads files.old)
         (disk F.bytes F.failed_opens F.failed_reads files.new) }
 {
     let mut reader = match open(files, name) {

@@ -1,8 +1,8 @@
 //! A request, its execution, and its exit status.
 ghost use Rattle.std.specs.Prelude.{◌≡◌, ◌≢◌, ◌≤◌, ◌⊎◌};
-ghost use Rattle.counted_io.specs.Device.{writer};
-ghost use Rattle.commands.specs.Command.{CarriesOut, FailsFlush, IsDone, IsFlushed, IsLackOfLine, IsOutOfMemory, IsRefusal, IsUnusable};
-ghost use Rattle.commands.specs.Failure.{KeepsOnUsage};
+ghost use Rattle.counted_io.specs.ReaderWriter.{writer};
+ghost use Rattle.commands.specs.Command.{CarriesOut, FailsFlush, IsDone, IsFlushed, ReportsMissingLine, IsOutOfMemory, IsRefusal, IsUnusable};
+ghost use Rattle.commands.specs.Failure.{IsUnchangedOnUsage};
 ghost use Rattle.named_files.specs.Files.{disk};
 
 use crate::assemble::Assemble;
@@ -53,7 +53,7 @@ impl<'a> Request<'a> {
         ensures refused { result ≡ 1 → IsRefusal self.entry (F.bytes files.old)
             (writer W.contents W.counts out.old) (writer W.contents W.counts out.new)
             (writer E.contents E.counts errors.old) (writer E.contents E.counts errors.new) }
-        ensures usage { result ≡ 2 → IsLackOfLine self.entry (F.bytes files.old)
+        ensures usage { result ≡ 2 → ReportsMissingLine self.entry (F.bytes files.old)
             (writer E.contents E.counts errors.old) (writer E.contents E.counts errors.new) }
         ensures untouched { result ≡ 2 → out.new ≡ out.old }
         ensures unusable { result ≡ 3 → IsUnusable self.entry
@@ -93,7 +93,7 @@ impl<'a> Request<'a> {
         ensures carried { CarriesOut self.entry result
             (disk F.bytes F.failed_opens F.failed_reads files.old) (disk F.bytes F.failed_opens F.failed_reads files.new)
             (writer W.contents W.counts out.old) (writer W.contents W.counts out.new) }
-        ensures usage { KeepsOnUsage result out.old out.new }
+        ensures usage { IsUnchangedOnUsage result out.old out.new }
     {
         match self {
             Request::Run(run) => run.carry_out(alloc, files, out),

@@ -1,6 +1,6 @@
 //! `run`: writes the rows of the segments that a program selects in a county's files.
 ghost use Rattle.std.specs.Prelude.{◌≢◌, IfErr};
-ghost use Rattle.counted_io.specs.Device.{writer};
+ghost use Rattle.counted_io.specs.ReaderWriter.{writer};
 ghost use Rattle.commands.specs.Command.{CarriesOut};
 ghost use Rattle.named_files.specs.County.{county_readers};
 ghost use Rattle.extract.specs.Extracting.{IsOutcome};

@@ -1,16 +1,16 @@
 //! `select`: writes the rows of the segments for which a filter is true, over counties.
 ghost use Rattle.std.specs.Prelude.{◌≡◌, ◌≢◌, ℕ, List, map, IfErr};
-ghost use Rattle.counted_io.specs.Device.{writer};
+ghost use Rattle.counted_io.specs.ReaderWriter.{writer};
 ghost use Rattle.commands.specs.Command.{CarriesOut};
 ghost use Rattle.commands.specs.Counties.{IsFileOfCounties};
 ghost use Rattle.named_files.specs.County.{IsFileOfCounty};
-ghost use Rattle.commands.specs.Failure.{NamesFile, TellsCounts, status};
+ghost use Rattle.commands.specs.Failure.{NamesFile, IsUnfailedUnlessUnusable, status};
 ghost use Rattle.named_files.specs.Files.{disk};
-ghost use Rattle.commands.specs.Select.{FailsAs, SelectsCounties, SelectsCounty, selecting};
+ghost use Rattle.commands.specs.Select.{FailsAs, SelectsCounties, SelectsCounty, selection};
 ghost use Rattle.commands.specs.declared.request.Request.{Request};
 
 use crate::failure::Failure;
-use crate::filter::Compiling;
+use crate::filter::FilterOptions;
 use bpf_verify::Verified;
 use counted_io::CountedWrite;
 use extract::extract_verified;
@@ -22,7 +22,7 @@ use std::alloc::{Allocator, Global};
 pub struct Select<'a> {
     /// The filter's text (CQL2).
     pub filter: &'a str,
-    pub compiling: Compiling,
+    pub filter_options: FilterOptions,
     /// The folder of the county files.
     pub data: &'a str,
     /// The counties' codes, five digits each: the state, then the county within it.
@@ -42,7 +42,7 @@ impl<'a> Select<'a> {
             (writer W.contents W.counts out.old) (writer W.contents W.counts out.new) }
         ensures usage { IfErr result (λ failure. status failure ≢ 2) }
     {
-        let program = match self.compiling.verified(self.filter.as_bytes()) {
+        let program = match self.filter_options.verified(self.filter.as_bytes()) {
             Ok(program) => program,
             Err(failure) => return Err(failure),
         };
@@ -66,12 +66,12 @@ fn select_counties<'a, A: Allocator + Copy, F: Files, W: CountedWrite>(
     codes: &[&'a str],
     out: &mut W,
 ) -> Result<(), Failure<'a>>
-    ensures outcome { SelectsCounties (selecting (F.bytes files.old) folder.now program.now.code) (map (λ code. code.now) codes.now) result
+    ensures outcome { SelectsCounties (selection (F.bytes files.old) folder.now program.now.code) (map (λ code. code.now) codes.now) result
         (writer W.contents W.counts out.old) (writer W.contents W.counts out.new) }
     ensures fails { IfErr result (λ failure. FailsAs failure
         (disk F.bytes F.failed_opens F.failed_reads files.old) (disk F.bytes F.failed_opens F.failed_reads files.new)) }
     ensures names { IfErr result (NamesFile (IsFileOfCounties folder.now (map (λ code. code.now) codes.now))) }
-    ensures counts { TellsCounts result (disk F.bytes F.failed_opens F.failed_reads files.old)
+    ensures counts { IsUnfailedUnlessUnusable result (disk F.bytes F.failed_opens F.failed_reads files.old)
         (disk F.bytes F.failed_opens F.failed_reads files.new) }
     ensures unflushed { (W.counts out.new).flushes ≡ (W.counts out.old).flushes }
 {
@@ -93,13 +93,13 @@ fn select_county<'a, A: Allocator + Copy, F: Files, W: CountedWrite>(
     code: &'a str,
     out: &mut W,
 ) -> Result<(), Failure<'a>>
-    ensures outcome { SelectsCounty (selecting (F.bytes files.old) folder.now program.now.code) code.now result
+    ensures outcome { SelectsCounty (selection (F.bytes files.old) folder.now program.now.code) code.now result
         (writer W.contents W.counts out.old) (writer W.contents W.counts out.new) }
     ensures fails { IfErr result (λ failure. FailsAs failure
         (disk F.bytes F.failed_opens F.failed_reads files.old) (disk F.bytes F.failed_opens F.failed_reads files.new)) }
     ensures names { IfErr result (NamesFile (IsFileOfCounty folder.now code.now)) }
     ensures stay { (other : List ℕ) → F.bytes files.new other ≡ F.bytes files.old other }
-    ensures counts { TellsCounts result (disk F.bytes F.failed_opens F.failed_reads files.old)
+    ensures counts { IsUnfailedUnlessUnusable result (disk F.bytes F.failed_opens F.failed_reads files.old)
         (disk F.bytes F.failed_opens F.failed_reads files.new) }
     ensures unflushed { (W.counts out.new).flushes ≡ (W.counts out.old).flushes }
 {

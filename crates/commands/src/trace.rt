@@ -1,12 +1,12 @@
 //! `trace`: runs a program on one segment of a county.
-ghost use Rattle.counted_io.specs.Device.{writer};
+ghost use Rattle.counted_io.specs.ReaderWriter.{writer};
 ghost use Rattle.commands.specs.Command.{CarriesOut};
-ghost use Rattle.commands.specs.Failure.{KeepsOnUsage};
+ghost use Rattle.commands.specs.Failure.{IsUnchangedOnUsage};
 ghost use Rattle.named_files.specs.Files.{disk};
 ghost use Rattle.commands.specs.declared.request.Request.{Request};
 ghost use Rattle.std.specs.Prelude.{◌≡◌, ◌≤◌, ◌+◌, ◌∷◌, ◌++◌, [], decimal, length, MatchOption};
 ghost use Rattle.named_files.specs.County.{county_readers};
-ghost use Rattle.commands.specs.Trace.{EndsAs, HasNoLine, IsSegmentOfLine, outcome_line};
+ghost use Rattle.commands.specs.Trace.{IsTraceResult, HasNoLine, IsSegmentOfLine, outcome_line};
 
 use crate::failure::{Failure, write};
 use crate::inputs::{Inputs, open_inputs};
@@ -46,7 +46,7 @@ impl<'a> Trace<'a> {
         ensures carried { CarriesOut (Request.Trace self.entry) result
             (disk F.bytes F.failed_opens F.failed_reads files.old) (disk F.bytes F.failed_opens F.failed_reads files.new)
             (writer W.contents W.counts out.old) (writer W.contents W.counts out.new) }
-        ensures usage { KeepsOnUsage result out.old out.new }
+        ensures usage { IsUnchangedOnUsage result out.old out.new }
     {
         let inputs = match open_inputs(alloc, files, self.program, self.data, self.code) {
             Ok(inputs) => inputs,
@@ -71,7 +71,7 @@ impl<'a> Trace<'a> {
         program: &[u8],
         inputs: &mut CountyInputs<R>,
     ) -> Result<Outcome, Failure<'a>>
-        ensures ends { EndsAs self.entry program.now (county_readers R.remaining R.failed_reads inputs.old)
+        ensures ends { IsTraceResult self.entry program.now (county_readers R.remaining R.failed_reads inputs.old)
             (county_readers R.remaining R.failed_reads inputs.new) result }
     {
         let code = match decode(alloc, program) {

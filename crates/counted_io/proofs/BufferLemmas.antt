@@ -6,9 +6,9 @@ use Rattle.std.proofs.lemmas.List.{get_or-take, take_more}
 use Rattle.std.proofs.lemmas.List.Elements.{All-append, All-from_get_or}
 use Rattle.std.specs.Io.KnownBytes.{Consumes, IsAtEnd}
 use Rattle.memchr.specs.Find.{IsFirstByte, Nowhere, Passes, is_byte}
-use Rattle.counted_io.specs.Buffered.{IsFrontRead}
+use Rattle.counted_io.specs.Buffered.{IsBufferRead}
 use Rattle.counted_io.specs.Content.{HasNoLineFeed, IsContentRead}
-use Rattle.counted_io.specs.Device.{Reader}
+use Rattle.counted_io.specs.ReaderWriter.{Reader}
 use Rattle.counted_io.specs.declared.content.Stop.{Stop}
 use Rattle.counted_io.specs.declared.content.Stop.TheVariants.{LineFeed, EndOfInput, TooLong, ReadFailed}
 use Rattle.counted_io.proofs.ContentLemmas.{IsSoFar, no_more}
@@ -23,22 +23,22 @@ none_before shown place within nowhere =
     nowhere i (omega arith) before (eq-eqb (get_or shown i 0) 10 (sym (get_or-take place shown i 0 before) ∙ e)))
 
 -- the first line feed of a front of the buffer
-pub record IsAtLineFeed (front shown : List ℕ) (place : ℕ) : Type 0 where
+pub record IsAtLineFeed (buffer shown : List ℕ) (place : ℕ) : Type 0 where
   pub inside : place < length shown
   pub before : HasNoLineFeed (take place shown)
-  pub taken : take (place + 1) front ≡ take place shown ++ 10 ∷ []
+  pub taken : take (place + 1) buffer ≡ take place shown ++ 10 ∷ []
 
-pub at_line_feed : (front : List ℕ) (count place : ℕ) → count ≤ length front → IsFirstByte (is_byte 10) (take count front) (Some place)
-    → IsAtLineFeed front (take count front) place
-at_line_feed front count place within found =
-    let long = length-take-le count front within in
-    let inside : place < length (take count front) = found.0.high in
-    let byte : get_or (take count front) place 0 ≡ 10 = eqb-true (get_or (take count front) place 0) 10 found.1 in
+pub at_line_feed : (buffer : List ℕ) (count place : ℕ) → count ≤ length buffer → IsFirstByte (is_byte 10) (take count buffer) (Some place)
+    → IsAtLineFeed buffer (take count buffer) place
+at_line_feed buffer count place within found =
+    let long = length-take-le count buffer within in
+    let inside : place < length (take count buffer) = found.0.high in
+    let byte : get_or (take count buffer) place 0 ≡ 10 = eqb-true (get_or (take count buffer) place 0) 10 found.1 in
     record {
       inside = inside;
-      before = none_before (take count front) place (omega arith) found.0.before;
-      taken = sym (take-take (place + 1) count front (omega arith)) ∙ take_more (take count front) place 0 inside
-          ∙ ap (λ b. take place (take count front) ++ b ∷ []) byte;
+      before = none_before (take count buffer) place (omega arith) found.0.before;
+      taken = sym (take-take (place + 1) count buffer (omega arith)) ∙ take_more (take count buffer) place 0 inside
+          ∙ ap (λ b. take place (take count buffer) ++ b ∷ []) byte;
     }
 
 -- a front of the buffer without a line feed
@@ -47,17 +47,17 @@ without_line_feed shown nowhere =
     All-from_get_or (λ b. b ≢ 10) shown 0 (λ i inside e. nowhere i (omega arith) inside (eq-eqb (get_or shown i 0) 10 e))
 
 -- a front of the buffer that was taken completely
-pub whole_taken : (old new : Option (List ℕ)) (front : List ℕ) (count : ℕ) → count ≤ length front
-    → Consumes old new (take (length (take count front)) front) → Consumes old new (take count front)
-whole_taken old new front count within taken =
-    subst (λ n. Consumes old new (take n front)) (length-take-le count front within) taken
+pub whole_taken : (old new : Option (List ℕ)) (buffer : List ℕ) (count : ℕ) → count ≤ length buffer
+    → Consumes old new (take (length (take count buffer)) buffer) → Consumes old new (take count buffer)
+whole_taken old new buffer count within taken =
+    subst (λ n. Consumes old new (take n buffer)) (length-take-le count buffer within) taken
 
 -- content plus a new part is short if the length so far and the part's length together are
-pub grown_short : (kept : ℕ) (content part new : List ℕ) → kept ≤ length content → kept + length part ≤ 230
-    → new ≡ take kept content ++ part → length new ≤ 230
-grown_short kept content part new within room is =
-    let all = ap length is ∙ length-append (take kept content) part in
-    let long = length-take-le kept content within in
+pub grown_short : (length_so_far : ℕ) (content part new : List ℕ) → length_so_far ≤ length content → length_so_far + length part ≤ 230
+    → new ≡ take length_so_far content ++ part → length new ≤ 230
+grown_short length_so_far content part new within room is =
+    let all = ap length is ∙ length-append (take length_so_far content) part in
+    let long = length-take-le length_so_far content within in
     omega arith
 
 -- The same as IsContentRead, except that the end of the input is claimed only if the bytes are known.
@@ -80,7 +80,7 @@ grown content part p q = All-append (λ b. b ≢ 10) content part p q
 
 -- the content so far, and the look at the buffer that ends the line
 stopped : (content new_content : List ℕ) (old now new : Reader) (stop : Stop) → IsSoFar content old now
-    → IsFrontRead content new_content now new (Some stop) → IsStopped new_content old new stop
+    → IsBufferRead content new_content now new (Some stop) → IsStopped new_content old new stop
 stopped content new_content old now new LineFeed so_far read =
     let part = read.1 in
     let all = Consumes-append old.left now.left new.left content (part ++ 10 ∷ []) so_far.taken read.3 in
@@ -127,11 +127,11 @@ where_known content (Some file) failed new stop read = read
 
 -- after the line has stopped: the claim for any reader, and the claim for one whose bytes are known
 pub stopped_unknown : (content new_content : List ℕ) (old now new : Reader) (stop : Stop) → IsSoFar content old now
-    → IsFrontRead content new_content now new (Some stop) → IsContentRead new_content (unknown old) (unknown new) stop
+    → IsBufferRead content new_content now new (Some stop) → IsContentRead new_content (unknown old) (unknown new) stop
 stopped_unknown content new_content old now new stop so_far read =
     without_bytes new_content old new stop (stopped content new_content old now new stop so_far read)
 
 pub stopped_known : (content new_content : List ℕ) (old now new : Reader) (stop : Stop) → IsSoFar content old now
-    → IsFrontRead content new_content now new (Some stop) → OnSome old.left (IsContentRead new_content old new stop)
+    → IsBufferRead content new_content now new (Some stop) → OnSome old.left (IsContentRead new_content old new stop)
 stopped_known content new_content old now new stop so_far read =
     where_known new_content old.left old.failed new stop (stopped content new_content old now new stop so_far read)

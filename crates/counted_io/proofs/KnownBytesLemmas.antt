@@ -33,9 +33,9 @@ Consumes-append (Some us) (Some vs) (Some ws) xs ys first second =
 
 -- a failed read consumed no byte
 pub Consumes-from_keeps : (a b : Option (List ℕ)) → Keeps a b → Consumes a b []
-Consumes-from_keeps None b kept = tt
-Consumes-from_keeps (Some us) None kept = absurd kept
-Consumes-from_keeps (Some us) (Some vs) kept = sym kept
+Consumes-from_keeps None b preserved = tt
+Consumes-from_keeps (Some us) None preserved = absurd preserved
+Consumes-from_keeps (Some us) (Some vs) preserved = sym preserved
 
 module _ (old now new : Option (List ℕ)) where
   -- a further piece of a text was written

@@ -1,8 +1,8 @@
 -- The content of a line: its bytes up to a line feed, read from a reader.
 use Rattle.std.specs.Prelude.{◌≡◌, ◌≢◌, ℕ, ◌≤◌, List, [], ◌∷◌, ◌++◌, length, All, Option, Some, None, Result, Ok, Err}
 use Rattle.std.specs.Io.KnownBytes.{Consumes, IsAtEnd}
-use Rattle.counted_io.specs.Counted.{next_count}
-use Rattle.counted_io.specs.Device.{Reader}
+use Rattle.counted_io.specs.Counting.{next_count}
+use Rattle.counted_io.specs.ReaderWriter.{Reader}
 use Rattle.counted_io.specs.declared.content.Stop.{Stop}
 use Rattle.counted_io.specs.declared.content.Stop.TheVariants.{LineFeed, EndOfInput, TooLong, ReadFailed}
 

@@ -1,8 +1,8 @@
 -- A reader or writer that fails in one call.
 use Rattle.std.specs.Prelude.{◌≡◌, ℕ, ◌-◌, ◌==◌, nat_lt, Bool, ◌&&◌, ◌||◌, not, min, if◌then◌else◌, Result, Ok, Err, IsErr}
-use Rattle.counted_io.specs.Counted.{next_count}
-use Rattle.counted_io.specs.declared.fuse.Burst.{Burst}
-use Rattle.counted_io.specs.declared.fuse.Burst.TheVariants.{Fails, TakesNothing}
+use Rattle.counted_io.specs.Counting.{next_count}
+use Rattle.counted_io.specs.declared.fuse.InjectedFailure.{InjectedFailure}
+use Rattle.counted_io.specs.declared.fuse.InjectedFailure.TheVariants.{Fails, TakesNothing}
 use Rattle.counted_io.specs.declared.fuse.Fuse.{Fuse}
 
 -- a call with this many bytes must fail: no call has failed yet, and either no call is left, or no byte is left and the call has some
@@ -18,15 +18,15 @@ after_call fuse bytes = record fuse {
 }
 
 -- the result of the failing write
-abbrev pub GoesWrong : {E : Type 0} → Burst → Result ℕ E → Type 0
-GoesWrong (Fails kind) result = IsErr result
-GoesWrong TakesNothing result = result ≡ Ok 0
+abbrev pub IsInjectedFailure : {E : Type 0} → InjectedFailure → Result ℕ E → Type 0
+IsInjectedFailure (Fails kind) result = IsErr result
+IsInjectedFailure TakesNothing result = result ≡ Ok 0
 
 -- the number of bytes that a passing write forwards: at most the number left to take, or all of them once the fuse has blown
 abbrev pub room : {T : Type 0} → Fuse T → ℕ → ℕ
 room fuse bytes = if fuse.is_blown then bytes else min bytes fuse.bytes_left
 
 -- the number of bytes left to take after a write
-abbrev pub left_behind : {T E : Type 0} → Fuse T → Result ℕ E → ℕ
-left_behind fuse (Ok taken) = fuse.bytes_left - taken
-left_behind fuse (Err error) = fuse.bytes_left
+abbrev pub bytes_left_after : {T E : Type 0} → Fuse T → Result ℕ E → ℕ
+bytes_left_after fuse (Ok taken) = fuse.bytes_left - taken
+bytes_left_after fuse (Err error) = fuse.bytes_left

@@ -1,6 +1,6 @@
 pub mod Buffered
 pub mod Content
-pub mod Counted
-pub mod Device
+pub mod Counting
+pub mod ReaderWriter
 pub mod Fuse
 pub mod Writing

@@ -1,15 +1,15 @@
 -- The effect of writing a complete text on a writer.
 use Rattle.std.specs.Prelude.{◌≡◌, ℕ, List, take, codes, Option, Result, Ok, Err}
 use Rattle.std.specs.Io.KnownBytes.{Appends}
-use Rattle.refusals.specs.Refusal.{RefusalParts, device}
-use Rattle.counted_io.specs.Counted.{CountsFault}
-use Rattle.counted_io.specs.Device.{Writer}
+use Rattle.refusals.specs.Refusal.{RefusalParts, io}
+use Rattle.counted_io.specs.Counting.{CountsFault}
+use Rattle.counted_io.specs.ReaderWriter.{Writer}
 use Rattle.counted_io.specs.declared.writing.WriteFault.{WriteFault}
 use Rattle.counted_io.specs.declared.writing.WriteFault.TheVariants.{Write, WriteZero}
 
 abbrev pub refusal : WriteFault → RefusalParts
-refusal Write = device 60 (codes "Write")
-refusal WriteZero = device 61 (codes "WriteZero")
+refusal Write = io 60 (codes "Write")
+refusal WriteZero = io 61 (codes "WriteZero")
 
 -- the known bytes grow by a beginning of the text
 pub record AppendsBeginning (old new : Option (List ℕ)) (text : List ℕ) : Type 0 where

@@ -3,12 +3,12 @@ ghost use Rattle.std.specs.Prelude.{◌≡◌, ◌≤◌, ◌+◌, ◌++◌, ◌
 ghost use Rattle.std.specs.Io.{ReadsAtMost};
 ghost use Rattle.std.specs.Io.KnownBytes.{ReadConsumes};
 ghost use Rattle.memchr.specs.Find.{IsFirstByte, is_byte};
-ghost use Rattle.counted_io.specs.Buffered.{IsFrontRead, IsLineInFront};
+ghost use Rattle.counted_io.specs.Buffered.{IsBufferRead, IsLineInBuffer};
 ghost use Rattle.counted_io.specs.Content.{AddsStop, IsContentRead};
-ghost use Rattle.counted_io.specs.Counted.{AddsFailure, CountsFailure};
+ghost use Rattle.counted_io.specs.Counting.{AddsFailure, CountsFailure};
 
-use crate::content::{CARRIAGE_RETURN, LINE_FEED, LONGEST_CONTENT, Stop};
-use crate::counted::{CountedRead, count_one};
+use crate::content::{CARRIAGE_RETURN, LINE_FEED, MAX_CONTENT_LENGTH, Stop};
+use crate::counting::{CountedRead, count_one};
 use crate::line_copy::{LANES, copy_if_no_line_feed};
 use arrayvec::ArrayVec;
 use memchr::memchr;
@@ -56,38 +56,38 @@ impl<B: BufRead> Buffered<B> {
         self.failed_reads
     }
 
-    // Consumes the buffered part of a line, and returns why the line stops there, or `None` if it continues. The first `kept` bytes of the content
+    // Consumes the buffered part of a line, and returns why the line stops there, or `None` if it continues. The first `length_so_far` bytes of the content
     // belong to this line; the others are left from an earlier one.
     #[inline(always)]
-    fn read_front(
+    fn read_from_buffer(
         &mut self,
-        content: &mut ArrayVec<u8, LONGEST_CONTENT>,
-        kept: usize,
+        content: &mut ArrayVec<u8, MAX_CONTENT_LENGTH>,
+        length_so_far: usize,
     ) -> Option<Stop>
-        requires within { kept ≤ length content.old.items }
-        requires short { kept ≤ LONGEST_CONTENT }
-        ensures front { IsFrontRead (take kept content.old.items) content.new.items
+        requires within { length_so_far ≤ length content.old.items }
+        requires short { length_so_far ≤ MAX_CONTENT_LENGTH }
+        ensures buffer { IsBufferRead (take length_so_far content.old.items) content.new.items
             (record { left = B.remaining self.old.reader; failed = self.old.failed_reads })
             (record { left = B.remaining self.new.reader; failed = self.new.failed_reads }) result }
         ensures exact { IfSome result (λ stop. AddsStop stop self.old.failed_reads self.new.failed_reads) }
     {
-        let front = match self.reader.fill_buf() {
-            Ok(front) => front,
+        let buffer = match self.reader.fill_buf() {
+            Ok(buffer) => buffer,
             Err(_) => {
                 count_one(&mut self.failed_reads);
-                content.truncate(kept);
+                content.truncate(length_so_far);
                 return Some(Stop::ReadFailed);
             }
         };
-        if copy_like_last(front, content, kept) {
+        if copy_if_same_length(buffer, content, length_so_far) {
             self.reader.consume(content.len() + 1);
             return Some(Stop::LineFeed);
         }
-        let room = LONGEST_CONTENT - kept;
-        let shown = &front[..front.len().min(room + 1)];
+        let room = MAX_CONTENT_LENGTH - length_so_far;
+        let shown = &buffer[..buffer.len().min(room + 1)];
         let Some(length) = first_line_feed(shown) else {
             if shown.is_empty() {
-                content.truncate(kept);
+                content.truncate(length_so_far);
                 return Some(Stop::EndOfInput);
             }
             let count = shown.len();
@@ -95,11 +95,11 @@ impl<B: BufRead> Buffered<B> {
                 self.reader.consume(count);
                 return Some(Stop::TooLong);
             }
-            put_after(content, kept, shown);
+            replace_tail(content, length_so_far, shown);
             self.reader.consume(count);
             return None;
         };
-        put_after(content, kept, &shown[..length]);
+        replace_tail(content, length_so_far, &shown[..length]);
         self.reader.consume(length + 1);
         Some(Stop::LineFeed)
     }
@@ -111,14 +111,14 @@ impl<B: BufRead> Buffered<B> {
             (ReadConsumes (B.remaining self.old.reader) (B.remaining self.new.reader) result (byte.new ∷ [])) }
         ensures failures { AddsFailure result self.old.failed_reads self.new.failed_reads }
     {
-        let front = match self.reader.fill_buf() {
-            Ok(front) => front,
+        let buffer = match self.reader.fill_buf() {
+            Ok(buffer) => buffer,
             Err(error) => {
                 count_one(&mut self.failed_reads);
                 return Err(error);
             }
         };
-        let Some(first) = front.first().copied() else {
+        let Some(first) = buffer.first().copied() else {
             return Ok(0);
         };
         self.reader.consume(1);
@@ -170,7 +170,7 @@ impl<B: BufRead> CountedRead for Buffered<B> {
     }
 
     #[inline(always)]
-    fn read_content(&mut self, content: &mut ArrayVec<u8, LONGEST_CONTENT>) -> Stop
+    fn read_content(&mut self, content: &mut ArrayVec<u8, MAX_CONTENT_LENGTH>) -> Stop
         ensures content { IsContentRead content.new.items
             (record { left = None; failed = self.old.failed_reads })
             (record { left = None; failed = self.new.failed_reads }) result }
@@ -180,12 +180,12 @@ impl<B: BufRead> CountedRead for Buffered<B> {
             (record { left = B.remaining self.new.reader; failed = self.new.failed_reads }) result) }
         ensures exact { AddsStop result self.old.failed_reads self.new.failed_reads }
     {
-        let mut kept = 0;
+        let mut length_so_far = 0;
         loop {
-            if let Some(stop) = self.read_front(content, kept) {
+            if let Some(stop) = self.read_from_buffer(content, length_so_far) {
                 return stop;
             }
-            kept = content.len();
+            length_so_far = content.len();
         }
     }
 }
@@ -200,43 +200,47 @@ fn first_line_feed(bytes: &[u8]) -> Option<usize>
 }
 
 /// Replaces the content with the first line of the buffer, if the buffer has all of it and it is as long as the content, as most records are. A CR
-/// before the line feed isn't part of this length. Otherwise returns false, and the content from byte `kept` on is then unspecified.
+/// before the line feed isn't part of this length. Otherwise returns false, and the content from byte `length_so_far` on is then unspecified.
 #[inline(always)]
-fn copy_like_last(front: &[u8], content: &mut ArrayVec<u8, LONGEST_CONTENT>, kept: usize) -> bool
-    requires { kept ≤ length content.old.items }
-    ensures line { IsTrue result → IsLineInFront front.now content.new.items × (kept ≡ 0) }
-    ensures kept { take kept content.new.items ≡ take kept content.old.items }
-    ensures within { kept ≤ length content.new.items }
+fn copy_if_same_length(
+    buffer: &[u8],
+    content: &mut ArrayVec<u8, MAX_CONTENT_LENGTH>,
+    length_so_far: usize,
+) -> bool
+    requires { length_so_far ≤ length content.old.items }
+    ensures line { IsTrue result → IsLineInBuffer buffer.now content.new.items × (length_so_far ≡ 0) }
+    ensures length_so_far { take length_so_far content.new.items ≡ take length_so_far content.old.items }
+    ensures within { length_so_far ≤ length content.new.items }
 {
     let length = content.len();
-    if kept != 0 || length < LANES || length >= front.len() {
+    if length_so_far != 0 || length < LANES || length >= buffer.len() {
         return false;
     }
-    if front[length] == LINE_FEED {
-        return copy_if_no_line_feed(&front[..length], content.as_mut_slice());
+    if buffer[length] == LINE_FEED {
+        return copy_if_no_line_feed(&buffer[..length], content.as_mut_slice());
     }
-    if length == LONGEST_CONTENT || length + 1 == front.len() {
+    if length == MAX_CONTENT_LENGTH || length + 1 == buffer.len() {
         return false;
     }
-    if front[length] != CARRIAGE_RETURN || front[length + 1] != LINE_FEED {
+    if buffer[length] != CARRIAGE_RETURN || buffer[length + 1] != LINE_FEED {
         return false;
     }
-    let copied = copy_if_no_line_feed(&front[..length], content.as_mut_slice());
+    let copied = copy_if_no_line_feed(&buffer[..length], content.as_mut_slice());
     content.push(CARRIAGE_RETURN);
     copied
 }
 
-/// Replaces everything after the first `kept` bytes. If the length stays the same, as it does for records, nothing is cleared.
+/// Replaces everything after the first `length_so_far` bytes. If the length stays the same, as it does for records, nothing is cleared.
 #[inline(never)]
-fn put_after(content: &mut ArrayVec<u8, LONGEST_CONTENT>, kept: usize, bytes: &[u8])
-    requires within { kept ≤ length content.old.items }
-    requires room { kept + length bytes.now ≤ LONGEST_CONTENT }
-    ensures { content.new.items ≡ take kept content.old.items ++ bytes.now }
+fn replace_tail(content: &mut ArrayVec<u8, MAX_CONTENT_LENGTH>, length_so_far: usize, bytes: &[u8])
+    requires within { length_so_far ≤ length content.old.items }
+    requires room { length_so_far + length bytes.now ≤ MAX_CONTENT_LENGTH }
+    ensures { content.new.items ≡ take length_so_far content.old.items ++ bytes.now }
 {
-    if kept == 0 && content.len() == bytes.len() {
+    if length_so_far == 0 && content.len() == bytes.len() {
         content.as_mut_slice().copy_from_slice(bytes);
         return;
     }
-    content.truncate(kept);
+    content.truncate(length_so_far);
     content.try_extend_from_slice(bytes).unwrap();
 }

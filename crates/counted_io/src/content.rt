@@ -1,7 +1,7 @@
 //! The content of a line, and why reading it stops.
 
 /// The maximum length of a line's content, in bytes.
-pub const LONGEST_CONTENT: usize = 230;
+pub const MAX_CONTENT_LENGTH: usize = 230;
 
 pub(crate) const LINE_FEED: u8 = b'\n';
 

@@ -2,15 +2,15 @@
 ghost use Rattle.std.specs.Prelude.{◌≡◌, ◌≤◌, take, true, false, length, IsErr, IfOk};
 ghost use Rattle.std.specs.Io.{ReadsAtMost, WritesAtMost};
 ghost use Rattle.std.specs.Io.KnownBytes.{Keeps, ReadConsumes, WriteAppends};
-ghost use Rattle.counted_io.specs.Counted.{CountsFailure, CountsFlush, CountsWrite};
+ghost use Rattle.counted_io.specs.Counting.{CountsFailure, CountsFlush, CountsWrite};
 
-use crate::counted::{CountedRead, CountedWrite, count_one};
+use crate::counting::{CountedRead, CountedWrite, count_one};
 use std::io;
 use std::io::{ErrorKind, Read, Write};
 
 /// How the failing call fails.
 #[derive(Clone, Copy, PartialEq, Eq)]
-pub enum Burst {
+pub enum InjectedFailure {
     /// The call returns an error.
     Fails(ErrorKind),
     /// The write returns 0. A read or a flush returns a `WriteZero` error instead.
@@ -27,7 +27,7 @@ pub struct Fuse<T> {
     pub calls_left: u64,
     /// Bytes left to write before a call fails.
     pub bytes_left: usize,
-    pub burst: Burst,
+    pub failure: InjectedFailure,
     pub is_blown: bool,
     /// The number of calls, modulo 2^64.
     pub calls: u64,
@@ -37,28 +37,28 @@ impl<T> Fuse<T> {
     ghost use Rattle.counted_io.specs.Fuse.{after_call, is_due, room};
 
     /// Creates a fuse that forwards `calls` calls and then fails one.
-    pub fn after_calls(inner: T, calls: u64, burst: Burst) -> Self
-        ensures { result ≡ record { inner = inner; calls_left = calls; bytes_left = usize.MAX; burst = burst; is_blown = false; calls = 0 } }
+    pub fn after_calls(inner: T, calls: u64, failure: InjectedFailure) -> Self
+        ensures { result ≡ record { inner = inner; calls_left = calls; bytes_left = usize.MAX; failure = failure; is_blown = false; calls = 0 } }
     {
         Fuse {
             inner,
             calls_left: calls,
             bytes_left: usize::MAX,
-            burst,
+            failure,
             is_blown: false,
             calls: 0,
         }
     }
 
     /// Creates a fuse that writes `bytes` bytes and then fails a call.
-    pub fn after_bytes(inner: T, bytes: usize, burst: Burst) -> Self
-        ensures { result ≡ record { inner = inner; calls_left = u64.MAX; bytes_left = bytes; burst = burst; is_blown = false; calls = 0 } }
+    pub fn after_bytes(inner: T, bytes: usize, failure: InjectedFailure) -> Self
+        ensures { result ≡ record { inner = inner; calls_left = u64.MAX; bytes_left = bytes; failure = failure; is_blown = false; calls = 0 } }
     {
         Fuse {
             inner,
             calls_left: u64::MAX,
             bytes_left: bytes,
-            burst,
+            failure,
             is_blown: false,
             calls: 0,
         }
@@ -89,9 +89,9 @@ impl<T> Fuse<T> {
     }
 
     fn error(&self) -> io::Error {
-        match self.burst {
-            Burst::Fails(kind) => io::Error::from(kind),
-            Burst::TakesNothing => io::Error::from(ErrorKind::WriteZero),
+        match self.failure {
+            InjectedFailure::Fails(kind) => io::Error::from(kind),
+            InjectedFailure::TakesNothing => io::Error::from(ErrorKind::WriteZero),
         }
     }
 }
@@ -117,7 +117,7 @@ impl<T: CountedRead> Read for Fuse<T> {
 }
 
 impl<T: CountedWrite> Write for Fuse<T> {
-    ghost use Rattle.counted_io.specs.Fuse.{GoesWrong, after_call, is_due, left_behind, room};
+    ghost use Rattle.counted_io.specs.Fuse.{IsInjectedFailure, after_call, is_due, bytes_left_after, room};
 
     ghost contents = { λ fuse. T.contents fuse.inner };
 
@@ -125,17 +125,17 @@ impl<T: CountedWrite> Write for Fuse<T> {
         ensures bound { WritesAtMost result buf.now }
         ensures bytes { WriteAppends (T.contents self.old.inner) (T.contents self.new.inner) result buf.now }
         ensures due { is_due self.old (length buf.now) ≡ true
-            → GoesWrong self.old.burst result × (self.new ≡ after_call self.old (length buf.now)) }
+            → IsInjectedFailure self.old.failure result × (self.new ≡ after_call self.old (length buf.now)) }
         ensures passed { is_due self.old (length buf.now) ≡ false
             → CountsWrite result (take (room self.old (length buf.now)) buf.now) (T.counts self.old.inner) (T.counts self.new.inner) }
         ensures counted { self.new
-            ≡ record (after_call self.old (length buf.now)) { inner = self.new.inner; bytes_left = left_behind self.old result } }
+            ≡ record (after_call self.old (length buf.now)) { inner = self.new.inner; bytes_left = bytes_left_after self.old result } }
         ensures room { self.old.is_blown ≡ false → IfOk result (λ taken. taken ≤ self.old.bytes_left) }
     {
         if self.blows(buf.len()) {
-            return match self.burst {
-                Burst::TakesNothing => Ok(0),
-                Burst::Fails(_) => Err(self.error()),
+            return match self.failure {
+                InjectedFailure::TakesNothing => Ok(0),
+                InjectedFailure::Fails(_) => Err(self.error()),
             };
         }
         let room = self.room(buf.len());

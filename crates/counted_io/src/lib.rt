@@ -3,13 +3,13 @@
 
 mod buffered;
 mod content;
-mod counted;
+mod counting;
 mod fuse;
 mod line_copy;
 mod writing;
 
 pub use buffered::Buffered;
-pub use content::{LONGEST_CONTENT, Stop};
-pub use counted::{CountedRead, CountedWrite, Counting, count_one};
-pub use fuse::{Burst, Fuse};
-pub use writing::{WriteFault, write_whole};
+pub use content::{MAX_CONTENT_LENGTH, Stop};
+pub use counting::{CountedRead, CountedWrite, Counting, count_one};
+pub use fuse::{Fuse, InjectedFailure};
+pub use writing::{WriteFault, write_text};

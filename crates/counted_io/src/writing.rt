@@ -1,8 +1,8 @@
 //! Texts written completely, or up to the first failed write.
-ghost use Rattle.counted_io.specs.Device.{writer};
+ghost use Rattle.counted_io.specs.ReaderWriter.{writer};
 ghost use Rattle.counted_io.specs.Writing.{WritesText};
 
-use crate::counted::CountedWrite;
+use crate::counting::CountedWrite;
 use refusals::{Fault, Refusal};
 use thiserror::Error;
 
@@ -22,14 +22,14 @@ impl Fault for WriteFault {
 
     fn refusal(&self) -> Refusal {
         match self {
-            WriteFault::Write => Refusal::device(60, "Write"),
-            WriteFault::WriteZero => Refusal::device(61, "WriteZero"),
+            WriteFault::Write => Refusal::io(60, "Write"),
+            WriteFault::WriteZero => Refusal::io(61, "WriteZero"),
         }
     }
 }
 
 /// Writes the text with as many writes as it needs. A failed write isn't retried, not even after `Interrupted`, and nothing is flushed.
-pub fn write_whole<W: CountedWrite>(out: &mut W, text: &[u8]) -> Result<(), WriteFault>
+pub fn write_text<W: CountedWrite>(out: &mut W, text: &[u8]) -> Result<(), WriteFault>
     ensures { WritesText text.now result (writer W.contents W.counts out.old) (writer W.contents W.counts out.new) }
 {
     let mut rest = text;

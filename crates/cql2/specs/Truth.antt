@@ -4,7 +4,7 @@ use Rattle.std.specs.Bool.{beq}
 use Rattle.std.specs.List.{list_any}
 use Rattle.tl_segments.specs.Name.{name_equals}
 use Rattle.tl_segments.specs.Range.{lies_on}
-use Rattle.tl_segments.specs.Segment.{Contents, names_of, ranges_of}
+use Rattle.tl_segments.specs.Segment.{SegmentParts, names_of, ranges_of}
 use Rattle.tl_segments.specs.declared.range.RangeFields.{RangeFields}
 use Rattle.cql2.specs.Column.{numeric_value, text_value}
 use Rattle.cql2.specs.Filter.{compares, compares_text}
@@ -42,13 +42,13 @@ has_number number range = lies_on number range.fraddl range.toaddl || lies_on nu
 
 -- The segment has this name, as its own or as one of its first `most` alternate names. If it has more alternate names and none of those is this
 -- one, the answer is unknown.
-abbrev pub has_name : List ℕ → ℕ → Contents → Option Bool
+abbrev pub has_name : List ℕ → ℕ → SegmentParts → Option Bool
 has_name text most segment =
     if list_any (λ name. name_equals name text) (take (1 + most) (names_of segment)) then Some true
     else (if nat_le (length segment.names) most then Some false else None)
 
 -- the truth of a filter; none if it is neither true nor false
-abbrev pub truth : {A : Type 0} → Filter A → Contents → Option Bool
+abbrev pub truth : {A : Type 0} → Filter A → SegmentParts → Option Bool
 truth (Constant value) segment = Some value
 truth (And' p first q second) segment = and (truth first segment) (truth second segment)
 truth (Or' p first q second) segment = or (truth first segment) (truth second segment)
@@ -69,5 +69,5 @@ is None asked = false
 is (Some truth) asked = beq truth asked
 
 -- a filter selects a segment
-abbrev pub selects : {A : Type 0} → Filter A → Contents → Bool
+abbrev pub selects : {A : Type 0} → Filter A → SegmentParts → Bool
 selects filter segment = is (truth filter segment) true

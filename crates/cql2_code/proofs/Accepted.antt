@@ -12,14 +12,14 @@ use Rattle.bpf_insn.specs.declared.instruction.Insn.TheVariants.{Exit}
 use Rattle.bpf_insn.specs.declared.instruction.Source.TheVariants.{Immediate, Register}
 use Rattle.bpf_verify.proofs.StateLaws.{reflexive}
 use Rattle.bpf_verify.specs.Annotation.{HasGoodAnnotation}
-use Rattle.bpf_verify.specs.AbstractState.{Reached, entry}
+use Rattle.bpf_verify.specs.LiftedState.{Reached, entry}
 use Rattle.cql2.specs.declared.column.NumericColumn.{NumericColumn}
 use Rattle.cql2.specs.declared.filter.Comparison.{Comparison}
 use Rattle.cql2_code.specs.Layout.{answer_code, chosen_code, comparison_code, copy, is_narrow, jump, move, program, question_code, from_argument_1}
 use Rattle.cql2_code.specs.Layout.{subject_code, test_code, into_result, into_record}
 use Rattle.cql2_code.specs.Question.{IsSound, IsSoundTest, Question, Decided, Holds, Opposite, Joined, condition_of}
 use Rattle.cql2_code.specs.declared.question.Test.{Test}
-use Rattle.cql2_code.proofs.Known.{annotation_of, answered, compared, resting, state_before}
+use Rattle.cql2_code.proofs.AbstractState.{annotation_of, answered, compared, resting, state_before}
 use Rattle.cql2_code.proofs.Operands.{operand_fits}
 use Rattle.cql2_code.proofs.Passes.{answer_passes, chosen_passes, chosen_rests, needed_by, needed_by-append, passes_keep}
 use Rattle.cql2_code.proofs.Passes.{passes_wide_load_1, subject_passes, subject_rests}

@@ -7,10 +7,10 @@ use Rattle.std.proofs.Math.Nat.{pow-succ'}
 use Rattle.std.proofs.lemmas.Bool.Decides.{Decides-int_eq, nat_tests}
 use Rattle.std.proofs.lemmas.Int.{of_z-to_z}
 use Rattle.std.proofs.lemmas.List.{drop-drop, drop_more, length-replicate}
-use Rattle.bpf_insn.specs.Arithmetic.{is_met, low_bits}
+use Rattle.bpf_insn.specs.Arithmetic.{condition_holds, low_bits}
 use Rattle.bpf_insn.specs.declared.instruction.Width.TheVariants.{Bits64}
 use Rattle.tl_fields.specs.Number.{is_blank as are_blank}
-use Rattle.tl_segments.specs.Segment.{Contents, IsSegment}
+use Rattle.tl_segments.specs.Segment.{SegmentParts, IsSegment}
 use Rattle.cql2.specs.Filter.{compares}
 use Rattle.cql2.specs.declared.filter.Comparison.{Comparison}
 use Rattle.cql2.specs.declared.filter.Comparison.TheVariants.{Equal}
@@ -87,7 +87,7 @@ value_below (suc count) (byte ∷ bytes) short small =
 
 -- a chunk is compared with an operand of the same bits
 equal_words : (x y : ℕ) → x < 2 ^ 64 → y < 2 ^ 64
-    → is_met (condition_of Equal) Bits64 x (cast_unsigned w64 (cast_signed w64 y)) ≡ (x == y)
+    → condition_holds (condition_of Equal) Bits64 x (cast_unsigned w64 (cast_signed w64 y)) ≡ (x == y)
 equal_words x y small others =
     let unchanged : low_bits w64 x ≡ x = omega arith in
     let same : low_bits w64 y ≡ y = omega arith in
@@ -102,7 +102,7 @@ chunk_short DoubleWord = omega arith
 equal_numbers : (m n : ℕ) → int_eq (pos m) (pos n) ≡ (m == n)
 equal_numbers m n = grind (arith, nat_tests, Decides-int_eq)
 
-module _ (segment : Contents) (is : IsSegment segment) where
+module _ (segment : SegmentParts) (is : IsSegment segment) where
   long : length segment.bytes ≡ 228
   long = is.bytes.length
 
@@ -127,7 +127,7 @@ module _ (segment : Contents) (is : IsSegment segment) where
       → answer (byte_test at comparison byte) segment ≡ compares comparison (pos (get_or segment.bytes at 0)) (pos byte)
   byte_answer at comparison byte within small =
       let below = is.bytes.bytes at in
-      ap (λ (number : ℕ). is_met (condition_of comparison) Bits64 number (cast_unsigned w64 (pos byte))) (byte_read at within)
+      ap (λ (number : ℕ). condition_holds (condition_of comparison) Bits64 number (cast_unsigned w64 (pos byte))) (byte_read at within)
       ∙ compared comparison (pos (get_or segment.bytes at 0)) (pos byte) (small_fits _ (omega arith)) (small_fits byte (omega arith))
 
   pub byte_equals : (at byte : ℕ) → at < 228 → byte < 2 ^ 8

@@ -9,7 +9,7 @@ use Rattle.bpf_insn.specs.Frame.{FrameContents}
 use Rattle.bpf_insn.specs.declared.memory.TheConstants.{FRAME_LENGTH}
 use Rattle.bpf_insn.specs.declared.value.Value.TheVariants as value
 use Rattle.bpf_kinds.specs.Interval.{between}
-use Rattle.bpf_meaning.specs.Effect.{go_on, instruction_effect, is_allowed}
+use Rattle.bpf_meaning.specs.Effect.{continue_with, instruction_effect, is_allowed}
 use Rattle.bpf_meaning.specs.Memory.{write_bytes}
 use Rattle.bpf_meaning.specs.Step.{after, next_of}
 use Rattle.bpf_meaning.specs.declared.effect.Change.TheVariants.{CallHelper}
@@ -45,9 +45,9 @@ calls_field on from id allowed =
     (answered from (or_zero (field_number on.segment.bytes id)) 0) (λ place. rw allowed) (λ place next. refl)
 
 pub calls_has : (on : Setting) (from : Scratch) (id : ℕ) → is_allowed (between 0 16) id ≡ true
-    → Does on (call helper.Has) (with_1 from id) (answered from (truth (is_some (field_number on.segment.bytes id))) 0)
+    → Does on (call helper.HasField) (with_1 from id) (answered from (truth (is_some (field_number on.segment.bytes id))) 0)
 calls_has on from id allowed =
-    changes on (call helper.Has) (CallHelper helper.Has (id ∷ 0 ∷ 0 ∷ [])) (with_1 from id)
+    changes on (call helper.HasField) (CallHelper helper.HasField (id ∷ 0 ∷ 0 ∷ [])) (with_1 from id)
     (answered from (truth (is_some (field_number on.segment.bytes id))) 0) (λ place. rw allowed) (λ place next. refl)
 
 pub calls_coordinate : (on : Setting) (from : Scratch) (id : ℕ) → is_allowed (between 0 3) id ≡ true
@@ -56,14 +56,14 @@ calls_coordinate on from id allowed =
     changes on (call helper.Coord) (CallHelper helper.Coord (id ∷ 0 ∷ 0 ∷ [])) (with_1 from id)
     (answered from (coordinate on.segment.bytes id) 0) (λ place. rw allowed) (λ place next. refl)
 
-pub calls_names : (on : Setting) (from : Scratch) → Does on (call helper.Names) from (answered from (length on.segment.names) 0)
+pub calls_names : (on : Setting) (from : Scratch) → Does on (call helper.NameCount) from (answered from (length on.segment.names) 0)
 calls_names on from =
-    changes on (call helper.Names) (CallHelper helper.Names (0 ∷ 0 ∷ 0 ∷ [])) from (answered from (length on.segment.names) 0) (λ place. refl)
+    changes on (call helper.NameCount) (CallHelper helper.NameCount (0 ∷ 0 ∷ 0 ∷ [])) from (answered from (length on.segment.names) 0) (λ place. refl)
     (λ place next. refl)
 
-pub calls_ranges : (on : Setting) (from : Scratch) → Does on (call helper.Ranges) from (answered from (length (ranges_of on.segment)) 0)
+pub calls_ranges : (on : Setting) (from : Scratch) → Does on (call helper.RangeCount) from (answered from (length (ranges_of on.segment)) 0)
 calls_ranges on from =
-    changes on (call helper.Ranges) (CallHelper helper.Ranges (0 ∷ 0 ∷ 0 ∷ [])) from (answered from (length (ranges_of on.segment)) 0) (λ place. refl)
+    changes on (call helper.RangeCount) (CallHelper helper.RangeCount (0 ∷ 0 ∷ 0 ∷ [])) from (answered from (length (ranges_of on.segment)) 0) (λ place. refl)
     (λ place next. refl)
 
 -- every 64-bit number is allowed
@@ -87,7 +87,7 @@ pub calls_emit : (on : Setting) (from : Scratch) (number place : ℕ) → number
 calls_emit on from number place fits at begins =
     let held : Scratch = with_1 from number in
     let change = CallHelper helper.Emit (number ∷ 0 ∷ 0 ∷ []) in
-    let effect : instruction_effect on.code on.segment (state on held place) (place + 1) (call helper.Emit) ≡ go_on on.code (place + 1) change =
+    let effect : instruction_effect on.code on.segment (state on held place) (place + 1) (call helper.Emit) ≡ continue_with on.code (place + 1) change =
     rw (any_allowed number fits) in
     sym
     (after_at on (state on held place) (call helper.Emit) at ∙ ap (next_of on.segment (state on held place)) effect

@@ -58,29 +58,29 @@ pub jumps_on : (joint : Joint) → joint.middle + (joint.words + joint.skip) ≡
 jumps_on joint = let e = joint.is in omega arith
 
 -- what holds at both exits of the second one holds where the first one jumps to
-pub first_target : (Such : ℕ → Type 0) (joint : Joint) (falls neutral : Bool) → Such joint.end → Such (joint.end + joint.skip)
-    → Such (first_jump joint falls neutral)
-first_target Such joint true true end target = subst Such (sym (jumps_on joint)) target
-first_target Such joint false true end target = subst Such (sym joint.is) end
-first_target Such joint true false end target = subst Such (sym joint.is) end
-first_target Such joint false false end target = subst Such (sym (jumps_on joint)) target
+pub first_target : (Property : ℕ → Type 0) (joint : Joint) (falls neutral : Bool) → Property joint.end → Property (joint.end + joint.skip)
+    → Property (first_jump joint falls neutral)
+first_target Property joint true true end target = subst Property (sym (jumps_on joint)) target
+first_target Property joint false true end target = subst Property (sym joint.is) end
+first_target Property joint true false end target = subst Property (sym joint.is) end
+first_target Property joint false false end target = subst Property (sym (jumps_on joint)) target
 
 -- a code at a place with its two exits: its end, and a number of words past it
-pub record Placed (Such : ℕ → Type 0) (code : List Insn) (place : ℕ) (insns : List Insn) (skip : ℕ) : Type 0 where
+pub record Placed (Property : ℕ → Type 0) (code : List Insn) (place : ℕ) (insns : List Insn) (skip : ℕ) : Type 0 where
   pub has : HasAt code place insns
-  pub end : Such (place + word_count insns)
-  pub target : Such (place + word_count insns + skip)
+  pub end : Property (place + word_count insns)
+  pub target : Property (place + word_count insns + skip)
 
 -- the second of two codes
-pub second_placed : (Such : ℕ → Type 0) (code : List Insn) (place : ℕ) (insns others : List Insn) (skip : ℕ)
-    → Placed Such code place (insns ++ others) skip → Placed Such code (place + word_count insns) others skip
-second_placed Such code place insns others skip placed =
+pub second_placed : (Property : ℕ → Type 0) (code : List Insn) (place : ℕ) (insns others : List Insn) (skip : ℕ)
+    → Placed Property code place (insns ++ others) skip → Placed Property code (place + word_count insns) others skip
+second_placed Property code place insns others skip placed =
     let count = word_count-append insns others in
     let e : place + word_count insns + word_count others ≡ place + word_count (insns ++ others) = omega arith in
     record {
       has = has_back code place insns others placed.has;
-      end = subst Such (sym e) placed.end;
-      target = subst (λ (p : ℕ). Such (p + skip)) (sym e) placed.target;
+      end = subst Property (sym e) placed.end;
+      target = subst (λ (p : ℕ). Property (p + skip)) (sym e) placed.target;
     }
 
 -- two joined questions and their exits
@@ -104,11 +104,11 @@ abbrev pub both_code : Pair → List Insn
 both_code pair = first_code pair ++ second_code pair
 
 -- the first of them
-pub first_placed : (Such : ℕ → Type 0) (code : List Insn) (place : ℕ) (pair : Pair) → Placed Such code place (both_code pair) pair.skip
-    → Such (place + word_count (first_code pair)) → Placed Such code place (first_code pair) (skip_first pair)
-first_placed Such code place pair placed end = record {
+pub first_placed : (Property : ℕ → Type 0) (code : List Insn) (place : ℕ) (pair : Pair) → Placed Property code place (both_code pair) pair.skip
+    → Property (place + word_count (first_code pair)) → Placed Property code place (first_code pair) (skip_first pair)
+first_placed Property code place pair placed end = record {
   has = has_front code place (first_code pair) (second_code pair) placed.has;
   end = end;
-  target = first_target Such (joint_of place (first_code pair) (second_code pair) pair.skip) pair.falls pair.neutral placed.end
+  target = first_target Property (joint_of place (first_code pair) (second_code pair) pair.skip) pair.falls pair.neutral placed.end
       placed.target;
 }

@@ -15,7 +15,7 @@ use Rattle.cql2.specs.declared.column.CoordinateColumn.TheVariants.{Frlong, Frla
 use Rattle.cql2.specs.declared.column.NumberColumn.{NumberColumn}
 use Rattle.cql2.specs.declared.column.NumberColumn.TheVariants.{Tlid, Fraddl, Toaddl, Fraddr, Toaddr, Zipl, Zipr, Statel, Stater, Countyl}
 use Rattle.cql2.specs.declared.column.NumberColumn.TheVariants.{Countyr, Placel, Placer, Tractl, Tractr, Blockl, Blockr}
-use Rattle.tl_segments.specs.Segment.{Contents, IsSegment}
+use Rattle.tl_segments.specs.Segment.{SegmentParts, IsSegment}
 use Rattle.cql2_code.specs.Question.{coordinate_id, field_id}
 
 pub field_small : (column : NumberColumn) → field_id column ≤ 16
@@ -74,10 +74,10 @@ coordinate_meets column = record { count = refl; each = each; within = tt }
     each (suc (suc zero)) = tt
     each (suc (suc (suc at))) = tt
 
-pub field_fits : (segment : Contents) (column : NumberColumn) → IsSegment segment
+pub field_fits : (segment : SegmentParts) (column : NumberColumn) → IsSegment segment
     → or_zero (field_number segment.bytes (field_id column)) < 2 ^ 64
 field_fits segment column is = answer-fits helper.Field segment (field_id column ∷ 0 ∷ 0 ∷ []) [] 0 is (field_meets column)
 
-pub coordinate_fits : (segment : Contents) (column : CoordinateColumn) → IsSegment segment
+pub coordinate_fits : (segment : SegmentParts) (column : CoordinateColumn) → IsSegment segment
     → coordinate segment.bytes (coordinate_id column) < 2 ^ 64
 coordinate_fits segment column is = answer-fits helper.Coord segment (coordinate_id column ∷ 0 ∷ 0 ∷ []) [] 0 is (coordinate_meets column)

@@ -15,7 +15,7 @@ use Rattle.bpf_verify.specs.Annotation.{HasGoodAnnotation}
 use Rattle.cql2.specs.Truth.{selects}
 use Rattle.cql2.specs.declared.column.NumericColumn.{NumericColumn}
 use Rattle.cql2.specs.declared.filter.Filter.{Filter}
-use Rattle.tl_segments.specs.Segment.{Contents, IsSegment}
+use Rattle.tl_segments.specs.Segment.{SegmentParts, IsSegment}
 use Rattle.cql2_code.specs.Chosen.{Chooses, count_of, rows_of, score_of}
 use Rattle.cql2_code.specs.declared.fault.CompileFault.{CompileFault}
 use Rattle.cql2_code.specs.Layout.{IsTooLong, MayBeRefused, Refuses, Writes, answer_code, chosen_code, copy, program, question_code, from_argument_1, score_code, into_record}
@@ -33,7 +33,7 @@ abbrev pub IsProgram : {A : Type 0} → List Insn → Filter A → Option Numeri
 IsProgram code filter score = code ≡ program score (asks_whether filter true)
 
 -- it answers yes with the score, or no
-abbrev AnswersBy : List Insn → Contents → Option NumericColumn → Bool → Type 0
+abbrev AnswersBy : List Insn → SegmentParts → Option NumericColumn → Bool → Type 0
 AnswersBy code segment score chosen = Answers code segment (number.truth chosen) (if chosen then score_of score segment else 0)
 
 pub chooses : {A : Type 0} (code : List Insn) (filter : Filter A) (score : Option NumericColumn) → IsProgram code filter score
@@ -111,7 +111,7 @@ asks_as {A} {filter} {other} {exits} {old} {new} asked same written =
 
 -- Extracts
 
-row_is : (chosen : Bool) (score : ℕ) (segment : Contents)
+row_is : (chosen : Bool) (score : ℕ) (segment : SegmentParts)
     → (if chosen then row_of score segment else []) ≡ row_if_chosen (number.truth chosen) (if chosen then score else 0) segment
 row_is true score segment = refl
 row_is false score segment = refl
@@ -122,7 +122,7 @@ count_is false = refl
 
 -- the extract of a filter's program has the rows of the segments for which the filter is true
 pub extracts : {A : Type 0} (code : List Insn) (filter : Filter A) (score : Option NumericColumn) → Chooses code filter score
-    → (segments : List Contents) → All IsSegment segments
+    → (segments : List SegmentParts) → All IsSegment segments
     → IsExtract code segments (rows_of filter score segments) (count_of filter segments)
 extracts code filter score chooses [] all = (refl, refl)
 extracts code filter score chooses (segment ∷ segments) all =

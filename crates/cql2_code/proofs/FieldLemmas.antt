@@ -5,7 +5,7 @@ use Rattle.std.specs.Bool.{beq}
 use Rattle.std.proofs.lemmas.List.{drop-drop, drop-take}
 use Rattle.tl_fields.specs.Number.{is_blank as are_blank}
 use Rattle.tl_records.specs.Layout.{field_at}
-use Rattle.tl_segments.specs.Segment.{Contents, IsSegment}
+use Rattle.tl_segments.specs.Segment.{SegmentParts, IsSegment}
 use Rattle.cql2.specs.Column.{text_places, text_value, trim_end}
 use Rattle.cql2.specs.Truth.{is as is_truth}
 use Rattle.cql2.specs.declared.column.TextColumn.{TextColumn}
@@ -31,10 +31,10 @@ column_within Cousubl = lit≤ tt
 column_within Cousubr = lit≤ tt
 
 -- the bytes of a column
-abbrev pub field_of : TextColumn → Contents → List ℕ
+abbrev pub field_of : TextColumn → SegmentParts → List ℕ
 field_of column segment = take (width_of column) (drop (offset_of column) segment.bytes)
 
-field_at_is : (column : TextColumn) (segment : Contents) → field_at (text_places column) segment.bytes ≡ field_of column segment
+field_at_is : (column : TextColumn) (segment : SegmentParts) → field_at (text_places column) segment.bytes ≡ field_of column segment
 field_at_is Rt segment = refl
 field_at_is Version segment = refl
 field_at_is Side1 segment = refl
@@ -51,7 +51,7 @@ field_at_is Cousubr segment = refl
 abbrev pub text_in : List ℕ → Option (List ℕ)
 text_in field = if are_blank field then None else Some (trimmed field)
 
-pub text_value_is : (column : TextColumn) (segment : Contents) → text_value column segment.bytes ≡ text_in (field_of column segment)
+pub text_value_is : (column : TextColumn) (segment : SegmentParts) → text_value column segment.bytes ≡ text_in (field_of column segment)
 text_value_is column segment =
     ap (λ (field : List ℕ). if are_blank field then None else Some (trim_end field)) (field_at_is column segment)
     ∙ ap (λ (text : List ℕ). if are_blank (field_of column segment) then None else Some text) (trim_end_is (field_of column segment))
@@ -71,7 +71,7 @@ text_asked property field asked = by_blank (are_blank field)
     by_blank false = refl
 
 -- whether a column's value has the property, asked for either truth value
-pub value_asked : (property : List ℕ → Bool) (column : TextColumn) (segment : Contents) (asked : Bool)
+pub value_asked : (property : List ℕ → Bool) (column : TextColumn) (segment : SegmentParts) (asked : Bool)
     → has_text (λ text. beq (property text) asked) (field_of column segment)
     ≡ is_truth (option_map property (text_value column segment.bytes)) asked
 value_asked property column segment asked =
@@ -85,7 +85,7 @@ text_null field = by_blank (are_blank field)
     by_blank true = refl
     by_blank false = refl
 
-module _ (segment : Contents) (is : IsSegment segment) (column : TextColumn) where
+module _ (segment : SegmentParts) (is : IsSegment segment) (column : TextColumn) where
   pub field_long : length (field_of column segment) ≡ width_of column
   field_long = let within = column_within column in omega (
     arith,

@@ -4,7 +4,7 @@ use Rattle.std.proofs.Common.{length, Option, Some, None, Ok, ◌⊎◌, inl, in
 use Rattle.std.specs.Int.{w64}
 use Rattle.std.proofs.lemmas.Bool.{cases_lt}
 use Rattle.bpf_frame.specs.FrameMap.{unwritten}
-use Rattle.bpf_flow.specs.Flow.{LeadsOn}
+use Rattle.bpf_flow.specs.Flow.{IsForwardJump}
 use Rattle.bpf_insn.specs.Arithmetic.{immediate_operand, low_bits}
 use Rattle.bpf_insn.specs.Code.{instruction_at, spelling, word_count}
 use Rattle.bpf_insn.specs.Jump.{jump_distance}
@@ -13,24 +13,24 @@ use Rattle.bpf_insn.specs.declared.instruction.Insn.{Insn}
 use Rattle.bpf_insn.specs.declared.instruction.Source.{Source}
 use Rattle.bpf_insn.specs.declared.instruction.Source.TheVariants.{Immediate, Register}
 use Rattle.bpf_insn.specs.declared.instruction.Width.TheVariants.{Bits64}
-use Rattle.bpf_insn.proofs.PlaceLemmas.{instruction_at-behind, instruction_at-inside, word_count-cons}
+use Rattle.bpf_insn.proofs.PlaceLemmas.{instruction_at-after, instruction_at-inside, word_count-cons}
 use Rattle.bpf_kinds.specs.Interval.{between, single}
 use Rattle.bpf_kinds.specs.Narrowing.{refine}
 use Rattle.bpf_kinds.specs.declared.kind.Kind.TheVariants.{Number}
 use Rattle.bpf_kinds.specs.declared.narrowing.Narrowed.{Narrowed}
 use Rattle.bpf_verify.proofs.StateLaws.{reflexive}
 use Rattle.bpf_verify.specs.Annotation.{PassesAt}
-use Rattle.bpf_verify.specs.AbstractState.{AbstractState, Unreached, Edges, IsWithin}
+use Rattle.bpf_verify.specs.LiftedState.{LiftedState, Unreached, Edges, IsWithin}
 use Rattle.bpf_verify.specs.Transfer.{narrowed, on_edge, transfer}
 use Rattle.cql2_code.specs.Layout.{jump, from_result, from_argument_1}
-use Rattle.cql2_code.proofs.Known.{Held, annotation_of, any_number, before, nothing, registers_of, rests_after, resting, state_before}
+use Rattle.cql2_code.proofs.AbstractState.{Held, annotation_of, any_number, before, nothing, registers_of, rests_after, resting, state_before}
 use Rattle.cql2_code.proofs.Passes.{AllPass, Passes, needed_by}
 use Rattle.cql2_code.proofs.Steps.{conditional_jump, HasAt}
 
 -- an instruction at a place passes its checks, and its jump has a valid target
 pub record IsGoodAt (code : List Insn) (place : ℕ) (insn : Insn) : Type 0 where
   pub passes : PassesAt (annotation_of code) place insn
-  pub leads : (distance : ℤ) → jump_distance insn ≡ Some distance → LeadsOn code place distance
+  pub leads : (distance : ℤ) → jump_distance insn ≡ Some distance → IsForwardJump code place distance
 
 -- each instruction from a place on is good
 abbrev pub AreGoodAt : List Insn → ℕ → List Insn → Type 0
@@ -66,14 +66,14 @@ good_there code base (first ∷ rest) good (suc place) insn at =
     by_order again (inr past) =
         let e : base + length (spelling first) + (suc place - length (spelling first)) ≡ base + suc place = omega arith in
         subst (λ (p : ℕ). IsGoodAt code p insn) e
-        (again (suc place - length (spelling first)) (sym (instruction_at-behind first rest (suc place) past) ∙ at))
+        (again (suc place - length (spelling first)) (sym (instruction_at-after first rest (suc place) past) ∙ at))
 
 -- the annotation's state at a place
-abbrev pub Needs : List Insn → ℕ → AbstractState → Type 0
+abbrev pub Needs : List Insn → ℕ → LiftedState → Type 0
 Needs code place state = annotation_of code place ≡ state
 
 -- consecutive instructions need what the first one needs
-pub needs_at : (code : List Insn) (place : ℕ) (insns : List Insn) (end : AbstractState) → HasAt code place insns
+pub needs_at : (code : List Insn) (place : ℕ) (insns : List Insn) (end : LiftedState) → HasAt code place insns
     → Needs code (place + word_count insns) end → Needs code place (needed_by insns end)
 needs_at code place [] end has is = let e : place + 0 ≡ place = omega arith in subst (λ (p : ℕ). Needs code p end) e is
 needs_at code place (insn ∷ rest) end has is = ap state_before has.0
@@ -82,7 +82,7 @@ not_some : {A : Type 0} {B : Type 0} (x : A) → None ≡ Some x → B
 not_some x e = absurd cc
 
 -- an instruction that passes is good if the annotation holds the needed state after it
-pub good_passes : (code : List Insn) (place : ℕ) (insn : Insn) (needed : AbstractState) → instruction_at code place ≡ Some insn
+pub good_passes : (code : List Insn) (place : ℕ) (insn : Insn) (needed : LiftedState) → instruction_at code place ≡ Some insn
     → Needs code (place + length (spelling insn)) needed → Passes insn needed → IsGoodAt code place insn
 good_passes code place insn needed at is passes = record {
   passes = record {
@@ -94,7 +94,7 @@ good_passes code place insn needed at is passes = record {
   leads = λ distance jumps. not_some distance (sym passes.straight ∙ jumps);
 }
 
-pub all_good : (code : List Insn) (place : ℕ) (insns : List Insn) (end : AbstractState) → HasAt code place insns
+pub all_good : (code : List Insn) (place : ℕ) (insns : List Insn) (end : LiftedState) → HasAt code place insns
     → Needs code (place + word_count insns) end → AllPass insns end → AreGoodAt code place insns
 all_good code place [] end has is all = tt
 all_good code place (insn ∷ rest) end has is all =
@@ -120,7 +120,7 @@ same_place place other e = cc
 
 -- a jump leads to the place at its distance
 leads_there : (code : List Insn) (place skip : ℕ) (distance : ℤ) → Some (pos skip) ≡ Some distance → Rests code (place + 1 + skip)
-    → LeadsOn code place distance
+    → IsForwardJump code place distance
 leads_there code place skip distance jumps target =
     let e = same_distance (pos skip) distance jumps in
     record {
@@ -162,12 +162,12 @@ implied condition (Immediate number) taken =
 implied condition (Register register) taken = refine condition Bits64 (between 0 (2 ^ 64 - 1)) (between 0 (2 ^ 64 - 1)) taken
 
 -- the state on an edge of the jump
-abbrev edge_by : Condition → Source → Option Narrowed → AbstractState
+abbrev edge_by : Condition → Source → Option Narrowed → LiftedState
 edge_by condition source implied =
     on_edge (record { registers = registers_of (held_before source); frame = unwritten })
     (record { condition = condition; width = Bits64; left = from_result; right = source }) (narrowed implied)
 
-abbrev edge : Condition → Source → Bool → AbstractState
+abbrev edge : Condition → Source → Bool → LiftedState
 edge condition source taken = edge_by condition source (implied condition source taken)
 
 abbrev edges : Condition → Source → Edges

@@ -1,7 +1,7 @@
 -- The answers of joined questions follow the truth tables of AND, OR and NOT.
 use Rattle.std.proofs.Common.{◌≡◌, Bool, true, false, not, ◌&&◌, ◌||◌, Option, Some, None, refl, ap, ◌∙◌}
 use Rattle.std.specs.Bool.{beq}
-use Rattle.tl_segments.specs.Segment.{Contents}
+use Rattle.tl_segments.specs.Segment.{SegmentParts}
 use Rattle.cql2.specs.Truth.{and, is, negation, or}
 use Rattle.cql2_code.specs.Lowering.{if_asked}
 use Rattle.cql2_code.specs.Question.{Question, answer, joined}
@@ -113,7 +113,7 @@ both_answers {b = b} {d = d} first second = joined_answers true first second ∙
 pub either_answers : {a b c d : Bool} → a ≡ b → c ≡ d → joined false a c ≡ (b || d)
 either_answers {b = b} {d = d} first second = joined_answers false first second ∙ joins_either b d
 
-pub asked_answers : (question : Question) (segment : Contents) (asked : Bool)
+pub asked_answers : (question : Question) (segment : SegmentParts) (asked : Bool)
     → answer (if_asked question asked) segment ≡ beq (answer question segment) asked
 asked_answers question segment true = is_it (answer question segment)
 asked_answers question segment false = isnt_it (answer question segment)

@@ -9,7 +9,7 @@ pub mod Compiled
 pub mod FieldLemmas
 pub mod Good
 pub mod JoinLemmas
-pub mod Known
+pub mod AbstractState
 pub mod LikeLemmas
 pub mod Loads
 pub mod Lowered

@@ -6,7 +6,7 @@ use Rattle.std.proofs.lemmas.Bool.{and_parts, eqb-true, false≢true, leb-false,
 use Rattle.std.proofs.lemmas.Bool.Decides.{nat_tests}
 use Rattle.std.proofs.lemmas.List.{drop_all, length-map}
 use Rattle.tl_fields.specs.Number.{is_blank as are_blank}
-use Rattle.tl_segments.specs.Segment.{Contents, IsSegment}
+use Rattle.tl_segments.specs.Segment.{SegmentParts, IsSegment}
 use Rattle.cql2.specs.Column.{text_value}
 use Rattle.cql2.specs.Pattern.{are_bytes, is_byte, is_like as is_text_like, is_wanted as is_byte_wanted}
 use Rattle.cql2.specs.Truth.{is as is_truth}
@@ -209,7 +209,7 @@ fits_rest at wanted pattern fits =
     let within = fits.within in
     record { within = omega arith; are = (and_parts (is_byte wanted) (are_bytes pattern) fits.are).1 }
 
-module _ (segment : Contents) (is : IsSegment segment) where
+module _ (segment : SegmentParts) (is : IsSegment segment) where
   byte_wanted : (at : ℕ) (wanted : PatternByte) → at < 228 → is_byte wanted ≡ true
       → answer (is_wanted at wanted) segment ≡ is_byte_wanted wanted (get_or segment.bytes at 0)
   byte_wanted at (Exactly byte) within are = byte_equals segment is at byte within (ltb-true byte 256 are)
@@ -268,7 +268,7 @@ pub fits_record : (column : TextColumn) (pattern : List PatternByte) → FitsCol
 fits_record column pattern fits =
     let short = fits.short in let within = column_within column in record { within = omega arith; are = fits.are }
 
-module _ (segment : Contents) (is : IsSegment segment) (column : TextColumn) (pattern : List PatternByte)
+module _ (segment : SegmentParts) (is : IsSegment segment) (column : TextColumn) (pattern : List PatternByte)
     (fits : FitsColumn column pattern) where
   wanted_here : answer (are_wanted (offset_of column) pattern) segment ≡ wants pattern (field_of column segment)
   wanted_here =
@@ -319,7 +319,7 @@ unlike true like = refl
 unlike false true = refl
 unlike false false = refl
 
-module _ (segment : Contents) (is : IsSegment segment) (column : TextColumn) (pattern : List PatternByte)
+module _ (segment : SegmentParts) (is : IsSegment segment) (column : TextColumn) (pattern : List PatternByte)
     (are : are_bytes pattern ≡ true) where
   like_by : (is_open short : Bool) → nat_le (length pattern) (width_of column) ≡ short
       → answer (if short then both (are_wanted (offset_of column) pattern) (ends_so is_open (ends_filled pattern) column (length pattern))

@@ -1,7 +1,7 @@
 -- A filter's questions have the answers that its truth determines.
 use Rattle.std.proofs.Common.{◌≡◌, Bool, not, is_none, refl, sym, ap, ◌∙◌}
 use Rattle.std.specs.Bool.{beq}
-use Rattle.tl_segments.specs.Segment.{Contents, IsSegment}
+use Rattle.tl_segments.specs.Segment.{SegmentParts, IsSegment}
 use Rattle.cql2.specs.Column.{numeric_value}
 use Rattle.cql2.specs.Truth.{is, is_null as is_column_null, truth}
 use Rattle.cql2.specs.declared.column.Column.{Column}
@@ -19,14 +19,14 @@ use Rattle.cql2_code.proofs.NumberLemmas.{compares_number_rightly, has_value_rig
 use Rattle.cql2_code.proofs.RangeLemmas.{has_number_rightly}
 use Rattle.cql2_code.proofs.TextLemmas.{compares_text_rightly, text_wanted}
 
-null_rightly : (segment : Contents) → IsSegment segment → (column : Column)
+null_rightly : (segment : SegmentParts) → IsSegment segment → (column : Column)
     → answer (is_null column) segment ≡ is_column_null column segment.bytes
 null_rightly segment is (Numeric column) = ap not (has_value_rightly column segment) ∙ none_is (numeric_value column segment.bytes)
 null_rightly segment is (Text column) =
     null_found segment is column ∙ sym (text_null (field_of column segment)) ∙ sym (ap is_none (text_value_is column segment))
 
 -- the questions whether a filter is true and whether it is false
-pub asks_rightly : {A : Type 0} (segment : Contents) → IsSegment segment → (filter : Filter A) (asked : Bool)
+pub asks_rightly : {A : Type 0} (segment : SegmentParts) → IsSegment segment → (filter : Filter A) (asked : Bool)
     → answer (asks_whether filter asked) segment ≡ is (truth filter segment) asked
 asks_rightly segment is (Constant value) asked = refl
 asks_rightly segment is (And' p first q second) asked =

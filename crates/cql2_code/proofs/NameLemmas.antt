@@ -9,13 +9,13 @@ use Rattle.std.proofs.lemmas.Bool.Decides.{nat_tests}
 use Rattle.std.proofs.lemmas.List.Elements.{All-cons}
 use Rattle.std.proofs.lemmas.List.{append_assoc, length-append, length-replicate, replicate-append-replicate, take_at}
 use Rattle.bpf_helpers.specs.Meaning.{is_name, truth as number_of_truth}
-use Rattle.bpf_insn.specs.Arithmetic.{is_met}
+use Rattle.bpf_insn.specs.Arithmetic.{condition_holds}
 use Rattle.bpf_insn.specs.declared.instruction.Width.TheVariants.{Bits64}
 use Rattle.tl_fields.specs.Number.{is_blank as are_blank}
 use Rattle.tl_fields.specs.Field.{field_of}
 use Rattle.tl_segments.specs.Name.{name_equals}
 use Rattle.tl_segments.specs.Range.{AreBytes}
-use Rattle.tl_segments.specs.Segment.{Contents, IsSegment, names_of}
+use Rattle.tl_segments.specs.Segment.{SegmentParts, IsSegment, names_of}
 use Rattle.tl_segments.proofs.SegmentLemmas.{AreBytes-field_of}
 use Rattle.cql2.specs.Truth.{has_name, is as is_truth}
 use Rattle.cql2.specs.declared.filter.Comparison.TheVariants.{GreaterOrEqual, LessOrEqual, NotEqual}
@@ -84,7 +84,7 @@ any_same P good other (suc count) (part ∷ parts) all same =
     ap (λ (first : Bool). first || list_any good (take count parts)) (same part (all 0 part (omega arith)))
     ∙ ap (λ (rest : Bool). other part || rest) (any_same P good other count parts (λ k d inside. all (suc k) d (omega arith)) same)
 
-truth_compared : (equal : Bool) → is_met (condition_of NotEqual) Bits64 (number_of_truth equal) 0 ≡ equal
+truth_compared : (equal : Bool) → condition_holds (condition_of NotEqual) Bits64 (number_of_truth equal) 0 ≡ equal
 truth_compared true = refl
 truth_compared false = refl
 
@@ -110,7 +110,7 @@ known_other true false = refl
 known_other false true = refl
 known_other false false = refl
 
-module _ (segment : Contents) (is : IsSegment segment) where
+module _ (segment : SegmentParts) (is : IsSegment segment) where
   names_are : All (AreBytes 30) (names_of segment)
   names_are = All-cons (AreBytes 30) (field_of segment.bytes 20 49) segment.names
       (AreBytes-field_of segment.bytes 228 20 49 is.bytes (omega arith) (omega arith) (omega arith)) is.names

@@ -9,14 +9,14 @@ use Rattle.std.proofs.lemmas.Bool.Decides.{Decides-eqb, Decides-int_eq, Decides-
 use Rattle.std.proofs.lemmas.Int.{to_z-of_z}
 use Rattle.bpf_helpers.specs.Meaning.{coordinate, coordinate_word, field_number, or_zero, truth as number_of_truth}
 use Rattle.bpf_helpers.proofs.CallLemmas.{number_below}
-use Rattle.bpf_insn.specs.Arithmetic.{is_met, low_bits}
+use Rattle.bpf_insn.specs.Arithmetic.{condition_holds, low_bits}
 use Rattle.bpf_insn.specs.declared.instruction.Width.TheVariants.{Bits64}
 use Rattle.decimal.proofs.NumeralLemmas.{decimal_in-lt}
 use Rattle.tl_fields.specs.Coordinate.{coordinate_of, negative}
 use Rattle.decimal.specs.Numeral.{decimal_in}
 use Rattle.tl_fields.specs.Number.{number_of, trim}
 use Rattle.tl_records.specs.Layout.{field_at}
-use Rattle.tl_segments.specs.Segment.{Contents}
+use Rattle.tl_segments.specs.Segment.{SegmentParts}
 use Rattle.cql2.specs.Column.{coordinate_places, number_places, numeric_value, unless_zero}
 use Rattle.cql2.specs.Filter.{compares}
 use Rattle.cql2.specs.Truth.{is}
@@ -57,7 +57,7 @@ equal_words x y fits others = same_from_decides _ _
     (Decides-int_eq x y)
 
 pub compared : (comparison : Comparison) (x y : ℤ) → FitsSigned w64 x → FitsSigned w64 y
-    → is_met (condition_of comparison) Bits64 (cast_unsigned w64 x) (cast_unsigned w64 y) ≡ compares comparison x y
+    → condition_holds (condition_of comparison) Bits64 (cast_unsigned w64 x) (cast_unsigned w64 y) ≡ compares comparison x y
 compared Equal x y fits others = equal_words x y fits others
 compared NotEqual x y fits others = ap not (equal_words x y fits others)
 compared Less x y fits others = ap (λ (z : ℤ). int_lt z (read y)) (signed x fits) ∙ ap (int_lt x) (signed y others)
@@ -135,7 +135,7 @@ word_unless_zero None = refl
 word_unless_zero (Some millionths) = unless_zero_by millionths _ refl
 
 -- the word that a column's test looks at
-word_read : (column : NumericColumn) (segment : Contents)
+word_read : (column : NumericColumn) (segment : SegmentParts)
     → value (subject_of column) segment ≡ coordinate_word (numeric_value column segment.bytes)
 word_read (Number column) segment =
     ap or_zero (number_read column segment.bytes) ∙ word_of_number (number_of (field_at (number_places column) segment.bytes))
@@ -186,12 +186,12 @@ value_fits (Coordinate column) line = unless_zero_fits _ (coordinate_fits _)
 -- a column has a number
 
 has_number : (found : Option ℕ)
-    → is_met (condition_of NotEqual) Bits64 (number_of_truth (is_some found)) 0 ≡ is_some (option_map pos found)
+    → condition_holds (condition_of NotEqual) Bits64 (number_of_truth (is_some found)) 0 ≡ is_some (option_map pos found)
 has_number None = refl
 has_number (Some n) = refl
 
 has_coordinate : (found : Option ℤ) → IfSome found (FitsSigned w64)
-    → is_met (condition_of NotEqual) Bits64 (coordinate_word found) 0 ≡ is_some (unless_zero found)
+    → condition_holds (condition_of NotEqual) Bits64 (coordinate_word found) 0 ≡ is_some (unless_zero found)
 has_coordinate None fits = refl
 has_coordinate (Some millionths) fits =
     compared NotEqual millionths (pos 0) fits (small_fits 0 (omega arith)) ∙ by_zero (int_eq millionths (pos 0))
@@ -200,13 +200,13 @@ has_coordinate (Some millionths) fits =
     by_zero true = refl
     by_zero false = refl
 
-pub has_value_rightly : (column : NumericColumn) (segment : Contents)
+pub has_value_rightly : (column : NumericColumn) (segment : SegmentParts)
     → answer (has_value column) segment ≡ is_some (numeric_value column segment.bytes)
 has_value_rightly (Number column) segment =
-    ap (λ (found : Option ℕ). is_met (condition_of NotEqual) Bits64 (number_of_truth (is_some found)) 0) (number_read column segment.bytes)
+    ap (λ (found : Option ℕ). condition_holds (condition_of NotEqual) Bits64 (number_of_truth (is_some found)) 0) (number_read column segment.bytes)
     ∙ has_number (number_of (field_at (number_places column) segment.bytes))
 has_value_rightly (Coordinate column) segment =
-    ap (λ (word : ℕ). is_met (condition_of NotEqual) Bits64 word 0) (coordinate_read column segment.bytes)
+    ap (λ (word : ℕ). condition_holds (condition_of NotEqual) Bits64 word 0) (coordinate_read column segment.bytes)
     ∙ has_coordinate (coordinate_of (field_at (coordinate_places column) segment.bytes)) (coordinate_fits _)
 
 pub none_is : {X : Type 0} (found : Option X) → not (is_some found) ≡ is_none found
@@ -215,7 +215,7 @@ none_is (Some value) = refl
 
 -- the comparison of a word with a literal
 abbrev is_so : Comparison → ℕ → ℤ → Bool
-is_so comparison word literal = is_met (condition_of comparison) Bits64 word (cast_unsigned w64 literal)
+is_so comparison word literal = condition_holds (condition_of comparison) Bits64 word (cast_unsigned w64 literal)
 
 -- the comparison of a value, if there is one, with a literal
 abbrev pub compared_value : Comparison → ℤ → Option ℤ → Option Bool
@@ -233,7 +233,7 @@ word_alone : (comparison : Comparison) (literal : ℤ) (found : Option ℤ) → 
 word_alone comparison literal None fits others fails = compared comparison (pos 0) literal (small_fits 0 (omega arith)) others ∙ fails
 word_alone comparison literal (Some number) fits others fails = compared comparison number literal fits others ∙ is_it _
 
-module _ (column : NumericColumn) (comparison : Comparison) (literal : ℤ) (segment : Contents) (fits : FitsSigned w64 literal) where
+module _ (column : NumericColumn) (comparison : Comparison) (literal : ℤ) (segment : SegmentParts) (fits : FitsSigned w64 literal) where
   by_zero : (holds : Bool) → holds_of_zero comparison literal ≡ holds
       → answer (if holds then Joined true (has_value column) (test (subject_of column) comparison literal)
       else test (subject_of column) comparison literal) segment
@@ -256,7 +256,7 @@ opposite_of_value comparison literal (Some number) =
     sym (is_it _) ∙ opposite_compares comparison number literal ∙ isnt_it (compares comparison number literal)
 
 -- a comparison with a column, asked for either truth value
-pub compares_number_rightly : (column : NumericColumn) (comparison : Comparison) (literal : ℤ) (segment : Contents)
+pub compares_number_rightly : (column : NumericColumn) (comparison : Comparison) (literal : ℤ) (segment : SegmentParts)
     → FitsSigned w64 literal → (asked : Bool)
     → answer (compares_number column (if asked then comparison else opposite comparison) literal) segment
     ≡ is (compared_value comparison literal (numeric_value column segment.bytes)) asked

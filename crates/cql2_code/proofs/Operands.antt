@@ -8,7 +8,7 @@ use Rattle.std.proofs.lemmas.Bool.Decides.{nat_tests}
 use Rattle.std.proofs.lemmas.Int.{of_z-to_z}
 use Rattle.std.proofs.Math.Facts.{sfits_to_z}
 use lib.Signed.{mag}
-use Rattle.bpf_insn.specs.Arithmetic.{immediate_operand, is_met, low_bits, wide_number}
+use Rattle.bpf_insn.specs.Arithmetic.{immediate_operand, condition_holds, low_bits, wide_number}
 use Rattle.bpf_insn.specs.Frame.{Byte, number_of}
 use Rattle.bpf_insn.specs.declared.instruction.Width.TheVariants.{Bits64}
 use Rattle.cql2.specs.declared.filter.Comparison.{Comparison}
@@ -112,7 +112,7 @@ abbrev signed : ℕ → ℤ
 signed x = cast_signed w64 (low_bits w64 x)
 
 pub opposite_is_not : (comparison : Comparison) (x y : ℕ)
-    → is_met (condition_of (opposite comparison)) Bits64 x y ≡ not (is_met (condition_of comparison) Bits64 x y)
+    → condition_holds (condition_of (opposite comparison)) Bits64 x y ≡ not (condition_holds (condition_of comparison) Bits64 x y)
 opposite_is_not Equal x y = refl
 opposite_is_not NotEqual x y = sym (not_not _)
 opposite_is_not Less x y = int_at_most (signed y) (signed x)

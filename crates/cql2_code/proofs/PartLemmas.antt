@@ -4,7 +4,7 @@ use Rattle.std.proofs.Common.{Option, Some, None, if◌then◌else◌, refl, ap,
 use Rattle.std.specs.List.{list_any}
 use Rattle.std.proofs.lemmas.Bool.{lt-ltb}
 use Rattle.std.proofs.lemmas.Bool.Decides.{nat_tests}
-use Rattle.tl_segments.specs.Segment.{Contents}
+use Rattle.tl_segments.specs.Segment.{SegmentParts}
 use Rattle.cql2_code.specs.Question.{Question, Joined, answer}
 use Rattle.cql2_code.proofs.JoinLemmas.{and_false, both_answers, either_answers}
 
@@ -41,7 +41,7 @@ any_past good (part ∷ parts) (suc at) more =
     ∙ any_past good parts at more
 
 -- three questions: whether the part with this index exists, whether it passes, and whether a later one does
-pub record AsksPart {X : Type 0} (good : X → Bool) (parts : List X) (at more : ℕ) (segment : Contents) : Type 0 where
+pub record AsksPart {X : Type 0} (good : X → Bool) (parts : List X) (at more : ℕ) (segment : SegmentParts) : Type 0 where
   pub inside : Question
   pub here : Question
   pub rest : Question
@@ -49,7 +49,7 @@ pub record AsksPart {X : Type 0} (good : X → Bool) (parts : List X) (at more :
   pub here_is : answer here segment ≡ passes good (slice_get parts at)
   pub rest_is : answer rest segment ≡ list_any good (take more (drop (at + 1) parts))
 
-module _ {X : Type 0} (good : X → Bool) (parts : List X) (at more : ℕ) (segment : Contents) where
+module _ {X : Type 0} (good : X → Bool) (parts : List X) (at more : ℕ) (segment : SegmentParts) where
   part_here : (asks : AsksPart good parts at more segment)
       → answer (Joined false asks.here asks.rest) segment ≡ list_any good (take (suc more) (drop at parts))
   part_here asks =

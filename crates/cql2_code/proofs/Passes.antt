@@ -17,7 +17,7 @@ use Rattle.bpf_kinds.specs.Kind as kind
 use Rattle.bpf_kinds.specs.Offsets as offsets
 use Rattle.bpf_kinds.specs.declared.kind.Kind.TheVariants.{Number}
 use Rattle.bpf_verify.proofs.StateLaws.{reflexive}
-use Rattle.bpf_verify.specs.AbstractState.{AbstractState, Unreached, IsWithin}
+use Rattle.bpf_verify.specs.LiftedState.{LiftedState, Unreached, IsWithin}
 use Rattle.bpf_verify.specs.Transfer.{lie_within, transfer}
 use Rattle.tl_records.specs.declared.layout.TheConstants.{RECORD_LENGTH}
 use Rattle.cql2.specs.declared.column.NumericColumn.{NumericColumn}
@@ -31,31 +31,31 @@ use Rattle.cql2_code.specs.declared.question.Subject.{Subject}
 use Rattle.cql2_code.specs.declared.question.Subject.TheVariants as subject
 use Rattle.cql2_code.proofs.Columns.{coordinate_small, field_small}
 use Rattle.cql2_code.proofs.Operands.{wide_is}
-use Rattle.cql2_code.proofs.Known.{Held, KnowsMore, answered, any_number, before, compared, given, given_any, given_two, knowing}
-use Rattle.cql2_code.proofs.Known.{knows_more, named, nothing, pointed, rests_after, resting, stored, to_record, up_to, within_unwritten}
+use Rattle.cql2_code.proofs.AbstractState.{Held, KnowsMore, answered, any_number, before, compared, given, given_any, given_two, knowing}
+use Rattle.cql2_code.proofs.AbstractState.{knows_more, named, nothing, pointed, rests_after, resting, stored, to_record, up_to, within_unwritten}
 
 -- an instruction that is not a jump passes, and the state after it suffices there
-pub record Passes (insn : Insn) (needed : AbstractState) : Type 0 where
-  pub after : AbstractState
+pub record Passes (insn : Insn) (needed : LiftedState) : Type 0 where
+  pub after : LiftedState
   pub passes : transfer (before insn) insn ≡ Ok (record { next = after; target = Unreached })
   pub straight : jump_distance insn ≡ None
   pub within : IsWithin after needed
 
 -- the state that instructions need before them, given the state needed after them
-abbrev pub needed_by : List Insn → AbstractState → AbstractState
+abbrev pub needed_by : List Insn → LiftedState → LiftedState
 needed_by [] end = end
 needed_by (insn ∷ rest) end = before insn
 
 -- all instructions pass
-abbrev pub AllPass : List Insn → AbstractState → Type 0
+abbrev pub AllPass : List Insn → LiftedState → Type 0
 AllPass [] end = Unit {0}
 AllPass (insn ∷ rest) end = Passes insn (needed_by rest end) × AllPass rest end
 
-pub needed_by-append : (a b : List Insn) (end : AbstractState) → needed_by (a ++ b) end ≡ needed_by a (needed_by b end)
+pub needed_by-append : (a b : List Insn) (end : LiftedState) → needed_by (a ++ b) end ≡ needed_by a (needed_by b end)
 needed_by-append [] b end = refl
 needed_by-append (insn ∷ a) b end = refl
 
-pub all_pass-append : (a b : List Insn) (end : AbstractState) → AllPass a (needed_by b end) → AllPass b end → AllPass (a ++ b) end
+pub all_pass-append : (a b : List Insn) (end : LiftedState) → AllPass a (needed_by b end) → AllPass b end → AllPass (a ++ b) end
 all_pass-append [] b end one two = two
 all_pass-append (insn ∷ a) b end one two = (
   subst (Passes insn) (sym (needed_by-append a b end)) one.0,
@@ -89,7 +89,7 @@ passes_move_1 number most small =
     (record { v0 = tt; v1 = among number most small; v2 = tt; v3 = tt; frame = maps.reflexive map.unwritten })
 
 -- the end of a program
-pub passes_exit : (needed : AbstractState) → Passes Exit needed
+pub passes_exit : (needed : LiftedState) → Passes Exit needed
 passes_exit needed = record { after = Unreached; passes = refl; straight = refl; within = tt }
 
 -- an instruction that puts a number into register 0
@@ -106,14 +106,14 @@ takes insn low high frame fits is straight =
 passes_field : Passes (call helper.Field) answered
 passes_field = takes (call helper.Field) 0 99999999999 map.unwritten (lit< tt) refl refl
 
-passes_has : Passes (call helper.Has) answered
-passes_has = takes (call helper.Has) 0 1 map.unwritten (lit< tt) refl refl
+passes_has : Passes (call helper.HasField) answered
+passes_has = takes (call helper.HasField) 0 1 map.unwritten (lit< tt) refl refl
 
-passes_names : Passes (call helper.Names) answered
-passes_names = takes (call helper.Names) 0 5000 map.unwritten (lit< tt) refl refl
+passes_names : Passes (call helper.NameCount) answered
+passes_names = takes (call helper.NameCount) 0 5000 map.unwritten (lit< tt) refl refl
 
-passes_ranges : Passes (call helper.Ranges) answered
-passes_ranges = takes (call helper.Ranges) 1 1001 map.unwritten (lit< tt) refl refl
+passes_ranges : Passes (call helper.RangeCount) answered
+passes_ranges = takes (call helper.RangeCount) 1 1001 map.unwritten (lit< tt) refl refl
 
 passes_in_range : Passes (call helper.InRange) answered
 passes_in_range = takes (call helper.InRange) 0 3 map.unwritten (lit< tt) refl refl
@@ -194,7 +194,7 @@ before_set_number number = by_size (nat_le number 2147483647)
     by_size false = refl
 
 -- an instruction with exactly this state after it
-exactly : (insn : Insn) (needed : AbstractState) → transfer (before insn) insn ≡ Ok (record { next = needed; target = Unreached })
+exactly : (insn : Insn) (needed : LiftedState) → transfer (before insn) insn ≡ Ok (record { next = needed; target = Unreached })
     → jump_distance insn ≡ None → Passes insn needed
 exactly insn needed is straight = record { after = needed; passes = is; straight = straight; within = reflexive needed }
 
@@ -286,10 +286,10 @@ subject_rests (subject.InRange range house) = refl
 subject_rests (subject.NameIs name wanted) = refl
 subject_rests (subject.Load chunk at) = refl
 
-pub answer_passes : (number : ℕ) (needed : AbstractState) → number < 2 ^ 64 → AllPass (answer_code number) needed
+pub answer_passes : (number : ℕ) (needed : LiftedState) → number < 2 ^ 64 → AllPass (answer_code number) needed
 answer_passes number needed fits = (passes_move_0 number fits, (passes_exit needed, tt))
 
-pub chosen_passes : (score : Option NumericColumn) (needed : AbstractState) → AllPass (chosen_code score) needed
+pub chosen_passes : (score : Option NumericColumn) (needed : LiftedState) → AllPass (chosen_code score) needed
 chosen_passes None needed = answer_passes 1 needed (lit< tt)
 chosen_passes (Some (column.Number field)) needed = (
   passes_move_1 (field_id field) 16 (field_small field),
@@ -300,7 +300,7 @@ chosen_passes (Some (column.Coordinate end)) needed = (
   (passes_coordinate, (passes_copy_0, (passes_emit, answer_passes 1 needed (lit< tt)))),
 )
 
-pub chosen_rests : (score : Option NumericColumn) (needed : AbstractState) → needed_by (chosen_code score) needed ≡ resting
+pub chosen_rests : (score : Option NumericColumn) (needed : LiftedState) → needed_by (chosen_code score) needed ≡ resting
 chosen_rests None needed = refl
 chosen_rests (Some (column.Number field)) needed = refl
 chosen_rests (Some (column.Coordinate end)) needed = refl

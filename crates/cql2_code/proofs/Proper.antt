@@ -19,11 +19,11 @@ use Rattle.bpf_kinds.specs.Interval.{single}
 use Rattle.bpf_kinds.specs.Kind as kind
 use Rattle.bpf_kinds.specs.Offsets as offsets
 use Rattle.bpf_kinds.specs.declared.kind.Kind.TheVariants.{Number, Nothing}
-use Rattle.bpf_verify.specs.AbstractState.{AbstractState, Reached, IsProper, entry}
+use Rattle.bpf_verify.specs.LiftedState.{LiftedState, Reached, IsProper, entry}
 use Rattle.bpf_verify.proofs.PassLemmas.{entry_is_proper}
-use Rattle.cql2_code.proofs.Known.{Held, annotation_of, answered, any_number, before, before_alu, before_call, before_compare, before_copy}
-use Rattle.cql2_code.proofs.Known.{before_move, before_wide_load, compared, frame_at, given, given_any, given_two, knowing, named, nothing}
-use Rattle.cql2_code.proofs.Known.{pointed, registers_of, resting, state_before, stored, up_to}
+use Rattle.cql2_code.proofs.AbstractState.{Held, annotation_of, answered, any_number, before, before_alu, before_call, before_compare, before_copy}
+use Rattle.cql2_code.proofs.AbstractState.{before_move, before_wide_load, compared, frame_at, given, given_any, given_two, knowing, named, nothing}
+use Rattle.cql2_code.proofs.AbstractState.{pointed, registers_of, resting, state_before, stored, up_to}
 
 at_proper : (offset : ℤ) → FitsSigned w16 offset → offsets.IsProper (offsets.between offset offset)
 at_proper offset fits = record { ordered = omega (arith, ints); low = fits; high = fits }
@@ -103,11 +103,11 @@ named_proper words few =
     (record { v0 = tt; v1 = any_proper; v2 = frame_at_proper 480 (lit≤ tt); v3 = thirty }) (stored_proper words few)
 
 -- the states in a list, and the one past its end
-abbrev AllProper : List AbstractState → Type 0
+abbrev AllProper : List LiftedState → Type 0
 AllProper [] = Unit {0}
 AllProper (x ∷ xs) = IsProper x × AllProper xs
 
-listed_proper : (states : List AbstractState) (otherwise : AbstractState) → AllProper states → IsProper otherwise → (at : ℕ)
+listed_proper : (states : List LiftedState) (otherwise : LiftedState) → AllProper states → IsProper otherwise → (at : ℕ)
     → IsProper (get_or states at otherwise)
 listed_proper [] otherwise all rest at = rest
 listed_proper (x ∷ xs) otherwise all rest zero = all.0

@@ -5,12 +5,12 @@ use Rattle.std.specs.Bool.{beq}
 use Rattle.std.specs.List.{list_any}
 use Rattle.std.proofs.lemmas.List.{take_all}
 use Rattle.bpf_helpers.specs.Meaning.{sides, truth as number_of_truth}
-use Rattle.bpf_insn.specs.Arithmetic.{is_met}
+use Rattle.bpf_insn.specs.Arithmetic.{condition_holds}
 use Rattle.bpf_insn.specs.declared.instruction.Width.TheVariants.{Bits64}
 use Rattle.tl_segments.specs.Range.{lies_on}
-use Rattle.tl_segments.specs.Segment.{Contents, IsSegment, ranges_of}
+use Rattle.tl_segments.specs.Segment.{SegmentParts, IsSegment, ranges_of}
 use Rattle.tl_segments.specs.declared.range.RangeFields.{RangeFields}
-use Rattle.tl_segments.specs.declared.limits.TheConstants.{RANGE_LIMIT}
+use Rattle.tl_segments.specs.declared.limits.TheConstants.{MAX_RANGES}
 use Rattle.cql2.specs.Truth.{has_number, is as is_truth}
 use Rattle.cql2.specs.declared.filter.Comparison.TheVariants.{Greater, NotEqual}
 use Rattle.cql2_code.specs.Lowering.{asks_has_number, checks_for_end, lies_from, test}
@@ -21,18 +21,18 @@ use Rattle.cql2_code.proofs.NumberLemmas.{compared, small_fits}
 use Rattle.cql2_code.proofs.PartLemmas.{part_asked, passes}
 
 some_side : (left right : Bool)
-    → is_met (condition_of NotEqual) Bits64 (number_of_truth left + 2 * number_of_truth right) 0 ≡ (left || right)
+    → condition_holds (condition_of NotEqual) Bits64 (number_of_truth left + 2 * number_of_truth right) 0 ≡ (left || right)
 some_side true true = refl
 some_side true false = refl
 some_side false true = refl
 some_side false false = refl
 
 side_found : (house : ℕ) (range : Option RangeFields)
-    → is_met (condition_of NotEqual) Bits64 (sides house range) 0 ≡ passes (has_number house) range
+    → condition_holds (condition_of NotEqual) Bits64 (sides house range) 0 ≡ passes (has_number house) range
 side_found house None = refl
 side_found house (Some range) = some_side (lies_on house range.fraddl range.toaddl) (lies_on house range.fraddr range.toaddr)
 
-module _ (segment : Contents) (is : IsSegment segment) where
+module _ (segment : SegmentParts) (is : IsSegment segment) where
   ranges_answer : (at : ℕ) → at < 2 ^ 62 → answer (test Ranges Greater (pos at)) segment ≡ nat_lt at (length (ranges_of segment))
   ranges_answer at small =
       let few = is.few_ranges in
@@ -63,5 +63,5 @@ module _ (segment : Contents) (is : IsSegment segment) where
       → answer (asks_has_number house asked) segment ≡ is_truth (Some (list_any (has_number house) (ranges_of segment))) asked
   has_number_rightly house asked =
       let few = is.few_ranges in
-      asked_answers (lies_from house 0 (suc RANGE_LIMIT)) segment asked
-      ∙ ap (λ (found : Bool). beq found asked) (lies_on_some house (suc RANGE_LIMIT) (omega arith) (omega arith))
+      asked_answers (lies_from house 0 (suc MAX_RANGES)) segment asked
+      ∙ ap (λ (found : Bool). beq found asked) (lies_on_some house (suc MAX_RANGES) (omega arith) (omega arith))

@@ -4,7 +4,7 @@ use Rattle.std.proofs.Common.{arith}
 use Rattle.std.specs.Prelude.{FitsSigned}
 use Rattle.std.specs.Bool.{beq}
 use Rattle.std.specs.Int.{w64}
-use Rattle.bpf_insn.specs.Arithmetic.{immediate_operand, is_met}
+use Rattle.bpf_insn.specs.Arithmetic.{immediate_operand, condition_holds}
 use Rattle.bpf_insn.specs.Code.{word_count}
 use Rattle.bpf_insn.specs.declared.instruction.Insn.{Insn}
 use Rattle.bpf_insn.specs.declared.instruction.Source.TheVariants.{Register}
@@ -52,16 +52,16 @@ exit_of falls answer end skip = if beq answer falls then end else end + skip
 
 -- the condition of a test's jump, given the answer that falls through
 taken_to : (comparison : Comparison) (falls : Bool) (x y end skip : ℕ)
-    → (if is_met (condition_of (if falls then opposite comparison else comparison)) Bits64 x y then end + skip else end)
-    ≡ exit_of falls (is_met (condition_of comparison) Bits64 x y) end skip
+    → (if condition_holds (condition_of (if falls then opposite comparison else comparison)) Bits64 x y then end + skip else end)
+    ≡ exit_of falls (condition_holds (condition_of comparison) Bits64 x y) end skip
 taken_to comparison true x y end skip =
     ap (λ (b : Bool). if b then end + skip else end) (opposite_is_not comparison x y)
-    ∙ by_answer (is_met (condition_of comparison) Bits64 x y)
+    ∙ by_answer (condition_holds (condition_of comparison) Bits64 x y)
   where
     by_answer : (b : Bool) → (if not b then end + skip else end) ≡ exit_of true b end skip
     by_answer true = refl
     by_answer false = refl
-taken_to comparison false x y end skip = by_answer (is_met (condition_of comparison) Bits64 x y)
+taken_to comparison false x y end skip = by_answer (condition_holds (condition_of comparison) Bits64 x y)
   where
     by_answer : (b : Bool) → (if b then end + skip else end) ≡ exit_of false b end skip
     by_answer true = refl
@@ -78,7 +78,7 @@ taken on test from = with_0 from (number_in test.subject on.segment)
 -- whether a test's jump is taken
 abbrev is_taken : Setting → Test → Bool → Bool
 is_taken on test falls =
-    is_met (condition_of (jumping test falls)) Bits64 (number_in test.subject on.segment) (immediate_operand test.operand)
+    condition_holds (condition_of (jumping test falls)) Bits64 (number_in test.subject on.segment) (immediate_operand test.operand)
 
 -- the place that the jump reaches, given the place after it
 abbrev jumped : Setting → Test → Bool → ℕ → ℕ → ℕ

@@ -7,7 +7,7 @@ use Rattle.std.specs.Int.{w64, cast_signed}
 use Rattle.std.proofs.lemmas.Bool.{and_parts, leb-true, ltb-true}
 use Rattle.std.proofs.lemmas.List.{length-append, length-map, length-replicate}
 use Rattle.tl_segments.specs.Range.{AreBytes}
-use Rattle.tl_segments.specs.declared.limits.TheConstants.{RANGE_LIMIT}
+use Rattle.tl_segments.specs.declared.limits.TheConstants.{MAX_RANGES}
 use Rattle.cql2.specs.Pattern.{are_bytes, is_byte}
 use Rattle.cql2.specs.declared.column.Column.{Column}
 use Rattle.cql2.specs.declared.column.Column.TheVariants.{Numeric, Text}
@@ -237,7 +237,7 @@ if_asked_sound question false sound = sound
 
 has_number_sound : (house : ℕ) (asked : Bool) → house < 2 ^ 64 → IsSound (asks_has_number house asked)
 has_number_sound house asked fits =
-    if_asked_sound (lies_from house 0 (suc RANGE_LIMIT)) asked (lies_sound house 0 (suc RANGE_LIMIT) fits (omega arith))
+    if_asked_sound (lies_from house 0 (suc MAX_RANGES)) asked (lies_sound house 0 (suc MAX_RANGES) fits (omega arith))
 
 named_sound : (wanted : List ℕ) (at more : ℕ) → AreBytes 32 wanted → at + more ≤ 2 ^ 16 → IsSound (is_named_from wanted at more)
 unfolding is_named_from

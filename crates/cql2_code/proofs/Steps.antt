@@ -3,7 +3,7 @@ use Rattle.std.proofs.Common.{◌≡◌, ℕ, ◌+◌, ℤ, pos, Bool, true, fal
 use Rattle.std.proofs.Common.{if◌then◌else◌, refl, sym, ap, ◌∙◌, subst, arith}
 use Rattle.std.specs.Prelude.{nat_lt}
 use Rattle.std.proofs.lemmas.Bool.{false≢true}
-use Rattle.bpf_insn.specs.Arithmetic.{immediate_operand, is_met, wide_number}
+use Rattle.bpf_insn.specs.Arithmetic.{immediate_operand, condition_holds, wide_number}
 use Rattle.bpf_insn.specs.Code.{instruction_at, spelling, word_count}
 use Rattle.bpf_insn.specs.Frame.{FrameContents}
 use Rattle.bpf_insn.specs.declared.instruction.Condition.{Condition}
@@ -17,15 +17,15 @@ use Rattle.bpf_insn.specs.declared.value.Area.TheVariants as area
 use Rattle.bpf_insn.specs.declared.value.Value.{Value}
 use Rattle.bpf_insn.specs.declared.value.Value.TheVariants as value
 use Rattle.bpf_insn.proofs.PlaceLemmas.{word_count-append, word_count-cons}
-use Rattle.bpf_meaning.specs.Effect.{effect_of, go_on, instruction_effect}
+use Rattle.bpf_meaning.specs.Effect.{effect_of, continue_with, instruction_effect}
 use Rattle.bpf_meaning.specs.Run.{FollowSteps, last_of}
 use Rattle.bpf_meaning.specs.Step.{Configuration, Running, Exited, after, carry_out, next_of}
 use Rattle.bpf_meaning.specs.declared.cause.Cause.TheVariants.{IntoWide, OutOfProgram}
 use Rattle.bpf_meaning.specs.declared.effect.Change.{Change}
 use Rattle.bpf_meaning.specs.declared.effect.Change.TheVariants.{Nothing, SetRegister}
-use Rattle.bpf_meaning.specs.declared.effect.Effect.TheVariants.{GoOn}
+use Rattle.bpf_meaning.specs.declared.effect.Effect.TheVariants.{Continue}
 use Rattle.bpf_meaning.specs.declared.state.State.{State}
-use Rattle.tl_segments.specs.Segment.{Contents}
+use Rattle.tl_segments.specs.Segment.{SegmentParts}
 use Rattle.cql2_code.specs.Layout.{copy, jump, move, from_result, from_argument_1, from_frame, into_result, into_argument_1, into_argument_2, into_argument_3}
 
 -- these instructions follow one another from a place
@@ -40,7 +40,7 @@ Begins code place = is_some (instruction_at code place) ≡ true
 -- a code that runs on a segment, with the score so far
 pub record Setting : Type 0 where
   pub code : List Insn
-  pub segment : Contents
+  pub segment : SegmentParts
   pub score : ℕ
 
 -- what a question's instructions change: registers 0 to 5, and the frame
@@ -147,12 +147,12 @@ after_at on from insn at = ap (λ (found : Option Insn). next_of on.segment from
 
 -- continuing at a place where an instruction begins
 pub continues_at : (on : Setting) (from : State) (place : ℕ) (change : Change) → Begins on.code place
-    → next_of on.segment from (go_on on.code place change) ≡ Running (record (carry_out on.segment from change) { place = place })
+    → next_of on.segment from (continue_with on.code place change) ≡ Running (record (carry_out on.segment from change) { place = place })
 continues_at on from place change begins = by_test (is_some (instruction_at on.code place)) begins
   where
     by_test : (begins : Bool) → begins ≡ true
         → next_of on.segment from
-        (if begins then Ok (GoOn change place) else (if nat_lt place (word_count on.code) then Err IntoWide else Err OutOfProgram))
+        (if begins then Ok (Continue change place) else (if nat_lt place (word_count on.code) then Err IntoWide else Err OutOfProgram))
         ≡ Running (record (carry_out on.segment from change) { place = place })
     by_test true is = refl
     by_test false is = absurd (false≢true is)
@@ -206,7 +206,7 @@ and_then {on} {insns} {others} {from} {middle} {to} one two = record {
 -- an instruction with a change
 pub changes : (on : Setting) (insn : Insn) (change : Change) (from to : Scratch)
     → ((place : ℕ) → instruction_effect on.code on.segment (state on from place) (place + length (spelling insn)) insn
-    ≡ go_on on.code (place + length (spelling insn)) change)
+    ≡ continue_with on.code (place + length (spelling insn)) change)
     → ((place next : ℕ)
     → let made : State = record (carry_out on.segment (state on from place) change) { place = next } in made ≡ state on to next)
     → Does on insn from to
@@ -278,7 +278,7 @@ jumps on scratch place skip at target =
 branches : (on : Setting) (scratch : Scratch) (place skip : ℕ) (taken : Bool) → Begins on.code (place + 1)
     → Begins on.code (place + 1 + skip)
     → next_of on.segment (state on scratch place)
-    (if taken then go_on on.code (place + 1 + skip) Nothing else go_on on.code (place + 1) Nothing)
+    (if taken then continue_with on.code (place + 1 + skip) Nothing else continue_with on.code (place + 1) Nothing)
     ≡ running on scratch (if taken then place + 1 + skip else place + 1)
 branches on scratch place skip true next target = continues_at on (state on scratch place) (place + 1 + skip) Nothing target
 branches on scratch place skip false next target = continues_at on (state on scratch place) (place + 1) Nothing next
@@ -294,23 +294,23 @@ pub record JumpsAt (on : Setting) (place : ℕ) (condition : Condition) (source 
 
 pub jumps_by_immediate : (on : Setting) (from : Scratch) (n place skip : ℕ) (condition : Condition) (number : ℤ)
     → JumpsAt on place condition (Immediate number) skip
-    → running on (with_0 from n) (if is_met condition Bits64 n (immediate_operand number) then place + 1 + skip else place + 1)
+    → running on (with_0 from n) (if condition_holds condition Bits64 n (immediate_operand number) then place + 1 + skip else place + 1)
     ≡ after on.code on.segment (state on (with_0 from n) place)
 jumps_by_immediate on from n place skip condition number jump =
     let scratch : Scratch = with_0 from n in
     sym
     (after_at on (state on scratch place) (conditional_jump condition (Immediate number) skip) jump.at
-    ∙ branches on scratch place skip (is_met condition Bits64 n (immediate_operand number)) jump.next jump.target)
+    ∙ branches on scratch place skip (condition_holds condition Bits64 n (immediate_operand number)) jump.next jump.target)
 
 pub jumps_by_register : (on : Setting) (from : Scratch) (n m place skip : ℕ) (condition : Condition)
     → JumpsAt on place condition (Register from_argument_1) skip
-    → running on (with_1 (with_0 from n) m) (if is_met condition Bits64 n m then place + 1 + skip else place + 1)
+    → running on (with_1 (with_0 from n) m) (if condition_holds condition Bits64 n m then place + 1 + skip else place + 1)
     ≡ after on.code on.segment (state on (with_1 (with_0 from n) m) place)
 jumps_by_register on from n m place skip condition jump =
     let scratch : Scratch = with_1 (with_0 from n) m in
     sym
     (after_at on (state on scratch place) (conditional_jump condition (Register from_argument_1) skip) jump.at
-    ∙ branches on scratch place skip (is_met condition Bits64 n m) jump.next jump.target)
+    ∙ branches on scratch place skip (condition_holds condition Bits64 n m) jump.next jump.target)
 
 -- the end of a program
 pub exits : (on : Setting) (from : Scratch) (n place : ℕ) → instruction_at on.code place ≡ Some Exit

@@ -6,7 +6,7 @@ use Rattle.std.specs.List.{list_all}
 use Rattle.std.proofs.lemmas.Bool.{and_parts, false≢true, leb-true, lt-ltb, ltb-true}
 use Rattle.std.proofs.lemmas.Bool.Decides.{nat_tests}
 use Rattle.tl_fields.specs.Number.{is_blank as are_blank}
-use Rattle.tl_segments.specs.Segment.{Contents, IsSegment}
+use Rattle.tl_segments.specs.Segment.{SegmentParts, IsSegment}
 use Rattle.cql2.specs.Column.{text_value}
 use Rattle.cql2.specs.Filter.{compares_text as text_compares}
 use Rattle.cql2.specs.Pattern.{are_bytes, is_like as is_text_like}
@@ -138,7 +138,7 @@ nothing_less first field = by_blank (are_blank (first ∷ field))
     by_blank true = refl
     by_blank false = refl
 
-module _ (segment : Contents) (is : IsSegment segment) where
+module _ (segment : SegmentParts) (is : IsSegment segment) where
   less_found : (at left : ℕ) (text : List ℕ) → at + left ≤ 228 → AreSmall text
       → answer (is_less at left text) segment ≡ is_text_less (take left (drop at segment.bytes)) text
   less_found at left [] within small = refl
@@ -209,7 +209,7 @@ opposite_compares_text LessOrEqual text other = sym (not_not (is_text_less other
 opposite_compares_text Greater text other = refl
 opposite_compares_text GreaterOrEqual text other = sym (not_not (is_text_less text other))
 
-module _ (segment : Contents) (is : IsSegment segment) (column : TextColumn) (text : List ℕ) (wanted : IsWanted text) where
+module _ (segment : SegmentParts) (is : IsSegment segment) (column : TextColumn) (text : List ℕ) (wanted : IsWanted text) where
   same_here : answer (is_like column (map Exactly text) false) segment ≡ is_same (trimmed (field_of column segment)) text
   same_here =
       like_found segment is column (map Exactly text) (exactly_bytes text wanted.small) false

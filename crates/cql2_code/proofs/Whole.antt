@@ -10,7 +10,7 @@ use Rattle.bpf_meaning.specs.Run.{Answers}
 use Rattle.bpf_meaning.specs.State.{start}
 use Rattle.bpf_meaning.specs.Step.{Configuration, Exited, Running, after}
 use Rattle.bpf_meaning.specs.declared.effect.Change.TheVariants.{SetRegister}
-use Rattle.tl_segments.specs.Segment.{Contents, IsSegment}
+use Rattle.tl_segments.specs.Segment.{SegmentParts, IsSegment}
 use Rattle.cql2.specs.declared.column.NumericColumn.{NumericColumn}
 use Rattle.cql2.specs.declared.column.NumericColumn.TheVariants as column
 use Rattle.cql2_code.specs.Chosen.{score_of}
@@ -73,7 +73,7 @@ chooses on from (Some (column.Coordinate end)) place none segment has =
     emits_subject on from (subject.Coordinate end) place tt segment (coordinate_fits on.segment end segment) has
 
 -- the end of a run: its answer, with the score if it is yes
-abbrev ended : Option NumericColumn → Contents → Bool → Configuration
+abbrev ended : Option NumericColumn → SegmentParts → Bool → Configuration
 ended score segment found = Exited (truth found) (if found then score_of score segment else 0)
 
 -- the registers and the frame once register 6 holds the record's pointer
@@ -90,7 +90,7 @@ at_first = record {
 }
 
 -- on each segment, the program of a question returns its answer, with the score if it is yes
-pub program_answers : (score : Option NumericColumn) (question : Question) → IsSound question → (segment : Contents) → IsSegment segment
+pub program_answers : (score : Option NumericColumn) (question : Question) → IsSound question → (segment : SegmentParts) → IsSegment segment
     → Answers (program score question) segment (truth (answer question segment))
     (if answer question segment then score_of score segment else 0)
 program_answers score question sound segment is = record { run = all.run; is_run = all.follows; exits = all.ends }

@@ -10,25 +10,25 @@ use Rattle.cql2.specs.declared.column.NumericColumn.{NumericColumn}
 use Rattle.cql2.specs.declared.column.NumericColumn.TheVariants.{Number, Coordinate}
 use Rattle.cql2.specs.declared.filter.Filter.{Filter}
 use Rattle.cql2_code.specs.Question.{coordinate_id, field_id}
-use Rattle.tl_segments.specs.Segment.{Contents, IsSegment}
+use Rattle.tl_segments.specs.Segment.{SegmentParts, IsSegment}
 
 -- the score of a selected segment: the number of a column, or a coordinate in two's complement; 0 if there is none
-abbrev pub score_of : Option NumericColumn → Contents → ℕ
+abbrev pub score_of : Option NumericColumn → SegmentParts → ℕ
 score_of None segment = 0
 score_of (Some (Number column)) segment = or_zero (field_number segment.bytes (field_id column))
 score_of (Some (Coordinate column)) segment = coordinate segment.bytes (coordinate_id column)
 
 -- on each segment, the program answers 1 with the score if the filter is true, and otherwise 0 with score 0
 abbrev pub Chooses : {A : Type 0} → List Insn → Filter A → Option NumericColumn → Type 0
-Chooses code filter score = (segment : Contents) → IsSegment segment
+Chooses code filter score = (segment : SegmentParts) → IsSegment segment
     → Answers code segment (number.truth (selects filter segment)) (if selects filter segment then score_of score segment else 0)
 
 -- the rows of the segments for which a filter is true, in order, with their scores, and the number of those segments
-abbrev pub rows_of : {A : Type 0} → Filter A → Option NumericColumn → List Contents → List ℕ
+abbrev pub rows_of : {A : Type 0} → Filter A → Option NumericColumn → List SegmentParts → List ℕ
 rows_of filter score [] = []
 rows_of filter score (segment ∷ segments) =
     (if selects filter segment then row_of (score_of score segment) segment else []) ++ rows_of filter score segments
 
-abbrev pub count_of : {A : Type 0} → Filter A → List Contents → ℕ
+abbrev pub count_of : {A : Type 0} → Filter A → List SegmentParts → ℕ
 count_of filter [] = 0
 count_of filter (segment ∷ segments) = (if selects filter segment then 1 else 0) + count_of filter segments

@@ -10,7 +10,7 @@ use Rattle.bpf_helpers.specs.declared.helper.Helper.{Helper}
 use Rattle.bpf_helpers.specs.declared.helper.Helper.TheVariants as helper
 use Rattle.bpf_insn.specs.Arithmetic.{immediate_operand}
 use Rattle.bpf_insn.specs.Code.{word_count}
-use Rattle.bpf_insn.specs.declared.code.TheConstants.{WORD_LIMIT}
+use Rattle.bpf_insn.specs.declared.code.TheConstants.{MAX_WORDS}
 use Rattle.bpf_insn.specs.declared.instruction.Insn.{Insn}
 use Rattle.bpf_insn.specs.declared.instruction.Insn.TheVariants.{Alu, Jump, JumpIf, Call, Exit, StoreImmediate, WideLoad}
 use Rattle.bpf_insn.specs.declared.instruction.Insn.TheVariants as insn
@@ -113,10 +113,10 @@ load chunk at = insn.Load (load_format chunk) into_result from_record (pos at)
 -- the code that puts the number a test looks at into register 0
 abbrev pub subject_code : Subject → List Insn
 subject_code (Number column) = move into_argument_1 (pos (field_id column)) ∷ call helper.Field ∷ []
-subject_code (HasNumber column) = move into_argument_1 (pos (field_id column)) ∷ call helper.Has ∷ []
+subject_code (HasNumber column) = move into_argument_1 (pos (field_id column)) ∷ call helper.HasField ∷ []
 subject_code (Coordinate column) = move into_argument_1 (pos (coordinate_id column)) ∷ call helper.Coord ∷ []
-subject_code Names = call helper.Names ∷ []
-subject_code Ranges = call helper.Ranges ∷ []
+subject_code Names = call helper.NameCount ∷ []
+subject_code Ranges = call helper.RangeCount ∷ []
 subject_code (InRange range house) = move into_argument_1 (pos range) ∷ set_number into_argument_2 house ∷ call helper.InRange ∷ []
 subject_code (NameIs name wanted) =
     move into_argument_1 (pos name) ∷ copy into_argument_2 from_frame ∷ move_to_name ∷ move into_argument_3 (pos 30)
@@ -173,7 +173,7 @@ is_far_jump insn = false
 
 -- a code is too long for a program: it has more words than a program can have, or such a jump
 pub data IsTooLong (code : List Insn) : Type 0 where
-  has_many_words : WORD_LIMIT < word_count code → IsTooLong code
+  has_many_words : MAX_WORDS < word_count code → IsTooLong code
   has_far_jump : IsTrue (list_any is_far_jump code) → IsTooLong code
 
 -- a code may be refused: as too long only if it is, and otherwise because an allocation fails

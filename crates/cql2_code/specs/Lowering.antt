@@ -2,7 +2,7 @@
 use Rattle.std.specs.Prelude.{◌≡◌, ℕ, zero, suc, ◌+◌, ◌-◌, ◌==◌, ◌||◌, ℤ, pos, nat_le, Bool, true, false, not, List, [], ◌∷◌, ◌++◌, length, map, replicate, Option, Some, None, MatchResult, Result, if◌then◌else◌}
 use Rattle.std.specs.Bool.{beq}
 use Rattle.std.specs.Int.{w64, cast_signed}
-use Rattle.tl_segments.specs.declared.limits.TheConstants.{RANGE_LIMIT}
+use Rattle.tl_segments.specs.declared.limits.TheConstants.{MAX_RANGES}
 use Rattle.cql2.specs.Column.{text_places}
 use Rattle.cql2.specs.Filter.{compares}
 use Rattle.cql2.specs.declared.column.Column.{Column}
@@ -236,7 +236,7 @@ PrependsRange result house range end exits old new = (more : ℕ) (rest : List I
     → Writes (lies_from house (range + 1) more) exits rest old → Prepends result (lies_from house range (suc more)) exits rest new
 
 abbrev pub asks_has_number : ℕ → Bool → Question
-asks_has_number house asked = if_asked (lies_from house 0 (suc RANGE_LIMIT)) asked
+asks_has_number house asked = if_asked (lies_from house 0 (suc MAX_RANGES)) asked
 
 -- a name as it is in the frame: padded with blanks
 abbrev pub name_block : List ℕ → List ℕ

@@ -4,7 +4,7 @@ use Rattle.std.specs.Prelude.{ℕ, ◌+◌, ◌*◌, ◌≤◌, ◌<◌, ◌^◌
 use Rattle.std.specs.Bool.{beq}
 use Rattle.std.specs.Int.{w64}
 use Rattle.bpf_helpers.specs.Meaning.{truth, coordinate, field_number, is_name, or_zero, sides}
-use Rattle.bpf_insn.specs.Arithmetic.{immediate_operand, is_met}
+use Rattle.bpf_insn.specs.Arithmetic.{immediate_operand, condition_holds}
 use Rattle.bpf_insn.specs.declared.instruction.Condition.{Condition}
 use Rattle.bpf_insn.specs.declared.instruction.Condition.TheVariants as condition
 use Rattle.bpf_insn.specs.declared.instruction.Width.TheVariants.{Bits64}
@@ -15,7 +15,7 @@ use Rattle.cql2.specs.declared.column.NumberColumn.TheVariants.{Tlid, Fraddl, To
 use Rattle.cql2.specs.declared.filter.Comparison.{Comparison}
 use Rattle.cql2.specs.declared.filter.Comparison.TheVariants.{Equal, NotEqual, Less, LessOrEqual, Greater, GreaterOrEqual}
 use Rattle.tl_segments.specs.Range.{AreBytes}
-use Rattle.tl_segments.specs.Segment.{Contents, names_of, ranges_of}
+use Rattle.tl_segments.specs.Segment.{SegmentParts, names_of, ranges_of}
 use Rattle.tl_segments.specs.declared.name.TheConstants.{NAME_LENGTH}
 use Rattle.tl_records.specs.declared.layout.TheConstants.{RECORD_LENGTH}
 use Rattle.cql2_code.specs.declared.question.Chunk.{Chunk}
@@ -63,7 +63,7 @@ bytes_value [] = 0
 bytes_value (byte ∷ bytes) = byte + 256 * bytes_value bytes
 
 -- the number that a test looks at in a segment
-abbrev pub value : Subject → Contents → ℕ
+abbrev pub value : Subject → SegmentParts → ℕ
 value (Number column) segment = or_zero (field_number segment.bytes (field_id column))
 value (HasNumber column) segment = truth (is_some (field_number segment.bytes (field_id column)))
 value (Coordinate column) segment = coordinate segment.bytes (coordinate_id column)
@@ -95,8 +95,8 @@ condition_of Greater = condition.SignedGreater
 condition_of GreaterOrEqual = condition.SignedGreaterOrEqual
 
 -- the answer of a test, compared in 64 bits
-abbrev pub is_so : Test → Contents → Bool
-is_so test segment = is_met (condition_of test.comparison) Bits64 (value test.subject segment) (immediate_operand test.operand)
+abbrev pub is_so : Test → SegmentParts → Bool
+is_so test segment = condition_holds (condition_of test.comparison) Bits64 (value test.subject segment) (immediate_operand test.operand)
 
 -- Questions. One kind is already decided. Two questions are joined with one of the two answers as the neutral one: if the first question has that
 -- answer, the second one decides, and otherwise the first one does. With neutral answer yes this is AND, with no it is OR.
@@ -110,7 +110,7 @@ abbrev pub joined : Bool → Bool → Bool → Bool
 joined neutral first second = if beq first neutral then second else first
 
 -- the answer of a question
-abbrev pub answer : Question → Contents → Bool
+abbrev pub answer : Question → SegmentParts → Bool
 answer (Decided found) segment = found
 answer (Holds test) segment = is_so test segment
 answer (Opposite question) segment = not (answer question segment)

@@ -4,7 +4,7 @@ ghost use Rattle.bpf_insn.specs.declared.instruction.Insn.{Insn};
 ghost use Rattle.bpf_meaning.specs.Extract.{IsExtract};
 ghost use Rattle.cql2.specs.declared.column.NumericColumn.{NumericColumn};
 ghost use Rattle.cql2.specs.declared.filter.Filter.{Filter};
-ghost use Rattle.tl_segments.specs.Segment.{Contents, IsSegment};
+ghost use Rattle.tl_segments.specs.Segment.{SegmentParts, IsSegment};
 ghost use Rattle.cql2_code.specs.Chosen.{Chooses, count_of, rows_of};
 
 use std::alloc::Allocator;
@@ -13,6 +13,6 @@ use std::alloc::Allocator;
 /// scores.
 pub fn selects_what_is_true<A: Allocator>()
     ensures { (code : List Insn) (filter : Filter A) (score : Option NumericColumn) → Chooses code filter score
-        → (segments : List Contents) → All IsSegment segments
+        → (segments : List SegmentParts) → All IsSegment segments
         → IsExtract code segments (rows_of filter score segments) (count_of filter segments) }
 {}

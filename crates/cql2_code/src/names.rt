@@ -11,7 +11,7 @@ use crate::question::{Exits, Subject, Test};
 use crate::suffix::CodeSuffix;
 use cql2::Comparison;
 use std::alloc::Allocator;
-use tl_segments::{NAME_LENGTH, RANGE_LIMIT};
+use tl_segments::{MAX_RANGES, NAME_LENGTH};
 
 /// Writes the code that asks whether a house number lies on a side of some range, or whether it lies on none.
 pub(crate) fn prepend_has_number<A: Allocator + Copy>(
@@ -26,7 +26,7 @@ pub(crate) fn prepend_has_number<A: Allocator + Copy>(
     let exits = exits.asked(asked);
     let end = code.words();
     code.prepend_constant(false, exits)?;
-    for range in (0..=RANGE_LIMIT as u16).rev() {
+    for range in (0..=MAX_RANGES as u16).rev() {
         prepend_range(code, house, range, end, exits)?;
     }
     Ok(())

@@ -1,7 +1,7 @@
 //! Code written back to front, so that each jump's distance is known when it is written.
 ghost use Rattle.std.specs.Prelude.{◌≡◌, ◌≤◌, ◌<◌, ◌-◌, ◌∷◌, ◌++◌, [], pos, IfErr, IfOk, MatchResult};
 ghost use Rattle.bpf_insn.specs.Code.{word_count};
-ghost use Rattle.bpf_insn.specs.declared.code.TheConstants.{WORD_LIMIT};
+ghost use Rattle.bpf_insn.specs.declared.code.TheConstants.{MAX_WORDS};
 ghost use Rattle.cql2_code.specs.Layout.{IsBefore, IsPrepended, IsTooLong, Prepends, call, comparison_code, move, store_name, subject_code, into_argument_1};
 ghost use Rattle.cql2_code.specs.Question.{Decided, Holds};
 ghost use Rattle.cql2_code.specs.declared.fault.CompileFault.TheVariants.{Memory, TooLong};
@@ -14,7 +14,7 @@ use crate::instructions::{
 };
 use crate::question::{Exits, Subject, Test, coordinate_id, field_id, opposite};
 use bpf_helpers::Helper;
-use bpf_insn::{Code, CodeBuilder, Insn, Source, WORD_LIMIT};
+use bpf_insn::{Code, CodeBuilder, Insn, MAX_WORDS, Source};
 use cql2::Comparison;
 use std::alloc::Allocator;
 use std::marker::Model;
@@ -31,14 +31,14 @@ impl<A: Allocator> Model for CodeSuffix<A> {
     ghost use Rattle.std.specs.List.{list_any};
     ghost use Rattle.cql2_code.specs.Layout.{is_far_jump};
     ghost use Rattle.bpf_insn.specs.Code.{word_count};
-    ghost use Rattle.bpf_insn.specs.declared.code.TheConstants.{WORD_LIMIT};
+    ghost use Rattle.bpf_insn.specs.declared.code.TheConstants.{MAX_WORDS};
     ghost use Rattle.bpf_insn.specs.declared.instruction.Insn.{Insn};
 
     ghost Value = { List Insn };
 
     ghost view = { λ suffix. reverse suffix.reversed.items };
 
-    ghost invariant = { λ suffix. (suffix.words ≡ word_count (reverse suffix.reversed.items)) × (suffix.words ≤ WORD_LIMIT)
+    ghost invariant = { λ suffix. (suffix.words ≡ word_count (reverse suffix.reversed.items)) × (suffix.words ≤ MAX_WORDS)
         × IsFalse (list_any is_far_jump (reverse suffix.reversed.items)) };
 }
 
@@ -56,7 +56,7 @@ impl<A: Allocator + Copy> CodeSuffix<A> {
     /// Returns the number of words in the instructions.
     pub fn words(&self) -> usize
         ensures value { result ≡ word_count self.now }
-        ensures few { result ≤ WORD_LIMIT }
+        ensures few { result ≤ MAX_WORDS }
     {
         self.words
     }
@@ -66,7 +66,7 @@ impl<A: Allocator + Copy> CodeSuffix<A> {
         ensures { IsPrepended result (insn ∷ self.old) self.new }
     {
         let words = self.words + insn.words();
-        if words > WORD_LIMIT {
+        if words > MAX_WORDS {
             return Err(CompileFault::TooLong);
         }
         self.reversed.reserve(1)?;
@@ -162,10 +162,10 @@ impl<A: Allocator + Copy> CodeSuffix<A> {
     {
         match subject {
             Subject::Number(column) => self.prepend_call(Helper::Field, field_id(column)),
-            Subject::HasNumber(column) => self.prepend_call(Helper::Has, field_id(column)),
+            Subject::HasNumber(column) => self.prepend_call(Helper::HasField, field_id(column)),
             Subject::Coordinate(column) => self.prepend_call(Helper::Coord, coordinate_id(column)),
-            Subject::Names => self.prepend(call(Helper::Names)),
-            Subject::Ranges => self.prepend(call(Helper::Ranges)),
+            Subject::Names => self.prepend(call(Helper::NameCount)),
+            Subject::Ranges => self.prepend(call(Helper::RangeCount)),
             Subject::InRange(range, house) => self.prepend_in_range(range, house),
             Subject::NameIs(name, wanted) => self.prepend_name_is(name, &wanted),
             Subject::Load(chunk, at) => self.prepend(load(chunk, at)),

@@ -1,6 +1,6 @@
 -- The refusal for a filter's fault.
 use Rattle.refusals.specs.Refusal.{RefusalParts, at_character, memory}
-use Rattle.cql2_text.specs.FilterFlaw as filter_flaw
+use Rattle.cql2_text.specs.FilterFaultKind as filter_flaw
 use Rattle.cql2_text.specs.declared.fault.FilterFault.{FilterFault}
 use Rattle.cql2_text.specs.declared.fault.FilterFault.TheVariants.{At, Memory}
 

@@ -1,6 +1,6 @@
 pub mod Content
 pub mod FilterFault
-pub mod FilterFlaw
+pub mod FilterFaultKind
 pub mod Number
 pub mod Pattern
 pub mod Position

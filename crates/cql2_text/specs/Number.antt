@@ -2,22 +2,22 @@
 use Rattle.std.specs.Prelude.{ℕ, ℤ, pos, neg_ℤ, ◌+◌, ◌-◌, ◌*◌, ◌^◌, Bool, nat_le, nat_lt, if◌then◌else◌, List, [], ◌∷◌, length, Option, Some, None}
 use Rattle.std.specs.Prelude.{Result, Ok, Err}
 use Rattle.decimal.specs.Numeral.{decimal_in}
-use Rattle.tl_segments.specs.declared.limits.TheConstants.{NAME_LIMIT}
+use Rattle.tl_segments.specs.declared.limits.TheConstants.{MAX_NAMES}
 use Rattle.cql2.specs.declared.column.NumericColumn.{NumericColumn}
 use Rattle.cql2.specs.declared.column.NumericColumn.TheVariants.{Number, Coordinate}
-use Rattle.cql2_text.specs.declared.fault.FilterFlaw.{FilterFlaw}
-use Rattle.cql2_text.specs.declared.fault.FilterFlaw.TheVariants.{WrongType, NumberRange}
+use Rattle.cql2_text.specs.declared.fault.FilterFaultKind.{FilterFaultKind}
+use Rattle.cql2_text.specs.declared.fault.FilterFaultKind.TheVariants.{WrongType, NumberRange}
 use Rattle.cql2_tokens.specs.declared.token.Numeral.{Numeral}
 
 abbrev pub signed : Bool → ℕ → ℤ
 signed is_negative amount = if is_negative then neg_ℤ (pos amount) else pos amount
 
 -- the absolute value for a column of numbers, which has up to 18 digits and no fraction
-abbrev pub in_range : Option ℕ → Result ℕ FilterFlaw
+abbrev pub in_range : Option ℕ → Result ℕ FilterFaultKind
 in_range (Some amount) = Ok amount
 in_range None = Err NumberRange
 
-abbrev pub whole_amount : ℕ → List ℕ → List ℕ → Result ℕ FilterFlaw
+abbrev pub whole_amount : ℕ → List ℕ → List ℕ → Result ℕ FilterFaultKind
 whole_amount most whole [] = in_range (decimal_in most whole)
 whole_amount most whole (digit ∷ decimals) = Err WrongType
 
@@ -28,25 +28,25 @@ parts_of (digit ∷ decimals) =
     elim (decimal_in 6 (digit ∷ decimals)) [ Some parts ↦ Some (parts * 10 ^ (6 - length (digit ∷ decimals))) | None ↦ None ]
 
 -- a coordinate is below 1000 degrees
-abbrev pub millionths : Option ℕ → Option ℕ → Result ℕ FilterFlaw
+abbrev pub millionths : Option ℕ → Option ℕ → Result ℕ FilterFaultKind
 millionths (Some degrees) (Some parts) = if nat_lt degrees 1000 then Ok (degrees * 1000000 + parts) else Err NumberRange
 millionths (Some degrees) None = Err NumberRange
 millionths None parts = Err NumberRange
 
-abbrev pub amount_of : NumericColumn → Numeral → Result ℕ FilterFlaw
+abbrev pub amount_of : NumericColumn → Numeral → Result ℕ FilterFaultKind
 amount_of (Number column) numeral = whole_amount 18 numeral.whole.now numeral.decimals.now
 amount_of (Coordinate column) numeral = millionths (decimal_in 18 numeral.whole.now) (parts_of numeral.decimals.now)
 
-abbrev pub signed_by : Bool → Result ℕ FilterFlaw → Result ℤ FilterFlaw
+abbrev pub signed_by : Bool → Result ℕ FilterFaultKind → Result ℤ FilterFaultKind
 signed_by is_negative (Ok amount) = Ok (signed is_negative amount)
 signed_by is_negative (Err flaw) = Err flaw
 
 -- the value of a numeral that is compared with a column
-abbrev pub number_of : NumericColumn → Numeral → Result ℤ FilterFlaw
+abbrev pub number_of : NumericColumn → Numeral → Result ℤ FilterFaultKind
 number_of column numeral = signed_by numeral.is_negative (amount_of column numeral)
 
 -- a nonnegative numeral without a fraction and with a limited number of digits
-abbrev pub count_of : ℕ → Numeral → Result ℕ FilterFlaw
+abbrev pub count_of : ℕ → Numeral → Result ℕ FilterFaultKind
 count_of most numeral =
     elim (whole_amount most numeral.whole.now numeral.decimals.now) [
       | Ok amount ↦ (if numeral.is_negative then Err NumberRange else Ok amount)
@@ -54,13 +54,13 @@ count_of most numeral =
     ]
 
 -- a house number has up to 11 digits
-abbrev pub house_number_of : Numeral → Result ℕ FilterFlaw
+abbrev pub house_number_of : Numeral → Result ℕ FilterFaultKind
 house_number_of numeral = count_of 11 numeral
 
 -- as many alternate names can be checked as a segment can have
-abbrev pub up_to_name_limit : Result ℕ FilterFlaw → Result ℕ FilterFlaw
-up_to_name_limit (Ok amount) = if nat_le amount NAME_LIMIT then Ok amount else Err NumberRange
+abbrev pub up_to_name_limit : Result ℕ FilterFaultKind → Result ℕ FilterFaultKind
+up_to_name_limit (Ok amount) = if nat_le amount MAX_NAMES then Ok amount else Err NumberRange
 up_to_name_limit (Err flaw) = Err flaw
 
-abbrev pub name_limit_of : Numeral → Result ℕ FilterFlaw
+abbrev pub name_limit_of : Numeral → Result ℕ FilterFaultKind
 name_limit_of numeral = up_to_name_limit (count_of 18 numeral)

@@ -3,7 +3,7 @@ use Rattle.std.specs.Prelude.{ℕ, ◌+◌, Bool, ◌&&◌, ◌==◌, nat_le, na
 use Rattle.std.specs.List.{count_by, fold}
 use Rattle.cql2_text.specs.declared.fault.FilterFault.{FilterFault}
 use Rattle.cql2_text.specs.declared.fault.FilterFault.TheVariants.{At}
-use Rattle.cql2_text.specs.declared.fault.FilterFlaw.{FilterFlaw}
+use Rattle.cql2_text.specs.declared.fault.FilterFaultKind.{FilterFaultKind}
 
 abbrev pub is_line_feed : ℕ → Bool
 is_line_feed byte = byte == 10
@@ -25,5 +25,5 @@ abbrev pub column_after : List ℕ → ℕ
 column_after front = fold next_column 1 front
 
 -- a flaw, placed after this prefix of a text
-abbrev pub fault_after : List ℕ → FilterFlaw → FilterFault
+abbrev pub fault_after : List ℕ → FilterFaultKind → FilterFault
 fault_after front flaw = At (line_after front) (column_after front) flaw

@@ -1,6 +1,6 @@
 //! Why a text is not a filter.
 ghost use Rattle.std.specs.Prelude.{◌≡◌};
-ghost use Rattle.cql2_text.specs.FilterFlaw as filter_flaw;
+ghost use Rattle.cql2_text.specs.FilterFaultKind as filter_flaw;
 ghost use Rattle.cql2_text.specs.declared.fault.FilterFault.TheVariants.{Memory};
 
 use refusals::{Fault, Refusal};
@@ -50,7 +50,7 @@ pub enum Expected {
 
 /// A flaw in a filter's text. The derived text is for people.
 #[derive(Clone, Copy, Debug, PartialEq, Eq, Error)]
-pub enum FilterFlaw {
+pub enum FilterFaultKind {
     #[error("expected {0}")]
     Syntax(Expected),
     #[error("no column has this name")]
@@ -76,7 +76,7 @@ pub enum FilterFault {
         line: u32,
         /// The character in the line, counted from 1.
         column: u32,
-        flaw: FilterFlaw,
+        flaw: FilterFaultKind,
     },
     #[error("out of memory")]
     Memory,
@@ -98,19 +98,19 @@ impl<T: Drop> From<AllocFailed<T>> for FilterFault {
     }
 }
 
-impl FilterFlaw {
+impl FilterFaultKind {
     /// Returns the flaw as a refusal, without its position.
     pub fn refusal(self) -> Refusal
         ensures { result ≡ filter_flaw.refusal self }
     {
         match self {
-            FilterFlaw::Syntax(_expected) => Refusal::refused(90, "Syntax"),
-            FilterFlaw::UnknownColumn => Refusal::refused(91, "UnknownColumn"),
-            FilterFlaw::WrongType => Refusal::refused(92, "WrongType"),
-            FilterFlaw::NumberRange => Refusal::refused(93, "NumberRange"),
-            FilterFlaw::LongText => Refusal::refused(94, "LongText"),
-            FilterFlaw::TooDeep => Refusal::refused(95, "TooDeep"),
-            FilterFlaw::TooLong => Refusal::refused(96, "TooLong"),
+            FilterFaultKind::Syntax(_expected) => Refusal::refused(90, "Syntax"),
+            FilterFaultKind::UnknownColumn => Refusal::refused(91, "UnknownColumn"),
+            FilterFaultKind::WrongType => Refusal::refused(92, "WrongType"),
+            FilterFaultKind::NumberRange => Refusal::refused(93, "NumberRange"),
+            FilterFaultKind::LongText => Refusal::refused(94, "LongText"),
+            FilterFaultKind::TooDeep => Refusal::refused(95, "TooDeep"),
+            FilterFaultKind::TooLong => Refusal::refused(96, "TooLong"),
         }
     }
 }

@@ -16,5 +16,5 @@ mod terminal;
 mod text;
 
 pub use cql2_tokens::{column_named, laws};
-pub use fault::{Expected, FilterFault, FilterFlaw};
-pub use reader::{TEXT_LIMIT, read};
+pub use fault::{Expected, FilterFault, FilterFaultKind};
+pub use reader::{MAX_TEXT_LENGTH, read};

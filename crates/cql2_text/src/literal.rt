@@ -3,23 +3,26 @@ ghost use Rattle.std.specs.Prelude.{◌≡◌, ◌≤◌, ◌<◌, ◌^◌, ◌-
 ghost use Rattle.decimal.specs.Numeral.{decimal_in};
 ghost use Rattle.cql2_text.specs.Number.{number_of, house_number_of, name_limit_of, count_of, signed, whole_amount, millionths, parts_of};
 
-use crate::fault::FilterFlaw;
+use crate::fault::FilterFaultKind;
 use cql2::{HouseNumber, Literal, NameLimit, NumericColumn};
 use cql2_tokens::Numeral;
 use decimal::decimal_value;
-use tl_segments::NAME_LIMIT;
+use tl_segments::MAX_NAMES;
 
 /// The maximum number of digits in a column's number.
-const MOST_DIGITS: usize = 18;
+const MAX_LITERAL_DIGITS: usize = 18;
 /// The maximum number of digits in a house number.
-const MOST_HOUSE_DIGITS: usize = 11;
+const MAX_HOUSE_NUMBER_DIGITS: usize = 11;
 /// The maximum number of decimals in a coordinate.
-const MOST_DECIMALS: usize = 6;
+const MAX_DECIMALS: usize = 6;
 /// The bound that a coordinate's degrees are below.
 const DEGREES: u64 = 1000;
 
 /// Returns a numeral's value in the unit of the column's fields.
-pub(crate) fn literal_of(column: NumericColumn, numeral: Numeral) -> Result<Literal, FilterFlaw>
+pub(crate) fn literal_of(
+    column: NumericColumn,
+    numeral: Numeral,
+) -> Result<Literal, FilterFaultKind>
     ensures { MatchResult result (λ literal. number_of column numeral.entry ≡ Ok literal.number)
         (λ flaw. number_of column numeral.entry ≡ Err flaw) }
 {
@@ -27,7 +30,7 @@ pub(crate) fn literal_of(column: NumericColumn, numeral: Numeral) -> Result<Lite
         NumericColumn::Number(_column) => whole_amount(
             numeral.whole,
             numeral.decimals,
-            MOST_DIGITS,
+            MAX_LITERAL_DIGITS,
         ),
         NumericColumn::Coordinate(_column) => millionths(numeral),
     };
@@ -38,35 +41,35 @@ pub(crate) fn literal_of(column: NumericColumn, numeral: Numeral) -> Result<Lite
 }
 
 /// Returns a whole number with at most `most` digits.
-fn whole_amount(whole: &[u8], decimals: &[u8], most: usize) -> Result<u64, FilterFlaw>
+fn whole_amount(whole: &[u8], decimals: &[u8], most: usize) -> Result<u64, FilterFaultKind>
     requires few { most ≤ 18 }
     ensures value { result ≡ whole_amount most whole.now decimals.now }
     ensures small { IfOk result (λ amount. amount < 10 ^ most) }
 {
     if !decimals.is_empty() {
-        return Err(FilterFlaw::WrongType);
+        return Err(FilterFaultKind::WrongType);
     }
     match decimal_value(whole, most) {
         Some(amount) => Ok(amount),
-        None => Err(FilterFlaw::NumberRange),
+        None => Err(FilterFaultKind::NumberRange),
     }
 }
 
 /// Returns degrees as millionths.
-fn millionths(numeral: Numeral) -> Result<u64, FilterFlaw>
+fn millionths(numeral: Numeral) -> Result<u64, FilterFaultKind>
     ensures value { result ≡ millionths (decimal_in 18 numeral.entry.whole.now) (parts_of numeral.entry.decimals.now) }
     ensures small { IfOk result (λ amount. amount < 10 ^ 18) }
 {
-    let Some(degrees) = decimal_value(numeral.whole, MOST_DIGITS) else {
-        return Err(FilterFlaw::NumberRange);
+    let Some(degrees) = decimal_value(numeral.whole, MAX_LITERAL_DIGITS) else {
+        return Err(FilterFaultKind::NumberRange);
     };
     let Some(parts) = parts_of(numeral.decimals) else {
-        return Err(FilterFlaw::NumberRange);
+        return Err(FilterFaultKind::NumberRange);
     };
     if degrees < DEGREES {
         Ok(degrees * 1_000_000 + parts)
     } else {
-        Err(FilterFlaw::NumberRange)
+        Err(FilterFaultKind::NumberRange)
     }
 }
 
@@ -78,7 +81,7 @@ fn parts_of(decimals: &[u8]) -> Option<u64>
     if decimals.is_empty() {
         return Some(0);
     }
-    let parts = decimal_value(decimals, MOST_DECIMALS)?;
+    let parts = decimal_value(decimals, MAX_DECIMALS)?;
     Some(parts * unit(decimals.len()))
 }
 
@@ -111,24 +114,24 @@ fn signed(is_negative: bool, amount: u64) -> Literal
 }
 
 /// Returns a numeral as a house number.
-pub(crate) fn house_number(numeral: Numeral) -> Result<HouseNumber, FilterFlaw>
+pub(crate) fn house_number(numeral: Numeral) -> Result<HouseNumber, FilterFaultKind>
     ensures { MatchResult result (λ house. house_number_of numeral.entry ≡ Ok house.number)
         (λ flaw. house_number_of numeral.entry ≡ Err flaw) }
 {
-    match count(numeral, MOST_HOUSE_DIGITS) {
+    match count(numeral, MAX_HOUSE_NUMBER_DIGITS) {
         Ok(number) => Ok(HouseNumber { number }),
         Err(flaw) => Err(flaw),
     }
 }
 
 /// Returns the number of alternate names to check.
-pub(crate) fn name_limit(numeral: Numeral) -> Result<NameLimit, FilterFlaw>
+pub(crate) fn name_limit(numeral: Numeral) -> Result<NameLimit, FilterFaultKind>
     ensures { MatchResult result (λ limit. name_limit_of numeral.entry ≡ Ok limit.number) (λ flaw. name_limit_of numeral.entry ≡ Err flaw) }
 {
-    match count(numeral, MOST_DIGITS) {
+    match count(numeral, MAX_LITERAL_DIGITS) {
         Ok(number) => {
-            if number > NAME_LIMIT as u64 {
-                return Err(FilterFlaw::NumberRange);
+            if number > MAX_NAMES as u64 {
+                return Err(FilterFaultKind::NumberRange);
             }
             Ok(NameLimit {
                 number: number as u16,
@@ -139,7 +142,7 @@ pub(crate) fn name_limit(numeral: Numeral) -> Result<NameLimit, FilterFlaw>
 }
 
 /// Returns a nonnegative whole number with at most `most` digits.
-fn count(numeral: Numeral, most: usize) -> Result<u64, FilterFlaw>
+fn count(numeral: Numeral, most: usize) -> Result<u64, FilterFaultKind>
     requires { most ≤ 18 }
     ensures value { result ≡ count_of most numeral.entry }
     ensures small { IfOk result (λ number. number < 10 ^ most) }
@@ -147,7 +150,7 @@ fn count(numeral: Numeral, most: usize) -> Result<u64, FilterFlaw>
     match whole_amount(numeral.whole, numeral.decimals, most) {
         Ok(amount) => {
             if numeral.is_negative {
-                return Err(FilterFlaw::NumberRange);
+                return Err(FilterFaultKind::NumberRange);
             }
             Ok(amount)
         }

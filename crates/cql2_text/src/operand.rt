@@ -11,7 +11,7 @@ ghost use Rattle.cql2_tokens.specs.declared.token.Numeral.{Numeral};
 ghost use Rattle.cql2_tokens.specs.declared.token.Token.{Token};
 ghost use Rattle.cql2_tokens.specs.declared.token.Token.TheVariants as token;
 
-use crate::fault::{Expected, FilterFlaw};
+use crate::fault::{Expected, FilterFaultKind};
 use crate::literal::literal_of;
 use crate::syntax_fault::SyntaxFault;
 use crate::terminal::next;
@@ -30,7 +30,7 @@ pub(crate) fn numeral<'a>(
     match next(words) {
         Some((Token::Number(numeral), rest)) => Ok((numeral, rest)),
         Some((Token::Text(_spelling), _rest)) => {
-            Err(SyntaxFault::at(words, FilterFlaw::WrongType))
+            Err(SyntaxFault::at(words, FilterFaultKind::WrongType))
         }
         _ => Err(SyntaxFault::unexpected(words, Expected::Number)),
     }
@@ -44,7 +44,7 @@ pub(crate) fn number<'a>(
     ensures ok { IfOk result (λ read. IsNumber column words.now read.1.now read.0) }
 
     // A number that the column can't hold is refused for its flaw.
-    ensures refused { (numeral : Numeral) (rest : List Token) (flaw : FilterFlaw) → words.now ≡ token.Number numeral ∷ rest
+    ensures refused { (numeral : Numeral) (rest : List Token) (flaw : FilterFaultKind) → words.now ≡ token.Number numeral ∷ rest
         → number_of column numeral ≡ Err flaw → result ≡ Err (syntax_fault.At (length words.now) 0 flaw) }
     ensures reads { (rest : List Token) (literal : ALiteral) → IsNumber column words.now rest literal
         → MatchResult result (λ read. (read.1.now ≡ rest) × (read.0.number ≡ literal.number)) (λ fault. ⊥) }
@@ -55,10 +55,10 @@ pub(crate) fn number<'a>(
             Err(flaw) => Err(SyntaxFault::at(words, flaw)),
         },
         Some((Token::Text(_spelling), _rest)) => {
-            Err(SyntaxFault::at(words, FilterFlaw::WrongType))
+            Err(SyntaxFault::at(words, FilterFaultKind::WrongType))
         }
         Some((Token::Keyword(Keyword::Casei), _rest)) => {
-            Err(SyntaxFault::at(words, FilterFlaw::WrongType))
+            Err(SyntaxFault::at(words, FilterFaultKind::WrongType))
         }
         _ => Err(SyntaxFault::unexpected(words, Expected::Number)),
     }
@@ -74,10 +74,10 @@ pub(crate) fn spelling<'a>(
     match next(words) {
         Some((Token::Text(spelling), rest)) => Ok((spelling, rest)),
         Some((Token::Number(_numeral), _rest)) => {
-            Err(SyntaxFault::at(words, FilterFlaw::WrongType))
+            Err(SyntaxFault::at(words, FilterFaultKind::WrongType))
         }
         Some((Token::Keyword(Keyword::Casei), _rest)) => {
-            Err(SyntaxFault::at(words, FilterFlaw::WrongType))
+            Err(SyntaxFault::at(words, FilterFaultKind::WrongType))
         }
         _ => Err(SyntaxFault::unexpected(words, Expected::Text)),
     }

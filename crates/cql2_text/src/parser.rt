@@ -10,7 +10,7 @@ ghost use Rattle.cql2_tokens.specs.declared.token.Token.{Token};
 ghost use Rattle.cql2_tokens.specs.declared.token.Token.TheVariants as token;
 
 use crate::connective::{both, either, negated};
-use crate::fault::{Expected, FilterFlaw};
+use crate::fault::{Expected, FilterFaultKind};
 use crate::predicate::predicate;
 use crate::syntax_fault::SyntaxFault;
 use crate::terminal::{Terminal, expect, next};
@@ -19,7 +19,7 @@ use cql2_tokens::{Keyword, Token};
 use std::alloc::Allocator;
 
 /// The maximum number of open parentheses.
-const MOST_PARENTHESES: u32 = 64;
+const MAX_NESTED_PARENTHESES: u32 = 64;
 
 /// Returns the filter that all the tokens spell.
 pub(crate) fn filter<'a, A: Allocator + Copy>(
@@ -30,7 +30,7 @@ pub(crate) fn filter<'a, A: Allocator + Copy>(
     ensures reads { (made : Filter A) → Spells 64 Expression words.now [] made
         → MatchResult result (λ read. content read ≡ content made) (λ fault. fault ≡ syntax_fault.Memory) }
 {
-    let (filter, rest) = expression(alloc, words, MOST_PARENTHESES)?;
+    let (filter, rest) = expression(alloc, words, MAX_NESTED_PARENTHESES)?;
     if rest.is_empty() {
         return Ok(filter);
     }
@@ -116,12 +116,12 @@ fn primary<'a, A: Allocator + Copy>(
 
     // A parenthesis is refused if the maximum number of parentheses is already open.
     ensures too_deep { (rest : List Token) → depth ≡ 0 → words.now ≡ token.Open ∷ rest
-        → result ≡ Err (syntax_fault.At (length words.now) 0 FilterFlaw.TooDeep) }
+        → result ≡ Err (syntax_fault.At (length words.now) 0 FilterFaultKind.TooDeep) }
 {
     match next(words) {
         Some((Token::Open, after)) => {
             if depth == 0 {
-                return Err(SyntaxFault::at(words, FilterFlaw::TooDeep));
+                return Err(SyntaxFault::at(words, FilterFaultKind::TooDeep));
             }
             let (filter, rest) = expression(alloc, after, depth - 1)?;
             let rest = expect(rest, Terminal::Closing)?;

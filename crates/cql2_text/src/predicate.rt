@@ -19,7 +19,7 @@ ghost use Rattle.cql2_tokens.specs.declared.token.Token.TheVariants as token;
 ghost use Rattle.cql2_text.specs.declared.predicate.Subject.TheVariants as subject;
 
 use crate::connective::{either, negated, within};
-use crate::fault::{Expected, FilterFlaw};
+use crate::fault::{Expected, FilterFaultKind};
 use crate::function::{has_name, has_number, starts_in};
 use crate::operand::{number, spelling, text};
 use crate::pattern::{pattern, same_but_for_case};
@@ -85,7 +85,7 @@ fn first_subject<'a>(words: &'a [Token<'a>]) -> Result<(Subject, &'a [Token<'a>]
             Ok((Subject::Casei(column), rest))
         }
         Some((Token::UnknownColumn, _rest)) => {
-            Err(SyntaxFault::at(words, FilterFlaw::UnknownColumn))
+            Err(SyntaxFault::at(words, FilterFaultKind::UnknownColumn))
         }
         _ => Err(SyntaxFault::unexpected(words, Expected::Predicate)),
     }
@@ -103,10 +103,10 @@ fn casei_column<'a>(words: &'a [Token<'a>]) -> Result<(TextColumn, &'a [Token<'a
             Ok((column, rest))
         }
         Some((Token::Column(_column), _rest)) => {
-            Err(SyntaxFault::at(words, FilterFlaw::WrongType))
+            Err(SyntaxFault::at(words, FilterFaultKind::WrongType))
         }
         Some((Token::UnknownColumn, _rest)) => {
-            Err(SyntaxFault::at(words, FilterFlaw::UnknownColumn))
+            Err(SyntaxFault::at(words, FilterFaultKind::UnknownColumn))
         }
         _ => Err(SyntaxFault::unexpected(words, Expected::Column)),
     }
@@ -124,7 +124,7 @@ fn of_subject<'a, A: Allocator + Copy>(
     match next(words) {
         Some((Token::Compared(comparison), after)) => {
             if !is_compared(subject, comparison) {
-                return Err(SyntaxFault::at(words, FilterFlaw::WrongType));
+                return Err(SyntaxFault::at(words, FilterFaultKind::WrongType));
             }
             let (filter, rest) = compared(alloc, subject, comparison, after)?;
             Ok((filter, rest))
@@ -168,7 +168,7 @@ fn null<'a, A: Allocator + Copy>(
         → IsRead result rest made }
 {
     let Some(column) = column_of(subject) else {
-        return Err(SyntaxFault::at(words, FilterFlaw::WrongType));
+        return Err(SyntaxFault::at(words, FilterFaultKind::WrongType));
     };
     match next(words) {
         Some((Token::Keyword(Keyword::Null), rest)) => Ok((Filter::IsNull(column), rest)),
@@ -204,7 +204,7 @@ fn negatable<'a, A: Allocator + Copy>(
 {
     match next(words) {
         Some((Token::Keyword(Keyword::Like), after)) => match subject {
-            Subject::Numeric(_column) => Err(SyntaxFault::at(words, FilterFlaw::WrongType)),
+            Subject::Numeric(_column) => Err(SyntaxFault::at(words, FilterFaultKind::WrongType)),
             Subject::Text(column) => {
                 let (filter, rest) = like(alloc, column, after)?;
                 Ok((filter, rest))
@@ -219,7 +219,7 @@ fn negatable<'a, A: Allocator + Copy>(
                 let (filter, rest) = between(alloc, column, after)?;
                 Ok((filter, rest))
             }
-            _ => Err(SyntaxFault::at(words, FilterFlaw::WrongType)),
+            _ => Err(SyntaxFault::at(words, FilterFaultKind::WrongType)),
         },
         Some((Token::Keyword(Keyword::In), after)) => {
             let (filter, rest) = among(alloc, subject, after)?;
@@ -257,7 +257,7 @@ fn compared<'a, A: Allocator + Copy>(
                     let filter = negated(alloc, filter)?;
                     Ok((filter, rest))
                 }
-                _ => Err(SyntaxFault::at(words, FilterFlaw::WrongType)),
+                _ => Err(SyntaxFault::at(words, FilterFaultKind::WrongType)),
             }
         }
     }
@@ -280,10 +280,10 @@ fn casei<'a>(words: &'a [Token<'a>]) -> Result<&'a [Token<'a>], SyntaxFault>
     match next(words) {
         Some((Token::Keyword(Keyword::Casei), rest)) => expect(rest, Terminal::Opening),
         Some((Token::Text(_spelling), _rest)) => {
-            Err(SyntaxFault::at(words, FilterFlaw::WrongType))
+            Err(SyntaxFault::at(words, FilterFaultKind::WrongType))
         }
         Some((Token::Number(_numeral), _rest)) => {
-            Err(SyntaxFault::at(words, FilterFlaw::WrongType))
+            Err(SyntaxFault::at(words, FilterFaultKind::WrongType))
         }
         _ => Err(SyntaxFault::unexpected(words, Expected::Casei)),
     }

@@ -6,9 +6,9 @@ ghost use Rattle.cql2_text.specs.Position.{column_after, fault_after, is_continu
 ghost use Rattle.cql2.specs.declared.filter.Filter.{Filter as AFilter};
 ghost use Rattle.cql2_text.specs.Content.{content};
 ghost use Rattle.cql2_text.specs.Spelled.{IsFilterText};
-ghost use Rattle.cql2_text.specs.declared.reader.TheConstants.{TEXT_LIMIT};
+ghost use Rattle.cql2_text.specs.declared.reader.TheConstants.{MAX_TEXT_LENGTH};
 
-use crate::fault::{Expected, FilterFault, FilterFlaw};
+use crate::fault::{Expected, FilterFault, FilterFaultKind};
 use crate::parser::filter;
 use crate::syntax_fault::SyntaxFault;
 use cql2::Filter;
@@ -16,30 +16,30 @@ use cql2_tokens::Tokens;
 use std::alloc::Allocator;
 
 /// The maximum number of bytes in a filter's text.
-pub const TEXT_LIMIT: usize = 1_048_576;
+pub const MAX_TEXT_LENGTH: usize = 1_048_576;
 
 /// Reads a text as a filter.
 pub fn read<A: Allocator + Copy>(alloc: A, text: &[u8]) -> Result<Filter<A>, FilterFault>
     ensures ok { IfOk result (IsFilterText text.now) }
 
     // A text that spells a filter is read as that filter, unless it is too long or an allocation fails.
-    ensures reads { length text.now ≤ TEXT_LIMIT → IsUtf8 text.now → (filter : AFilter A) → IsFilterText text.now filter
+    ensures reads { length text.now ≤ MAX_TEXT_LENGTH → IsUtf8 text.now → (filter : AFilter A) → IsFilterText text.now filter
         → MatchResult result (λ read. content read ≡ content filter) (λ fault. fault ≡ FilterFault.Memory) }
 
     // A text that is too long is refused at its first byte over the limit.
-    ensures too_long { TEXT_LIMIT < length text.now → result ≡ Err (fault_after (take TEXT_LIMIT text.now) FilterFlaw.TooLong) }
+    ensures too_long { MAX_TEXT_LENGTH < length text.now → result ≡ Err (fault_after (take MAX_TEXT_LENGTH text.now) FilterFaultKind.TooLong) }
 
     // Any other text that isn't UTF-8 is refused at its first invalid byte.
-    ensures not_utf8 { length text.now ≤ TEXT_LIMIT → ¬ (IsUtf8 text.now)
-        → result ≡ Err (fault_after (take (utf8_valid_len text.now) text.now) (FilterFlaw.Syntax Expected.Utf8)) }
+    ensures not_utf8 { length text.now ≤ MAX_TEXT_LENGTH → ¬ (IsUtf8 text.now)
+        → result ≡ Err (fault_after (take (utf8_valid_len text.now) text.now) (FilterFaultKind.Syntax Expected.Utf8)) }
 {
-    if text.len() > TEXT_LIMIT {
-        return Err(fault_after(&text[..TEXT_LIMIT], FilterFlaw::TooLong));
+    if text.len() > MAX_TEXT_LENGTH {
+        return Err(fault_after(&text[..MAX_TEXT_LENGTH], FilterFaultKind::TooLong));
     }
     match std::str::from_utf8(text) {
         Ok(_) => read_utf8(alloc, text),
         Err(error) => {
-            let flaw = FilterFlaw::Syntax(Expected::Utf8);
+            let flaw = FilterFaultKind::Syntax(Expected::Utf8);
             Err(fault_after(&text[..error.valid_up_to()], flaw))
         }
     }
@@ -47,7 +47,7 @@ pub fn read<A: Allocator + Copy>(alloc: A, text: &[u8]) -> Result<Filter<A>, Fil
 
 /// Reads a text that is UTF-8.
 fn read_utf8<A: Allocator + Copy>(alloc: A, text: &[u8]) -> Result<Filter<A>, FilterFault>
-    requires { length text.now ≤ TEXT_LIMIT }
+    requires { length text.now ≤ MAX_TEXT_LENGTH }
     ensures ok { IfOk result (IsFilterText text.now) }
     ensures reads { (filter : AFilter A) → IsFilterText text.now filter
         → MatchResult result (λ read. content read ≡ content filter) (λ fault. fault ≡ FilterFault.Memory) }
@@ -58,7 +58,7 @@ fn read_utf8<A: Allocator + Copy>(alloc: A, text: &[u8]) -> Result<Filter<A>, Fi
             if tokens.rest.is_empty() {
                 return Ok(filter);
             }
-            let flaw = FilterFlaw::Syntax(Expected::End);
+            let flaw = FilterFaultKind::Syntax(Expected::End);
             Err(fault_after(front(text, tokens.start(text, 0)), flaw))
         }
         Err(SyntaxFault::At { left, offset, flaw }) => {
@@ -81,8 +81,8 @@ fn front(text: &[u8], count: usize) -> &[u8]
 }
 
 /// Returns the fault for a flaw after this prefix of a text.
-fn fault_after(front: &[u8], flaw: FilterFlaw) -> FilterFault
-    requires { length front.now ≤ TEXT_LIMIT }
+fn fault_after(front: &[u8], flaw: FilterFaultKind) -> FilterFault
+    requires { length front.now ≤ MAX_TEXT_LENGTH }
     ensures { result ≡ fault_after front.now flaw }
 {
     FilterFault::At {
@@ -94,7 +94,7 @@ fn fault_after(front: &[u8], flaw: FilterFlaw) -> FilterFault
 
 /// Returns the line, counted from 1, of the byte after this prefix of a text.
 fn line_after(front: &[u8]) -> u32
-    requires { length front.now ≤ TEXT_LIMIT }
+    requires { length front.now ≤ MAX_TEXT_LENGTH }
     ensures { result ≡ line_after front.now }
 {
     let mut line = 1;
@@ -108,7 +108,7 @@ fn line_after(front: &[u8]) -> u32
 
 /// Returns the character in its line, counted from 1, after this prefix of a text.
 fn column_after(front: &[u8]) -> u32
-    requires { length front.now ≤ TEXT_LIMIT }
+    requires { length front.now ≤ MAX_TEXT_LENGTH }
     ensures { result ≡ column_after front.now }
 {
     let mut column = 1;
@@ -120,7 +120,7 @@ fn column_after(front: &[u8]) -> u32
 
 /// Returns the column after a byte.
 fn next_column(column: u32, byte: u8) -> u32
-    requires { column ≤ TEXT_LIMIT }
+    requires { column ≤ MAX_TEXT_LENGTH }
     ensures value { result ≡ next_column column byte }
     ensures small { result ≤ column + 1 }
 {

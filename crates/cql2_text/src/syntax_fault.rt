@@ -3,7 +3,7 @@ ghost use Rattle.std.specs.Prelude.{◌≡◌, ◌-◌, length};
 ghost use Rattle.cql2_text.specs.declared.syntax_fault.SyntaxFault.TheVariants as syntax_fault;
 ghost use Rattle.cql2_text.specs.declared.syntax_fault.TextFault.TheVariants as text_fault;
 
-use crate::fault::{Expected, FilterFlaw};
+use crate::fault::{Expected, FilterFaultKind};
 use cql2_tokens::Token;
 use std::alloc::{AllocError, AllocFailed};
 
@@ -52,7 +52,7 @@ pub(crate) enum SyntaxFault {
         left: usize,
         /// The offset of the fault from that token's first byte, in bytes.
         offset: usize,
-        flaw: FilterFlaw,
+        flaw: FilterFaultKind,
     },
     Memory,
 }
@@ -67,7 +67,7 @@ impl From<AllocError> for SyntaxFault {
 
 impl SyntaxFault {
     /// Returns the fault for a flaw of the first token.
-    pub fn at(words: &[Token], flaw: FilterFlaw) -> SyntaxFault
+    pub fn at(words: &[Token], flaw: FilterFaultKind) -> SyntaxFault
         ensures { result ≡ syntax_fault.At (length words.now) 0 flaw }
     {
         SyntaxFault::At {
@@ -79,23 +79,23 @@ impl SyntaxFault {
 
     /// Returns the fault for a construct that is expected instead of the first token.
     pub fn unexpected(words: &[Token], expected: Expected) -> SyntaxFault
-        ensures { result ≡ syntax_fault.At (length words.now) 0 (FilterFlaw.Syntax expected) }
+        ensures { result ≡ syntax_fault.At (length words.now) 0 (FilterFaultKind.Syntax expected) }
     {
-        SyntaxFault::at(words, FilterFlaw::Syntax(expected))
+        SyntaxFault::at(words, FilterFaultKind::Syntax(expected))
     }
 
     /// Returns the fault for one in the string literal that is the first token.
     pub fn in_text(words: &[Token], fault: TextFault) -> SyntaxFault
-        ensures long { fault ≡ TextFault.Long → result ≡ syntax_fault.At (length words.now) 0 FilterFlaw.LongText }
+        ensures long { fault ≡ TextFault.Long → result ≡ syntax_fault.At (length words.now) 0 FilterFaultKind.LongText }
         ensures memory { fault ≡ TextFault.Memory → result ≡ syntax_fault.Memory }
     {
         match fault {
             TextFault::At { offset, expected } => SyntaxFault::At {
                 left: words.len(),
                 offset: offset.saturating_add(1),
-                flaw: FilterFlaw::Syntax(expected),
+                flaw: FilterFaultKind::Syntax(expected),
             },
-            TextFault::Long => SyntaxFault::at(words, FilterFlaw::LongText),
+            TextFault::Long => SyntaxFault::at(words, FilterFaultKind::LongText),
             TextFault::Memory => SyntaxFault::Memory,
         }
     }

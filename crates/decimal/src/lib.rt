@@ -3,4 +3,4 @@
 
 mod numeral;
 
-pub use numeral::{MOST_DIGITS, are_digits, decimal_value};
+pub use numeral::{MAX_NUMBER_DIGITS, are_digits, decimal_value};

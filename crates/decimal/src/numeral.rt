@@ -4,10 +4,10 @@ ghost use Rattle.std.specs.List.{list_all};
 ghost use Rattle.std.specs.Char.{is_ascii_digit};
 ghost use Rattle.std.specs.Str.Parse.{digits_value};
 ghost use Rattle.decimal.specs.Numeral.{decimal_in};
-ghost use Rattle.decimal.specs.declared.numeral.TheConstants.{MOST_DIGITS};
+ghost use Rattle.decimal.specs.declared.numeral.TheConstants.{MAX_NUMBER_DIGITS};
 
 /// The maximum number of digits whose value always fits into 64 bits.
-pub const MOST_DIGITS: usize = 19;
+pub const MAX_NUMBER_DIGITS: usize = 19;
 
 /// Returns whether all bytes are digits. There may be none.
 #[inline]
@@ -20,7 +20,7 @@ pub fn are_digits(bytes: &[u8]) -> bool
 /// Returns the value of a decimal numeral of 1 to `most` digits, leading zeros included, or `None` if the bytes are anything else.
 #[inline]
 pub fn decimal_value(digits: &[u8], most: usize) -> Option<u64>
-    requires few { most ≤ MOST_DIGITS }
+    requires few { most ≤ MAX_NUMBER_DIGITS }
     ensures value { result ≡ decimal_in most digits.now }
     ensures small { IfSome result (λ n. n < 10 ^ most) }
 {
@@ -33,7 +33,7 @@ pub fn decimal_value(digits: &[u8], most: usize) -> Option<u64>
 /// Returns the value of digits, or `None` if a byte isn't a digit.
 #[inline]
 fn value_of(digits: &[u8]) -> Option<u64>
-    requires { length digits.now ≤ MOST_DIGITS }
+    requires { length digits.now ≤ MAX_NUMBER_DIGITS }
     ensures { result ≡ (if list_all is_ascii_digit digits.now then Some (digits_value 10 digits.now) else None) }
 {
     let mut value = 0u64;

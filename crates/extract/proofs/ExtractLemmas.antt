@@ -4,7 +4,7 @@ use Rattle.std.proofs.Common.{subst, arith}
 use Rattle.std.specs.Io.KnownBytes.{Appends}
 use Rattle.std.specs.Prelude.{◌⊎◌, IsTrue, Option, Result}
 use Rattle.std.specs.Option.{option_map_or}
-use Rattle.counted_io.specs.Device.{Reader, Writer}
+use Rattle.counted_io.specs.ReaderWriter.{Reader, Writer}
 use Rattle.counted_io.specs.declared.writing.WriteFault.{WriteFault}
 use Rattle.counted_io.proofs.KnownBytesLemmas.{Appends-refl, Appends-append}
 use Rattle.tl_records.specs.Lines.{LineParts}
@@ -12,7 +12,7 @@ use Rattle.bpf_insn.specs.declared.instruction.Insn.{Insn}
 use Rattle.tl_segments.specs.Indexing.{IsIndexOf, IsSegmentRead}
 use Rattle.tl_segments.specs.Joining.{JoinedLines, alternate_names, further_ranges, no_lines, number_in, segment_of, segments_of}
 use Rattle.tl_segments.specs.Loading.{Readers, IsJoinedFault, in_rt4, in_rt5, in_rt6}
-use Rattle.tl_segments.specs.Segment.{Contents, line_of}
+use Rattle.tl_segments.specs.Segment.{SegmentParts, line_of}
 use Rattle.tl_segments.specs.declared.fault.CountyFile.TheVariants.{Rt1}
 use Rattle.tl_segments.specs.declared.fault.LoadFault.{LoadFault}
 use Rattle.tl_segments.specs.declared.fault.LoadFault.TheVariants as load_fault
@@ -39,7 +39,7 @@ pub record IsExtractedSoFar {A : Type 0} (index : Index A) (code : List Insn) (r
     (out out' : Writer) : Type 0 where
   pub lines : List (List ℕ)
   pub read : IsReadSoFar Rt1 lines line rt1 rt1'
-  pub segments : List Contents
+  pub segments : List SegmentParts
   pub made : (joined : JoinedLines) → IsIndexOf index joined → segments ≡ segments_of joined lines
   pub text : List ℕ
   pub is_extract : IsExtract code segments text rows
@@ -114,7 +114,7 @@ never_program code result old new out out' fault is = λ same.
 pub record ReadsNext {A : Type 0} (index : Index A) (line : LineParts) (now : Reader) (result : Result (Option (Unit {0})) LoadFault)
     : Type 0 where
   pub number : ℕ
-  pub segment : Contents
+  pub segment : SegmentParts
   pub after : Reader
   pub is : IsSegmentRead index line (record { number = number; segment = segment }) now after result
 
@@ -151,7 +151,7 @@ module _ {A : Type 0} {index : Index A} {code : List Insn} {rows : ℕ} {line : 
       rows = rows;
       is_extract =
           extract_alike code serves.own serves.joined so_far.lines so_far.text rows serves.alike
-          (subst (λ (segments : List Contents). IsExtract code segments so_far.text rows) (so_far.made serves.own serves.index_of)
+          (subst (λ (segments : List SegmentParts). IsExtract code segments so_far.text rows) (so_far.made serves.own serves.index_of)
           so_far.is_extract);
       written = so_far.written;
       counts = so_far.counts;
@@ -216,5 +216,5 @@ module _ {A : Type 0} {index : Index A} {code : List Insn} {rows : ℕ} {line : 
       between = between;
       before = has_written;
       row = row_alike next.segment.bytes fault between out' serves.alike
-          (subst (λ (s : Contents). WritesRow code s (Err fault) between out') (next.is.1 serves.own serves.index_of) row);
+          (subst (λ (s : SegmentParts). WritesRow code s (Err fault) between out') (next.is.1 serves.own serves.index_of) row);
     }

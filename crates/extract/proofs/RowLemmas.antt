@@ -10,7 +10,7 @@ use Rattle.std.proofs.lemmas.Slice.{take-put_mid}
 use borrow.Rule.Slice.PartMut.{put_mid}
 use Rattle.std.proofs.lemmas.Bool.Decides.{nat_tests}
 use Rattle.bpf_insn.specs.declared.instruction.Insn.{Insn}
-use Rattle.counted_io.specs.Device.{Writer}
+use Rattle.counted_io.specs.ReaderWriter.{Writer}
 use Rattle.counted_io.specs.declared.writing.WriteFault.{WriteFault}
 use Rattle.tl_segments.specs.Joining.{JoinedLines, segment_of, segments_of}
 use Rattle.bpf_meaning.specs.Extract.{IsExtract, chosen_count}

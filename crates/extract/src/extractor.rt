@@ -1,6 +1,6 @@
 //! The extract of a county's files.
 ghost use Rattle.std.specs.Prelude.{◌≡◌, Err, IfErr, IfOk};
-ghost use Rattle.counted_io.specs.Device.{reader, writer};
+ghost use Rattle.counted_io.specs.ReaderWriter.{reader, writer};
 ghost use Rattle.tl_segments.specs.CountyFiles.{county_readers};
 ghost use Rattle.tl_segments.specs.Loading.{IsJoinedFault, Readers, readers};
 ghost use Rattle.extract.specs.Extracting.{IsOutcome, IsOutcomeOfCode, ServesCode};

@@ -9,5 +9,5 @@ mod rows;
 pub use bpf_program::{ProgramFault, accept};
 pub use extractor::{extract, extract_verified};
 pub use fault::ExtractFault;
-pub use row_buffer::LONGEST_ROW;
+pub use row_buffer::MAX_ROW_LENGTH;
 pub use rows::{push_row_if_chosen, row, row_text, score_if_chosen};

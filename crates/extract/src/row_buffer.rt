@@ -8,12 +8,12 @@ use std::alloc::Allocator;
 use tl_segments::Segment;
 
 /// The maximum length of a row in bytes: a score of 20 digits, a tab, the record, a line feed.
-pub const LONGEST_ROW: usize = 250;
+pub const MAX_ROW_LENGTH: usize = 250;
 
 /// The row of a segment, which the next row overwrites. At first it is empty.
 #[derive(Drop)]
 pub(crate) struct RowBuffer {
-    text: ArrayVec<u8, LONGEST_ROW>,
+    text: ArrayVec<u8, MAX_ROW_LENGTH>,
 }
 
 impl RowBuffer {
@@ -31,7 +31,7 @@ impl RowBuffer {
         self.text.as_slice()
     }
 
-    pub(crate) fn into_text(self) -> ArrayVec<u8, LONGEST_ROW>
+    pub(crate) fn into_text(self) -> ArrayVec<u8, MAX_ROW_LENGTH>
         ensures { result ≡ self.text }
     {
         self.text

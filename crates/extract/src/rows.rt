@@ -1,20 +1,20 @@
 //! Rows, and how they are written.
 ghost use Rattle.std.specs.Prelude.{◌≡◌, OnErr, OnOk};
-ghost use Rattle.counted_io.specs.Device.{writer};
+ghost use Rattle.counted_io.specs.ReaderWriter.{writer};
 ghost use Rattle.counted_io.specs.Writing.{WritesText};
 ghost use Rattle.bpf_meaning.specs.Extract.{row_of};
 ghost use Rattle.extract.specs.Rows.{AppendsRow, Chooses, IsChosen, WritesRow};
 
-use crate::row_buffer::{LONGEST_ROW, RowBuffer};
+use crate::row_buffer::{MAX_ROW_LENGTH, RowBuffer};
 use arrayvec::ArrayVec;
 use bpf_machine::{Bare, run_in};
 use bpf_verify::Verified;
-use counted_io::{CountedWrite, WriteFault, write_whole};
+use counted_io::{CountedWrite, WriteFault, write_text};
 use std::alloc::{AllocError, Allocator};
 use tl_segments::Segment;
 
 /// Returns the row of a segment with a score: the score in decimal, a tab, the type 1 record, a line feed.
-pub fn row_text<A: Allocator>(score: u64, segment: &Segment<A>) -> ArrayVec<u8, LONGEST_ROW>
+pub fn row_text<A: Allocator>(score: u64, segment: &Segment<A>) -> ArrayVec<u8, MAX_ROW_LENGTH>
     ensures { result.items ≡ row_of score segment.now }
 {
     let mut buffer = RowBuffer::new();
@@ -31,7 +31,7 @@ pub fn row<A: Allocator, W: CountedWrite>(
     ensures { WritesText (row_of score segment.now) result
         (writer W.contents W.counts out.old) (writer W.contents W.counts out.new) }
 {
-    write_whole(out, row_text(score, segment).as_slice())
+    write_text(out, row_text(score, segment).as_slice())
 }
 
 /// Returns the score with which the code selects a segment, or `None` if it doesn't select it. Reuses `bare`; its previous contents don't matter. It
@@ -86,7 +86,7 @@ pub(crate) fn write_row_if_chosen<A: Allocator, B: Allocator, W: CountedWrite>(
         return Ok(0);
     };
     row.set(score, segment);
-    match write_whole(out, row.as_bytes()) {
+    match write_text(out, row.as_bytes()) {
         Ok(()) => Ok(1),
         Err(fault) => Err(fault),
     }

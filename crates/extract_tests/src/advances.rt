@@ -3,7 +3,7 @@ use crate::segments::{LINE_LENGTH, Selection, counties_of, lines_of, rows_of, si
 use bpf_program::accept;
 use bpf_verify::Verified;
 use fixtures::{Refusing, Table, TableFault, cells, program};
-use jobs::{COUNTY_LIMIT, JobFault, advance};
+use jobs::{JobFault, MAX_COUNTIES, advance};
 use std::alloc::{AllocError, Global};
 use tl_segments::County;
 
@@ -30,7 +30,7 @@ fn refusals<'a>(
     total: u64,
     rows: &mut Vec<u8, &'a Refusing<Global>>,
 ) -> Option<u64> {
-    if counties.len() > COUNTY_LIMIT {
+    if counties.len() > MAX_COUNTIES {
         return None;
     }
     let (mut done, mut nth, mut refused): (u64, u64, u64) = (0, 1, 0);

@@ -2,7 +2,7 @@
 use bpf_machine::Bare;
 use bpf_program::accept;
 use bpf_verify::Verified;
-use counted_io::{Burst, Counting, Fuse, WriteFault};
+use counted_io::{Counting, Fuse, InjectedFailure, WriteFault};
 use extract::{row, row_text, score_if_chosen};
 use fixtures::{RT1, Refusing, Table, TableFault, bytes, cells, is_refusal, program};
 use refusals::Fault;
@@ -97,7 +97,7 @@ fn is_row(alloc: Global, score: u64, segment: &Segment<&Heap>, text: &[u8]) -> b
 /// Returns whether a row reports that its write failed.
 fn is_write_reported(alloc: Global, score: u64, segment: &Segment<&Heap>) -> bool {
     let out = Counting::new(Vec::new(alloc));
-    let fuse = Fuse::after_calls(out, 0, Burst::Fails(ErrorKind::Other));
+    let fuse = Fuse::after_calls(out, 0, InjectedFailure::Fails(ErrorKind::Other));
     row(score, segment, &mut Counting::new(fuse)) == Err(WriteFault::Write)
 }
 

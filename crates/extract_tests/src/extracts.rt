@@ -1,6 +1,6 @@
 //! Extracts for the rows of tables, with a given allocator, readers and writer.
 use extract::extract;
-use fixtures::{Device, Files, Readers, TableFault, bytes, is_outcome, program, taken, writer};
+use fixtures::{FaultPlan, Files, Readers, TableFault, bytes, is_outcome, program, taken, writer};
 use refusals::Fault;
 use std::alloc::{Allocator, Global};
 use tl_segments::CountyFile;
@@ -18,8 +18,8 @@ pub struct Case<'a> {
 #[derive(Clone, Copy)]
 pub struct Devices {
     pub file: CountyFile,
-    pub input: Device,
-    pub output: Device,
+    pub input: FaultPlan,
+    pub output: FaultPlan,
 }
 
 impl Devices {
@@ -27,8 +27,8 @@ impl Devices {
     pub fn sound() -> Self {
         Devices {
             file: CountyFile::Rt1,
-            input: Device::sound(),
-            output: Device::sound(),
+            input: FaultPlan::sound(),
+            output: FaultPlan::sound(),
         }
     }
 }

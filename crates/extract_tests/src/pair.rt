@@ -2,7 +2,7 @@
 use crate::plain::{Call, PlainTable, text_of};
 use crate::segments::{counties_of, lines_of};
 use fixtures::{Refusing, TableFault, number, program};
-use jobs::{COUNTY_LIMIT, Event, Jobs};
+use jobs::{Event, Jobs, MAX_COUNTIES};
 use std::alloc::Global;
 
 /// A table whose heap can refuse an allocation, and the plain table to compare it with.
@@ -22,7 +22,7 @@ impl<'a> Pair<'a> {
         let lines = lines_of(alloc, sizes).ok()?;
         let counties = counties_of(heap, &lines, sizes)?;
         let count = counties.len();
-        if count > COUNTY_LIMIT {
+        if count > MAX_COUNTIES {
             return None;
         }
         heap.refuse(1);

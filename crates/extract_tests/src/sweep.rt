@@ -1,7 +1,7 @@
 //! Failures of each allocation, each read and each write of an extract.
 use crate::extracts::{Case, Devices};
 use crate::rows::{COUNTIES, EXTRACTS};
-use fixtures::{Device, Refusing, Table, TableFault, cells, error_kind, number};
+use fixtures::{FaultPlan, Refusing, Table, TableFault, cells, error_kind, number};
 use std::alloc::Global;
 use tl_segments::CountyFile;
 
@@ -117,33 +117,33 @@ impl<'a> Failure<'a> {
         })
     }
 
-    /// Returns the devices of an extract in which a read or a write fails like `device`, at this read or after this number of bytes.
-    fn devices(&self, device: Device, place: u64) -> Devices {
+    /// Returns the devices of an extract in which a read or a write fails like `plan`, at this read or after this number of bytes.
+    fn devices(&self, plan: FaultPlan, place: u64) -> Devices {
         match self.file {
             Some(file) => Devices {
                 file,
-                input: device.at_call(place),
-                output: Device::sound(),
+                input: plan.at_call(place),
+                output: FaultPlan::sound(),
             },
             None => Devices {
-                output: device.after(place as usize),
+                output: plan.after(place as usize),
                 ..Devices::sound()
             },
         }
     }
 
-    /// Returns whether an extract ends as the row says if a read or a write fails like `device`, at this read or after this number of bytes.
-    fn is_right_at(&self, alloc: Global, case: &Case<'_>, device: Device, place: u64) -> bool {
-        let devices = self.devices(device, place);
+    /// Returns whether an extract ends as the row says if a read or a write fails like `plan`, at this read or after this number of bytes.
+    fn is_right_at(&self, alloc: Global, case: &Case<'_>, plan: FaultPlan, place: u64) -> bool {
+        let devices = self.devices(plan, place);
         let length = self.length.at(place) as usize;
         let calls = (self.reads.at(place), self.writes.at(place));
         case.calls(alloc, alloc, devices, self.outcome, Some(length)) == Some(calls)
     }
 
     /// Returns whether there are places from the first to the last, and the extract ends as the row says at each of them.
-    fn is_right_if(&self, alloc: Global, case: &Case<'_>, device: Device) -> bool {
+    fn is_right_if(&self, alloc: Global, case: &Case<'_>, plan: FaultPlan) -> bool {
         for place in self.first..=self.last {
-            if !self.is_right_at(alloc, case, device, place) {
+            if !self.is_right_at(alloc, case, plan, place) {
                 return false;
             }
         }
@@ -169,19 +169,19 @@ fn file_named(name: &str) -> Result<Option<CountyFile>, TableFault> {
 }
 
 /// Returns how a device fails: `pipe`, or `by 1 pipe` if a call moves one byte.
-fn device_of(way: &str) -> Result<Device, TableFault> {
-    let kind = way.strip_prefix("by 1 ").unwrap_or(way);
+fn device_of(method: &str) -> Result<FaultPlan, TableFault> {
+    let kind = method.strip_prefix("by 1 ").unwrap_or(method);
     if kind != "nothing" {
         error_kind(kind)?;
     }
-    Device::new(way)
+    FaultPlan::new(method)
 }
 
 /// Returns whether an extract ends as a row says for each way of failing.
 fn is_right(alloc: Global, case: &Case<'_>, row: &str) -> Result<bool, TableFault> {
     let failure = Failure::new(row)?;
-    for way in failure.ways.split(", ") {
-        if !failure.is_right_if(alloc, case, device_of(way)?) {
+    for method in failure.ways.split(", ") {
+        if !failure.is_right_if(alloc, case, device_of(method)?) {
             return Ok(false);
         }
     }

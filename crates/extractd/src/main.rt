@@ -44,7 +44,7 @@ fn start<E: CountedWrite>(rt: &HostRuntime, errors: &mut E) -> Result<u8, Argume
 /// Reads the arguments of `serve`, serves until a fault occurs, and returns the exit status.
 fn start_server<E: CountedWrite>(rt: &HostRuntime, arguments: &[&str], errors: &mut E) -> u8 {
     match read_serve(rt.alloc(), arguments) {
-        Ok(asked) => serve(rt, &asked, errors),
+        Ok(options) => serve(rt, &options, errors),
         Err(fault) => {
             fault.report(errors);
             fault.status()

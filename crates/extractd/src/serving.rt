@@ -1,11 +1,11 @@
 //! `serve`: serves counties over HTTP.
 ghost use Rattle.std.specs.Prelude.{◌≡◌, IfErr, IfOk, map};
-ghost use Rattle.commands.specs.Counties.{AreCountiesOf, HaveRefusedCounty, TellsLoad};
+ghost use Rattle.commands.specs.Counties.{AreCountiesOf, HaveRefusedCounty, IsLoadFailure};
 ghost use Rattle.named_files.specs.Files.{disk};
 ghost use Rattle.wire.specs.State.{counties_of, new_state};
 
 use command_line::Serve;
-use commands::{Failure, Line, UNUSABLE, load_counties};
+use commands::{DiagnosticLine, Failure, UNUSABLE, load_counties};
 use counted_io::CountedWrite;
 use named_files::{Files, SystemFiles};
 use server::{Acceptor, Limits, Tally, serve_all};
@@ -47,11 +47,11 @@ impl ServeFault<'_> {
                 Ok(())
             }
             ServeFault::Port { port, error } => write!(
-                Line::new(errors),
+                DiagnosticLine::new(errors),
                 "error: 127.0.0.1:{port}: {error}\n"
             ),
             ServeFault::Accept(error) => write!(
-                Line::new(errors),
+                DiagnosticLine::new(errors),
                 "error: no connection can be taken: {error}\n"
             ),
         };
@@ -59,19 +59,19 @@ impl ServeFault<'_> {
 }
 
 /// Serves the requested counties until a fault occurs, and returns the exit status.
-pub fn serve<E: CountedWrite>(rt: &HostRuntime, asked: &Serve<'_>, errors: &mut E) -> u8 {
-    let fault = serve_counties(rt, asked);
+pub fn serve<E: CountedWrite>(rt: &HostRuntime, options: &Serve<'_>, errors: &mut E) -> u8 {
+    let fault = serve_counties(rt, options);
     fault.report(errors);
     fault.status()
 }
 
 /// Loads the counties, listens, and serves until a fault.
-fn serve_counties<'a>(rt: &HostRuntime, asked: &Serve<'a>) -> ServeFault<'a> {
-    let state = match load_state(rt.alloc(), &mut SystemFiles::new(rt), asked) {
+fn serve_counties<'a>(rt: &HostRuntime, options: &Serve<'a>) -> ServeFault<'a> {
+    let state = match load_state(rt.alloc(), &mut SystemFiles::new(rt), options) {
         Ok(state) => state,
         Err(failure) => return ServeFault::Counties(failure),
     };
-    let port = asked.port;
+    let port = options.port;
     let listener = match TcpListener::bind(rt, (Ipv4Addr::LOCALHOST, port)) {
         Ok(listener) => listener,
         Err(error) => return ServeFault::Port { port, error },
@@ -91,14 +91,14 @@ fn serve_counties<'a>(rt: &HostRuntime, asked: &Serve<'a>) -> ServeFault<'a> {
 fn load_state<'a, F: Files>(
     alloc: Global,
     files: &mut F,
-    asked: &Serve<'a>,
+    options: &Serve<'a>,
 ) -> Result<State<Global>, Failure<'a>>
     ensures ok { IfOk result (λ state. (state ≡ new_state (counties_of state)) × AreCountiesOf (F.bytes files.old)
-        asked.now.«data».now (map (λ code. code.now) asked.now.codes.items) (counties_of state)) }
-    ensures err { IfErr result (TellsLoad (HaveRefusedCounty (F.bytes files.old) asked.now.«data».now (map (λ code. code.now) asked.now.codes.items))
+        options.now.«data».now (map (λ code. code.now) options.now.codes.items) (counties_of state)) }
+    ensures err { IfErr result (IsLoadFailure (HaveRefusedCounty (F.bytes files.old) options.now.«data».now (map (λ code. code.now) options.now.codes.items))
         (disk F.bytes F.failed_opens F.failed_reads files.old) (disk F.bytes F.failed_opens F.failed_reads files.new)) }
 {
-    match load_counties(alloc, files, asked.data, asked.codes.as_slice()) {
+    match load_counties(alloc, files, options.data, options.codes.as_slice()) {
         Ok(counties) => Ok(State::new(alloc, alloc, counties)?),
         Err(failure) => Err(failure),
     }

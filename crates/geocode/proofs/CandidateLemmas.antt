@@ -6,7 +6,7 @@ use Rattle.std.specs.List.{flat_map}
 use Rattle.std.proofs.lemmas.Bool.Decides.{nat_tests}
 use Rattle.std.proofs.lemmas.List.{append-nil, drop_all, get_or-map}
 use Rattle.std.proofs.lemmas.Option.{slice_get-get_or}
-use Rattle.tl_segments.specs.Segment.{Contents, blank_segment}
+use Rattle.tl_segments.specs.Segment.{SegmentParts, blank_segment}
 use Rattle.tl_segments.specs.County.{AreTlids, tlid_of}
 use Rattle.geocode.specs.Candidates.{IsCandidate, IsComplete, IsNext, numbers_with, segment_at}
 use Rattle.geocode.specs.Hits.{has_name}
@@ -24,7 +24,7 @@ pick-below : (passes : Bool) (count n : ℕ) (numbers : List ℕ) → n < count 
 pick-below true count n numbers inside below = (inside, below)
 pick-below false count n numbers inside below = below
 
-numbers-below : (test : Contents → Bool) (count n : ℕ) (segments : List Contents) → n + length segments ≤ count
+numbers-below : (test : SegmentParts → Bool) (count n : ℕ) (segments : List SegmentParts) → n + length segments ≤ count
     → AreBelow count (numbers_with test n segments)
 numbers-below test count n [] few = tt
 numbers-below test count n (segment ∷ segments) few =
@@ -32,7 +32,7 @@ numbers-below test count n (segment ∷ segments) few =
     (numbers-below test count (n + 1) segments (omega (arith, few)))
 
 -- the segment with a number, and the ones after it
-pub segment_at-drop : (segments : List Contents) (n : ℕ) (segment : Contents) (rest : List Contents) → drop n segments ≡ segment ∷ rest
+pub segment_at-drop : (segments : List SegmentParts) (n : ℕ) (segment : SegmentParts) (rest : List SegmentParts) → drop n segments ≡ segment ∷ rest
     → (segment_at segments n ≡ segment) × (drop (n + 1) segments ≡ rest)
 segment_at-drop segments n segment rest is =
     let inside : n < length segments = omega (arith, length-drop n segments, ap length is) in
@@ -43,13 +43,13 @@ segment_at-drop segments n segment rest is =
     (ap (λ found. unwrap_or found blank_segment) (slice_get-get_or segments n segment inside) ∙ same, after)
 
 -- the segment read at a number
-pub segment_at-read : (segments : List Contents) (n : ℕ) (segment : Contents) → n < length segments → segment ≡ get_or segments n segment
+pub segment_at-read : (segments : List SegmentParts) (n : ℕ) (segment : SegmentParts) → n < length segments → segment ≡ get_or segments n segment
     → segment_at segments n ≡ segment
 segment_at-read segments n segment inside is =
     ap (λ found. unwrap_or found blank_segment) (slice_get-get_or segments n segment inside) ∙ sym is
 
 -- and the number of its TLID
-pub tlid_at-read : (tlids : List ℕ) (segments : List Contents) (n : ℕ) (segment : Contents) → AreTlids tlids segments
+pub tlid_at-read : (tlids : List ℕ) (segments : List SegmentParts) (n : ℕ) (segment : SegmentParts) → AreTlids tlids segments
     → n < length segments → segment ≡ get_or segments n segment → tlid_of segment ≡ Some (get_or tlids n 0)
 tlid_at-read tlids segments n segment same inside is =
     let within : n < length tlids = omega (arith, inside, tlids-long tlids segments same) in
@@ -59,7 +59,7 @@ tlid_at-read tlids segments n segment same inside is =
     ∙ get_or-map Some tlids n 0 None within
 
 -- all segments are candidates
-pub all-complete : {left : List ℕ → Type 0} (name : List ℕ) (segments : List Contents)
+pub all-complete : {left : List ℕ → Type 0} (name : List ℕ) (segments : List SegmentParts)
     → left (numbers_with (λ segment. true) 0 segments) → IsComplete left name segments
 all-complete name segments left = record { test = λ segment. true; left = left; complete = λ segment none. cc }
 
@@ -70,8 +70,8 @@ pick-give true g n numbers is nothing rest = cc
 pick-give false g n numbers {here} is nothing rest = let none : here ≡ [] = nothing refl in rw none rest
 
 -- the results for the numbered segments that pass a test, if the other segments have no results
-numbers-give : {Y : Type 0} (f : Contents → List Y) (test : Contents → Bool) (segments : List Contents) (n : ℕ) (rest : List Contents)
-    → drop n segments ≡ rest → ((segment : Contents) → test segment ≡ false → f segment ≡ [])
+numbers-give : {Y : Type 0} (f : SegmentParts → List Y) (test : SegmentParts → Bool) (segments : List SegmentParts) (n : ℕ) (rest : List SegmentParts)
+    → drop n segments ≡ rest → ((segment : SegmentParts) → test segment ≡ false → f segment ≡ [])
     → flat_map (λ n. f (segment_at segments n)) (numbers_with test n rest) ≡ flat_map f rest
 numbers-give f test segments n [] is nothing = refl
 numbers-give f test segments n (segment ∷ rest) is nothing =
@@ -80,7 +80,7 @@ numbers-give f test segments n (segment ∷ rest) is nothing =
     (ap f at.0) (nothing segment) (numbers-give f test segments (n + 1) rest at.1 nothing)
 
 -- the results so far, and those for the candidates that are left, are all results
-pub record IsWalked {Y : Type 0} (f : Contents → List Y) (segments : List Contents) (are_left : List ℕ → Type 0) (now all : List Y)
+pub record IsWalked {Y : Type 0} (f : SegmentParts → List Y) (segments : List SegmentParts) (are_left : List ℕ → Type 0) (now all : List Y)
     : Type 0 where
   pub rest : List ℕ
   pub left : are_left rest
@@ -88,20 +88,20 @@ pub record IsWalked {Y : Type 0} (f : Contents → List Y) (segments : List Cont
   pub so_far : now ++ flat_map (λ n. f (segment_at segments n)) rest ≡ all
 
 -- what is known when `next` has returned a candidate
-abbrev pub Returns : List Contents → (List ℕ → Type 0) → (List ℕ → Type 0) → Option Candidate → Type 0
+abbrev pub Returns : List SegmentParts → (List ℕ → Type 0) → (List ℕ → Type 0) → Option Candidate → Type 0
 Returns segments left left' found = (numbers : List ℕ) → left numbers → IsNext segments left' numbers found
 
 -- one more candidate
-pub record IsWalkedTo {Y : Type 0} (f : Contents → List Y) (segments : List Contents) (left : List ℕ → Type 0) (now all : List Y)
+pub record IsWalkedTo {Y : Type 0} (f : SegmentParts → List Y) (segments : List SegmentParts) (left : List ℕ → Type 0) (now all : List Y)
     (candidate : Candidate) : Type 0 where
   pub inside : candidate.segment < length segments
   pub includes : IncludesHits candidate.span (segment_at segments candidate.segment)
   pub walked : (now' : List Y) → now' ≡ now ++ f (segment_at segments candidate.segment) → IsWalked f segments left now' all
 
-module _ {Y : Type 0} (f : Contents → List Y) (segments : List Contents) where
+module _ {Y : Type 0} (f : SegmentParts → List Y) (segments : List SegmentParts) where
   -- a walk over candidates that omit only segments without results
   pub walked-start : {left : List ℕ → Type 0} (name : List ℕ) (start : List Y) → IsComplete left name segments
-      → ((segment : Contents) → has_name name segment ≡ false → f segment ≡ []) → IsWalked f segments left start (start ++ flat_map f segments)
+      → ((segment : SegmentParts) → has_name name segment ≡ false → f segment ≡ []) → IsWalked f segments left start (start ++ flat_map f segments)
   walked-start name start complete nothing = record {
     rest = numbers_with complete.test 0 segments;
     left = complete.left;
@@ -146,7 +146,7 @@ covers-whole : (number : ℕ) → covers (record { low = 0; high = 2 ^ 16 - 1 })
 covers-whole number = grind (arith, nat_tests)
 
 -- the next of all segments
-pub all-next : (segments : List Contents) (n : ℕ) (left : List ℕ → Type 0) → n < length segments
+pub all-next : (segments : List SegmentParts) (n : ℕ) (left : List ℕ → Type 0) → n < length segments
     → left (numbers_with (λ segment. true) (n + 1) (drop (n + 1) segments))
     → IsNext segments left (numbers_with (λ segment. true) n (drop n segments))
     (Some (record { segment = n; span = record { low = 0; high = 2 ^ 16 - 1 } }))
@@ -163,6 +163,6 @@ all-next segments n left inside after =
     )
 
 -- after the last of them
-pub all-end : (segments : List Contents) (n : ℕ) (left : List ℕ → Type 0) → length segments ≤ n
+pub all-end : (segments : List SegmentParts) (n : ℕ) (left : List ℕ → Type 0) → length segments ≤ n
     → IsNext segments left (numbers_with (λ segment. true) n (drop n segments)) None
 all-end segments n left last = rw (drop_all n segments last) refl

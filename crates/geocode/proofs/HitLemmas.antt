@@ -8,7 +8,7 @@ use Rattle.std.proofs.lemmas.List.Elements.{filter-append}
 use Rattle.std.proofs.lemmas.List.Folds.{list_any_at, list_any_more}
 use Rattle.std.proofs.lemmas.Option.{get_or_from_slice_get, slice_get-get_or, slice_get_within}
 use Rattle.tl_segments.specs.County.{AreTlids, tlid_of}
-use Rattle.tl_segments.specs.Segment.{Contents}
+use Rattle.tl_segments.specs.Segment.{SegmentParts}
 
 -- the results for the elements up to one more, after the results for the element that was read were appended to those before it
 pub flat_map-at : {X Y : Type 0} (f : X → List Y) (start now : List Y) (xs : List X) (n : ℕ) (x : X) → Some x ≡ slice_get xs n
@@ -36,5 +36,5 @@ list_any-next p xs n x is fails so_far =
     list_any_more p xs n x (slice_get_within xs n x (sym is)) ∙ rw (so_far, at_n) refl
 
 -- there are as many TLIDs as segments
-pub tlids-long : (tlids : List ℕ) (segments : List Contents) → AreTlids tlids segments → length tlids ≡ length segments
+pub tlids-long : (tlids : List ℕ) (segments : List SegmentParts) → AreTlids tlids segments → length tlids ≡ length segments
 tlids-long tlids segments same = sym (length-map tlids Some) ∙ ap length same ∙ length-map segments tlid_of

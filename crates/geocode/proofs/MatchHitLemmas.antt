@@ -9,7 +9,7 @@ use Rattle.tl_fields.specs.Number.{is_blank}
 use Rattle.tl_segments.specs.County.{CountyParts}
 use Rattle.tl_segments.specs.FullName.{full_names_of}
 use Rattle.tl_segments.specs.Name.{name_equals}
-use Rattle.tl_segments.specs.Segment.{Contents, IsSegment, ranges_of}
+use Rattle.tl_segments.specs.Segment.{SegmentParts, IsSegment, ranges_of}
 use Rattle.tl_segments.specs.declared.full_name.FullNameFields.{FullNameFields}
 use Rattle.tl_segments.specs.declared.range.RangeFields.{RangeFields}
 use Rattle.tl_segments.proofs.FullNameLemmas.{names_of_full_names}
@@ -66,7 +66,7 @@ hits-under house matching =
     (Left ∷ Right ∷ []) (λ side hit. refl))
 
 -- the hits of a segment's matches
-pub hits-segment : (street : StreetParts) (house : House) (place : ℕ) (segment : Contents)
+pub hits-segment : (street : StreetParts) (house : House) (place : ℕ) (segment : SegmentParts)
     → map (λ (found : MatchParts). found.hit) (matches_on_segment street house place segment)
     ≡ (if is_on_street street segment then hits_on_segment house segment else [])
 hits-segment street house place segment = by (name_on street segment)
@@ -141,7 +141,7 @@ is_some-find street (name ∷ names) alone =
     by false later = later
 
 -- and a segment is on the street if and only if it has the street's name
-on_street-named : (street : StreetParts) (segment : Contents) → WantsNameAlone street → IsSegment segment
+on_street-named : (street : StreetParts) (segment : SegmentParts) → WantsNameAlone street → IsSegment segment
     → is_on_street street segment ≡ has_name street.name segment
 on_street-named street segment alone is =
     is_some-find street (full_names_of segment) alone

@@ -11,7 +11,7 @@ use Rattle.std.proofs.lemmas.List.Folds.{fold-map}
 use Rattle.std.proofs.lemmas.Slice.Eq.{bytes_eq-Decides}
 use Rattle.tl_fields.specs.Number.{is_blank}
 use Rattle.tl_segments.specs.Name.{name_equals}
-use Rattle.tl_segments.specs.Segment.{Contents, names_of}
+use Rattle.tl_segments.specs.Segment.{SegmentParts, names_of}
 use Rattle.geocode.specs.Hits.{has_name}
 use Rattle.geocode.specs.NameHash.{hash_of, hash_with, key_of, mixed}
 use Rattle.geocode.specs.NameIndex.{has_key}
@@ -60,7 +60,7 @@ list_any-stricter loose strict (x ∷ xs) stricter none =
     or-stricter (loose x) (strict x) (list_any loose xs) (list_any strict xs) (stricter x) (list_any-stricter loose strict xs stricter) none
 
 -- a segment without a name that has a name's key doesn't have the name
-pub has_name-key : (keys : ℕ) (name : List ℕ) (segment : Contents) → has_key keys (key_of keys (hash_of name)) segment ≡ false
+pub has_name-key : (keys : ℕ) (name : List ℕ) (segment : SegmentParts) → has_key keys (key_of keys (hash_of name)) segment ≡ false
     → has_name name segment ≡ false
 has_name-key keys name segment none =
     list_any-stricter (λ named. nat_eq (key_of keys (hash_of named)) (key_of keys (hash_of name)))

@@ -7,7 +7,7 @@ use Rattle.std.specs.Option.{option_map_or}
 use Rattle.std.proofs.lemmas.List.Elements.{All-get_or, All-push}
 use Rattle.std.proofs.lemmas.List.Folds.{list_any_more}
 use Rattle.std.proofs.lemmas.Option.{get_or_from_slice_get, slice_get_within}
-use Rattle.tl_segments.specs.Segment.{Contents, names_of}
+use Rattle.tl_segments.specs.Segment.{SegmentParts, names_of}
 use Rattle.std.proofs.lemmas.Bool.Decides.{nat_tests}
 use Rattle.std.proofs.lemmas.Grind.{common_steps}
 use Rattle.std.proofs.lemmas.Option.{gets}
@@ -130,7 +130,7 @@ pick-new true n m numbers below new = let apart : nat_eq m n ≡ false = grind (
 pick-new false n m numbers below new = new
 
 -- the numbers of later segments never begin with an earlier number
-numbers-new : (test : Contents → Bool) (n m : ℕ) (segments : List Contents) → n < m
+numbers-new : (test : SegmentParts → Bool) (n m : ℕ) (segments : List SegmentParts) → n < m
     → with_first n (numbers_with test m segments) ≡ n ∷ numbers_with test m segments
 numbers-new test n m [] below = refl
 numbers-new test n m (segment ∷ segments) below =
@@ -138,7 +138,7 @@ numbers-new test n m (segment ∷ segments) below =
 
 module _ {A : Type 0} (old new : NameIndex A) (n : ℕ) (span : Span) where
   -- one more segment
-  pub IsIndexFrom-next : (segments : List Contents) {segment : Contents} → (n < length segments) × (segment ≡ get_or segments n segment)
+  pub IsIndexFrom-next : (segments : List SegmentParts) {segment : SegmentParts} → (n < length segments) × (segment ≡ get_or segments n segment)
       → IsIndexFrom old (n + 1) (drop (n + 1) segments)
       → AddsNames old new n span (names_of segment) → IsIndexFrom new n (drop n segments)
   IsIndexFrom-next segments {segment} at so_far more key =
@@ -148,7 +148,7 @@ module _ {A : Type 0} (old new : NameIndex A) (n : ℕ) (span : Span) where
       more.chains chains so_far (λ q. numbers-new (has_key old.keys q) n (n + 1) after (omega arith)) key in
       let inside = at.0 in
       let split : segment ∷ after ≡ drop n segments =
-      ap (λ (segment : Contents). segment ∷ after) at.1 ∙ sym (rw add-one (drop-cons segments n segment inside)) in
+      ap (λ (segment : SegmentParts). segment ∷ after) at.1 ∙ sym (rw add-one (drop-cons segments n segment inside)) in
       subst (λ (keys : ℕ). IsChain new.links.items (first_of new key) (numbers_with (has_key keys key) n (drop n segments))) (sym more.keys)
       (subst (λ segments. IsChain new.links.items (first_of new key) (numbers_with (has_key old.keys key) n segments)) split chain)
 
@@ -158,7 +158,7 @@ AddsSpans-push links more segments includes spanned =
     All-push (λ (link : Link). IncludesHits link.span (segment_at segments link.segment)) links more spanned includes
 
 -- the span of a link that was read
-pub HasSpans-at : (links : List Link) (segments : List Contents) (number : ℕ) {link : Link} → HasSpans links segments
+pub HasSpans-at : (links : List Link) (segments : List SegmentParts) (number : ℕ) {link : Link} → HasSpans links segments
     → Some link ≡ link_at links number → IncludesHits link.span (segment_at segments link.segment)
 HasSpans-at links segments number {link} spanned is = by (nat_le 1 number) is
   where
@@ -190,7 +190,7 @@ module _ (links : List Link) (number : ℕ) (numbers : List ℕ) (chain : IsChai
   pub chain-fewer : {link : Link} → Some link ≡ link_at links number → link.next < number
   chain-fewer is = (chain-link links number numbers chain is).2
 
-  module _ (segments : List Contents) where
+  module _ (segments : List SegmentParts) where
     -- the first link's segment is the next candidate
     pub chain-next : {link : Link} {left : List ℕ → Type 0} → HasSpans links segments → Some link ≡ link_at links number
         → ((rest : List ℕ) → IsChain links link.next rest → left rest)

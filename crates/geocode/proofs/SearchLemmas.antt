@@ -8,7 +8,7 @@ use Rattle.tl_segments.specs.Affixes.{Affixes}
 use Rattle.tl_segments.specs.County.{CountyParts}
 use Rattle.tl_segments.specs.FullName.{all_with_affixes, own_full_name, with_affixes}
 use Rattle.tl_segments.specs.Name.{name_equals}
-use Rattle.tl_segments.specs.Segment.{Contents}
+use Rattle.tl_segments.specs.Segment.{SegmentParts}
 use Rattle.tl_segments.specs.declared.full_name.FullNameFields.{FullNameFields}
 use Rattle.geocode.specs.Candidates.{IsComplete, segment_at}
 use Rattle.geocode.specs.Hits.{has_name, hits_in_county, hits_on_segment}
@@ -48,7 +48,7 @@ find-not street (affix ∷ affixes) (name ∷ names) others =
     (find-not street affixes names parts.1)
 
 -- a segment without the name isn't on the street
-pub name_on-not : (street : StreetParts) (segment : Contents) → has_name street.name segment ≡ false → name_on street segment ≡ None
+pub name_on-not : (street : StreetParts) (segment : SegmentParts) → has_name street.name segment ≡ false → name_on street segment ≡ None
 name_on-not street segment others =
     let own = own_full_name segment.bytes in
     let parts = or-false (name_equals own.fename street.name) (list_any (λ named. name_equals named street.name) segment.names) others in
@@ -56,7 +56,7 @@ name_on-not street segment others =
     (find-not street segment.affixes segment.names parts.1)
 
 -- the hits on a segment, if it has the name
-abbrev pub hits_by_name : List ℕ → House → Contents → List Hit
+abbrev pub hits_by_name : List ℕ → House → SegmentParts → List Hit
 hits_by_name name house segment = if has_name name segment then hits_on_segment house segment else []
 
 -- the hits of matches
@@ -69,7 +69,7 @@ if-nothing false nothing = refl
 
 module _ (street : StreetParts) (house : House) (index : ℕ) where
   -- a segment whose span doesn't cover the house number has no matches
-  matches-uncovered : (segment : Contents) → hits_on_segment house segment ≡ [] → matches_on_segment street house index segment ≡ []
+  matches-uncovered : (segment : SegmentParts) → hits_on_segment house segment ≡ [] → matches_on_segment street house index segment ≡ []
   matches-uncovered segment nothing =
       none-of-map (λ (found : MatchParts). found.hit) (matches_on_segment street house index segment)
       (hits-segment street house index segment ∙ if-nothing (is_on_street street segment) nothing)
@@ -85,13 +85,13 @@ module _ (street : StreetParts) (house : House) (index : ℕ) where
     pub searched-start : {left : List ℕ → Type 0} → IsComplete left street.name county.segments → IsSearched left []
     searched-start {left} complete = record {
       matches = walked-start (matches_on_segment street house index) county.segments street.name [] complete
-          (λ (segment : Contents) (other : has_name street.name segment ≡ false).
+          (λ (segment : SegmentParts) (other : has_name street.name segment ≡ false).
           ap (λ name. option_map_or (λ name. matches_under house (record { county = index; segment = segment; name = name })) name [])
           (name_on-not street segment other));
       hits = λ alone. subst (IsWalked (hits_by_name street.name house) county.segments left [])
           (sym (flat_map-filter (has_name street.name) (hits_on_segment house) county.segments))
           (walked-start (hits_by_name street.name house) county.segments street.name [] complete
-          (λ (segment : Contents) (other : has_name street.name segment ≡ false).
+          (λ (segment : SegmentParts) (other : has_name street.name segment ≡ false).
           ap (λ (named : Bool). if named then hits_on_segment house segment else []) other));
     }
 
@@ -137,7 +137,7 @@ module _ (street : StreetParts) (house : House) (index : ℕ) where
         (all, λ alone. ap hits_of (sym all) ∙ walked-end (hits_by_name street.name house) county.segments (searched.hits alone) returns)
 
 -- whether a segment is on the street, as a list that has an element if it is
-abbrev pub sign_of : StreetParts → Contents → List Bool
+abbrev pub sign_of : StreetParts → SegmentParts → List Bool
 sign_of street segment = if is_on_street street segment then true ∷ [] else []
 
 -- the list has an element
@@ -146,15 +146,15 @@ has_any [] = false
 has_any (sign ∷ signs) = true
 
 -- a walk that looks for a segment on the street
-pub signs-walked : {left : List ℕ → Type 0} (street : StreetParts) (segments : List Contents) → IsComplete left street.name segments
+pub signs-walked : {left : List ℕ → Type 0} (street : StreetParts) (segments : List SegmentParts) → IsComplete left street.name segments
     → IsWalked (sign_of street) segments left [] (flat_map (sign_of street) segments)
 signs-walked street segments complete =
     walked-start (sign_of street) segments street.name [] complete
-    (λ (segment : Contents) (other : has_name street.name segment ≡ false).
+    (λ (segment : SegmentParts) (other : has_name street.name segment ≡ false).
     ap (λ name. if is_some name then true ∷ [] else []) (name_on-not street segment other))
 
 -- some segment is on the street if and only if there is a sign of one
-pub list_any-signs : (street : StreetParts) (segments : List Contents)
+pub list_any-signs : (street : StreetParts) (segments : List SegmentParts)
     → list_any (is_on_street street) segments ≡ has_any (flat_map (sign_of street) segments)
 list_any-signs street [] = refl
 list_any-signs street (segment ∷ segments) = by (is_on_street street segment) (list_any-signs street segments)

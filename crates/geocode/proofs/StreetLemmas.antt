@@ -8,7 +8,7 @@ use Rattle.std.proofs.lemmas.Option.{get_or_from_slice_get, slice_get_within}
 use Rattle.tl_segments.specs.Affixes.{Affixes}
 use Rattle.tl_segments.specs.FullName.{all_with_affixes, full_names_of}
 use Rattle.tl_segments.specs.Name.{name_equals}
-use Rattle.tl_segments.specs.Segment.{Contents, names_of}
+use Rattle.tl_segments.specs.Segment.{SegmentParts, names_of}
 use Rattle.tl_segments.specs.declared.full_name.FullNameFields.{FullNameFields}
 use Rattle.geocode.specs.Matches.{IsOnByName}
 use Rattle.geocode.specs.Street.{StreetParts, WantsNameAlone, fits, name_on}
@@ -51,10 +51,10 @@ with_affixes-short (affix ∷ affixes) [] = omega arith
 with_affixes-short (affix ∷ affixes) (name ∷ names) = let others = with_affixes-short affixes names in omega (arith, others)
 
 -- a segment has at most as many full names as names
-full_names-short : (segment : Contents) → length (full_names_of segment) ≤ length segment.names + 1
+full_names-short : (segment : SegmentParts) → length (full_names_of segment) ≤ length segment.names + 1
 full_names-short segment = let short = with_affixes-short segment.affixes segment.names in omega (arith, short)
 
-module _ (street : StreetParts) (segment : Contents) (n : ℕ) where
+module _ (street : StreetParts) (segment : SegmentParts) (n : ℕ) where
   -- none of the full names before this one fits and, with the name alone wanted, none of the names is the street's
   pub record NoneFits : Type 0 where
     pub full : find (fits street) (take n (full_names_of segment)) ≡ None
@@ -66,7 +66,7 @@ module _ (street : StreetParts) (segment : Contents) (n : ℕ) where
     pub named : Some name.fename ≡ slice_get (names_of segment) n
 
 -- it fits
-pub fits-here : (street : StreetParts) (segment : Contents) (n : ℕ) (name : FullNameFields) → NoneFits street segment n
+pub fits-here : (street : StreetParts) (segment : SegmentParts) (n : ℕ) (name : FullNameFields) → NoneFits street segment n
     → IsFullNameAt street segment n name → true ≡ fits street name → (name_on street segment ≡ Some name) × IsOnByName street segment
 fits-here street segment n name none is passes =
     let found = find-at (fits street) (full_names_of segment) n name is.full passes none.full in (
@@ -76,7 +76,7 @@ fits-here street segment n name none is passes =
     )
 
 -- it doesn't fit
-pub fits-later : (street : StreetParts) (segment : Contents) (n : ℕ) (name : FullNameFields) → NoneFits street segment n
+pub fits-later : (street : StreetParts) (segment : SegmentParts) (n : ℕ) (name : FullNameFields) → NoneFits street segment n
     → IsFullNameAt street segment n name → false ≡ fits street name → NoneFits street segment (n + 1)
 fits-later street segment n name none is fails = record {
   full = find-next (fits street) (full_names_of segment) n name is.full fails none.full;
@@ -85,7 +85,7 @@ fits-later street segment n name none is fails = record {
 }
 
 -- after the last full name
-pub fits-nowhere : (street : StreetParts) (segment : Contents) (n : ℕ) → NoneFits street segment n → length (names_of segment) ≤ n
+pub fits-nowhere : (street : StreetParts) (segment : SegmentParts) (n : ℕ) → NoneFits street segment n → length (names_of segment) ≤ n
     → (name_on street segment ≡ None) × IsOnByName street segment
 fits-nowhere street segment n none last =
     let short = full_names-short segment in

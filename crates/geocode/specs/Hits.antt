@@ -8,7 +8,7 @@ use Rattle.tl_records.specs.declared.layout.TheConstants.Type1.{TLID}
 use Rattle.tl_segments.specs.County.{CountyParts}
 use Rattle.tl_segments.specs.Name.{name_equals}
 use Rattle.tl_segments.specs.Range.{lies_on}
-use Rattle.tl_segments.specs.Segment.{Contents, names_of, ranges_of}
+use Rattle.tl_segments.specs.Segment.{SegmentParts, names_of, ranges_of}
 use Rattle.tl_segments.specs.declared.range.RangeFields.{RangeFields}
 use Rattle.geocode.specs.Position.{place_on}
 use Rattle.geocode.specs.Sides.{SideParts, side_of}
@@ -18,7 +18,7 @@ use Rattle.geocode.specs.declared.hit.Side.TheVariants.{Left, Right}
 use Rattle.geocode.specs.declared.house.House.{House}
 
 -- some name of the segment equals this one
-abbrev pub has_name : List ℕ → Contents → Bool
+abbrev pub has_name : List ℕ → SegmentParts → Bool
 has_name name segment = list_any (λ named. name_equals named name) (names_of segment)
 
 -- a side's ZIP code has the wanted number, if one is wanted
@@ -42,7 +42,7 @@ abbrev pub hits_on_range : House → List ℕ → RangeFields → List Hit
 hits_on_range house bytes range = filter_map (hit_on house bytes range) (Left ∷ Right ∷ [])
 
 -- the hits on the ranges of a segment, range 0 first
-abbrev pub hits_on_segment : House → Contents → List Hit
+abbrev pub hits_on_segment : House → SegmentParts → List Hit
 hits_on_segment house segment = flat_map (hits_on_range house segment.bytes) (ranges_of segment)
 
 -- the hits in a county, on its segments with this name, in order

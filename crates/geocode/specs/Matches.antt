@@ -4,7 +4,7 @@ use Rattle.std.specs.List.{filter_map, flat_map, list_any}
 use Rattle.std.specs.Option.{option_map_or}
 use Rattle.tl_segments.specs.County.{CountyParts}
 use Rattle.tl_segments.specs.FullName.{full_name_of}
-use Rattle.tl_segments.specs.Segment.{Contents, ranges_of}
+use Rattle.tl_segments.specs.Segment.{SegmentParts, ranges_of}
 use Rattle.tl_segments.specs.declared.full_name.FullNameFields.{FullNameFields}
 use Rattle.tl_segments.specs.declared.range.RangeFields.{RangeFields}
 use Rattle.geocode.specs.Hits.{find, has_name, hit_on, hits_in_county, hits_on_segment}
@@ -35,7 +35,7 @@ match_of found = record {
 -- a segment whose name matched: the index of its county in the list, the segment and the name
 pub record MatchingParts : Type 0 where
   pub county : ℕ
-  pub segment : Contents
+  pub segment : SegmentParts
   pub name : FullNameFields
 
 abbrev pub matching_of : {A : Type 0} → MatchingSegment A → MatchingParts
@@ -56,7 +56,7 @@ abbrev pub matches_under : House → MatchingParts → List MatchParts
 matches_under house matching = flat_map (matches_on_range house matching) (ranges_of matching.segment)
 
 -- the matches on a segment, under the first of its names that is the street's
-abbrev pub matches_on_segment : StreetParts → House → ℕ → Contents → List MatchParts
+abbrev pub matches_on_segment : StreetParts → House → ℕ → SegmentParts → List MatchParts
 matches_on_segment street house county segment =
     option_map_or (λ name. matches_under house (record { county = county; segment = segment; name = name })) (name_on street segment) []
 
@@ -84,7 +84,7 @@ abbrev pub has_street : StreetParts → List CountyParts → Bool
 has_street street counties = list_any (λ county. list_any (is_on_street street) county.segments) counties
 
 -- with the name alone wanted, the segment is on the street if and only if it has the name
-abbrev pub IsOnByName : StreetParts → Contents → Type 0
+abbrev pub IsOnByName : StreetParts → SegmentParts → Type 0
 IsOnByName street segment = WantsNameAlone street → is_on_street street segment ≡ has_name street.name segment
 
 -- with the name alone wanted, the hits of the matches in a county are the hits of the name

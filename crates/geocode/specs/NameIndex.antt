@@ -4,7 +4,7 @@ use Rattle.std.specs.Prelude.{All, slice_get, unwrap_or}
 use Rattle.std.specs.HashMap.{get}
 use Rattle.std.specs.List.{list_any}
 use Rattle.std.specs.Option.{option_map_or}
-use Rattle.tl_segments.specs.Segment.{Contents, names_of}
+use Rattle.tl_segments.specs.Segment.{SegmentParts, names_of}
 use Rattle.geocode.specs.Candidates.{numbers_with, segment_at}
 use Rattle.geocode.specs.NameHash.{hash_of, key_of}
 use Rattle.geocode.specs.Span.{IncludesHits}
@@ -14,7 +14,7 @@ use Rattle.geocode.specs.declared.name_index.NameIndex.{NameIndex}
 use Rattle.geocode.specs.declared.span.Span.{Span}
 
 -- the segment has a name with this key: the name's hash, reduced to `keys` keys
-abbrev pub has_key : ℕ → ℕ → Contents → Bool
+abbrev pub has_key : ℕ → ℕ → SegmentParts → Bool
 has_key keys key segment = list_any (λ name. nat_eq (key_of keys (hash_of name)) key) (names_of segment)
 
 -- the link with a number, counted from 1
@@ -45,20 +45,20 @@ abbrev pub HasChains : {A : Type 0} → NameIndex A → (ℕ → List ℕ) → T
 HasChains index chains = (key : ℕ) → IsChain index.links.items (first_of index key) (chains key)
 
 -- each key has the numbers of those of these segments that have a name with it, in order; the first segment has this number
-abbrev pub IsIndexFrom : {A : Type 0} → NameIndex A → ℕ → List Contents → Type 0
+abbrev pub IsIndexFrom : {A : Type 0} → NameIndex A → ℕ → List SegmentParts → Type 0
 IsIndexFrom index n segments = HasChains index (λ key. numbers_with (has_key index.keys key) n segments)
 
 -- each link has a span of its segment's house numbers
-abbrev pub HasSpans : List Link → List Contents → Type 0
+abbrev pub HasSpans : List Link → List SegmentParts → Type 0
 HasSpans links segments = All (λ (link : Link). IncludesHits link.span (segment_at segments link.segment)) links
 
 -- each key has the segments of a county with a name that has this key, each with a span of its house numbers
-pub record IsIndexOf {A : Type 0} (index : NameIndex A) (segments : List Contents) : Type 0 where
+pub record IsIndexOf {A : Type 0} (index : NameIndex A) (segments : List SegmentParts) : Type 0 where
   pub chains : IsIndexFrom index 0 segments
   pub spans : HasSpans index.links.items segments
 
 -- the rest of a chain has the segments with these numbers, in order, and each link has a span of its segment's house numbers
-pub record AreInChain {A : Type 0} (chain : Chain A) (segments : List Contents) (numbers : List ℕ) : Type 0 where
+pub record AreInChain {A : Type 0} (chain : Chain A) (segments : List SegmentParts) (numbers : List ℕ) : Type 0 where
   pub links : IsChain chain.index.now.links.items chain.number numbers
   pub spans : HasSpans chain.index.now.links.items segments
 
@@ -70,7 +70,7 @@ with_first segment (first ∷ rest) = if nat_eq first segment then first ∷ res
 -- links were added only for this segment, with this span
 abbrev pub AddsSpans : List Link → List Link → ℕ → Span → Type 0
 AddsSpans old new segment span =
-    (segments : List Contents) → IncludesHits span (segment_at segments segment) → HasSpans old segments → HasSpans new segments
+    (segments : List SegmentParts) → IncludesHits span (segment_at segments segment) → HasSpans old segments → HasSpans new segments
 
 -- a segment with this span was put in front of the others of a key
 pub record AddsTo {A : Type 0} (old new : NameIndex A) (key segment : ℕ) (span : Span) : Type 0 where

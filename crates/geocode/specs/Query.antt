@@ -9,7 +9,7 @@ use Rattle.geocode.specs.declared.house.House.{House}
 use Rattle.geocode.specs.declared.query.Query.{Query}
 use Rattle.geocode.specs.declared.query.QueryFault.{QueryFault}
 use Rattle.geocode.specs.declared.query.QueryFault.TheVariants.{Number, Name, Zip}
-use Rattle.geocode.specs.declared.query.TheConstants.{MOST_DIGITS}
+use Rattle.geocode.specs.declared.query.TheConstants.{MAX_HOUSE_NUMBER_DIGITS}
 
 -- the contents of a query; its name is in Latin-1, or none if no file can have it
 pub record QueryParts : Type 0 where
@@ -22,7 +22,7 @@ parts_of query = record { number = query.number; name = query.name; zip = query.
 
 -- the number of a house or of a ZIP code in a text: 1 to 11 digits, and nothing else
 abbrev pub house_number : List ℕ → Option ℕ
-house_number text = decimal_in MOST_DIGITS text
+house_number text = decimal_in MAX_HOUSE_NUMBER_DIGITS text
 
 -- the number of a ZIP code, if one is given; none if its text isn't a number
 abbrev pub zip_number : Option (List ℕ) → Option (Option ℕ)

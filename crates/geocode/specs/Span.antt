@@ -1,7 +1,7 @@
 -- Spans of house numbers: which numbers may be on a segment, without reading its records.
 use Rattle.std.specs.Prelude.{◌≡◌, ℕ, ◌/◌, ◌-◌, ◌^◌, min, max, nat_le, Bool, false, ◌&&◌, []}
 use Rattle.tl_segments.specs.Range.{lies_on}
-use Rattle.tl_segments.specs.Segment.{Contents}
+use Rattle.tl_segments.specs.Segment.{SegmentParts}
 use Rattle.tl_segments.specs.declared.range.RangeFields.{RangeFields}
 use Rattle.geocode.specs.Hits.{hits_on_segment}
 use Rattle.geocode.specs.Sides.{SideParts, side_of}
@@ -22,7 +22,7 @@ abbrev pub widened : Span → ℕ → Span
 widened span number = record { low = min span.low (bucket number); high = max span.high (bucket number) }
 
 -- a house whose number isn't covered has no hit on the segment
-abbrev pub IncludesHits : Span → Contents → Type 0
+abbrev pub IncludesHits : Span → SegmentParts → Type 0
 IncludesHits span segment = (house : House) → covers span house.number ≡ false → hits_on_segment house segment ≡ []
 
 -- the new span covers what the old one does, plus the numbers on the side

@@ -3,7 +3,7 @@ use Rattle.std.specs.Prelude.{◌≡◌, ℕ, Bool, true, ◌&&◌, ◌||◌, Li
 use Rattle.tl_fields.specs.Number.{is_blank}
 use Rattle.tl_segments.specs.FullName.{full_names_of}
 use Rattle.tl_segments.specs.Name.{name_equals}
-use Rattle.tl_segments.specs.Segment.{Contents}
+use Rattle.tl_segments.specs.Segment.{SegmentParts}
 use Rattle.tl_segments.specs.declared.full_name.FullNameFields.{FullNameFields}
 use Rattle.geocode.specs.declared.street.Street.{Street}
 
@@ -27,11 +27,11 @@ fits street name =
     name_equals name.fename street.name && agrees street.predir name.fedirp && agrees street.kind name.fetype && agrees street.sufdir name.fedirs
 
 -- the first full name of a segment that is the street's
-abbrev pub name_on : StreetParts → Contents → Option FullNameFields
+abbrev pub name_on : StreetParts → SegmentParts → Option FullNameFields
 name_on street segment = find (fits street) (full_names_of segment)
 
 -- some full name of a segment is the street's
-abbrev pub is_on_street : StreetParts → Contents → Bool
+abbrev pub is_on_street : StreetParts → SegmentParts → Bool
 is_on_street street segment = is_some (name_on street segment)
 
 -- neither a direction nor a type is wanted

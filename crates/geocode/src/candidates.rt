@@ -1,7 +1,7 @@
 //! The segments of a county that a search looks at.
 ghost use Rattle.std.specs.Prelude.{◌≡◌, ℕ, ◌-◌, ◌<◌, List, IfSome};
 ghost use Rattle.geocode.specs.Candidates.{AreFrom, IsComplete, IsNext};
-ghost use Rattle.tl_segments.specs.Segment.{Contents};
+ghost use Rattle.tl_segments.specs.Segment.{SegmentParts};
 
 use crate::span::Span;
 use std::alloc::Allocator;
@@ -19,16 +19,16 @@ pub(crate) struct Candidate {
 /// The candidates of a search in a county, in the order of its segments.
 pub(crate) trait Candidates {
     // Of the segments of a county, those with these numbers are left.
-    ghost are_left: { Self → List Contents → List ℕ → Type 0 };
+    ghost are_left: { Self → List SegmentParts → List ℕ → Type 0 };
 
     // At least the number of candidates that are left.
     ghost steps: { Self → ℕ };
 
     /// Returns the next candidate, or `None` after the last one.
     fn next(&mut self) -> Option<Candidate>
-        ensures next { (segments : List Contents) (numbers : List ℕ) → are_left self.old segments numbers
+        ensures next { (segments : List SegmentParts) (numbers : List ℕ) → are_left self.old segments numbers
             → IsNext segments (are_left self.new segments) numbers result }
-        ensures fewer { (segments : List Contents) (numbers : List ℕ) → are_left self.old segments numbers
+        ensures fewer { (segments : List SegmentParts) (numbers : List ℕ) → are_left self.old segments numbers
             → IfSome result (λ candidate. steps self.new < steps self.old) };
 }
 

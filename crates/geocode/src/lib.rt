@@ -28,6 +28,6 @@ pub use hits::find;
 pub use latin_1::push_utf8;
 pub use matching::Match;
 pub use name_text::NameText;
-pub use query::{MOST_DIGITS, Query, QueryFault};
+pub use query::{MAX_HOUSE_NUMBER_DIGITS, Query, QueryFault};
 pub use street::Street;
 pub use street_name::StreetName;

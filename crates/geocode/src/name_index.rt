@@ -1,6 +1,6 @@
 //! An index of the names of a county's segments.
 ghost use Rattle.std.specs.Prelude.{◌≡◌, ◌≤◌, ◌<◌, ◌^◌, List, [], ℕ, length, IfOk, OnOk};
-ghost use Rattle.tl_segments.specs.Segment.{Contents, names_of};
+ghost use Rattle.tl_segments.specs.Segment.{SegmentParts, names_of};
 ghost use Rattle.geocode.specs.NameHash.{hash_of, key_of};
 
 use crate::candidates::{Candidate, Candidates};
@@ -14,7 +14,7 @@ use tl_segments::Segment;
 /// The number of segment names per key. Nonblank names have at least one key, and fewer keys than a map can hold.
 const NAMES_PER_KEY: usize = 8;
 
-const MOST_KEYS: usize = 1 << 31;
+const MAX_KEYS: usize = 1 << 31;
 
 /// A segment that has a name with a certain key.
 #[derive(Clone, Copy)]
@@ -58,7 +58,7 @@ impl<A: Allocator + Copy> NameIndex<A> {
         ensures chains { IfOk result (λ index. HasChains index (λ key. [])) }
         ensures links { IfOk result (λ index. index.links.items ≡ []) }
     {
-        let keys = (names / NAMES_PER_KEY).clamp(1, MOST_KEYS) as u32;
+        let keys = (names / NAMES_PER_KEY).clamp(1, MAX_KEYS) as u32;
         Ok(NameIndex {
             keys,
             links: Vec::with_capacity(alloc, names)?,
@@ -103,7 +103,7 @@ impl<A: Allocator> NameIndex<A> {
 
     /// Returns the segments that may have a name with this hash.
     pub(crate) fn candidates(&self, hash: u64) -> Chain<'_, A>
-        ensures { (segments : List Contents) (name : List ℕ) → IsIndexOf self.now segments → hash ≡ hash_of name
+        ensures { (segments : List SegmentParts) (name : List ℕ) → IsIndexOf self.now segments → hash ≡ hash_of name
             → IsComplete (AreInChain result segments) name segments }
     {
         Chain {
@@ -158,7 +158,7 @@ impl<'i, A: Allocator> Candidates for Chain<'i, A> {
     ghost use Rattle.std.specs.Prelude.{◌≡◌, ◌<◌, List, ℕ, IfSome};
     ghost use Rattle.geocode.specs.Candidates.{IsNext};
     ghost use Rattle.geocode.specs.NameIndex.{AreInChain};
-    ghost use Rattle.tl_segments.specs.Segment.{Contents};
+    ghost use Rattle.tl_segments.specs.Segment.{SegmentParts};
 
     ghost are_left = { AreInChain };
 

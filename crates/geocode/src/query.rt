@@ -13,7 +13,7 @@ use std::alloc::{AllocError, Allocator};
 use tl_segments::County;
 
 /// The maximum number of digits in a house number or a ZIP code: the length of an address field.
-pub const MOST_DIGITS: usize = 11;
+pub const MAX_HOUSE_NUMBER_DIGITS: usize = 11;
 
 /// A geocoder's query.
 #[derive(Drop)]
@@ -84,7 +84,7 @@ impl Query {
 fn house_number(text: &[u8]) -> Option<u64>
     ensures { result ≡ house_number text.now }
 {
-    decimal_value(text, MOST_DIGITS)
+    decimal_value(text, MAX_HOUSE_NUMBER_DIGITS)
 }
 
 /// Parses the number of a ZIP code, if one is given.

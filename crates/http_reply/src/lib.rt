@@ -5,5 +5,5 @@ pub mod laws;
 mod reply;
 mod status;
 
-pub use reply::{ALLOW_LIMIT, LEAD_LIMIT, MediaType, Reply};
+pub use reply::{MAX_ALLOW_LENGTH, MAX_LEAD_LENGTH, MediaType, Reply};
 pub use status::Status;

@@ -1,7 +1,7 @@
 //! Replies, and writing them.
 ghost use Rattle.std.specs.Prelude.{[], ◌≡◌, ◌≤◌, ◌+◌, ◌++◌, length, None, option_map};
 ghost use Rattle.std.specs.Option.{ForSome};
-ghost use Rattle.counted_io.specs.Device.{writer};
+ghost use Rattle.counted_io.specs.ReaderWriter.{writer};
 ghost use Rattle.counted_io.specs.Writing.{WritesText};
 ghost use Rattle.http_reply.specs.Status.{text};
 ghost use Rattle.http_reply.specs.Reply.{allow_header, head, header, media_type, parts_of, reply_text, status_line};
@@ -9,19 +9,19 @@ ghost use Rattle.http_reply.specs.declared.reply.MediaType.TheVariants.{Plain};
 
 use crate::status::Status;
 use arrayvec::ArrayVec;
-use counted_io::{CountedWrite, WriteFault, write_whole};
+use counted_io::{CountedWrite, WriteFault, write_text};
 use itoa::Buffer;
 
 /// The greatest number of bytes of a body that are stored in the reply itself.
-pub const LEAD_LIMIT: usize = 65;
+pub const MAX_LEAD_LENGTH: usize = 65;
 
 /// The greatest number of bytes of the methods in an `Allow` header.
-pub const ALLOW_LIMIT: usize = 32;
+pub const MAX_ALLOW_LENGTH: usize = 32;
 
 // The greatest number of bytes written at once, apart from a borrowed body.
-const PACKET_LIMIT: usize = 1024;
+const MAX_PACKET_LENGTH: usize = 1024;
 
-type Packet = ArrayVec<u8, PACKET_LIMIT>;
+type Packet = ArrayVec<u8, MAX_PACKET_LENGTH>;
 
 /// The media type of a body.
 #[derive(Clone, Copy, PartialEq, Eq)]
@@ -50,7 +50,7 @@ pub struct Reply<'a> {
     /// The methods that the path allows, if the request used another one.
     pub allow: Option<&'a str>,
     /// The part of the body that is made for this reply, like a refusal's line.
-    pub lead: ArrayVec<u8, LEAD_LIMIT>,
+    pub lead: ArrayVec<u8, MAX_LEAD_LENGTH>,
     /// The part of the body that is borrowed, and written without a copy.
     pub rest: &'a [u8],
 }
@@ -72,7 +72,7 @@ impl Reply<'_> {
     /// Writes the reply in one write if it fits into a small packet, otherwise everything before `rest` in one write and `rest` in another. Doesn't
     /// retry, flush or allocate.
     pub fn write<W: CountedWrite>(&self, out: &mut W) -> Result<(), WriteFault>
-        requires { ForSome (parts_of self.now).allow (λ methods. length methods ≤ ALLOW_LIMIT) }
+        requires { ForSome (parts_of self.now).allow (λ methods. length methods ≤ MAX_ALLOW_LENGTH) }
         ensures { WritesText (reply_text (parts_of self.now)) result
             (writer W.contents W.counts out.old) (writer W.contents W.counts out.new) }
     {
@@ -80,16 +80,16 @@ impl Reply<'_> {
         self.push_head(&mut packet);
         packet.try_extend_from_slice(self.lead.as_slice()).unwrap();
         if packet.try_extend_from_slice(self.rest).is_ok() {
-            return write_whole(out, packet.as_slice());
+            return write_text(out, packet.as_slice());
         }
         write_both(packet.as_slice(), self.rest, out)
     }
 
     fn push_head(&self, packet: &mut Packet)
         requires empty { packet.old.items ≡ [] }
-        requires short { ForSome (parts_of self.now).allow (λ methods. length methods ≤ ALLOW_LIMIT) }
+        requires short { ForSome (parts_of self.now).allow (λ methods. length methods ≤ MAX_ALLOW_LENGTH) }
         ensures value { packet.new.items ≡ head (parts_of self.now) }
-        ensures room { length packet.new.items + LEAD_LIMIT ≤ PACKET_LIMIT }
+        ensures room { length packet.new.items + MAX_LEAD_LENGTH ≤ MAX_PACKET_LENGTH }
     {
         let length = self.lead.len() + self.rest.len();
         push_status_line(self.status, packet);
@@ -106,8 +106,8 @@ fn write_both<W: CountedWrite>(first: &[u8], second: &[u8], out: &mut W) -> Resu
     ensures { WritesText (first.now ++ second.now) result
         (writer W.contents W.counts out.old) (writer W.contents W.counts out.new) }
 {
-    write_whole(out, first)?;
-    write_whole(out, second)
+    write_text(out, first)?;
+    write_text(out, second)
 }
 
 fn push_status_line(status: Status, packet: &mut Packet)
@@ -123,10 +123,10 @@ fn push_status_line(status: Status, packet: &mut Packet)
 }
 
 fn push_allow(methods: Option<&str>, packet: &mut Packet)
-    requires short { ForSome methods (λ methods. length methods.now ≤ ALLOW_LIMIT) }
-    requires room { length packet.old.items + ALLOW_LIMIT + 9 ≤ PACKET_LIMIT }
+    requires short { ForSome methods (λ methods. length methods.now ≤ MAX_ALLOW_LENGTH) }
+    requires room { length packet.old.items + MAX_ALLOW_LENGTH + 9 ≤ MAX_PACKET_LENGTH }
     ensures value { packet.new.items ≡ packet.old.items ++ allow_header (option_map (λ methods. methods.now) methods.entry) }
-    ensures short { length packet.new.items ≤ length packet.old.items + ALLOW_LIMIT + 9 }
+    ensures short { length packet.new.items ≤ length packet.old.items + MAX_ALLOW_LENGTH + 9 }
 {
     if let Some(methods) = methods {
         push_header("Allow", methods, packet);
@@ -134,7 +134,7 @@ fn push_allow(methods: Option<&str>, packet: &mut Packet)
 }
 
 fn push_header(name: &str, value: &str, packet: &mut Packet)
-    requires { length packet.old.items + length name.now + length value.now + 4 ≤ PACKET_LIMIT }
+    requires { length packet.old.items + length name.now + length value.now + 4 ≤ MAX_PACKET_LENGTH }
     ensures { packet.new.items ≡ packet.old.items ++ header name.now value.now }
 {
     push(name, packet);
@@ -144,7 +144,7 @@ fn push_header(name: &str, value: &str, packet: &mut Packet)
 }
 
 fn push(text: &str, packet: &mut Packet)
-    requires { length packet.old.items + length text.now ≤ PACKET_LIMIT }
+    requires { length packet.old.items + length text.now ≤ MAX_PACKET_LENGTH }
     ensures { packet.new.items ≡ packet.old.items ++ text.now }
 {
     packet.try_extend_from_slice(text.as_bytes()).unwrap();

@@ -4,7 +4,7 @@ use Rattle.std.proofs.Common.{append_assoc, length-append}
 use Rattle.std.proofs.lemmas.List.{append-nil, length-take, length-take-le, nil_from_length, take_all, take_min}
 use Rattle.std.proofs.lemmas.Bool.{cases_lt}
 use Rattle.std.specs.Io.KnownBytes.{IsAtEnd, Keeps}
-use Rattle.counted_io.specs.Device.{Reader}
+use Rattle.counted_io.specs.ReaderWriter.{Reader}
 use Rattle.counted_io.proofs.KnownBytesLemmas.{Consumes-append, Consumes-from_keeps}
 use Rattle.http_request.proofs.TakeLemmas.{Takes-append, Takes-refl}
 use Rattle.http_request.specs.Reading.{EndsInBody, FailsInBody, OutOfMemoryInBody, ReadsBody, Takes}

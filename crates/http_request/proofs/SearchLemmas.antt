@@ -6,7 +6,7 @@ use Rattle.std.specs.Io.KnownBytes.{Keeps}
 use borrow.Rule.Slice.PartMut.{put_mid, post_of}
 use Rattle.httparse.specs.Grammar.{HasNoRequest, MayBecomeRequest, print_request}
 use Rattle.httparse.specs.Spans.{RequestOverflows}
-use Rattle.counted_io.specs.Device.{Reader}
+use Rattle.counted_io.specs.ReaderWriter.{Reader}
 use Rattle.counted_io.proofs.KnownBytesLemmas.{Consumes-append, Consumes-from_keeps}
 use Rattle.http_request.specs.Head.{HasNoHead}
 use Rattle.http_request.proofs.HeadLemmas.{empty-HasNoRequest, empty-MayBecomeRequest}

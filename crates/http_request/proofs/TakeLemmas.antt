@@ -1,6 +1,6 @@
 -- The bytes taken from a reader by several reads.
 use Rattle.std.proofs.Common.{ℕ, List, [], ◌++◌, ◌∙◌, refl}
-use Rattle.counted_io.specs.Device.{Reader}
+use Rattle.counted_io.specs.ReaderWriter.{Reader}
 use Rattle.counted_io.proofs.KnownBytesLemmas.{Consumes-append, Consumes-refl}
 use Rattle.http_request.specs.Reading.{Takes}
 

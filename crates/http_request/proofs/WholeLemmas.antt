@@ -3,7 +3,7 @@ use Rattle.std.proofs.Common.{◌≡◌, ℕ, List, [], ◌++◌, length, inl, i
 use Rattle.std.specs.Prelude.{unwrap_or}
 use Rattle.std.proofs.lemmas.List.{append-nil, take-append-le}
 use Rattle.std.specs.Io.KnownBytes.{Consumes, IsAtEnd, Keeps}
-use Rattle.counted_io.specs.Device.{Reader}
+use Rattle.counted_io.specs.ReaderWriter.{Reader}
 use Rattle.http_request.specs.Reading.{EndsInBody, ReadsNoHead, ReadsBody, ReadsHead, RequestParts, Takes}
 use Rattle.http_request.specs.Whole.{HadHead, HadNoHead, HadRequest, HadShortRequest, left_of}
 use Rattle.http_request.proofs.TakeLemmas.{Takes-append}

@@ -2,7 +2,7 @@
 use Rattle.std.specs.Prelude.{◌≡◌, ℕ, ◌≤◌, List, length, map}
 use Rattle.httparse.specs.Grammar.{MayBecomeRequest, ReadsRequest, RequestHead, print_request}
 use Rattle.httparse.specs.Spans.{name_and_value}
-use Rattle.http_request.specs.declared.head.TheConstants.{HEAD_LIMIT, HEADER_LIMIT}
+use Rattle.http_request.specs.declared.head.TheConstants.{MAX_HEAD_LENGTH, MAX_HEADERS}
 
 -- The parts of a head that matter: the method, the request target, and each header's name and value, without the blanks and tabs around the value.
 pub record Head : Type 0 where
@@ -17,8 +17,8 @@ head_of tree = record { method = tree.method; target = tree.target; headers = ma
 pub record HasHead (input : List ℕ) (head : Head) (rest : List ℕ) : Type 0 where
   pub tree : RequestHead
   pub reads : ReadsRequest input tree rest
-  pub short : length (print_request tree) ≤ HEAD_LIMIT
-  pub few : length tree.fields ≤ HEADER_LIMIT
+  pub short : length (print_request tree) ≤ MAX_HEAD_LENGTH
+  pub few : length tree.fields ≤ MAX_HEADERS
   pub parts : head ≡ head_of tree
 
 -- Bytes may become a head: some bytes that follow complete it, or the bytes end within a target, which isn't checked before its end.

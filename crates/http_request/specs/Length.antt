@@ -7,7 +7,7 @@ use Rattle.std.specs.Str.Parse.{digits_value}
 use Rattle.http_request.specs.Head.{Head}
 use Rattle.http_request.specs.declared.length.LengthFault.{LengthFault}
 use Rattle.http_request.specs.declared.length.LengthFault.TheVariants.{Missing, Invalid, TooLarge}
-use Rattle.http_request.specs.declared.length.TheConstants.{BODY_LIMIT}
+use Rattle.http_request.specs.declared.length.TheConstants.{MAX_BODY_LENGTH}
 
 -- header names are compared without regard to case (RFC 9110, section 5.1)
 abbrev pub is_named : List ℕ → List ℕ × List ℕ → Bool
@@ -19,7 +19,7 @@ values_of name head = map (λ header. header.1) (filter (is_named name) head.hea
 
 -- a number up to the limit
 abbrev pub up_to_limit : ℕ → Result ℕ LengthFault
-up_to_limit number = if nat_le number BODY_LIMIT then Ok number else Err TooLarge
+up_to_limit number = if nat_le number MAX_BODY_LENGTH then Ok number else Err TooLarge
 
 -- at least one digit, and nothing else
 abbrev pub is_numeral : List ℕ → Bool

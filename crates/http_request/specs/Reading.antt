@@ -1,13 +1,13 @@
 -- What reading a request takes from a reader, and how it ends.
 use Rattle.std.specs.Prelude.{◌≡◌, ◌≢◌, ◌⊎◌, ℕ, ◌-◌, ◌<◌, ◌≤◌, List, [], ◌++◌, length, take, Option, None, Some, Result, Ok, Err}
 use Rattle.std.specs.Io.KnownBytes.{Consumes, IsAtEnd}
-use Rattle.counted_io.specs.Device.{Reader}
+use Rattle.counted_io.specs.ReaderWriter.{Reader}
 use Rattle.http_request.specs.Head.{Head, HasHead, HasNoHead, MayBecomeHead}
 use Rattle.http_request.specs.declared.body.BodyFault.{BodyFault}
 use Rattle.http_request.specs.declared.body.BodyFault.TheVariants.{Short, Read as ReadBody, Memory}
 use Rattle.http_request.specs.declared.head.HeadFault.{HeadFault}
 use Rattle.http_request.specs.declared.head.HeadFault.TheVariants.{Closed, Read}
-use Rattle.http_request.specs.declared.head.TheConstants.{HEAD_LIMIT}
+use Rattle.http_request.specs.declared.head.TheConstants.{MAX_HEAD_LENGTH}
 
 -- these bytes were taken from the reader, and no read failed
 pub record Takes (bytes : List ℕ) (old new : Reader) : Type 0 where
@@ -29,7 +29,7 @@ pub record ReadsHead (request : RequestParts) (old new : Reader) : Type 0 where
   pub taken : List ℕ
   pub takes : Takes taken old new
   pub has : HasHead taken request.head request.after_head
-  pub room : length taken ≤ HEAD_LIMIT
+  pub room : length taken ≤ MAX_HEAD_LENGTH
 
 -- The bytes taken don't begin an input that has a head: either no bytes that follow could complete one, or the input has ended although more bytes
 -- could have. They are at least one byte, and no more than a head may have.
@@ -38,7 +38,7 @@ pub record ReadsNoHead (old new : Reader) : Type 0 where
   pub takes : Takes taken old new
   pub some : 0 < length taken
   pub no_head : ((more : List ℕ) → HasNoHead (taken ++ more)) ⊎ (IsAtEnd new.left × HasNoHead taken × MayBecomeHead taken)
-  pub room : length taken ≤ HEAD_LIMIT
+  pub room : length taken ≤ MAX_HEAD_LENGTH
 
 -- the input ended before its first byte
 pub record IsClosed (old new : Reader) : Type 0 where
@@ -51,7 +51,7 @@ pub record FailsInHead (old new : Reader) : Type 0 where
   pub fails : FailsAfter taken old new
   pub part : HasNoHead taken
   pub unfinished : MayBecomeHead taken
-  pub room : length taken < HEAD_LIMIT
+  pub room : length taken < MAX_HEAD_LENGTH
 
 -- the result of reading a head
 abbrev pub AnswersHead : Result (Option RequestParts) HeadFault → Reader → Reader → Type 0

@@ -1,7 +1,7 @@
 -- What a reader had left before a request was read from it, if that is known.
 use Rattle.std.specs.Prelude.{◌≡◌, ℕ, ◌<◌, ◌≤◌, List, [], length, take, unwrap_or, Some}
 use Rattle.std.specs.Io.KnownBytes.{Keeps}
-use Rattle.counted_io.specs.Device.{Reader}
+use Rattle.counted_io.specs.ReaderWriter.{Reader}
 use Rattle.http_request.specs.Head.{Head, HasHead, HasNoHead}
 
 -- the bytes that a reader has left, or none if they aren't known

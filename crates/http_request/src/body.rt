@@ -1,6 +1,6 @@
 //! The body of a request, read piece by piece.
 ghost use Rattle.std.specs.Prelude.{◌≡◌, MatchResult};
-ghost use Rattle.counted_io.specs.Device.{reader};
+ghost use Rattle.counted_io.specs.ReaderWriter.{reader};
 ghost use Rattle.http_request.specs.Reading.{EndsBody, ReadsBody};
 ghost use Rattle.http_request.specs.declared.body.BodyFault.TheVariants.{Memory};
 

@@ -1,6 +1,6 @@
 //! The head of a request, read into a buffer of a fixed size.
 ghost use Rattle.std.specs.Prelude.{◌≡◌, length};
-ghost use Rattle.counted_io.specs.Device.{reader};
+ghost use Rattle.counted_io.specs.ReaderWriter.{reader};
 ghost use Rattle.http_request.specs.Reading.{AnswersHead};
 ghost use Rattle.http_request.specs.Search.{AnswersSearch};
 
@@ -11,10 +11,10 @@ use httparse::spans::{EMPTY_HEADER_SPAN, HeaderSpan, RequestSpans, parse_request
 use thiserror::Error;
 
 /// The greatest number of bytes of a head, including the empty line that ends it.
-pub const HEAD_LIMIT: usize = 8192;
+pub const MAX_HEAD_LENGTH: usize = 8192;
 
 /// The greatest number of headers of a head.
-pub const HEADER_LIMIT: usize = 64;
+pub const MAX_HEADERS: usize = 64;
 
 /// Why there is no head to check.
 #[derive(Clone, Copy, Debug, PartialEq, Eq, Error)]
@@ -37,15 +37,15 @@ struct Found {
 /// The space for one head. The last request that was read borrows its contents.
 #[derive(Drop)]
 pub struct HeadBuffer {
-    bytes: [u8; HEAD_LIMIT],
-    headers: [HeaderSpan; HEADER_LIMIT],
+    bytes: [u8; MAX_HEAD_LENGTH],
+    headers: [HeaderSpan; MAX_HEADERS],
 }
 
 impl HeadBuffer {
     pub fn new() -> Self {
         HeadBuffer {
-            bytes: [0; HEAD_LIMIT],
-            headers: [EMPTY_HEADER_SPAN; HEADER_LIMIT],
+            bytes: [0; MAX_HEAD_LENGTH],
+            headers: [EMPTY_HEADER_SPAN; MAX_HEADERS],
         }
     }
 
@@ -76,8 +76,8 @@ fn find_head<R: CountedRead>(
     headers: &mut [HeaderSpan],
     input: &mut R,
 ) -> Result<Option<Found>, HeadFault>
-    requires bytes { length bytes.old ≡ HEAD_LIMIT }
-    requires headers { length headers.old ≡ HEADER_LIMIT }
+    requires bytes { length bytes.old ≡ MAX_HEAD_LENGTH }
+    requires headers { length headers.old ≡ MAX_HEADERS }
     ensures { AnswersSearch bytes.new headers.new result
         (reader R.remaining R.failed_reads input.old) (reader R.remaining R.failed_reads input.new) }
 {

@@ -1,17 +1,17 @@
 //! Laws over the definitions, as contracts of functions that do nothing.
 ghost use Rattle.std.specs.Prelude.{◌≡◌, ℕ, List, ◌++◌};
-ghost use Rattle.counted_io.specs.Device.{Reader};
+ghost use Rattle.counted_io.specs.ReaderWriter.{Reader};
 ghost use Rattle.http_request.specs.Head.{Head, HasHead};
 ghost use Rattle.http_request.specs.Reading.{EndsInBody, ReadsNoHead, ReadsBody, ReadsHead, RequestParts};
 ghost use Rattle.http_request.specs.Whole.{HadHead, HadNoHead, HadRequest, HadShortRequest, left_of};
-ghost use Rattle.http_request.specs.declared.head.TheConstants.{HEAD_LIMIT, HEADER_LIMIT};
-ghost use Rattle.http_request.specs.declared.length.TheConstants.{BODY_LIMIT};
+ghost use Rattle.http_request.specs.declared.head.TheConstants.{MAX_HEAD_LENGTH, MAX_HEADERS};
+ghost use Rattle.http_request.specs.declared.length.TheConstants.{MAX_BODY_LENGTH};
 
 /// The limits on a request: the bytes of its head, the number of its headers, the bytes of its body.
 pub fn limits()
-    ensures head { HEAD_LIMIT ≡ 8192 }
-    ensures headers { HEADER_LIMIT ≡ 64 }
-    ensures body { BODY_LIMIT ≡ 1048576 }
+    ensures head { MAX_HEAD_LENGTH ≡ 8192 }
+    ensures headers { MAX_HEADERS ≡ 64 }
+    ensures body { MAX_BODY_LENGTH ≡ 1048576 }
 {}
 
 /// An input begins with at most one head, followed by one rest, and bytes that arrive later only lengthen that rest.

@@ -9,7 +9,7 @@ use decimal::are_digits;
 use thiserror::Error;
 
 /// The greatest number of bytes of a body.
-pub const BODY_LIMIT: usize = 1_048_576;
+pub const MAX_BODY_LENGTH: usize = 1_048_576;
 
 /// Why a head gives no length for the body.
 #[derive(Clone, Copy, Debug, PartialEq, Eq, Error)]
@@ -49,7 +49,7 @@ fn number_up_to_limit(digits: &[u8]) -> Result<usize, LengthFault>
     let mut number = 0;
     for digit in digits {
         number = number * 10 + usize::from(*digit - b'0');
-        if number > BODY_LIMIT {
+        if number > MAX_BODY_LENGTH {
             return Err(LengthFault::TooLarge);
         }
     }

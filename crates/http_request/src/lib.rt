@@ -8,6 +8,6 @@ mod length;
 mod request;
 
 pub use body::{BodyFault, read_body};
-pub use head::{HEAD_LIMIT, HEADER_LIMIT, HeadBuffer, HeadFault};
-pub use length::{BODY_LIMIT, LengthFault};
+pub use head::{HeadBuffer, HeadFault, MAX_HEAD_LENGTH, MAX_HEADERS};
+pub use length::{LengthFault, MAX_BODY_LENGTH};
 pub use request::Request;

@@ -9,13 +9,13 @@ use Rattle.bpf_meaning.specs.Extract.{IsExtract, chosen_count, row_if_chosen}
 use Rattle.extract.specs.Rows.{AppendsRow}
 use Rattle.jobs.specs.Segments.{AppendsExtract, segments_of}
 use Rattle.tl_segments.specs.County.{CountyParts}
-use Rattle.tl_segments.specs.Segment.{Contents}
+use Rattle.tl_segments.specs.Segment.{SegmentParts}
 
 pub none_appended : (code : List Insn) (rows : List ℕ) → AppendsExtract code [] rows rows
 none_appended code rows = record { text = []; chosen = 0; is_extract = (refl, refl); appended = sym (append-nil rows) }
 
 -- the extracts of two lists of segments, one after the other
-both_appended : {code : List Insn} (front back : List Contents) {rows now new : List ℕ} → AppendsExtract code front rows now
+both_appended : {code : List Insn} (front back : List SegmentParts) {rows now new : List ℕ} → AppendsExtract code front rows now
     → AppendsExtract code back now new → AppendsExtract code (front ++ back) rows new
 both_appended {code} front back {rows} first second = record {
   text = first.text ++ second.text;
@@ -29,7 +29,7 @@ take_item : {X : Type 0} (xs : List X) (i : ℕ) (x : X) → i < length xs → x
 take_item xs i x inside is = take_more xs i x inside ∙ ap (λ found. take i xs ++ found ∷ []) (sym is)
 
 -- the row of one more segment
-pub segment_appended : {code : List Insn} (segments : List Contents) (i : ℕ) (segment : Contents) {rows now new : List ℕ} → i < length segments
+pub segment_appended : {code : List Insn} (segments : List SegmentParts) (i : ℕ) (segment : SegmentParts) {rows now new : List ℕ} → i < length segments
     → segment ≡ slice_index_or segments i segment → AppendsExtract code (take i segments) rows now → AppendsRow code segment now new
     → AppendsExtract code (take (i + 1) segments) rows new
 segment_appended {code} segments i segment {rows} {now} {new} inside is so_far (answer, score, answers, appended) =
@@ -53,9 +53,9 @@ county_appended {code} counties i county {rows} {now} {new} inside is so_far mor
     segments =
         ap (λ counties. segments_of counties) (take_item counties i county inside is)
         ∙ flat_map-append (λ (county : CountyParts). county.segments) (take i counties) (county ∷ [])
-        ∙ ap (λ (more : List Contents). segments_of (take i counties) ++ more) (append-nil county.segments)
+        ∙ ap (λ (more : List SegmentParts). segments_of (take i counties) ++ more) (append-nil county.segments)
 
-pub all_segments : {code : List Insn} {segments : List Contents} {i : ℕ} {rows new : List ℕ} → length segments ≤ i
+pub all_segments : {code : List Insn} {segments : List SegmentParts} {i : ℕ} {rows new : List ℕ} → length segments ≤ i
     → AppendsExtract code (take i segments) rows new → AppendsExtract code segments rows new
 all_segments {code} {segments} {i} {rows} {new} last so_far =
     subst (λ seen. AppendsExtract code seen rows new) (take_all i segments last) so_far

@@ -10,7 +10,7 @@ use Rattle.std.proofs.Math.Seq.{drop-append-add, take-add}
 use Rattle.bpf_insn.specs.declared.instruction.Insn.{Insn}
 use Rattle.bpf_meaning.specs.Extract.{IsExtract, row_if_chosen, chosen_count}
 use Rattle.tl_segments.specs.County.{CountyParts}
-use Rattle.tl_segments.specs.Segment.{Contents}
+use Rattle.tl_segments.specs.Segment.{SegmentParts}
 use Rattle.extract.specs.Rows.{AppendsRow, IsChosen}
 use Rattle.bpf_meaning.proofs.ExtractLemmas.{extract_append, extract_push}
 use Rattle.jobs.specs.Inside.{IsPositionIn, left_at, segments_after}
@@ -40,12 +40,12 @@ after_within segment county counties within = sym (drop-append-le segment county
 module _ (counties : List CountyParts) (done at segment : ℕ) (county : CountyParts)
     (here : drop at counties ≡ county ∷ drop (at + 1) counties) where
   -- the next segment, and those left after it
-  pub left_found : (found : Contents) → drop segment county.segments ≡ found ∷ drop (segment + 1) county.segments
+  pub left_found : (found : SegmentParts) → drop segment county.segments ≡ found ∷ drop (segment + 1) county.segments
       → left_at counties (record { done = done; county = at; segment = segment }) ≡ found ∷ left_at counties
       (record { done = done + 1; county = at; segment = segment + 1 })
   left_found found is =
       ap (λ counties. segments_after segment counties) here
-      ∙ ap (λ (front : List Contents). front ++ segments_of (drop (at + 1) counties)) is
+      ∙ ap (λ (front : List SegmentParts). front ++ segments_of (drop (at + 1) counties)) is
       ∙ ap (λ counties. found ∷ segments_after (segment + 1) counties) (sym here)
 
   -- a county with no segments left is skipped
@@ -53,7 +53,7 @@ module _ (counties : List CountyParts) (done at segment : ℕ) (county : CountyP
       counties (record { done = done; county = at + 1; segment = 0 })
   left_skipped none =
       ap (λ counties. segments_after segment counties) here
-      ∙ ap (λ (front : List Contents). front ++ segments_of (drop (at + 1) counties)) (drop_all segment county.segments none)
+      ∙ ap (λ (front : List SegmentParts). front ++ segments_of (drop (at + 1) counties)) (drop_all segment county.segments none)
       ∙ sym (after_none (drop (at + 1) counties))
 
 -- the segments of one more county, each of which has fewer than 2^32
@@ -66,9 +66,9 @@ segments_more counties i county total inside is so_far few =
     take_more counties i county inside ∙ ap (λ found. take i counties ++ found ∷ []) (sym is) in
     let count : length (segments_of (take (i + 1) counties)) ≡ length (segments_of (take i counties)) + length county.segments =
     ap (λ counties. length (segments_of counties)) front
-    ∙ ap (λ (xs : List Contents). length xs) (flat_map-append (λ (county : CountyParts). county.segments) (take i counties) (county ∷ []))
+    ∙ ap (λ (xs : List SegmentParts). length xs) (flat_map-append (λ (county : CountyParts). county.segments) (take i counties) (county ∷ []))
     ∙ length-append (segments_of (take i counties)) (county.segments ++ [])
-    ∙ ap (λ (xs : List Contents). length (segments_of (take i counties)) + length xs) (append-nil county.segments) in
+    ∙ ap (λ (xs : List SegmentParts). length (segments_of (take i counties)) + length xs) (append-nil county.segments) in
     let total_is = so_far.0 in
     let below = so_far.1 in
     ((omega (arith, count)), omega arith)
@@ -129,13 +129,13 @@ position_end counties done number left so_far last few within =
     }
 
 -- the position after one more segment
-pub position_more : (counties : List CountyParts) (old new : Position) (segment : Contents) → IsPositionIn counties old
+pub position_more : (counties : List CountyParts) (old new : Position) (segment : SegmentParts) → IsPositionIn counties old
     → left_at counties old ≡ segment ∷ left_at counties new → new.done ≡ old.done + 1 → IsPositionIn counties new
 position_more counties old new segment is left done =
     let all = segments_of counties in
     let rest : drop old.done all ≡ segment ∷ left_at counties new = sym is.left ∙ left in
     let long : length all - old.done ≡ suc (length (left_at counties new)) =
-    sym (length-drop old.done all) ∙ ap (λ (xs : List Contents). length xs) rest in
+    sym (length-drop old.done all) ∙ ap (λ (xs : List SegmentParts). length xs) rest in
     record {
       within = (let within = is.within in omega arith);
       few = is.few;
@@ -143,7 +143,7 @@ position_more counties old new segment is left done =
           ∙ ap (λ n. drop n all) {x = suc old.done} {y = new.done} (omega (arith, done));
     }
   where
-    tail : (xs : List Contents) (i : ℕ) (x : Contents) (rest : List Contents) → drop i xs ≡ x ∷ rest → drop (suc i) xs ≡ rest
+    tail : (xs : List SegmentParts) (i : ℕ) (x : SegmentParts) (rest : List SegmentParts) → drop i xs ≡ x ∷ rest → drop (suc i) xs ≡ rest
     tail [] zero x rest is = cc
     tail [] (suc i) x rest is = cc
     tail (first ∷ xs) zero x rest is = cc
@@ -166,7 +166,7 @@ next_among {X = X} front x back n within =
 -- The next `count` segments from a position were processed, and the rows that the code selects from them were appended.
 pub record IsTurnedSoFar (code : List Insn) (counties : List CountyParts) (from now : Position) (count : ℕ)
     (rows new_rows : List ℕ) : Type 0 where
-  pub seen : List Contents
+  pub seen : List SegmentParts
   pub left : drop from.done (segments_of counties) ≡ seen ++ left_at counties now
   pub counted : length seen ≡ count
   pub done : now.done ≡ from.done + count
@@ -190,7 +190,7 @@ none_turned code counties from rows is = record {
 
 module _ (code : List Insn) (counties : List CountyParts) (from now : Position) (count : ℕ) (rows new_rows : List ℕ)
     (so_far : IsTurnedSoFar code counties from now count rows new_rows) where
-  pub one_turned_more : (next : Position) (segment : Contents) (next_rows : List ℕ) → left_at counties now ≡ segment ∷ left_at counties next
+  pub one_turned_more : (next : Position) (segment : SegmentParts) (next_rows : List ℕ) → left_at counties now ≡ segment ∷ left_at counties next
       → next.done ≡ now.done + 1 → AppendsRow code segment new_rows next_rows
       → IsTurnedSoFar code counties from next (count + 1) rows next_rows
   one_turned_more next segment next_rows left done (answer, score, answers, appended) = record {
@@ -209,7 +209,7 @@ module _ (code : List Insn) (counties : List CountyParts) (from now : Position) 
   left_count : length (segments_of counties) - from.done ≡ count + length (left_at counties now)
   left_count =
       sym (length-drop from.done (segments_of counties))
-      ∙ ap (λ (xs : List Contents). length xs) so_far.left
+      ∙ ap (λ (xs : List SegmentParts). length xs) so_far.left
       ∙ length-append so_far.seen (left_at counties now)
       ∙ ap (λ n. n + length (left_at counties now)) so_far.counted
 
@@ -236,11 +236,11 @@ module _ (code : List Insn) (counties : List CountyParts) (from now : Position) 
   pub turn_of_rest : from.done ≤ length (segments_of counties) → count ≤ SEGMENTS_PER_TURN → left_at counties now ≡ []
       → Advances code (segments_of counties) from.done rows now.done new_rows
   turn_of_rest within few none = turned
-      (let count = left_count in let ended = ap (λ (xs : List Contents). length xs) none in let done = so_far.done in grind (arith))
+      (let count = left_count in let ended = ap (λ (xs : List SegmentParts). length xs) none in let done = so_far.done in grind (arith))
       (rw (none, append-nil) (take_all SEGMENTS_PER_TURN so_far.seen (let counted = so_far.counted in omega arith)))
 
   -- an allocation fails for the row of the next segment
-  pub turn_needs_row : (segment : Contents) (others : List Contents) → left_at counties now ≡ segment ∷ others → count < SEGMENTS_PER_TURN
+  pub turn_needs_row : (segment : SegmentParts) (others : List SegmentParts) → left_at counties now ≡ segment ∷ others → count < SEGMENTS_PER_TURN
       → IsChosen code segment → NeedsRow code (segments_of counties) from.done
   turn_needs_row segment others left few chosen = (
     segment,
@@ -254,7 +254,7 @@ module _ (code : List Insn) (counties : List CountyParts) (from now : Position) 
   rows_restored = ap (λ rows'. take (length rows) rows') so_far.appended ∙ take_at rows so_far.text (length rows) refl
 
 -- the extract of the segments done, with those of a turn added
-pub extract_turned : {code : List Insn} {segments : List Contents} {done new_done : ℕ} {rows new_rows : List ℕ} (chosen : ℕ)
+pub extract_turned : {code : List Insn} {segments : List SegmentParts} {done new_done : ℕ} {rows new_rows : List ℕ} (chosen : ℕ)
     → IsExtract code (take done segments) rows chosen → (advances : Advances code segments done rows new_done new_rows)
     → IsExtract code (take new_done segments) new_rows (chosen + advances.chosen)
 extract_turned {code} {segments} {done} {rows} chosen is advances =
@@ -265,5 +265,5 @@ extract_turned {code} {segments} {done} {rows} chosen is advances =
     (extract_append code (take done segments) (take SEGMENTS_PER_TURN (drop done segments)) rows advances.text chosen advances.chosen is
     advances.is_extract))
   where
-    take_min' : (n : ℕ) (xs : List Contents) → take (min (length xs) n) xs ≡ take n xs
+    take_min' : (n : ℕ) (xs : List SegmentParts) → take (min (length xs) n) xs ≡ take n xs
     take_min' n xs = ap (λ n. take n xs) (grind (arith)) ∙ take_min n xs

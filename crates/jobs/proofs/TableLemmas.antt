@@ -13,7 +13,7 @@ use Rattle.tl_segments.specs.County.{CountyParts}
 use Rattle.jobs.specs.Inside.{Ascend, IsPositionIn, IsTable, jobs_of, parts_of}
 use Rattle.jobs.specs.Table.{IsFull}
 use Rattle.jobs.specs.declared.job.Job.{Job}
-use Rattle.jobs.specs.declared.table.TheConstants.{JOB_LIMIT}
+use Rattle.jobs.specs.declared.table.TheConstants.{MAX_JOBS}
 use Rattle.jobs.proofs.MapLemmas.{Ascend-push, Ascend-remove, Ascend-set, insert_entry-last, insert_entry-seen, lookup-seen}
 use Rattle.jobs.proofs.MapLemmas.{remove_entry-seen, set_value-seen}
 
@@ -72,7 +72,7 @@ module _ {A : Type 0} (counties : List CountyParts) (total : ℕ) (entries : Lis
   job_found id found is = lookup-seen parts_of id entries ∙ ap (λ found. option_map parts_of found) (sym is)
 
   -- another job can be opened
-  pub room : length entries < JOB_LIMIT → last_id ≢ 2 ^ 64 - 1
+  pub room : length entries < MAX_JOBS → last_id ≢ 2 ^ 64 - 1
       → IsFull (record { counties = counties; jobs = jobs_of entries; last_id = last_id }) → ⊥
   room few more (inl many) = let count : length (jobs_of entries) ≡ length entries =
       length-map entries (λ (e : ℕ × Job A). (e.0, parts_of e.1)) in absurd (omega (arith, count))

@@ -2,20 +2,20 @@
 use Rattle.std.specs.Prelude.{◌≡◌, ℕ, ◌^◌, ◌<◌, ◌≤◌, List, [], ◌∷◌, ◌++◌, length, drop, map, All}
 use Rattle.std.specs.Map.{values_of}
 use Rattle.tl_segments.specs.County.{CountyParts}
-use Rattle.tl_segments.specs.Segment.{Contents}
+use Rattle.tl_segments.specs.Segment.{SegmentParts}
 use Rattle.jobs.specs.Segments.{segments_of}
 use Rattle.jobs.specs.Table.{JobParts}
 use Rattle.jobs.specs.declared.job.Job.{Job}
 use Rattle.jobs.specs.declared.position.Position.{Position}
-use Rattle.jobs.specs.declared.position.TheConstants.{COUNTY_LIMIT}
+use Rattle.jobs.specs.declared.position.TheConstants.{MAX_COUNTIES}
 
 -- the segments of the first county without its first `segment` ones, and those of the other counties
-abbrev pub segments_after : ℕ → List CountyParts → List Contents
+abbrev pub segments_after : ℕ → List CountyParts → List SegmentParts
 segments_after segment [] = []
 segments_after segment (county ∷ counties) = drop segment county.segments ++ segments_of counties
 
 -- the segments left at a position
-abbrev pub left_at : List CountyParts → Position → List Contents
+abbrev pub left_at : List CountyParts → Position → List SegmentParts
 left_at counties position = segments_after position.segment (drop position.county counties)
 
 -- a position after the segments that are done, in counties whose segments can be counted in 64 bits
@@ -40,7 +40,7 @@ Ascend low (entry ∷ entries) high = (low < entry.0) × (entry.0 ≤ high) × A
 -- The counties are within the limit, and the total is the number of their segments. Ids ascend, up to at most the last one. Each job's position
 -- agrees with its number of segments.
 pub record IsTable {A : Type 0} (counties : List CountyParts) (total : ℕ) (entries : List (ℕ × Job A)) (last_id : ℕ) : Type 0 where
-  pub within : length counties ≤ COUNTY_LIMIT
+  pub within : length counties ≤ MAX_COUNTIES
   pub counted : total ≡ length (segments_of counties)
   pub few : length (segments_of counties) < 2 ^ 64
   pub ascend : Ascend 0 entries last_id

@@ -11,7 +11,7 @@ use Rattle.jobs.specs.declared.event.Event.TheVariants.{Submit, Turn, Fetch, Dro
 use Rattle.jobs.specs.declared.event.Reply.{Reply}
 use Rattle.jobs.specs.declared.event.Reply.TheVariants.{Submitted, Turned, Rows, Dropped, Refused}
 use Rattle.jobs.specs.declared.fault.JobFault.TheVariants.{Full, NoJob, Program, Memory}
-use Rattle.jobs.specs.declared.table.TheConstants.{JOB_LIMIT}
+use Rattle.jobs.specs.declared.table.TheConstants.{MAX_JOBS}
 
 -- an open job: its code, the number of segments done, and their rows
 pub record JobParts : Type 0 where
@@ -56,7 +56,7 @@ without_job table id = record table { jobs = remove_entry (nat_eq id) table.jobs
 
 -- the limit of open jobs is reached, or the greatest id was assigned
 abbrev pub IsFull : Table → Type 0
-IsFull table = (JOB_LIMIT ≤ length table.jobs) ⊎ (table.last_id ≡ 2 ^ 64 - 1)
+IsFull table = (MAX_JOBS ≤ length table.jobs) ⊎ (table.last_id ≡ 2 ^ 64 - 1)
 
 -- the job advanced by a turn: with its own code, over the segments after those that it had done
 pub record IsTurned (counties : List CountyParts) (old new : JobParts) : Type 0 where

@@ -10,14 +10,14 @@ ghost use Rattle.jobs.specs.declared.event.Event.TheVariants.{Submit};
 ghost use Rattle.jobs.specs.declared.event.Reply.{Reply};
 ghost use Rattle.jobs.specs.declared.event.Reply.TheVariants.{Refused};
 ghost use Rattle.jobs.specs.declared.fault.JobFault.TheVariants.{Memory};
-ghost use Rattle.jobs.specs.declared.position.TheConstants.{COUNTY_LIMIT};
-ghost use Rattle.jobs.specs.declared.table.TheConstants.{JOB_LIMIT};
+ghost use Rattle.jobs.specs.declared.position.TheConstants.{MAX_COUNTIES};
+ghost use Rattle.jobs.specs.declared.table.TheConstants.{MAX_JOBS};
 ghost use Rattle.jobs.specs.declared.turn.TheConstants.{SEGMENTS_PER_TURN};
 
 /// The limits of a table and of a turn.
 pub fn limits()
-    ensures jobs { JOB_LIMIT ≡ 64 }
-    ensures counties { COUNTY_LIMIT ≡ 100000 }
+    ensures jobs { MAX_JOBS ≡ 64 }
+    ensures counties { MAX_COUNTIES ≡ 100000 }
     ensures turn { SEGMENTS_PER_TURN ≡ 256 }
 {}
 

@@ -12,7 +12,7 @@ mod turn;
 
 pub use event::{Event, Reply};
 pub use fault::JobFault;
-pub use position::COUNTY_LIMIT;
+pub use position::MAX_COUNTIES;
 pub use rows::all_rows;
-pub use table::{JOB_LIMIT, Jobs};
+pub use table::{Jobs, MAX_JOBS};
 pub use turn::{SEGMENTS_PER_TURN, advance};

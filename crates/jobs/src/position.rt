@@ -7,10 +7,10 @@ use std::alloc::Allocator;
 use tl_segments::{County, Segment};
 
 /// The greatest number of counties that jobs process.
-pub const COUNTY_LIMIT: usize = 100_000;
+pub const MAX_COUNTIES: usize = 100_000;
 
 pub(crate) fn count_segments<A: Allocator>(counties: &[County<A>]) -> u64
-    requires { length counties.now ≤ COUNTY_LIMIT }
+    requires { length counties.now ≤ MAX_COUNTIES }
     ensures { result ≡ length (segments_of counties.now) }
 {
     let mut total = 0;

@@ -9,7 +9,7 @@ ghost use Rattle.jobs.specs.declared.event.Reply.TheVariants.{Dropped, Refused, 
 use crate::event::{Event, Reply};
 use crate::fault::JobFault;
 use crate::job::Job;
-use crate::position::{COUNTY_LIMIT, count_segments};
+use crate::position::{MAX_COUNTIES, count_segments};
 use bpf_program::accept;
 use std::alloc::Allocator;
 use std::collections::BTreeMap;
@@ -17,7 +17,7 @@ use std::marker::Model;
 use tl_segments::County;
 
 /// The greatest number of open jobs.
-pub const JOB_LIMIT: usize = 64;
+pub const MAX_JOBS: usize = 64;
 
 /// A table of jobs, each of which makes a program's extract over all segments of the same counties, in the order of the counties. Contracts see it
 /// as a record with the fields `counties`, `jobs` and `last_id`.
@@ -46,7 +46,7 @@ impl<A: Allocator + Copy> Jobs<A> {
 
     /// Returns a table with no jobs, and keeps the counties. It doesn't allocate.
     pub fn new(alloc: A, counties: Vec<County<A>, A>) -> Self
-        requires { length counties.items ≤ COUNTY_LIMIT }
+        requires { length counties.items ≤ MAX_COUNTIES }
         ensures { result ≡ empty_table counties.items }
     {
         let total = count_segments(counties.as_slice());
@@ -61,7 +61,7 @@ impl<A: Allocator + Copy> Jobs<A> {
 
     pub fn counties(&self) -> &[County<A>]
         ensures value { result.now ≡ self.now.counties }
-        ensures few { length result.now ≤ COUNTY_LIMIT }
+        ensures few { length result.now ≤ MAX_COUNTIES }
     {
         self.counties.as_slice()
     }
@@ -96,7 +96,7 @@ impl<A: Allocator + Copy> Jobs<A> {
         ensures ok { IfOk result (λ id. Step self.old (Submit program.entry) (Submitted id) self.new) }
         ensures err { IfErr result (λ fault. Step self.old (Submit program.entry) (Refused fault) self.new) }
     {
-        if self.jobs.len() >= JOB_LIMIT || self.last_id == u64::MAX {
+        if self.jobs.len() >= MAX_JOBS || self.last_id == u64::MAX {
             return Err(JobFault::Full);
         }
         let verified = accept(self.alloc, program)?;

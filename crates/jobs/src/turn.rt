@@ -3,7 +3,7 @@ ghost use Rattle.std.specs.Prelude.{◌≡◌, ◌≤◌, length, IfOk, OnErr};
 ghost use Rattle.jobs.specs.Inside.{IsPositionIn};
 ghost use Rattle.jobs.specs.Segments.{Advances, NeedsRow, segments_of};
 
-use crate::position::{COUNTY_LIMIT, Position, count_segments};
+use crate::position::{MAX_COUNTIES, Position, count_segments};
 use bpf_machine::Bare;
 use bpf_verify::Verified;
 use extract::push_row_if_chosen;
@@ -24,7 +24,7 @@ pub fn advance<A: Allocator>(
     rows: &mut Vec<u8, A>,
 ) -> Result<u64, AllocError>
     requires within { done ≤ length (segments_of counties.now) }
-    requires few { length counties.now ≤ COUNTY_LIMIT }
+    requires few { length counties.now ≤ MAX_COUNTIES }
     ensures ok { IfOk result (λ now. Advances verified.now.code (segments_of counties.now) done rows.old.items now rows.new.items) }
     ensures err { OnErr result (rows.new.items ≡ rows.old.items) }
     ensures needs_row { OnErr result (NeedsRow verified.now.code (segments_of counties.now) done) }

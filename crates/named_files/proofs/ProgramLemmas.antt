@@ -5,86 +5,86 @@ use Rattle.std.specs.Io.KnownBytes.{Consumes, IsAtEnd, Keeps}
 use Rattle.std.proofs.Math.Seq.{take-append-add}
 use Rattle.std.proofs.lemmas.List.{append-nil, length-append, length-take, length-take-le, take-append-le, take_all, take_min}
 use Rattle.std.proofs.lemmas.Bool.{cases_lt}
-use Rattle.bpf_insn.specs.declared.code.TheConstants.{WORD_LIMIT}
+use Rattle.bpf_insn.specs.declared.code.TheConstants.{MAX_WORDS}
 use Rattle.bpf_insn.specs.declared.fault.CodeFault.{CodeFault}
 use Rattle.bpf_insn.specs.declared.fault.CodeFault.TheVariants as code
-use Rattle.named_files.specs.Files.{IsFront, IsTooLong}
-use Rattle.named_files.proofs.FileLemmas.{keeps_both}
+use Rattle.named_files.specs.Files.{IsPrefix, IsTooLong}
+use Rattle.named_files.proofs.FileLemmas.{preserves_both}
 
 -- the stored prefix of what was read, extended by the bytes that are stored from the next read
-kept_more : (most : ℕ) (before read kept : List ℕ) → kept ≡ take most before
-    → kept ++ take (most - length kept) read ≡ take most (before ++ read)
-kept_more most before read kept is = by_length (cases_lt most (length before))
+stored_more : (limit : ℕ) (before read stored : List ℕ) → stored ≡ take limit before
+    → stored ++ take (limit - length stored) read ≡ take limit (before ++ read)
+stored_more limit before read stored is = by_length (cases_lt limit (length before))
   where
-    by_length : (most < length before) ⊎ (length before ≤ most) → kept ++ take (most - length kept) read ≡ take most (before ++ read)
+    by_length : (limit < length before) ⊎ (length before ≤ limit) → stored ++ take (limit - length stored) read ≡ take limit (before ++ read)
     by_length (inl many) =
-        let full : length kept ≡ most = ap length is ∙ length-take-le most before (omega (arith, many)) in
-        let none : most - length kept ≡ 0 = omega (arith, full) in
-        ap (λ (n : ℕ). kept ++ take n read) none ∙ append-nil kept ∙ is ∙ sym (take-append-le most before read (omega (arith, many)))
+        let full : length stored ≡ limit = ap length is ∙ length-take-le limit before (omega (arith, many)) in
+        let none : limit - length stored ≡ 0 = omega (arith, full) in
+        ap (λ (n : ℕ). stored ++ take n read) none ∙ append-nil stored ∙ is ∙ sym (take-append-le limit before read (omega (arith, many)))
     by_length (inr few) =
-        let all : kept ≡ before = is ∙ take_all most before few in
-        let sum : length before + (most - length before) ≡ most = omega (arith, few) in
-        ap (λ (bytes : List ℕ). bytes ++ take (most - length bytes) read) all
-        ∙ sym (take-append-add before read (most - length before)) ∙ ap (λ (n : ℕ). take n (before ++ read)) sum
+        let all : stored ≡ before = is ∙ take_all limit before few in
+        let sum : length before + (limit - length before) ≡ limit = omega (arith, few) in
+        ap (λ (bytes : List ℕ). bytes ++ take (limit - length bytes) read) all
+        ∙ sym (take-append-add before read (limit - length before)) ∙ ap (λ (n : ℕ). take n (before ++ read)) sum
 
 -- the same, for the append that may fail
-module _ (most count : ℕ) (before read kept kept' : List ℕ) where
-  pub kept_read : {V E : Type 0} (result : Result V E) → count ≡ min (most - length kept) (length read)
-      → kept' ≡ (if is_ok result then kept ++ take count read else kept) → kept ≡ take most before
-      → IfOk result (λ _. kept' ≡ take most (before ++ read))
-  kept_read (Ok value) is_count added is =
-      added ∙ ap (λ (n : ℕ). kept ++ take n read) is_count ∙ ap (λ (bytes : List ℕ). kept ++ bytes) (take_min (most - length kept) read)
-      ∙ kept_more most before read kept is
-  kept_read (Err error) is_count added is = tt
+module _ (limit count : ℕ) (before read stored kept' : List ℕ) where
+  pub stored_read : {V E : Type 0} (result : Result V E) → count ≡ min (limit - length stored) (length read)
+      → kept' ≡ (if is_ok result then stored ++ take count read else stored) → stored ≡ take limit before
+      → IfOk result (λ _. kept' ≡ take limit (before ++ read))
+  stored_read (Ok value) is_count added is =
+      added ∙ ap (λ (n : ℕ). stored ++ take n read) is_count ∙ ap (λ (bytes : List ℕ). stored ++ bytes) (take_min (limit - length stored) read)
+      ∙ stored_more limit before read stored is
+  stored_read (Err error) is_count added is = tt
 
 -- the stored bytes are a prefix of what the reader has, whether it was read to its end or the limit was reached
-module _ (most : ℕ) (taken kept : List ℕ) (is : kept ≡ take most taken) where
-  pub front_whole : (old : Option (List ℕ)) → Keeps old (Some taken) → IsFront most old kept
-  front_whole old whole = record { whole = taken; is_whole = whole; is_front = is }
+module _ (limit : ℕ) (taken stored : List ℕ) (is : stored ≡ take limit taken) where
+  pub prefix_whole : (old : Option (List ℕ)) → Keeps old (Some taken) → IsPrefix limit old stored
+  prefix_whole old whole = record { whole = taken; is_whole = whole; is_prefix = is }
 
-  pub front_full : (old now : Option (List ℕ)) → Consumes old now taken → length kept ≡ most → IsFront most old kept
-  front_full None now read full = record { whole = taken; is_whole = tt; is_front = is }
-  front_full (Some xs) None read full = absurd read
-  front_full (Some xs) (Some ys) read full =
-      let many : most ≤ length taken = omega (arith, full, ap length is, length-take most taken) in
-      record { whole = xs; is_whole = refl; is_front = is ∙ sym (ap (take most) read ∙ take-append-le most taken ys many) }
+  pub prefix_full : (old now : Option (List ℕ)) → Consumes old now taken → length stored ≡ limit → IsPrefix limit old stored
+  prefix_full None now read full = record { whole = taken; is_whole = tt; is_prefix = is }
+  prefix_full (Some xs) None read full = absurd read
+  prefix_full (Some xs) (Some ys) read full =
+      let many : limit ≤ length taken = omega (arith, full, ap length is, length-take limit taken) in
+      record { whole = xs; is_whole = refl; is_prefix = is ∙ sym (ap (take limit) read ∙ take-append-le limit taken ys many) }
 
 -- if no more bytes than the limit are stored, they are the whole program; if more are stored, the program is longer than the limit
-module _ (program kept : List ℕ) (is : kept ≡ take (8 * (WORD_LIMIT + 1)) program) where
-  kept_length : length kept ≡ min (8 * (WORD_LIMIT + 1)) (length program)
-  kept_length = ap length is ∙ length-take (8 * (WORD_LIMIT + 1)) program
+module _ (program stored : List ℕ) (is : stored ≡ take (8 * (MAX_WORDS + 1)) program) where
+  stored_length : length stored ≡ min (8 * (MAX_WORDS + 1)) (length program)
+  stored_length = ap length is ∙ length-take (8 * (MAX_WORDS + 1)) program
 
-  pub all_kept : length kept ≤ 8 * WORD_LIMIT → kept ≡ program
-  all_kept few = is ∙ take_all (8 * (WORD_LIMIT + 1)) program (omega (arith, few, kept_length))
+  pub all_stored : length stored ≤ 8 * MAX_WORDS → stored ≡ program
+  all_stored few = is ∙ take_all (8 * (MAX_WORDS + 1)) program (omega (arith, few, stored_length))
 
-  more_kept : 8 * WORD_LIMIT < length kept → 8 * WORD_LIMIT < length program
-  more_kept more = omega (arith, more, kept_length)
+  more_stored : 8 * MAX_WORDS < length stored → 8 * MAX_WORDS < length program
+  more_stored more = omega (arith, more, stored_length)
 
   -- the program's fault, by the remainder of its last word
-  pub too_long : 8 * WORD_LIMIT < length kept → 0 ≡ length program % 8 → IsTooLong (Some program) code.TooLong
+  pub too_long : 8 * MAX_WORDS < length stored → 0 ≡ length program % 8 → IsTooLong (Some program) code.TooLong
   too_long more none = record {
     program = program;
     is_program = refl;
-    long = more_kept more;
-    first = (sym none, more_kept more);
+    long = more_stored more;
+    first = (sym none, more_stored more);
     has_number = λ e. cc;
   }
 
-  pub not_whole : (remainder : ℕ) → 8 * WORD_LIMIT < length kept → remainder ≡ length program % 8 → remainder ≢ 0
+  pub not_whole : (remainder : ℕ) → 8 * MAX_WORDS < length stored → remainder ≡ length program % 8 → remainder ≢ 0
       → IsTooLong (Some program) code.NotWhole
   not_whole remainder more of some = record {
     program = program;
     is_program = refl;
-    long = more_kept more;
+    long = more_stored more;
     first = λ whole. some (of ∙ whole);
     has_number = λ e. cc;
   }
 
 -- the same if less is known of it
 pub too_long_as : (known left : Option (List ℕ)) (fault : CodeFault) → Keeps known left → IsTooLong left fault → IsTooLong known fault
-too_long_as known left fault kept is = record {
+too_long_as known left fault stored is = record {
   program = is.program;
-  is_program = keeps_both known left (Some is.program) kept is.is_program;
+  is_program = preserves_both known left (Some is.program) stored is.is_program;
   long = is.long;
   first = is.first;
   has_number = is.has_number;

@@ -8,8 +8,8 @@ use Rattle.std.specs.declared.io.ErrorKind.TheVariants.{NotFound, OutOfMemory}
 use Rattle.bpf_insn.specs.Code.{IsFirstFault}
 use Rattle.bpf_insn.specs.declared.fault.CodeFault.{CodeFault}
 use Rattle.bpf_insn.specs.declared.fault.CodeFault.TheVariants as code_fault
-use Rattle.bpf_insn.specs.declared.code.TheConstants.{WORD_LIMIT}
-use Rattle.counted_io.specs.Device.{Reader, reader}
+use Rattle.bpf_insn.specs.declared.code.TheConstants.{MAX_WORDS}
+use Rattle.counted_io.specs.ReaderWriter.{Reader, reader}
 use Rattle.named_files.specs.declared.files.FileFault.{FileFault}
 use Rattle.named_files.specs.declared.files.FileFault.TheVariants.{Unusable, Memory}
 use Rattle.named_files.specs.declared.files.ProgramInputFault.{ProgramInputFault}
@@ -28,26 +28,26 @@ abbrev pub CountsClose : ℕ → ℕ → ℕ → Type 0
 CountsClose reads failed failed' = (reads ≡ 0 → failed' ≡ failed) × (reads ≢ 0 → failed' ≢ failed)
 
 -- an open that fails because the file doesn't exist yields nothing; any other error is passed on
-abbrev pub IsIfThere : {T : Type 0} → Result T Error → Result (Option T) Error → Type 0
-IsIfThere (Ok value) opened = opened ≡ Ok (Some value)
-IsIfThere (Err error) opened = (error_kind error ≡ NotFound → opened ≡ Ok None) × (error_kind error ≢ NotFound → opened ≡ Err error)
+abbrev pub IsNotFoundAsNone : {T : Type 0} → Result T Error → Result (Option T) Error → Type 0
+IsNotFoundAsNone (Ok value) opened = opened ≡ Ok (Some value)
+IsNotFoundAsNone (Err error) opened = (error_kind error ≡ NotFound → opened ≡ Ok None) × (error_kind error ≢ NotFound → opened ≡ Err error)
 
 -- the bytes that an opened reader has left, if they are known; none if there is no file
-abbrev pub remaining_if_there : {R : Type 0} → (R → Option (List ℕ)) → Option R → Option (List ℕ)
-remaining_if_there remaining opened = option_map_or remaining opened (Some [])
+abbrev pub optional_remaining : {R : Type 0} → (R → Option (List ℕ)) → Option R → Option (List ℕ)
+optional_remaining remaining opened = option_map_or remaining opened (Some [])
 
 -- the number of its failed reads; none if there is no file
-abbrev pub failed_if_there : {R : Type 0} → (R → ℕ) → Option R → ℕ
-failed_if_there failed_reads opened = option_map_or failed_reads opened 0
+abbrev pub optional_failed_reads : {R : Type 0} → (R → ℕ) → Option R → ℕ
+optional_failed_reads failed_reads opened = option_map_or failed_reads opened 0
 
 -- a file is unusable exactly if a call on it failed, which its count shows
 abbrev pub CountsFileFault : FileFault → ℕ → ℕ → Type 0
 CountsFileFault (Unusable error) failed failed' = failed' ≢ failed
 CountsFileFault Memory failed failed' = failed' ≡ failed
 
-abbrev pub TellsFailure : {T : Type 0} → Result T FileFault → ℕ → ℕ → Type 0
-TellsFailure (Ok value) failed failed' = failed' ≡ failed
-TellsFailure (Err fault) failed failed' = CountsFileFault fault failed failed'
+abbrev pub CountsFileResult : {T : Type 0} → Result T FileFault → ℕ → ℕ → Type 0
+CountsFileResult (Ok value) failed failed' = failed' ≡ failed
+CountsFileResult (Err fault) failed failed' = CountsFileFault fault failed failed'
 
 -- the bytes that an input has left, if they are known
 abbrev pub input_remaining : {R : Type 0} → (R → Option (List ℕ)) → Input R → Option (List ℕ)
@@ -106,35 +106,35 @@ abbrev pub CountsUse : FileFault → Disk → Disk → Type 0
 CountsUse (Unusable error) disk disk' = IsFailed disk disk'
 CountsUse Memory disk disk' = IsUnfailed disk disk'
 
-abbrev pub TellsUse : {T : Type 0} → Result T FileFault → Disk → Disk → Type 0
-TellsUse (Ok value) disk disk' = IsUnfailed disk disk'
-TellsUse (Err fault) disk disk' = CountsUse fault disk disk'
+abbrev pub CountsUseResult : {T : Type 0} → Result T FileFault → Disk → Disk → Type 0
+CountsUseResult (Ok value) disk disk' = IsUnfailed disk disk'
+CountsUseResult (Err fault) disk disk' = CountsUse fault disk disk'
 
--- These are the first `most` bytes of a file, or all if it has fewer, consistent with what is known of its bytes.
-pub record IsFront (most : ℕ) (known : Option (List ℕ)) (front : List ℕ) : Type 0 where
+-- These are the first `limit` bytes of a file, or all if it has fewer, consistent with what is known of its bytes.
+pub record IsPrefix (limit : ℕ) (known : Option (List ℕ)) (prefix : List ℕ) : Type 0 where
   pub whole : List ℕ
   pub is_whole : Keeps known (Some whole)
-  pub is_front : front ≡ take most whole
+  pub is_prefix : prefix ≡ take limit whole
 
 -- The program is longer than the limit of words, and is refused for its length alone.
 pub record IsTooLong (known : Option (List ℕ)) (fault : CodeFault) : Type 0 where
   pub program : List ℕ
   pub is_program : Keeps known (Some program)
-  pub long : 8 * WORD_LIMIT < length program
+  pub long : 8 * MAX_WORDS < length program
   pub first : IsFirstFault program fault
   pub has_number : fault ≢ code_fault.Memory
 
 -- what a fault implies for a program, given what is known of its bytes
-abbrev pub TellsProgram : Option (List ℕ) → ProgramInputFault → Type 0
-TellsProgram known (Code fault) = IsTooLong known fault
-TellsProgram known (File fault) = ⊤
+abbrev pub IsProgramInputFault : Option (List ℕ) → ProgramInputFault → Type 0
+IsProgramInputFault known (Code fault) = IsTooLong known fault
+IsProgramInputFault known (File fault) = ⊤
 
 -- a program that is refused was read to its end, and no read failed
 abbrev pub CountsProgramFault : ProgramInputFault → ℕ → ℕ → Type 0
 CountsProgramFault (File fault) failed failed' = CountsFileFault fault failed failed'
 CountsProgramFault (Code fault) failed failed' = failed' ≡ failed
 
-abbrev pub TellsProgramUse : {T : Type 0} → Result T ProgramInputFault → Disk → Disk → Type 0
-TellsProgramUse (Ok program) disk disk' = IsUnfailed disk disk'
-TellsProgramUse (Err (File fault)) disk disk' = CountsUse fault disk disk'
-TellsProgramUse (Err (Code fault)) disk disk' = IsUnfailed disk disk'
+abbrev pub CountsProgramUse : {T : Type 0} → Result T ProgramInputFault → Disk → Disk → Type 0
+CountsProgramUse (Ok program) disk disk' = IsUnfailed disk disk'
+CountsProgramUse (Err (File fault)) disk disk' = CountsUse fault disk disk'
+CountsProgramUse (Err (Code fault)) disk disk' = IsUnfailed disk disk'

@@ -4,7 +4,7 @@ ghost use Rattle.named_files.specs.County.{ClosesCounty, HoldCounty, HoldJoined,
 ghost use Rattle.named_files.specs.Files.{Closes, IsUnread, Opens, disk, input_reader};
 ghost use Rattle.named_files.specs.declared.files.FileFault.TheVariants.{Memory};
 
-use crate::files::{FileFault, Files, Input, close, open, open_if_there};
+use crate::files::{FileFault, Files, Input, close, open, open_optional};
 use std::alloc::{AllocError, Allocator};
 use tl_segments::{CountyFile, CountyFiles, JoinedFiles};
 
@@ -28,7 +28,7 @@ pub fn open_county<A: Allocator + Copy, F: Files>(
 ) -> Result<CountyInputs<F::Reader>, CountyFileFault>
     ensures hold { IfOk result (λ inputs. HoldCounty (F.bytes files.old) folder.now code.now
         (county_readers F.Reader.remaining F.Reader.failed_reads inputs)) }
-    ensures there { IfOk result (λ inputs. IsOpened inputs.rt1) }
+    ensures is_open { IfOk result (λ inputs. IsOpened inputs.rt1) }
     ensures opens { Opens result (λ fault. fault.fault) (disk F.bytes F.failed_opens F.failed_reads files.old)
         (disk F.bytes F.failed_opens F.failed_reads files.new) }
 {
@@ -88,7 +88,7 @@ fn open_file<A: Allocator + Copy, F: Files>(
 ) -> Result<Input<F::Reader>, CountyFileFault>
     ensures known { IfOk result (λ input. IsUnread (F.bytes files.old (file_name folder.now code.now file))
         (input_reader F.Reader.remaining F.Reader.failed_reads input)) }
-    ensures there { IfOk result (λ input. file ≡ CountyFile.Rt1 → IsOpened input) }
+    ensures is_open { IfOk result (λ input. file ≡ CountyFile.Rt1 → IsOpened input) }
     ensures opens { Opens result (λ fault. fault.fault) (disk F.bytes F.failed_opens F.failed_reads files.old)
         (disk F.bytes F.failed_opens F.failed_reads files.new) }
 {
@@ -101,7 +101,7 @@ fn open_file<A: Allocator + Copy, F: Files>(
             Ok(reader) => Ok(Input::Opened(reader)),
             Err(fault) => Err(CountyFileFault { file, fault }),
         },
-        _ => match open_if_there(files, name.as_str()) {
+        _ => match open_optional(files, name.as_str()) {
             Ok(input) => Ok(input),
             Err(fault) => Err(CountyFileFault { file, fault }),
         },

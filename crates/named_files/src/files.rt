@@ -2,17 +2,17 @@
 ghost use Rattle.std.specs.Prelude.{◌≡◌, ◌≤◌, ◌*◌, ◌%◌, ℕ, List, ◌++◌, length, take, Option, IfOk, IfErr, MatchResult, None, Ok, Err, Some};
 ghost use Rattle.std.specs.Io.{ReadsAtMost};
 ghost use Rattle.std.specs.Io.KnownBytes.{Keeps, ReadConsumes};
-ghost use Rattle.counted_io.specs.Counted.{CountsFailure};
-ghost use Rattle.counted_io.specs.Device.{reader};
-ghost use Rattle.named_files.specs.Files.{Closes, CountsClose, CountsOpen, CountsProgramFault, IsFront, IsIfThere, IsTooLong, IsUnread, Opens, TellsFailure, TellsProgram, TellsProgramUse, TellsUse, disk, input_failed_reads, input_reader, input_remaining};
+ghost use Rattle.counted_io.specs.Counting.{CountsFailure};
+ghost use Rattle.counted_io.specs.ReaderWriter.{reader};
+ghost use Rattle.named_files.specs.Files.{Closes, CountsClose, CountsOpen, CountsProgramFault, IsPrefix, IsNotFoundAsNone, IsTooLong, IsUnread, Opens, CountsFileResult, IsProgramInputFault, CountsProgramUse, CountsUseResult, disk, input_failed_reads, input_reader, input_remaining};
 ghost use Rattle.named_files.specs.declared.files.FileFault.TheVariants.{Memory};
 ghost use Rattle.named_files.specs.declared.files.ProgramInputFault.TheVariants.{File};
-ghost use Rattle.named_files.specs.declared.files.TheConstants.{MOST_KEPT};
-ghost use Rattle.bpf_insn.specs.declared.code.TheConstants.{WORD_LIMIT};
+ghost use Rattle.named_files.specs.declared.files.TheConstants.{MAX_STORED_BYTES};
+ghost use Rattle.bpf_insn.specs.declared.code.TheConstants.{MAX_WORDS};
 
 use arrayvec::ArrayVec;
-use bpf_insn::{CodeFault, WORD_LIMIT};
-use counted_io::{Buffered, CountedRead, LONGEST_CONTENT, Stop, count_one};
+use bpf_insn::{CodeFault, MAX_WORDS};
+use counted_io::{Buffered, CountedRead, MAX_CONTENT_LENGTH, Stop, count_one};
 use std::alloc::{AllocError, Allocator};
 use std::fs::File;
 use std::io::{BufReader, ErrorKind, Read};
@@ -53,7 +53,7 @@ impl From<AllocError> for ProgramInputFault {
 
 /// Files, opened by name.
 pub trait Files {
-    ghost use Rattle.named_files.specs.Files.{CountsClose, CountsOpen, failed_if_there, remaining_if_there};
+    ghost use Rattle.named_files.specs.Files.{CountsClose, CountsOpen, optional_failed_reads, optional_remaining};
 
     // It can't be dropped: each opened reader must be closed, so no failed read goes unnoticed.
     type Reader: CountedRead;
@@ -76,9 +76,9 @@ pub trait Files {
         ensures reads { failed_reads self.new ≡ failed_reads self.old };
 
     /// Opens a file for reading. Returns `None` if it doesn't exist; any other failure is an error.
-    fn open_if_there(&mut self, name: &str) -> io::Result<Option<Self::Reader>>
-        ensures known { IfOk result (λ opened. Keeps (bytes self.old name.now) (remaining_if_there Self.Reader.remaining opened)) }
-        ensures unread { IfOk result (λ opened. failed_if_there Self.Reader.failed_reads opened ≡ 0) }
+    fn open_optional(&mut self, name: &str) -> io::Result<Option<Self::Reader>>
+        ensures known { IfOk result (λ opened. Keeps (bytes self.old name.now) (optional_remaining Self.Reader.remaining opened)) }
+        ensures unread { IfOk result (λ opened. optional_failed_reads Self.Reader.failed_reads opened ≡ 0) }
         ensures stay { (other : List ℕ) → bytes self.new other ≡ bytes self.old other }
         ensures failures { CountsOpen result (failed_opens self.old) (failed_opens self.new) }
         ensures reads { failed_reads self.new ≡ failed_reads self.old };
@@ -140,8 +140,8 @@ impl<R: rt::Files + AllocGlobal> Files for SystemFiles<'_, R> {
         }
     }
 
-    fn open_if_there(&mut self, name: &str) -> io::Result<Option<Buffered<BufReader<R::File>>>> {
-        match if_there(open_buffered(self.runtime, name)) {
+    fn open_optional(&mut self, name: &str) -> io::Result<Option<Buffered<BufReader<R::File>>>> {
+        match not_found_as_none(open_buffered(self.runtime, name)) {
             Ok(opened) => Ok(opened),
             Err(error) => {
                 self.count_open(error);
@@ -169,8 +169,8 @@ fn open_buffered<R: rt::Files + AllocGlobal>(
 }
 
 /// Returns the opened value, or `None` if the file doesn't exist. Any other failure is an error.
-fn if_there<T>(opened: io::Result<T>) -> io::Result<Option<T>>
-    ensures { IsIfThere opened result }
+fn not_found_as_none<T>(opened: io::Result<T>) -> io::Result<Option<T>>
+    ensures { IsNotFoundAsNone opened result }
 {
     match opened {
         Ok(reader) => Ok(Some(reader)),
@@ -194,13 +194,13 @@ pub fn open<F: Files>(files: &mut F, name: &str) -> Result<F::Reader, FileFault>
 }
 
 /// Opens a file, or returns an empty input if it doesn't exist.
-pub fn open_if_there<F: Files>(files: &mut F, name: &str) -> Result<Input<F::Reader>, FileFault>
+pub fn open_optional<F: Files>(files: &mut F, name: &str) -> Result<Input<F::Reader>, FileFault>
     ensures known { IfOk result (λ input. IsUnread (F.bytes files.old name.now)
         (input_reader F.Reader.remaining F.Reader.failed_reads input)) }
     ensures opens { Opens result (λ fault. fault) (disk F.bytes F.failed_opens F.failed_reads files.old)
         (disk F.bytes F.failed_opens F.failed_reads files.new) }
 {
-    match files.open_if_there(name) {
+    match files.open_optional(name) {
         Ok(Some(reader)) => Ok(Input::Opened(reader)),
         Ok(None) => Ok(Input::Nothing),
         Err(error) if error.kind() == ErrorKind::OutOfMemory => Err(FileFault::Memory),
@@ -228,7 +228,7 @@ pub fn read_to_end<A: Allocator, R: CountedRead>(
     reader: &mut R,
 ) -> Result<Vec<u8, A>, FileFault>
     ensures bytes { IfOk result (λ bytes. Keeps (R.remaining reader.old) (Some bytes.items)) }
-    ensures reads { TellsFailure result (R.failed_reads reader.old) (R.failed_reads reader.new) }
+    ensures reads { CountsFileResult result (R.failed_reads reader.old) (R.failed_reads reader.new) }
 {
     let mut bytes = Vec::new(alloc);
     for _ in 0..u64::MAX {
@@ -251,7 +251,7 @@ pub fn read_file<A: Allocator, F: Files>(
 ) -> Result<Vec<u8, A>, FileFault>
     ensures known { IfOk result (λ bytes. Keeps (F.bytes files.old name.now) (Some bytes.items)) }
     ensures stay { (other : List ℕ) → F.bytes files.new other ≡ F.bytes files.old other }
-    ensures uses { TellsUse result (disk F.bytes F.failed_opens F.failed_reads files.old)
+    ensures uses { CountsUseResult result (disk F.bytes F.failed_opens F.failed_reads files.old)
         (disk F.bytes F.failed_opens F.failed_reads files.new) }
 {
     match open(files, name) {
@@ -264,34 +264,38 @@ pub fn read_file<A: Allocator, F: Files>(
     }
 }
 
-/// Appends what was read, up to a total of `most` bytes.
-fn keep<A: Allocator>(kept: &mut Vec<u8, A>, read: &[u8], most: usize) -> Result<(), AllocError>
-    ensures { (before : List ℕ) → kept.old.items ≡ take most before
-        → IfOk result (λ _. kept.new.items ≡ take most (before ++ read.now)) }
+/// Appends what was read, up to a total of `limit` bytes.
+fn append_up_to<A: Allocator>(
+    stored: &mut Vec<u8, A>,
+    read: &[u8],
+    limit: usize,
+) -> Result<(), AllocError>
+    ensures { (before : List ℕ) → stored.old.items ≡ take limit before
+        → IfOk result (λ _. stored.new.items ≡ take limit (before ++ read.now)) }
 {
-    let room = most.saturating_sub(kept.len());
-    kept.extend_from_slice(&read[..room.min(read.len())])
+    let room = limit.saturating_sub(stored.len());
+    stored.extend_from_slice(&read[..room.min(read.len())])
 }
 
-/// Reads the reader's next `most` bytes, or all of them if there are fewer. Stops reading once it has these bytes, and stores no further ones. A failed
+/// Reads the reader's next `limit` bytes, or all of them if there are fewer. Stops reading once it has these bytes, and stores no further ones. A failed
 /// read isn't retried.
-pub fn read_front<A: Allocator, R: CountedRead>(
+pub fn read_prefix<A: Allocator, R: CountedRead>(
     alloc: A,
     reader: &mut R,
-    most: usize,
+    limit: usize,
 ) -> Result<Vec<u8, A>, FileFault>
-    ensures front { IfOk result (λ front. IsFront most (R.remaining reader.old) front.items) }
-    ensures reads { TellsFailure result (R.failed_reads reader.old) (R.failed_reads reader.new) }
+    ensures prefix { IfOk result (λ prefix. IsPrefix limit (R.remaining reader.old) prefix.items) }
+    ensures reads { CountsFileResult result (R.failed_reads reader.old) (R.failed_reads reader.new) }
 {
-    let mut front = Vec::new(alloc);
+    let mut prefix = Vec::new(alloc);
     for _ in 0..u64::MAX {
         let mut piece = [0; PIECE];
         match reader.read_counted(&mut piece) {
-            Ok(0) => return Ok(front),
+            Ok(0) => return Ok(prefix),
             Ok(count) => {
-                keep(&mut front, &piece[..count], most)?;
-                if front.len() == most {
-                    return Ok(front);
+                append_up_to(&mut prefix, &piece[..count], limit)?;
+                if prefix.len() == limit {
+                    return Ok(prefix);
                 }
             }
             Err(error) => return Err(FileFault::Unusable(error)),
@@ -301,21 +305,21 @@ pub fn read_front<A: Allocator, R: CountedRead>(
     Err(FileFault::Memory)
 }
 
-/// Opens a file and reads its first `most` bytes, or all if it has fewer.
-pub fn read_file_front<A: Allocator, F: Files>(
+/// Opens a file and reads its first `limit` bytes, or all if it has fewer.
+pub fn read_file_prefix<A: Allocator, F: Files>(
     alloc: A,
     files: &mut F,
     name: &str,
-    most: usize,
+    limit: usize,
 ) -> Result<Vec<u8, A>, FileFault>
-    ensures front { IfOk result (λ front. IsFront most (F.bytes files.old name.now) front.items) }
+    ensures prefix { IfOk result (λ prefix. IsPrefix limit (F.bytes files.old name.now) prefix.items) }
     ensures stay { (other : List ℕ) → F.bytes files.new other ≡ F.bytes files.old other }
-    ensures uses { TellsUse result (disk F.bytes F.failed_opens F.failed_reads files.old)
+    ensures uses { CountsUseResult result (disk F.bytes F.failed_opens F.failed_reads files.old)
         (disk F.bytes F.failed_opens F.failed_reads files.new) }
 {
     match open(files, name) {
         Ok(mut reader) => {
-            let read = read_front(alloc, &mut reader, most);
+            let read = read_prefix(alloc, &mut reader, limit);
             files.close(reader);
             read
         }
@@ -324,17 +328,17 @@ pub fn read_file_front<A: Allocator, F: Files>(
 }
 
 // The maximum number of bytes stored of a program: one word past the limit shows that the program is too long.
-pub const MOST_KEPT: usize = 8 * (WORD_LIMIT + 1);
+pub const MAX_STORED_BYTES: usize = 8 * (MAX_WORDS + 1);
 
-/// Returns a program of which at most [`MOST_KEPT`] bytes are stored, or its first fault if it is too long. `remainder` is its length modulo 8.
-fn complete<A: Allocator>(kept: Vec<u8, A>, remainder: usize) -> Result<Vec<u8, A>, CodeFault>
-    ensures ok { (program : List ℕ) → kept.items ≡ take MOST_KEPT program
-        → IfOk result (λ whole. (whole.items ≡ program) × (length whole.items ≤ 8 * WORD_LIMIT)) }
-    ensures err { (program : List ℕ) → kept.items ≡ take MOST_KEPT program → remainder ≡ length program % 8
+/// Returns a program of which at most [`MAX_STORED_BYTES`] bytes are stored, or its first fault if it is too long. `remainder` is its length modulo 8.
+fn complete<A: Allocator>(stored: Vec<u8, A>, remainder: usize) -> Result<Vec<u8, A>, CodeFault>
+    ensures ok { (program : List ℕ) → stored.items ≡ take MAX_STORED_BYTES program
+        → IfOk result (λ whole. (whole.items ≡ program) × (length whole.items ≤ 8 * MAX_WORDS)) }
+    ensures err { (program : List ℕ) → stored.items ≡ take MAX_STORED_BYTES program → remainder ≡ length program % 8
         → IfErr result (IsTooLong (Some program)) }
 {
-    if kept.len() <= 8 * WORD_LIMIT {
-        return Ok(kept);
+    if stored.len() <= 8 * MAX_WORDS {
+        return Ok(stored);
     }
     if remainder == 0 {
         return Err(CodeFault::TooLong);
@@ -351,24 +355,24 @@ pub fn read_program<A: Allocator, R: CountedRead>(
     input: &mut R,
 ) -> Result<Vec<u8, A>, ProgramInputFault>
     ensures program { IfOk result (λ program. Keeps (R.remaining input.old) (Some program.items)
-        × (length program.items ≤ 8 * WORD_LIMIT)) }
-    ensures refused { IfErr result (TellsProgram (R.remaining input.old)) }
+        × (length program.items ≤ 8 * MAX_WORDS)) }
+    ensures refused { IfErr result (IsProgramInputFault (R.remaining input.old)) }
     ensures reads { MatchResult result (λ _. R.failed_reads input.new ≡ R.failed_reads input.old)
         (λ fault. CountsProgramFault fault (R.failed_reads input.old) (R.failed_reads input.new)) }
 {
-    let mut kept = Vec::with_capacity(alloc, MOST_KEPT)?;
+    let mut stored = Vec::with_capacity(alloc, MAX_STORED_BYTES)?;
     let mut remainder = 0;
     for _ in 0..u64::MAX {
         let mut piece = [0; PIECE];
         match input.read_counted(&mut piece) {
             Ok(0) => {
-                return match complete(kept, remainder) {
+                return match complete(stored, remainder) {
                     Ok(program) => Ok(program),
                     Err(fault) => Err(ProgramInputFault::Code(fault)),
                 };
             }
             Ok(count) => {
-                keep(&mut kept, &piece[..count], MOST_KEPT)?;
+                append_up_to(&mut stored, &piece[..count], MAX_STORED_BYTES)?;
                 remainder = (remainder + count) % 8;
             }
             Err(error) => return Err(ProgramInputFault::File(FileFault::Unusable(error))),
@@ -386,8 +390,8 @@ pub fn read_program_file<A: Allocator, F: Files>(
 ) -> Result<Vec<u8, A>, ProgramInputFault>
     ensures known { IfOk result (λ program. Keeps (F.bytes files.old name.now) (Some program.items)) }
     ensures stay { (other : List ℕ) → F.bytes files.new other ≡ F.bytes files.old other }
-    ensures refused { IfErr result (TellsProgram (F.bytes files.old name.now)) }
-    ensures uses { TellsProgramUse result (disk F.bytes F.failed_opens F.failed_reads files.old)
+    ensures refused { IfErr result (IsProgramInputFault (F.bytes files.old name.now)) }
+    ensures uses { CountsProgramUse result (disk F.bytes F.failed_opens F.failed_reads files.old)
         (disk F.bytes F.failed_opens F.failed_reads files.new) }
 {
     match open(files, name) {
@@ -435,7 +439,7 @@ impl<R: CountedRead> CountedRead for Input<R> {
     }
 
     #[inline(always)]
-    fn read_content(&mut self, content: &mut ArrayVec<u8, LONGEST_CONTENT>) -> Stop {
+    fn read_content(&mut self, content: &mut ArrayVec<u8, MAX_CONTENT_LENGTH>) -> Stop {
         match self {
             Input::Opened(reader) => reader.read_content(content),
             Input::Nothing => {

@@ -1,7 +1,7 @@
--- Refusals, and their line of text. A fault's refusal has one of four forms, `refused`, `detailed`, `device` and `memory`, and a position.
+-- Refusals, and their line of text. A fault's refusal has one of four forms, `refused`, `detailed`, `io` and `memory`, and a position.
 use Rattle.std.specs.Prelude.{ℕ, List, [], ◌++◌, Option, Some, None, codes, decimal}
 use Rattle.refusals.specs.declared.refusal.Class.{Class}
-use Rattle.refusals.specs.declared.refusal.Class.TheVariants.{Refused, Device, Memory}
+use Rattle.refusals.specs.declared.refusal.Class.TheVariants.{Refused, Io, Memory}
 use Rattle.refusals.specs.declared.refusal.Position.{Position}
 use Rattle.refusals.specs.declared.refusal.Position.TheVariants.{Whole, Place, Line, Character, FileLine}
 
@@ -21,8 +21,8 @@ abbrev pub detailed : ℕ → List ℕ → Option ℕ → RefusalParts
 detailed number name detail = record { class = Refused; number = Some number; name = name; detail = detail; position = Whole }
 
 -- a read or a write failed
-abbrev pub device : ℕ → List ℕ → RefusalParts
-device number name = record { class = Device; number = Some number; name = name; detail = None; position = Whole }
+abbrev pub io : ℕ → List ℕ → RefusalParts
+io number name = record { class = Io; number = Some number; name = name; detail = None; position = Whole }
 
 -- an allocation failed; the refusal has no number
 abbrev pub memory : RefusalParts

@@ -13,7 +13,7 @@ pub enum Class {
     /// The input has a fault.
     Refused,
     /// A read or a write failed.
-    Device,
+    Io,
     /// An allocation failed.
     Memory,
 }
@@ -82,12 +82,12 @@ impl Refusal {
     }
 
     /// Returns the refusal for a failed read or write.
-    pub fn device(number: u8, name: &'static str) -> Refusal
+    pub fn io(number: u8, name: &'static str) -> Refusal
         requires { length name.now ≤ 18 }
-        ensures { result ≡ refusal.device number name.now }
+        ensures { result ≡ refusal.io number name.now }
     {
         Refusal {
-            class: Class::Device,
+            class: Class::Io,
             ..Refusal::refused(number, name)
         }
     }
@@ -168,11 +168,11 @@ impl Refusal {
         match self.position {
             Position::Whole => self.push_name(&mut line),
             Position::Place(place) => {
-                push_counted(&mut line, "place", place as u64);
+                push_numbered_unit(&mut line, "place", place as u64);
                 self.push_name(&mut line);
             }
             Position::Line(at) => {
-                push_counted(&mut line, "line", at as u64);
+                push_numbered_unit(&mut line, "line", at as u64);
                 self.push_name(&mut line);
             }
             Position::Character { line: at, column } => {
@@ -185,7 +185,7 @@ impl Refusal {
             } => {
                 line.push_str("rt");
                 line.push_str(Buffer::new().format(record_type));
-                push_counted(&mut line, " line", at);
+                push_numbered_unit(&mut line, " line", at);
                 line.push_str(self.name);
             }
         }
@@ -217,7 +217,7 @@ fn number_text(number: Option<u8>) -> ArrayString<4>
 }
 
 /// Pushes a unit, like `place`, and its number.
-fn push_counted(line: &mut ArrayString<64>, unit: &str, at: u64)
+fn push_numbered_unit(line: &mut ArrayString<64>, unit: &str, at: u64)
     requires { length line.old.bytes + length unit.now ≤ 42 }
     ensures value { line.new.bytes ≡ line.old.bytes ++ (unit.now ++ codes " " ++ decimal at ++ codes " ") }
     ensures short { length line.new.bytes ≤ length line.old.bytes + length unit.now + 22 }

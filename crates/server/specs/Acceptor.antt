@@ -4,7 +4,7 @@ use Rattle.std.specs.IoError.{error_kind}
 use Rattle.std.specs.declared.io.Error.{Error}
 use Rattle.std.specs.declared.io.ErrorKind.{ErrorKind}
 use Rattle.std.specs.declared.io.ErrorKind.TheVariants.{ConnectionAborted, Interrupted}
-use Rattle.counted_io.specs.Counted.{next_count}
+use Rattle.counted_io.specs.Counting.{next_count}
 
 -- an accept failed for a single connection, which its client aborted, or because of a signal: the next connection can be accepted
 abbrev pub is_transient : ErrorKind → Bool

@@ -1,7 +1,7 @@
 -- The effect on a server's state of serving a client, and of the turn after it.
 use Rattle.std.specs.Prelude.{◌≡◌, Option, Result, Ok, Err}
 use Rattle.jobs.specs.declared.event.Reply.{Reply as JobReply}
-use Rattle.counted_io.specs.Device.{Reader, Writer}
+use Rattle.counted_io.specs.ReaderWriter.{Reader, Writer}
 use Rattle.wire.specs.Serving.{Connection, IsServed, ReturnsRequestRead}
 use Rattle.wire.specs.State.{StateParts}
 use Rattle.wire.specs.Turn.{IsTurn}

@@ -1,7 +1,7 @@
 -- A service that counts its work.
 use Rattle.std.specs.Prelude.{◌≡◌, ℕ, refl}
 use Rattle.std.specs.Coded.{Coded, code_by, coded×, coded_ℕ}
-use Rattle.counted_io.specs.Counted.{next_count}
+use Rattle.counted_io.specs.Counting.{next_count}
 use Rattle.server.specs.Service.{ClientStreams, Serves}
 use Rattle.server.specs.declared.service.Close.{Close}
 

@@ -1,6 +1,6 @@
 //! The service of each connection.
 ghost use Rattle.std.specs.Prelude.{⊤};
-ghost use Rattle.counted_io.specs.Device.{reader, writer};
+ghost use Rattle.counted_io.specs.ReaderWriter.{reader, writer};
 ghost use Rattle.server.specs.Service.{ClientStreams};
 ghost use Rattle.server.specs.declared.service.Close.{Close};
 

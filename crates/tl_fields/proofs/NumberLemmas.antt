@@ -82,9 +82,9 @@ aligned_number bs ds blanks digits some few =
     rw (trimmed, le-leb 1 (length ds) some, le-leb (length ds) 11 few, digits) refl
 
 -- bytes of a line from a place on, if they pass a test in the vector that begins there
-passes_in_front : (p : ℕ → Bool) (line : List ℕ) (start count : ℕ) → start + 16 ≤ length line → count ≤ 16
+passes_leading : (p : ℕ → Bool) (line : List ℕ) (start count : ℕ) → start + 16 ≤ length line → count ≤ 16
     → ((k : ℕ) → k < count → p (get_or (chunk start 16 line) k 0) ≡ true) → list_all p (take count (drop start line)) ≡ true
-passes_in_front p line start count within lanes front =
+passes_leading p line start count within lanes front =
     list_all-from_AllPass p (take count (drop start line)) (All-from_get_or (λ b. p b ≡ true) (take count (drop start line)) 0 (λ k inside.
     let low : k < count = omega (arith, length-take count (drop start line)) in
     let same = get_or-take count (drop start line) k 0 low ∙ get_or-drop start line k 0
@@ -114,8 +114,8 @@ aligned_field line start count blanks digits is =
     ∙ ap (λ rest. bs ++ take (count - blanks) rest) (drop-drop blanks start line) in
     let long : length ds ≡ count - blanks =
     length-take-le (count - blanks) (drop (start + blanks) line) (omega (arith, length-drop (start + blanks) line)) in
-    let left = passes_in_front (λ b. b == 32) line start blanks (omega arith) is.blanks_few
+    let left = passes_leading (λ b. b == 32) line start blanks (omega arith) is.blanks_few
     (λ k before. eq-eqb _ _ (is.are_blanks k before)) in
-    let right = passes_in_front is_ascii_digit line (start + blanks) (count - blanks) (omega arith) (omega arith)
+    let right = passes_leading is_ascii_digit line (start + blanks) (count - blanks) (omega arith) (omega arith)
     (λ k before. is.are_digits k (omega arith)) in
     rw parts (aligned_number bs ds left right (omega arith) (omega arith))

@@ -1,12 +1,12 @@
 //! Whether a field has a number.
 ghost use Rattle.std.specs.Prelude.{◌≡◌, ◌==◌, ◌+◌, ◌-◌, ◌<◌, ◌≤◌, ℕ, IsTrue, true, length, is_some, slice_index};
 ghost use Rattle.std.specs.Char.{is_ascii_digit};
-ghost use Rattle.tl_fields.specs.Aligned.{first_set};
+ghost use Rattle.tl_fields.specs.Aligned.{lowest_set_bit};
 ghost use Rattle.tl_fields.specs.Field.{field_of};
 ghost use Rattle.tl_fields.specs.Number.{number_of};
 
 use crate::fields::field;
-use crate::numbers::{BLANK, MOST_DIGITS, number};
+use crate::numbers::{BLANK, MAX_NUMBER_DIGITS, number};
 use std::simd::prelude::*;
 
 // The bytes of one vector.
@@ -37,37 +37,37 @@ pub(crate) fn has_aligned_number(line: &[u8], first: usize, last: usize) -> bool
     if line.len() - start < 2 * LANES {
         return false;
     }
-    let blanks = blanks_in_front(u8x16::from_slice(&line[start..]));
+    let blanks = leading_blanks(u8x16::from_slice(&line[start..]));
     if last - start <= blanks {
         return false;
     }
-    let digits = digits_in_front(u8x16::from_slice(&line[start + blanks..]));
-    last - start - blanks <= digits.min(MOST_DIGITS)
+    let digits = leading_digits(u8x16::from_slice(&line[start + blanks..]));
+    last - start - blanks <= digits.min(MAX_NUMBER_DIGITS)
 }
 
 /// Returns the number of blanks before the first other byte.
 #[inline(always)]
-fn blanks_in_front(lanes: u8x16) -> usize
+fn leading_blanks(lanes: u8x16) -> usize
     ensures blanks { (k : ℕ) → k < result → slice_index lanes k ≡ 32 }
     ensures within { result ≤ 16 }
 {
-    first_set(lanes.simd_ne(u8x16::splat(BLANK)).to_bitmask())
+    lowest_set_bit(lanes.simd_ne(u8x16::splat(BLANK)).to_bitmask())
 }
 
 /// Returns the number of digits before the first other byte.
 #[inline(always)]
-fn digits_in_front(lanes: u8x16) -> usize
+fn leading_digits(lanes: u8x16) -> usize
     ensures digits { (k : ℕ) → k < result → is_ascii_digit (slice_index lanes k) ≡ true }
     ensures within { result ≤ 16 }
 {
     let others = lanes.simd_lt(u8x16::splat(b'0')) | lanes.simd_gt(u8x16::splat(b'9'));
-    first_set(others.to_bitmask())
+    lowest_set_bit(others.to_bitmask())
 }
 
 /// Returns the index of the lowest bit that is set, or 16 if none is.
 #[inline(always)]
-fn first_set(mask: u64) -> usize
-    ensures { result ≡ first_set mask LANES }
+fn lowest_set_bit(mask: u64) -> usize
+    ensures { result ≡ lowest_set_bit mask LANES }
 {
     if mask == 0 {
         LANES

@@ -7,8 +7,8 @@ mod numbers;
 
 pub use aligned::has_number;
 pub use counted_io::{
-    Buffered, Burst, CountedRead, CountedWrite, Counting, Fuse, LONGEST_CONTENT, Stop, WriteFault,
-    count_one, write_whole,
+    Buffered, CountedRead, CountedWrite, Counting, Fuse, InjectedFailure, MAX_CONTENT_LENGTH, Stop,
+    WriteFault, count_one, write_text,
 };
 pub use fields::field;
 pub use numbers::{blank, coordinate, number};

@@ -9,10 +9,10 @@ use decimal::decimal_value;
 pub(crate) const BLANK: u8 = b' ';
 
 // The width of an address field, the widest field that is read as a number.
-pub(crate) const MOST_DIGITS: usize = 11;
+pub(crate) const MAX_NUMBER_DIGITS: usize = 11;
 
 // A longitude has a sign and 9 digits, a latitude a sign and 8.
-const MOST_COORDINATE_DIGITS: usize = 9;
+const MAX_COORDINATE_DIGITS: usize = 9;
 
 /// Returns the number in a field, or `None` if it has none.
 ///
@@ -23,7 +23,7 @@ pub fn number(field: &[u8]) -> Option<u64>
     ensures value { result ≡ number_of field.now }
     ensures small { IfSome result (λ n. n < 10 ^ 11) }
 {
-    decimal_value(trim(field), MOST_DIGITS)
+    decimal_value(trim(field), MAX_NUMBER_DIGITS)
 }
 
 /// Returns the coordinate in a field in millionths of a degree, or `None` if it has none. A coordinate is 1 to 9 digits with an optional sign, as in
@@ -87,5 +87,5 @@ fn millionths(digits: &[u8]) -> Option<i64>
     ensures value { result ≡ option_map pos (decimal_in 9 digits.now) }
     ensures small { IfSome result (λ amount. nat_abs amount < 10 ^ 9) }
 {
-    Some(decimal_value(digits, MOST_COORDINATE_DIGITS)? as i64)
+    Some(decimal_value(digits, MAX_COORDINATE_DIGITS)? as i64)
 }

@@ -5,7 +5,7 @@ use Rattle.std.proofs.lemmas.List.{append_cancel_right}
 use Rattle.std.proofs.lemmas.Bool.{cases_eq}
 use Rattle.std.proofs.lemmas.List.Elements.{All-nil, All-cons, All-head, All-tail, All-push, All-pop}
 use Rattle.counted_io.specs.Content.{HasNoLineFeed}
-use Rattle.tl_records.specs.Lines.{EndsInReturn, IsEnded, by_lf, by_cr_lf, missing, IsFirstLine, AreLines, IsWithoutReturn}
+use Rattle.tl_records.specs.Lines.{EndsInCarriageReturn, IsEnded, by_lf, by_cr_lf, missing, IsFirstLine, AreLines, IsWithoutCarriageReturn}
 
 -- the bytes before the first line feed, and those after it, are unique
 pub one_cut : (front other rest after : List ℕ) → HasNoLineFeed front → HasNoLineFeed other → front ++ 10 ∷ rest ≡ other ++ 10 ∷ after
@@ -30,22 +30,22 @@ no_cut (b ∷ front) rest (c ∷ whole) p e =
 pub cr_lf : (line rest : List ℕ) → line ++ 13 ∷ 10 ∷ rest ≡ (line ++ 13 ∷ []) ++ 10 ∷ rest
 cr_lf line rest = sym (append_assoc line (13 ∷ []) (10 ∷ rest))
 
-with_return : (line : List ℕ) → HasNoLineFeed line → HasNoLineFeed (line ++ 13 ∷ [])
-with_return line p = All-push (λ b. b ≢ 10) line 13 p (λ e. cc)
+with_carriage_return : (line : List ℕ) → HasNoLineFeed line → HasNoLineFeed (line ++ 13 ∷ [])
+with_carriage_return line p = All-push (λ b. b ≢ 10) line 13 p (λ e. cc)
 
 -- a file has at most one first line
 pub one_first_line_by : {file line other rest after : List ℕ} → HasNoLineFeed line → HasNoLineFeed other → IsEnded file line rest
     → IsEnded file other after → (line ≡ other) × (rest ≡ after)
 one_first_line_by {line} {other} {rest} {after} p q (by_lf e n) (by_lf f m) = one_cut line other rest after p q (sym e ∙ f)
 one_first_line_by {line} {other} {rest} {after} p q (by_lf e n) (by_cr_lf f) =
-    let cut = one_cut line (other ++ 13 ∷ []) rest after p (with_return other q) (sym e ∙ f ∙ cr_lf other after) in
+    let cut = one_cut line (other ++ 13 ∷ []) rest after p (with_carriage_return other q) (sym e ∙ f ∙ cr_lf other after) in
     absurd (n (other, cut.0))
 one_first_line_by {line} {other} {rest} p q (by_lf e n) (missing f g h) = absurd (no_cut line rest other q (sym f ∙ e))
 one_first_line_by {line} {other} {rest} {after} p q (by_cr_lf e) (by_lf f m) =
-    let cut = one_cut other (line ++ 13 ∷ []) after rest q (with_return line p) (sym f ∙ e ∙ cr_lf line rest) in
+    let cut = one_cut other (line ++ 13 ∷ []) after rest q (with_carriage_return line p) (sym f ∙ e ∙ cr_lf line rest) in
     absurd (m (line, cut.0))
 one_first_line_by {line} {other} {rest} {after} p q (by_cr_lf e) (by_cr_lf f) =
-    let cut = one_cut (line ++ 13 ∷ []) (other ++ 13 ∷ []) rest after (with_return line p) (with_return other q)
+    let cut = one_cut (line ++ 13 ∷ []) (other ++ 13 ∷ []) rest after (with_carriage_return line p) (with_carriage_return other q)
     (sym (cr_lf line rest) ∙ sym e ∙ f ∙ cr_lf other after) in
     (append_cancel_right line other (13 ∷ []) cut.0, cut.1)
 one_first_line_by {line} {other} {rest} p q (by_cr_lf e) (missing f g h) =
@@ -95,14 +95,14 @@ is_cut [] = nowhere (All-nil (λ b. b ≢ 10))
 is_cut (b ∷ file) =
     elim (cases_eq b 10) [ inl e ↦ at_lf [] file (All-nil (λ b. b ≢ 10)) (ap (λ c. c ∷ file) e) | inr n ↦ cut_more b file n (is_cut file) ]
 
-not_later : (b : ℕ) (content front : List ℕ) → content ≢ [] → ¬ EndsInReturn content → b ∷ content ≡ front ++ 13 ∷ [] → ⊥
+not_later : (b : ℕ) (content front : List ℕ) → content ≢ [] → ¬ EndsInCarriageReturn content → b ∷ content ≡ front ++ 13 ∷ [] → ⊥
 not_later b content [] p n e = p (cc)
 not_later b content (c ∷ front) p n e = n (front, cc)
 
 -- prepending a byte to nonempty bytes leaves their last byte unchanged
-return_later : (b : ℕ) (content line : List ℕ) → content ≢ [] → IsWithoutReturn content line → IsWithoutReturn (b ∷ content) (b ∷ line)
-return_later b content line p (inl e) = inl (ap (λ s. b ∷ s) e)
-return_later b content line p (inr (e, n)) =
+carriage_return_later : (b : ℕ) (content line : List ℕ) → content ≢ [] → IsWithoutCarriageReturn content line → IsWithoutCarriageReturn (b ∷ content) (b ∷ line)
+carriage_return_later b content line p (inl e) = inl (ap (λ s. b ∷ s) e)
+carriage_return_later b content line p (inr (e, n)) =
     inr (ap (λ s. b ∷ s) e, λ ends. not_later b content ends.0 p n ends.1)
 
 one_byte : (b : ℕ) (front : List ℕ) → b ≢ 13 → b ∷ [] ≡ front ++ 13 ∷ [] → ⊥
@@ -110,16 +110,16 @@ one_byte b [] p e = p (cc)
 one_byte b (c ∷ front) p e = append_not_empty front [] 13 (cc)
 
 -- bytes end in a carriage return, or they don't
-pub without_return : (content : List ℕ) → (line : List ℕ) × IsWithoutReturn content line
-without_return [] = ([], inr (refl, λ ends. append_not_empty ends.0 [] 13 ends.1))
-without_return (b ∷ []) =
+pub without_carriage_return : (content : List ℕ) → (line : List ℕ) × IsWithoutCarriageReturn content line
+without_carriage_return [] = ([], inr (refl, λ ends. append_not_empty ends.0 [] 13 ends.1))
+without_carriage_return (b ∷ []) =
     elim (cases_eq b 13) [ inl e ↦ ([], inl (ap (λ c. c ∷ []) e)) | inr n ↦ (b ∷ [], inr (refl, λ ends. one_byte b ends.0 n ends.1)) ]
-without_return (b ∷ c ∷ content) =
-    let rest = without_return (c ∷ content) in
-    (b ∷ rest.0, return_later b (c ∷ content) rest.0 (λ e. cc) rest.1)
+without_carriage_return (b ∷ c ∷ content) =
+    let rest = without_carriage_return (c ∷ content) in
+    (b ∷ rest.0, carriage_return_later b (c ∷ content) rest.0 (λ e. cc) rest.1)
 
 -- a line followed by LF, without the CR before the LF
-pub ended_by_lf : (file content line rest : List ℕ) → HasNoLineFeed content → file ≡ content ++ 10 ∷ rest → IsWithoutReturn content line
+pub ended_by_lf : (file content line rest : List ℕ) → HasNoLineFeed content → file ≡ content ++ 10 ∷ rest → IsWithoutCarriageReturn content line
     → IsFirstLine file line rest
 ended_by_lf file content line rest p e (inl f) = record {
   no_line_feed = (All-pop (λ b. b ≢ 10) content line (Some 13) f p).0;
@@ -138,7 +138,7 @@ pub record HasFirstLine (file : List ℕ) : Type 0 where
 
 first_line_from_cut : (file : List ℕ) → file ≢ [] → IsCut file → HasFirstLine file
 first_line_from_cut file p (at_lf front rest q e) =
-    let without = without_return front in
+    let without = without_carriage_return front in
     record { line = without.0; rest = rest; first = ended_by_lf file front without.0 rest q e without.1 }
 first_line_from_cut file p (nowhere q) =
     record { line = file; rest = []; first = record { no_line_feed = q; ended = missing refl refl p } }

@@ -1,7 +1,7 @@
 -- Fields by the columns of a record layout (TIGER/Line 2006, record layouts, columns Beg and End).
 use Rattle.std.specs.Prelude.{ℕ, ◌≤◌, List}
 use Rattle.tl_fields.specs.Field.{field_of}
-use Rattle.tl_records.specs.declared.fault.LineFlaw.TheVariants.{BadTlid, BadFeature}
+use Rattle.tl_records.specs.declared.fault.LineFaultKind.TheVariants.{BadTlid, BadFeature}
 use Rattle.tl_records.specs.declared.layout.Layout.{Layout}
 use Rattle.tl_records.specs.declared.layout.Places.{Places}
 

@@ -1,4 +1,4 @@
 pub mod Layout
-pub mod LineFlaw
+pub mod LineFaultKind
 pub mod Lines
 pub mod Records

@@ -4,14 +4,14 @@ use Rattle.tl_fields.specs.Number.{number_of}
 use Rattle.tl_records.specs.Layout.{field_at}
 use Rattle.tl_records.specs.Lines.{LineParts}
 use Rattle.tl_records.specs.declared.fault.LineFault.{LineFault}
-use Rattle.tl_records.specs.declared.fault.LineFlaw.{LineFlaw}
-use Rattle.tl_records.specs.declared.fault.LineFlaw.TheVariants.{WrongLength, WrongType}
+use Rattle.tl_records.specs.declared.fault.LineFaultKind.{LineFaultKind}
+use Rattle.tl_records.specs.declared.fault.LineFaultKind.TheVariants.{WrongLength, WrongType}
 use Rattle.tl_records.specs.declared.layout.Layout.{Layout}
 
 -- the first flaw of a line of this record type, if any: it has the wrong length, its first byte isn't the tag, or the field that must have a number
 -- has none
-abbrev pub line_flaw : Layout → List ℕ → Option LineFlaw
-line_flaw layout line =
+abbrev pub line_fault_kind : Layout → List ℕ → Option LineFaultKind
+line_fault_kind layout line =
     if length line == layout.length
     then (if slice_index line 0 == layout.tag
     then (if is_some (number_of (field_at layout.number line)) then None else Some layout.without_number)
@@ -19,13 +19,13 @@ line_flaw layout line =
     else Some WrongLength
 
 -- a record of this type: bytes without a flaw
-pub record IsGoodLine (layout : Layout) (line : List ℕ) : Type 0 where
-  pub no_flaw : line_flaw layout line ≡ None
+pub record IsValidLine (layout : Layout) (line : List ℕ) : Type 0 where
+  pub no_fault : line_fault_kind layout line ≡ None
   pub are_bytes : (i : ℕ) → slice_index line i < 2 ^ 8
 
 -- this is the fault of a flawed line, with the line's number
 abbrev pub IsLineFault : Layout → LineParts → LineFault → Type 0
-IsLineFault layout line fault = (fault.line ≡ line.number) × (line_flaw layout line.bytes ≡ Some fault.flaw)
+IsLineFault layout line fault = (fault.line ≡ line.number) × (line_fault_kind layout line.bytes ≡ Some fault.flaw)
 
 -- the contents of a record: the bytes of its line, without the terminator
 pub record RecordParts : Type 0 where
@@ -33,6 +33,6 @@ pub record RecordParts : Type 0 where
 
 -- a record of this type, whose required number is this one
 pub record IsRecord (layout : Layout) (line : List ℕ) (number : ℕ) : Type 0 where
-  pub good : IsGoodLine layout line
+  pub good : IsValidLine layout line
   pub len : length line ≡ layout.length
   pub numbered : number_of (field_at layout.number line) ≡ Some number

@@ -1,13 +1,13 @@
 //! Why a line can't be read or isn't a record.
 ghost use Rattle.std.specs.Prelude.{◌≡◌};
-ghost use Rattle.tl_records.specs.LineFlaw as line_flaw;
+ghost use Rattle.tl_records.specs.LineFaultKind as line_fault_kind;
 
 use refusals::Refusal;
 use thiserror::Error;
 
 /// What is wrong with a line.
 #[derive(Clone, Copy, Debug, PartialEq, Eq, Error)]
-pub enum LineFlaw {
+pub enum LineFaultKind {
     #[error("not the length of a record")]
     WrongLength,
     #[error("another record type")]
@@ -22,18 +22,18 @@ pub enum LineFlaw {
     TooManyLines,
 }
 
-impl LineFlaw {
+impl LineFaultKind {
     /// The refusal has no file and no line yet; the fault of a file adds them.
     pub fn refusal(self) -> Refusal
-        ensures { result ≡ line_flaw.refusal self }
+        ensures { result ≡ line_fault_kind.refusal self }
     {
         match self {
-            LineFlaw::WrongLength => Refusal::refused(1, "WrongLength"),
-            LineFlaw::WrongType => Refusal::refused(2, "WrongType"),
-            LineFlaw::BadTlid => Refusal::refused(3, "BadTlid"),
-            LineFlaw::BadFeature => Refusal::refused(4, "BadFeature"),
-            LineFlaw::Read => Refusal::device(5, "Read"),
-            LineFlaw::TooManyLines => Refusal::refused(8, "TooManyLines"),
+            LineFaultKind::WrongLength => Refusal::refused(1, "WrongLength"),
+            LineFaultKind::WrongType => Refusal::refused(2, "WrongType"),
+            LineFaultKind::BadTlid => Refusal::refused(3, "BadTlid"),
+            LineFaultKind::BadFeature => Refusal::refused(4, "BadFeature"),
+            LineFaultKind::Read => Refusal::io(5, "Read"),
+            LineFaultKind::TooManyLines => Refusal::refused(8, "TooManyLines"),
         }
     }
 }
@@ -45,5 +45,5 @@ pub struct LineFault {
     /// The number of the line, counted from 1: at most 2^32, the first number that doesn't fit in 32 bits.
     pub line: u64,
     /// What is wrong with the line, or with reading it.
-    pub flaw: LineFlaw,
+    pub flaw: LineFaultKind,
 }

@@ -4,7 +4,7 @@ ghost use Rattle.std.specs.Prelude.{◌≡◌, ◌+◌, ◌-◌, length, is_some
 ghost use Rattle.tl_fields.specs.Number.{number_of};
 ghost use Rattle.tl_records.specs.Layout.{IsWithin, field_at, type1, type4, type5, type6};
 
-use crate::fault::LineFlaw;
+use crate::fault::LineFaultKind;
 use tl_fields::{field, has_number};
 
 /// The first and last column of a field in its line, like Beg and End in the record layouts: counted from 1, both inclusive.
@@ -42,7 +42,7 @@ pub struct Layout {
     /// The field that must have a number in each line.
     pub number: Places,
     /// The flaw of a line in which that field has no number.
-    pub without_number: LineFlaw,
+    pub without_number: LineFaultKind,
 }
 
 /// A record type.
@@ -72,7 +72,7 @@ impl RecordType for Type1 {
         length: RECORD_LENGTH,
         tag: b'1',
         number: Type1::TLID,
-        without_number: LineFlaw::BadTlid,
+        without_number: LineFaultKind::BadTlid,
     };
 }
 
@@ -155,7 +155,7 @@ impl RecordType for Type4 {
         length: 58,
         tag: b'4',
         number: Type4::TLID,
-        without_number: LineFlaw::BadTlid,
+        without_number: LineFaultKind::BadTlid,
     };
 }
 
@@ -192,7 +192,7 @@ impl RecordType for Type5 {
         length: 56,
         tag: b'5',
         number: Type5::FEAT,
-        without_number: LineFlaw::BadFeature,
+        without_number: LineFaultKind::BadFeature,
     };
 }
 
@@ -225,7 +225,7 @@ impl RecordType for Type6 {
         length: 76,
         tag: b'6',
         number: Type6::TLID,
-        without_number: LineFlaw::BadTlid,
+        without_number: LineFaultKind::BadTlid,
     };
 }
 

@@ -7,7 +7,7 @@ mod layout;
 mod lines;
 mod record;
 
-pub use fault::{LineFault, LineFlaw};
+pub use fault::{LineFault, LineFaultKind};
 pub use layout::{Layout, Places, RECORD_LENGTH, RecordType, Type1, Type4, Type5, Type6};
 pub use lines::{Line, read_line, read_line_into};
 pub use record::{Record, Rt1, Rt4, Rt5, Rt6, rt1, rt4, rt5, rt6};

@@ -1,22 +1,22 @@
 //! The lines of a file of records.
 ghost use Rattle.std.specs.Prelude.{◌≡◌, ◌-◌, ◌^◌, ◌≤◌, [], length};
-ghost use Rattle.counted_io.specs.Device.{reader};
-ghost use Rattle.tl_records.specs.Lines.{IsLineRead, IsWithoutReturn};
+ghost use Rattle.counted_io.specs.ReaderWriter.{reader};
+ghost use Rattle.tl_records.specs.Lines.{IsLineRead, IsWithoutCarriageReturn};
 
-use crate::fault::{LineFault, LineFlaw};
+use crate::fault::{LineFault, LineFaultKind};
 use arrayvec::ArrayVec;
-use counted_io::{CountedRead, LONGEST_CONTENT, Stop};
+use counted_io::{CountedRead, MAX_CONTENT_LENGTH, Stop};
 use std::marker::Model;
 
 const CARRIAGE_RETURN: u8 = b'\r';
 
 // The first line number that doesn't fit in 32 bits.
-const LINE_TOO_MANY: u64 = 4_294_967_296;
+const FIRST_REFUSED_LINE: u64 = 4_294_967_296;
 
 /// A line of at most 230 bytes without its terminator, and its number, counted from 1; the number is 0 before the first line.
 #[derive(Drop)]
 pub struct Line {
-    content: ArrayVec<u8, LONGEST_CONTENT>,
+    content: ArrayVec<u8, MAX_CONTENT_LENGTH>,
     number: u32,
 }
 
@@ -43,7 +43,7 @@ impl Line {
     #[inline]
     pub fn bytes(&self) -> &[u8]
         ensures value { result.now ≡ self.now.bytes }
-        ensures short { length result.now ≤ LONGEST_CONTENT }
+        ensures short { length result.now ≤ MAX_CONTENT_LENGTH }
     {
         self.content.as_slice()
     }
@@ -75,7 +75,7 @@ pub fn read_line<R: CountedRead>(input: &mut R, line: &mut Line) -> Result<Optio
 pub fn read_line_into<R: CountedRead>(
     input: &mut R,
     number: &mut u32,
-    content: &mut ArrayVec<u8, LONGEST_CONTENT>,
+    content: &mut ArrayVec<u8, MAX_CONTENT_LENGTH>,
 ) -> Result<Option<()>, LineFault>
     ensures { IsLineRead (record { number = number.old; bytes = content.old.items }) (record { number = number.new; bytes = content.new.items })
         (reader R.remaining R.failed_reads input.old) (reader R.remaining R.failed_reads input.new) result }
@@ -87,7 +87,7 @@ pub fn read_line_into<R: CountedRead>(
     let next = *number + 1;
     match input.read_content(content) {
         Stop::LineFeed => {
-            take_off_return(content);
+            strip_carriage_return(content);
             *number = next;
             Ok(Some(()))
         }
@@ -102,14 +102,14 @@ pub fn read_line_into<R: CountedRead>(
             content.clear();
             Err(LineFault {
                 line: u64::from(next),
-                flaw: LineFlaw::WrongLength,
+                flaw: LineFaultKind::WrongLength,
             })
         }
         Stop::ReadFailed => {
             content.clear();
             Err(LineFault {
                 line: u64::from(next),
-                flaw: LineFlaw::Read,
+                flaw: LineFaultKind::Read,
             })
         }
     }
@@ -121,24 +121,24 @@ fn expect_end<R: CountedRead>(input: &mut R) -> Result<Option<()>, LineFault>
     ensures { IsLineRead (record { number = 2 ^ 32 - 1; bytes = [] }) (record { number = 2 ^ 32 - 1; bytes = [] })
         (reader R.remaining R.failed_reads input.old) (reader R.remaining R.failed_reads input.new) result }
 {
-    let line = LINE_TOO_MANY;
+    let line = FIRST_REFUSED_LINE;
     match input.read_counted(&mut [0]) {
         Ok(0) => Ok(None),
         Ok(_) => Err(LineFault {
             line,
-            flaw: LineFlaw::TooManyLines,
+            flaw: LineFaultKind::TooManyLines,
         }),
         Err(_) => Err(LineFault {
             line,
-            flaw: LineFlaw::Read,
+            flaw: LineFaultKind::Read,
         }),
     }
 }
 
 // The LF was already left out.
 #[inline]
-fn take_off_return(content: &mut ArrayVec<u8, LONGEST_CONTENT>)
-    ensures { IsWithoutReturn content.old.items content.new.items }
+fn strip_carriage_return(content: &mut ArrayVec<u8, MAX_CONTENT_LENGTH>)
+    ensures { IsWithoutCarriageReturn content.old.items content.new.items }
 {
     if let [.., CARRIAGE_RETURN] = content.as_slice() {
         content.pop();

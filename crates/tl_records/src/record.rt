@@ -2,9 +2,9 @@
 ghost use Rattle.std.specs.Prelude.{◌≡◌, ◌+◌, ◌-◌, ◌^◌, ◌<◌, Some, length, IfErr, IfOk, OnOk};
 ghost use Rattle.tl_fields.specs.Number.{number_of};
 ghost use Rattle.tl_records.specs.Layout.{IsWithin, field_at, type1, type4, type5, type6};
-ghost use Rattle.tl_records.specs.Records.{IsGoodLine, IsLineFault, line_flaw};
+ghost use Rattle.tl_records.specs.Records.{IsValidLine, IsLineFault, line_fault_kind};
 
-use crate::fault::{LineFault, LineFlaw};
+use crate::fault::{LineFault, LineFaultKind};
 use crate::layout::{Layout, Places, RecordType, Type1, Type4, Type5, Type6};
 use crate::lines::Line;
 use std::marker::{Model, PhantomData};
@@ -44,10 +44,10 @@ impl<'a, T: RecordType> Record<'a, T> {
     /// Returns a line as a record of its type, or its first flaw: `WrongLength`, `WrongType`, then `BadTlid` (`BadFeature` in type 5).
     #[inline]
     pub fn of(number: u32, line: &'a [u8]) -> Result<Self, LineFault>
-        ensures ok { IfOk result (λ rt. (rt.bytes ≡ line.now) × IsGoodLine T.LAYOUT line.now) }
+        ensures ok { IfOk result (λ rt. (rt.bytes ≡ line.now) × IsValidLine T.LAYOUT line.now) }
         ensures err { IfErr result (λ fault. IsLineFault T.LAYOUT (record { number = number; bytes = line.now }) fault) }
     {
-        match flawless_number(T::LAYOUT, line) {
+        match checked_number(T::LAYOUT, line) {
             Ok(found) => Ok(Record {
                 line,
                 number: found,
@@ -63,10 +63,10 @@ impl<'a, T: RecordType> Record<'a, T> {
     /// Checks a line as [`of`](Self::of) does, without reading its number.
     #[inline]
     pub fn check(number: u32, line: &[u8]) -> Result<(), LineFault>
-        ensures ok { OnOk result (IsGoodLine T.LAYOUT line.now) }
+        ensures ok { OnOk result (IsValidLine T.LAYOUT line.now) }
         ensures err { IfErr result (λ fault. IsLineFault T.LAYOUT (record { number = number; bytes = line.now }) fault) }
     {
-        match line_flaw(T::LAYOUT, line) {
+        match line_fault_kind(T::LAYOUT, line) {
             None => Ok(()),
             Some(flaw) => Err(LineFault {
                 line: u64::from(number),
@@ -80,7 +80,7 @@ impl<'a, T: RecordType> Record<'a, T> {
     pub fn bytes(&self) -> &'a [u8]
         ensures value { result.now ≡ self.now.bytes }
         ensures len { length result.now ≡ T.LAYOUT.length }
-        ensures good { IsGoodLine T.LAYOUT self.now.bytes }
+        ensures good { IsValidLine T.LAYOUT self.now.bytes }
     {
         self.line
     }
@@ -108,15 +108,15 @@ impl<'a, T: RecordType> Record<'a, T> {
 
 /// Returns the first flaw of a line of a record type, or `None` if it is good.
 #[inline]
-fn line_flaw(layout: Layout, line: &[u8]) -> Option<LineFlaw>
+fn line_fault_kind(layout: Layout, line: &[u8]) -> Option<LineFaultKind>
     requires { IsWithin layout.number layout.length }
-    ensures { result ≡ line_flaw layout line.now }
+    ensures { result ≡ line_fault_kind layout line.now }
 {
     if line.len() != layout.length {
-        return Some(LineFlaw::WrongLength);
+        return Some(LineFaultKind::WrongLength);
     }
     if line[0] != layout.tag {
-        return Some(LineFlaw::WrongType);
+        return Some(LineFaultKind::WrongType);
     }
     if !layout.number.has_number(line) {
         return Some(layout.without_number);
@@ -126,24 +126,24 @@ fn line_flaw(layout: Layout, line: &[u8]) -> Option<LineFlaw>
 
 /// Returns the number that each line of a record type must have, or the line's first flaw.
 #[inline]
-fn flawless_number(layout: Layout, line: &[u8]) -> Result<u64, LineFlaw>
+fn checked_number(layout: Layout, line: &[u8]) -> Result<u64, LineFaultKind>
     requires { IsWithin layout.number layout.length }
     ensures number { IfOk result (λ n. number_of (field_at layout.number line.now) ≡ Some n) }
-    ensures good { IfOk result (λ _. IsGoodLine layout line.now) }
-    ensures err { IfErr result (λ flaw. line_flaw layout line.now ≡ Some flaw) }
+    ensures good { IfOk result (λ _. IsValidLine layout line.now) }
+    ensures err { IfErr result (λ flaw. line_fault_kind layout line.now ≡ Some flaw) }
 {
     if line.len() != layout.length {
-        return Err(LineFlaw::WrongLength);
+        return Err(LineFaultKind::WrongLength);
     }
     if line[0] != layout.tag {
-        return Err(LineFlaw::WrongType);
+        return Err(LineFaultKind::WrongType);
     }
     number(layout.number.of(line)).ok_or(layout.without_number)
 }
 
 /// Returns a line as a record of type 1, or its first flaw: `WrongLength`, `WrongType`, `BadTlid`.
 pub fn rt1(line: &Line) -> Result<Rt1<'_>, LineFault>
-    ensures ok { IfOk result (λ rt1. (rt1.bytes ≡ line.now.bytes) × IsGoodLine type1 line.now.bytes) }
+    ensures ok { IfOk result (λ rt1. (rt1.bytes ≡ line.now.bytes) × IsValidLine type1 line.now.bytes) }
     ensures err { IfErr result (λ fault. IsLineFault type1 line.now fault) }
 {
     Record::of(line.number(), line.bytes())
@@ -151,7 +151,7 @@ pub fn rt1(line: &Line) -> Result<Rt1<'_>, LineFault>
 
 /// Returns a line as a record of type 4, or its first flaw: `WrongLength`, `WrongType`, `BadTlid`.
 pub fn rt4(line: &Line) -> Result<Rt4<'_>, LineFault>
-    ensures ok { IfOk result (λ rt4. (rt4.bytes ≡ line.now.bytes) × IsGoodLine type4 line.now.bytes) }
+    ensures ok { IfOk result (λ rt4. (rt4.bytes ≡ line.now.bytes) × IsValidLine type4 line.now.bytes) }
     ensures err { IfErr result (λ fault. IsLineFault type4 line.now fault) }
 {
     Record::of(line.number(), line.bytes())
@@ -159,7 +159,7 @@ pub fn rt4(line: &Line) -> Result<Rt4<'_>, LineFault>
 
 /// Returns a line as a record of type 5, or its first flaw: `WrongLength`, `WrongType`, `BadFeature`.
 pub fn rt5(line: &Line) -> Result<Rt5<'_>, LineFault>
-    ensures ok { IfOk result (λ rt5. (rt5.bytes ≡ line.now.bytes) × IsGoodLine type5 line.now.bytes) }
+    ensures ok { IfOk result (λ rt5. (rt5.bytes ≡ line.now.bytes) × IsValidLine type5 line.now.bytes) }
     ensures err { IfErr result (λ fault. IsLineFault type5 line.now fault) }
 {
     Record::of(line.number(), line.bytes())
@@ -167,7 +167,7 @@ pub fn rt5(line: &Line) -> Result<Rt5<'_>, LineFault>
 
 /// Returns a line as a record of type 6, or its first flaw: `WrongLength`, `WrongType`, `BadTlid`.
 pub fn rt6(line: &Line) -> Result<Rt6<'_>, LineFault>
-    ensures ok { IfOk result (λ rt6. (rt6.bytes ≡ line.now.bytes) × IsGoodLine type6 line.now.bytes) }
+    ensures ok { IfOk result (λ rt6. (rt6.bytes ≡ line.now.bytes) × IsValidLine type6 line.now.bytes) }
     ensures err { IfErr result (λ fault. IsLineFault type6 line.now fault) }
 {
     Record::of(line.number(), line.bytes())

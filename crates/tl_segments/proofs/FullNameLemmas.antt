@@ -9,10 +9,10 @@ use Rattle.tl_segments.specs.Affixes.{Affixes, AreAffixes}
 use Rattle.tl_segments.specs.FullName.{FullNameFields, IsFullName, affixes_of, all_with_affixes, contents, full_names_of, with_affixes}
 use Rattle.tl_segments.specs.FullName.{with_names, own_full_name}
 use Rattle.tl_segments.specs.Range.{AreBytes}
-use Rattle.tl_segments.specs.Segment.{Contents, IsSegment, names_of}
+use Rattle.tl_segments.specs.Segment.{SegmentParts, IsSegment, names_of}
 use Rattle.tl_segments.specs.declared.name.TheConstants.{NAME_LENGTH}
 use Rattle.tl_segments.specs.declared.range.RangeFields.{RangeFields}
-use Rattle.tl_segments.specs.declared.limits.TheConstants.{NAME_LIMIT}
+use Rattle.tl_segments.specs.declared.limits.TheConstants.{MAX_NAMES}
 
 -- full names taken apart and put back together
 pub all_with_affixes-of : (names : List FullNameFields)
@@ -30,7 +30,7 @@ fenames (affix ∷ affixes) (name ∷ names) same =
     ap (λ (others : List (List ℕ)). name ∷ others) (fenames affixes names (omega (arith, same)))
 
 -- the FENAMEs of a segment's full names are its names
-pub names_of_full_names : (segment : Contents) → IsSegment segment
+pub names_of_full_names : (segment : SegmentParts) → IsSegment segment
     → map (λ (name : FullNameFields). name.fename) (full_names_of segment) ≡ names_of segment
 names_of_full_names segment is =
     ap (λ (others : List (List ℕ)). (own_full_name segment.bytes).fename ∷ others) (fenames segment.affixes segment.names is.paired)
@@ -53,7 +53,7 @@ are_full (affix ∷ affixes) (name ∷ names) are named =
     (record { fedirp = first.fedirp; fename = named 0 name (omega arith); fetype = first.fetype; fedirs = first.fedirs })
     (are_full affixes names (λ k d inside. are (suc k) d (omega arith)) (λ k d inside. named (suc k) d (omega arith)))
 
-module _ {segment : Contents} (is : IsSegment segment) (index : ℕ) where
+module _ {segment : SegmentParts} (is : IsSegment segment) (index : ℕ) where
   -- the FENAME of the alternate full name at an index
   pub fename_at : (found : Option FullNameFields) → found ≡ slice_get (all_with_affixes segment.affixes segment.names) index
       → option_map (λ (name : FullNameFields). name.fename) found ≡ slice_get segment.names index
@@ -70,7 +70,7 @@ module _ {segment : Contents} (is : IsSegment segment) (index : ℕ) where
       (are_full segment.affixes segment.names is.affixes is.names))
 
 -- a segment with one more full name
-pub with_name-is : (segment : Contents) (name : FullNameFields) → IsSegment segment → IsFullName name → length segment.names < NAME_LIMIT
+pub with_name-is : (segment : SegmentParts) (name : FullNameFields) → IsSegment segment → IsFullName name → length segment.names < MAX_NAMES
     → IsSegment (with_names segment (name ∷ []))
 with_name-is segment name is full room = record {
   bytes = is.bytes;
@@ -108,7 +108,7 @@ contents-more bytes names more ranges =
     }) (map-append affixes_of names more)
 
 -- appending names to names
-pub with_names-none : (segment : Contents) → with_names segment [] ≡ segment
+pub with_names-none : (segment : SegmentParts) → with_names segment [] ≡ segment
 with_names-none segment =
     ap (λ names. record segment { names = names; affixes = segment.affixes ++ [] }) (append-nil segment.names)
     ∙ ap (λ affixes. record segment { affixes = affixes }) (append-nil segment.affixes)
@@ -118,7 +118,7 @@ added : {X Y : Type 0} (g : X → Y) (start : List Y) (names more : List X)
 added g start names more =
     append_assoc start (map g names) (map g more) ∙ ap (λ others. start ++ others) (sym (map-append g names more))
 
-pub with_names-more : (segment : Contents) (names more : List FullNameFields)
+pub with_names-more : (segment : SegmentParts) (names more : List FullNameFields)
     → with_names (with_names segment names) more ≡ with_names segment (names ++ more)
 with_names-more segment names more =
     ap (λ names'. record segment { names = names'; affixes = (segment.affixes ++ map affixes_of names) ++ map affixes_of more })

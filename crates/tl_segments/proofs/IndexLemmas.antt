@@ -6,24 +6,24 @@ use Rattle.std.specs.List.{filter_map, find, flat_map, cons_option}
 use Rattle.std.specs.Option.{option_and_then, option_map_or}
 use Rattle.std.proofs.lemmas.List.{map-append, length-map}
 use Rattle.std.proofs.lemmas.List.Elements.{filter_map-append, All-nil, All-cons}
-use Rattle.counted_io.specs.Device.{Reader}
+use Rattle.counted_io.specs.ReaderWriter.{Reader}
 use Rattle.tl_fields.specs.Number.{number_of}
 use Rattle.tl_records.specs.Layout.{field_at}
 use Rattle.tl_records.specs.Lines.{LineParts}
-use Rattle.tl_records.specs.Records.{IsGoodLine}
-use Rattle.tl_records.specs.declared.fault.LineFlaw.TheVariants.{WrongLength, WrongType}
+use Rattle.tl_records.specs.Records.{IsValidLine}
+use Rattle.tl_records.specs.declared.fault.LineFaultKind.TheVariants.{WrongLength, WrongType}
 use Rattle.tl_records.specs.declared.layout.Layout.{Layout}
 use Rattle.tl_records.specs.declared.layout.Places.{Places}
 use Rattle.tl_records.specs.declared.layout.TheConstants.Type4.{FEAT1, FEAT2, FEAT3, FEAT4, FEAT5}
 use Rattle.tl_records.specs.declared.layout.TheConstants.Type5.{FENAME}
 use Rattle.tl_segments.specs.CountyFile.{layout}
 use Rattle.tl_segments.specs.County.{AreTlids, HasTlids, tlid_of}
-use Rattle.tl_segments.specs.Indexing.{IsIndexOf, IsRecordRead, IsSegmentRead, ReadsGoodLine, names_in}
+use Rattle.tl_segments.specs.Indexing.{IsIndexOf, IsRecordRead, IsSegmentRead, ReadsValidLine, names_in}
 use Rattle.tl_segments.specs.FullName.{FullNameFields, affixes_of, contents}
 use Rattle.tl_segments.specs.Joining.{JoinedLines, number_in, lines_with, features_of, alternate_names}
 use Rattle.tl_segments.specs.Joining.{affixes_in, alternate_affixes, further_ranges, has_number, segment_of}
-use Rattle.tl_segments.specs.Segment.{Contents, HasJoined, line_of}
-use Rattle.tl_segments.specs.Tables.{feature_full_name, feature_numbers, full_name_in, list_at, name_at, names_among}
+use Rattle.tl_segments.specs.Segment.{SegmentParts, HasJoined, line_of}
+use Rattle.tl_segments.specs.TableContents.{feature_full_name, feature_numbers, full_name_in, list_at, name_at, names_among}
 use Rattle.tl_segments.specs.declared.fault.CountyFile.TheVariants.{Rt1, Rt4, Rt5}
 use Rattle.tl_segments.specs.declared.fault.LoadFault.TheVariants.{Memory}
 use Rattle.tl_segments.specs.declared.feature_names.FeatureNames.{FeatureNames}
@@ -74,7 +74,7 @@ fields_of_tlid index lines tlid of_lines g field same =
     by_line (Some line) = ap Some (same line)
 
 -- a segment with what the index has for its TLID
-pub segment_from_index : {A : Type 0} (index : Index A) (lines : JoinedLines) (line : List ℕ) (tlid : ℕ) (segment : Contents)
+pub segment_from_index : {A : Type 0} (index : Index A) (lines : JoinedLines) (line : List ℕ) (tlid : ℕ) (segment : SegmentParts)
     → IsIndexOf index lines → number_in Rt1 line ≡ Some tlid → segment ≡ contents line (names_in index tlid)
     (list_at index.ranges tlid) → segment ≡ segment_of lines line
 segment_from_index index lines line tlid segment of_lines is made =
@@ -105,29 +105,29 @@ segment_from_index index lines line tlid segment of_lines is made =
 
 module _ {A : Type 0} (index : Index A) (lines : JoinedLines) (line : List ℕ) (tlid : ℕ) (of_lines : IsIndexOf index lines)
     (is : number_in Rt1 line ≡ Some tlid) where
-  from_index : ◌≡◌ {A = Contents} (contents line (names_in index tlid) (list_at index.ranges tlid)) (segment_of lines line)
+  from_index : ◌≡◌ {A = SegmentParts} (contents line (names_in index tlid) (list_at index.ranges tlid)) (segment_of lines line)
   from_index = segment_from_index index lines line tlid _ of_lines is refl
 
   pub names_joined : 1 ≤ length (names_in index tlid) → HasJoined (segment_of lines line)
-  names_joined some = inl (λ none. let same = ap (λ (segment : Contents). length segment.names) from_index in let no = ap length none in
+  names_joined some = inl (λ none. let same = ap (λ (segment : SegmentParts). length segment.names) from_index in let no = ap length none in
       omega (arith, some, same, no, length-map (names_in index tlid) (λ (name : FullNameFields). name.fename)))
 
   pub ranges_joined : 1 ≤ length (list_at index.ranges tlid) → HasJoined (segment_of lines line)
-  ranges_joined some = inr (λ none. let same = ap (λ (segment : Contents). length segment.ranges) from_index in let no = ap length none in
+  ranges_joined some = inr (λ none. let same = ap (λ (segment : SegmentParts). length segment.ranges) from_index in let no = ap length none in
       omega (arith, some, same, no))
 
 -- the next line is good and was read into the segment, and its TLID has this number
-pub record HasLine (line : LineParts) (number tlid : ℕ) (old new : Reader) (segment : Contents) : Type 0 where
-  pub good : ReadsGoodLine line (line_of number segment) old new
+pub record HasLine (line : LineParts) (number tlid : ℕ) (old new : Reader) (segment : SegmentParts) : Type 0 where
+  pub good : ReadsValidLine line (line_of number segment) old new
   pub numbered : number_in Rt1 segment.bytes ≡ Some tlid
 
 -- this also holds for any segment with the bytes that the line was read into
-pub has_line : {segment : Contents} (line : LineParts) (number tlid : ℕ) (read : Contents) {old new : Reader}
+pub has_line : {segment : SegmentParts} (line : LineParts) (number tlid : ℕ) (read : SegmentParts) {old new : Reader}
     → IsRecordRead line (record { number = number; segment = read }) old new (Ok (Some tt)) → number_in Rt1 read.bytes ≡ Some tlid
     → segment.bytes ≡ read.bytes
     → HasLine line number tlid old new segment
 has_line line number tlid read {old = old} {new = new} is numbered same = record {
-  good = subst (λ bytes. ReadsGoodLine line (record { number = number; bytes = bytes }) old new) (sym same) is.0;
+  good = subst (λ bytes. ReadsValidLine line (record { number = number; bytes = bytes }) old new) (sym same) is.0;
   numbered = ap (number_in Rt1) same ∙ numbered;
 }
 
@@ -140,11 +140,11 @@ numbered_by row true false found good = absurd (cc)
 numbered_by row false typed found good = absurd (cc)
 
 -- the TLID of a good line has a number
-pub numbered : (line : List ℕ) → IsGoodLine (layout Rt1) line → (tlid : ℕ) × (number_in Rt1 line ≡ Some tlid)
+pub numbered : (line : List ℕ) → IsValidLine (layout Rt1) line → (tlid : ℕ) × (number_in Rt1 line ≡ Some tlid)
 numbered line good =
-    numbered_by (layout Rt1) (length line == (layout Rt1).length) (slice_index line 0 == (layout Rt1).tag) (number_in Rt1 line) good.no_flaw
+    numbered_by (layout Rt1) (length line == (layout Rt1).length) (slice_index line 0 == (layout Rt1).tag) (number_in Rt1 line) good.no_fault
 
-module _ {A : Type 0} (index : Index A) {line : LineParts} {number tlid : ℕ} {old new : Reader} {segment : Contents}
+module _ {A : Type 0} (index : Index A) {line : LineParts} {number tlid : ℕ} {old new : Reader} {segment : SegmentParts}
     (has : HasLine line number tlid old new segment) where
   -- it has what the index has for its TLID
   pub segment_read : segment ≡ contents segment.bytes (names_in index tlid) (list_at index.ranges tlid)
@@ -160,15 +160,15 @@ module _ {A : Type 0} (index : Index A) {line : LineParts} {number tlid : ℕ} {
   wants_ranges some = (has.good, λ lines of_lines. ranges_joined index lines segment.bytes tlid of_lines has.numbered some)
 
 -- segments whose TLIDs have these numbers have numeric TLIDs
-pub has_tlids : (tlids : List ℕ) (segments : List Contents) → AreTlids tlids segments → HasTlids segments
-has_tlids tlids [] same = All-nil (λ (segment : Contents). IsSome (tlid_of segment))
+pub has_tlids : (tlids : List ℕ) (segments : List SegmentParts) → AreTlids tlids segments → HasTlids segments
+has_tlids tlids [] same = All-nil (λ (segment : SegmentParts). IsSome (tlid_of segment))
 has_tlids [] (segment ∷ segments) same = absurd (omega (arith, ap length same))
 has_tlids (tlid ∷ tlids) (segment ∷ segments) same =
-    All-cons (λ (segment : Contents). IsSome (tlid_of segment)) segment segments
+    All-cons (λ (segment : SegmentParts). IsSome (tlid_of segment)) segment segments
     (let is : tlid_of segment ≡ Some tlid = cc in ap is_some is) (has_tlids tlids segments (cc))
 
 -- one more segment
-pub tlids_push : (tlids : List ℕ) (segments : List Contents) (tlid : ℕ) (segment : Contents) → AreTlids tlids segments
+pub tlids_push : (tlids : List ℕ) (segments : List SegmentParts) (tlid : ℕ) (segment : SegmentParts) → AreTlids tlids segments
     → tlid_of segment ≡ Some tlid → AreTlids (tlids ++ tlid ∷ []) (segments ++ segment ∷ [])
 tlids_push tlids segments tlid segment same is =
     map-append Some tlids (tlid ∷ [])

@@ -5,23 +5,23 @@ use Rattle.std.proofs.Common.{arith}
 use Rattle.std.proofs.lemmas.Bool.Decides.{nat_tests}
 use Rattle.std.proofs.lemmas.List.Elements.{All-nil, All-head, All-tail, All-push}
 use Rattle.counted_io.specs.Content.{HasNoLineFeed}
-use Rattle.counted_io.specs.Device.{Reader}
+use Rattle.counted_io.specs.ReaderWriter.{Reader}
 use Rattle.tl_fields.specs.Number.{number_of}
 use Rattle.tl_records.specs.Layout.{field_at}
-use Rattle.tl_records.specs.Lines.{LineParts, IsEnded, by_lf, by_cr_lf, missing, IsFirstLine, AreFirstLines, AreLines, WhereKnown}
-use Rattle.tl_records.specs.Lines.{IsNextLine, BeginsTooLong, FailsWithin, most_bytes, HasOneMore, IsLineRead, IsUnreadLine}
-use Rattle.tl_records.specs.Records.{IsGoodLine, IsLineFault, line_flaw}
+use Rattle.tl_records.specs.Lines.{LineParts, IsEnded, by_lf, by_cr_lf, missing, IsFirstLine, AreFirstLines, AreLines, IfKnown}
+use Rattle.tl_records.specs.Lines.{IsNextLine, BeginsTooLong, FailsWithin, max_bytes, HasOneMoreByte, IsLineRead, IsUnreadableLine}
+use Rattle.tl_records.specs.Records.{IsValidLine, IsLineFault, line_fault_kind}
 use Rattle.tl_records.specs.declared.fault.LineFault.{LineFault}
-use Rattle.tl_records.specs.declared.fault.LineFlaw.{LineFlaw}
-use Rattle.tl_records.specs.declared.fault.LineFlaw.TheVariants.{WrongLength, WrongType, Read, TooManyLines}
+use Rattle.tl_records.specs.declared.fault.LineFaultKind.{LineFaultKind}
+use Rattle.tl_records.specs.declared.fault.LineFaultKind.TheVariants.{WrongLength, WrongType, Read, TooManyLines}
 use Rattle.tl_records.specs.declared.layout.Layout.{Layout}
 use Rattle.tl_records.proofs.LineLemmas.{cr_lf, has_first_line}
 use Rattle.tl_segments.specs.CountyFile.{layout}
-use Rattle.tl_segments.specs.Indexing.{ReadsGoodLine, IsNextFault}
+use Rattle.tl_segments.specs.Indexing.{ReadsValidLine, IsNextFault}
 use Rattle.tl_segments.specs.Joining.{IsWithinLimits}
-use Rattle.tl_segments.specs.Loading.{ReadsFile, ReadsLines, HasMoreAfter, HasFlawAfter, FailsAfter, MayHave, ComesAfter, IsFirstFault}
+use Rattle.tl_segments.specs.Loading.{ReadsFile, ReadsLines, HasMoreAfter, HasFaultAfter, FailsAfter, IsRecordFault, IsFaultAfter, IsFirstFault}
 use Rattle.tl_segments.specs.Loading.{IsOneTooMany, IsFileFault}
-use Rattle.tl_segments.specs.Taking.{IsBeyond, IsNextOf, IsTaken}
+use Rattle.tl_segments.specs.Adding.{ExceedsLimits, IsValidNext, IsLineAdded}
 use Rattle.tl_segments.specs.declared.fault.CountyFile.{CountyFile}
 use Rattle.tl_segments.specs.declared.fault.CountyFile.TheVariants.{Rt1, Rt4, Rt6}
 use Rattle.tl_segments.specs.declared.fault.LoadFault.{LoadFault}
@@ -31,7 +31,7 @@ use Rattle.tl_segments.specs.declared.fault.LoadFault.TheVariants.{Line, TooMany
 module _ (P Q : List ℕ → List ℕ → Type 0) where
   -- says this about the bytes before both
   known_then : (bytes now left : Option (List ℕ)) (R : List ℕ → Type 0)
-      → ((file mid rest : List ℕ) → P file mid → Q mid rest → R file) → WhereKnown bytes now P × WhereKnown now left Q → IfSome bytes R
+      → ((file mid rest : List ℕ) → P file mid → Q mid rest → R file) → IfKnown bytes now P × IfKnown now left Q → IfSome bytes R
   known_then None now left R f both = tt
   known_then (Some file) None left R f both = absurd both.0
   known_then (Some file) (Some mid) None R f both = absurd both.1
@@ -39,8 +39,8 @@ module _ (P Q : List ℕ → List ℕ → Type 0) where
 
   -- says this about both together
   known_both : (bytes now left : Option (List ℕ)) (R : List ℕ → List ℕ → Type 0)
-      → ((file mid rest : List ℕ) → P file mid → Q mid rest → R file rest) → WhereKnown bytes now P × WhereKnown now left Q
-      → WhereKnown bytes left R
+      → ((file mid rest : List ℕ) → P file mid → Q mid rest → R file rest) → IfKnown bytes now P × IfKnown now left Q
+      → IfKnown bytes left R
   known_both None now left R f both = tt
   known_both (Some file) None left R f both = absurd both.0
   known_both (Some file) (Some mid) None R f both = absurd both.1
@@ -75,28 +75,28 @@ layout_short : (file : CountyFile) → (layout file).length < 230
 layout_short Rt1 = omega arith
 layout_short otherwise = omega arith
 
-wrong_length_of : (row : Layout) (line : List ℕ) → row.length < 230 → 230 ≤ length line → line_flaw row line ≡ Some WrongLength
+wrong_length_of : (row : Layout) (line : List ℕ) → row.length < 230 → 230 ≤ length line → line_fault_kind row line ≡ Some WrongLength
 wrong_length_of row line short long = grind (arith, nat_tests)
 
-pub wrong_length : (file : CountyFile) (line : List ℕ) → 230 ≤ length line → line_flaw (layout file) line ≡ Some WrongLength
+pub wrong_length : (file : CountyFile) (line : List ℕ) → 230 ≤ length line → line_fault_kind (layout file) line ≡ Some WrongLength
 wrong_length file line long = wrong_length_of (layout file) line (layout_short file) long
 
-may_have_by : (file : CountyFile) (flaw : LineFlaw) (long typed numbered : Bool)
+record_fault_by : (file : CountyFile) (flaw : LineFaultKind) (long typed numbered : Bool)
     → (if long then (if typed then (if numbered then None else Some (layout file).without_number) else Some WrongType) else Some
-    WrongLength) ≡ Some flaw → MayHave file flaw
-may_have_by file flaw true true true e = cc
-may_have_by file flaw true true false e = inr (inr (cc))
-may_have_by file flaw true false numbered e = inr (inl (cc))
-may_have_by file flaw false typed numbered e = inl (cc)
+    WrongLength) ≡ Some flaw → IsRecordFault file flaw
+record_fault_by file flaw true true true e = cc
+record_fault_by file flaw true true false e = inr (inr (cc))
+record_fault_by file flaw true false numbered e = inr (inl (cc))
+record_fault_by file flaw false typed numbered e = inl (cc)
 
 -- the flaw of a line is one that its file's lines may have
-may_have : (file : CountyFile) (line : List ℕ) (flaw : LineFlaw) → line_flaw (layout file) line ≡ Some flaw → MayHave file flaw
-may_have file line flaw e =
-    may_have_by file flaw (length line == (layout file).length) (slice_index line 0 == (layout file).tag)
+record_fault : (file : CountyFile) (line : List ℕ) (flaw : LineFaultKind) → line_fault_kind (layout file) line ≡ Some flaw → IsRecordFault file flaw
+record_fault file line flaw e =
+    record_fault_by file flaw (length line == (layout file).length) (slice_index line 0 == (layout file).tag)
     (is_some (number_of (field_at (layout file).number line))) e
 
 -- such a flaw is neither a failed read nor a line that is too many
-of_its_own : (file : CountyFile) (flaw : LineFlaw) → MayHave file flaw → (flaw ≢ Read) × (flaw ≢ TooManyLines)
+of_its_own : (file : CountyFile) (flaw : LineFaultKind) → IsRecordFault file flaw → (flaw ≢ Read) × (flaw ≢ TooManyLines)
 of_its_own file flaw (inl e) = (λ read. cc, λ more. cc)
 of_its_own file flaw (inr (inl e)) = (λ read. cc, λ more. cc)
 of_its_own Rt1 flaw (inr (inr e)) = (λ read. cc, λ more. cc)
@@ -107,7 +107,7 @@ not_empty file taken rest e long none = omega (arith, length-append taken rest, 
 
 -- if the bytes after these lines begin with 231 bytes without a line feed, the next line is too long for its type
 pub too_long_after : (file : CountyFile) (bytes mid rest : List ℕ) (lines : List (List ℕ)) → AreFirstLines bytes lines mid
-    → BeginsTooLong mid rest → HasFlawAfter file WrongLength lines bytes rest
+    → BeginsTooLong mid rest → HasFaultAfter file WrongLength lines bytes rest
 too_long_after file bytes mid rest lines before (taken, e, p, long) =
     let first = has_first_line mid (not_empty mid taken rest e long) in
     record {
@@ -116,8 +116,8 @@ too_long_after file bytes mid rest lines before (taken, e, p, long) =
       rest = first.rest;
       before = before;
       first = first.first;
-      flawed = wrong_length file first.line (long_line taken rest p e long first.first.ended);
-      stands = inr (taken, e, p, long);
+      faulty = wrong_length file first.line (long_line taken rest p e long first.first.ended);
+      leftover = inr (taken, e, p, long);
     }
 
 -- these lines were read so far, and the last one is this line
@@ -127,25 +127,25 @@ pub record IsReadSoFar (file : CountyFile) (lines : List (List ℕ)) (line : Lin
   pub small : line.number < 2 ^ 32
 
 -- the same for lines that a table holds
-pub record KeepsSoFar (file : CountyFile) (keeps : List (List ℕ) → Type 0) (line : LineParts) (old new : Reader) : Type 0 where
+pub record HoldsSoFar (file : CountyFile) (holds : List (List ℕ) → Type 0) (line : LineParts) (old new : Reader) : Type 0 where
   pub lines : List (List ℕ)
-  pub kept : keeps lines
+  pub held : holds lines
   pub read : IsReadSoFar file lines line old new
 
-known_start : (bytes : Option (List ℕ)) → WhereKnown bytes bytes (λ bytes rest. AreFirstLines bytes [] rest)
+known_start : (bytes : Option (List ℕ)) → IfKnown bytes bytes (λ bytes rest. AreFirstLines bytes [] rest)
 known_start None = tt
 known_start (Some file) = refl
 
 -- an empty list of lines is within the limits
-none_beyond : (file : CountyFile) → IsWithinLimits file []
-none_beyond Rt4 = λ number. omega arith
-none_beyond Rt6 = λ number. omega arith
-none_beyond otherwise = tt
+none_exceeds : (file : CountyFile) → IsWithinLimits file []
+none_exceeds Rt4 = λ number. omega arith
+none_exceeds Rt6 = λ number. omega arith
+none_exceeds otherwise = tt
 
 pub none_read : (file : CountyFile) (line : LineParts) (input : Reader) → line.number ≡ 0 → IsReadSoFar file [] line input input
 none_read file line input zeroth = record {
   reads = record {
-    good = record { good = All-nil (IsGoodLine (layout file)); within = none_beyond file };
+    good = record { good = All-nil (IsValidLine (layout file)); within = none_exceeds file };
     known = known_start input.left;
     reads = refl;
   };
@@ -157,18 +157,18 @@ module _ {file : CountyFile} {lines : List (List ℕ)} {line : LineParts} {old n
     (new_line : LineParts) (new : Reader) where
   -- what the bytes after these lines satisfy implies this about all bytes
   known_after : (Q R : List ℕ → List ℕ → Type 0)
-      → ((file mid rest : List ℕ) → AreFirstLines file lines mid → Q mid rest → R file rest) → WhereKnown now.left new.left Q
-      → WhereKnown old.left new.left R
+      → ((file mid rest : List ℕ) → AreFirstLines file lines mid → Q mid rest → R file rest) → IfKnown now.left new.left Q
+      → IfKnown old.left new.left R
   known_after Q R joined known =
       known_both (λ bytes rest. AreFirstLines bytes lines rest) Q old.left now.left new.left R joined (read.reads.known, known)
 
   -- one more good line
-  pub one_line_more : IsLineRead line new_line now new (Ok (Some tt)) → IsNextOf file lines new_line
+  pub one_line_more : IsLineRead line new_line now new (Ok (Some tt)) → IsValidNext file lines new_line
       → IsReadSoFar file (lines ++ new_line.bytes ∷ []) new_line old new
   one_line_more next good = record {
     reads = record {
       good = record {
-        good = All-push (IsGoodLine (layout file)) lines new_line.bytes read.reads.good.good good.good;
+        good = All-push (IsValidLine (layout file)) lines new_line.bytes read.reads.good.good good.good;
         within =
             good.within;
       };
@@ -195,48 +195,48 @@ module _ {file : CountyFile} {lines : List (List ℕ)} {line : LineParts} {old n
   }
 
   -- a line with a flaw
-  flaw_after : (flaw : LineFlaw) (number : ℕ) → IsLineRead line new_line now new (Ok (Some tt))
-      → number ≡ new_line.number → line_flaw (layout file) new_line.bytes ≡ Some flaw → (number < 2 ^ 32) × MayHave file flaw
-      × WhereKnown old.left new.left (HasFlawAfter file flaw lines) × (new.failed ≡ old.failed)
-  flaw_after flaw number next at flawed = (
+  flaw_after : (flaw : LineFaultKind) (number : ℕ) → IsLineRead line new_line now new (Ok (Some tt))
+      → number ≡ new_line.number → line_fault_kind (layout file) new_line.bytes ≡ Some flaw → (number < 2 ^ 32) × IsRecordFault file flaw
+      × IfKnown old.left new.left (HasFaultAfter file flaw lines) × (new.failed ≡ old.failed)
+  flaw_after flaw number next at faulty = (
     omega (arith, at, next.1, next.2),
-    may_have file new_line.bytes flaw flawed,
-    known_after (IsNextLine new_line.bytes) (HasFlawAfter file flaw lines) (λ bytes mid rest a b. record {
+    record_fault file new_line.bytes flaw faulty,
+    known_after (IsNextLine new_line.bytes) (HasFaultAfter file flaw lines) (λ bytes mid rest a b. record {
       after = mid;
       line = new_line.bytes;
       rest = rest;
       before = a;
       first = b.0;
-      flawed = flawed;
-      stands = inl (refl, b.2);
+      faulty = faulty;
+      leftover = inl (refl, b.2);
     }) next.3,
     next.0 ∙ read.reads.reads,
   )
 
-  flaw_comes : (flaw : LineFlaw) (number : ℕ) → IsLineRead line new_line now new (Ok (Some tt))
-      → number ≡ new_line.number → line_flaw (layout file) new_line.bytes ≡ Some flaw → ComesAfter file flaw number lines old new
-  flaw_comes Read number next at flawed = absurd ((of_its_own file Read (may_have file new_line.bytes Read flawed)).0 refl)
-  flaw_comes TooManyLines number next at flawed =
-      absurd ((of_its_own file TooManyLines (may_have file new_line.bytes TooManyLines flawed)).1 refl)
-  flaw_comes flaw number next at flawed = flaw_after flaw number next at flawed
+  fault_follows : (flaw : LineFaultKind) (number : ℕ) → IsLineRead line new_line now new (Ok (Some tt))
+      → number ≡ new_line.number → line_fault_kind (layout file) new_line.bytes ≡ Some flaw → IsFaultAfter file flaw number lines old new
+  fault_follows Read number next at faulty = absurd ((of_its_own file Read (record_fault file new_line.bytes Read faulty)).0 refl)
+  fault_follows TooManyLines number next at faulty =
+      absurd ((of_its_own file TooManyLines (record_fault file new_line.bytes TooManyLines faulty)).1 refl)
+  fault_follows flaw number next at faulty = flaw_after flaw number next at faulty
 
-  pub at_flaw : (fault : LineFault) → IsLineRead line new_line now new (Ok (Some tt))
+  pub at_record_fault : (fault : LineFault) → IsLineRead line new_line now new (Ok (Some tt))
       → IsLineFault (layout file) new_line fault → IsFirstFault file fault lines old new
-  at_flaw fault next flawed = record {
+  at_record_fault fault next faulty = record {
     good = read.reads.good;
-    counted = omega (arith, flawed.0, next.2, read.counted);
-    follows = flaw_comes fault.flaw fault.line next flawed.0 flawed.1;
+    counted = omega (arith, faulty.0, next.2, read.counted);
+    follows = fault_follows fault.flaw fault.line next faulty.0 faulty.1;
   }
 
   -- a line that puts the lines over the limits
-  pub at_beyond : (number : ℕ) → IsLineRead line new_line now new (Ok (Some tt)) → number ≡ new_line.number
-      → IsBeyond file lines new_line → IsOneTooMany file number old new
-  at_beyond number next at beyond = record {
+  pub at_excess : (number : ℕ) → IsLineRead line new_line now new (Ok (Some tt)) → number ≡ new_line.number
+      → ExceedsLimits file lines new_line → IsOneTooMany file number old new
+  at_excess number next at exceeds = record {
     lines = lines;
     line = new_line.bytes;
     good = read.reads.good;
-    line_good = beyond.good;
-    beyond = beyond.beyond;
+    line_good = exceeds.good;
+    exceeds = exceeds.exceeds;
     counted = omega (arith, at, next.2, read.counted);
     small = omega (arith, at, next.1, next.2);
     known =
@@ -246,50 +246,50 @@ module _ {file : CountyFile} {lines : List (List ℕ)} {line : LineParts} {old n
   }
 
   -- a line that is refused
-  pub not_taken : (keeps : List (List ℕ) → Type 0) (fault : LoadFault) → IsLineRead line new_line now new (Ok (Some tt))
-      → IsTaken file lines new_line (Err fault) keeps → IsFileFault file fault old new
-  not_taken keeps (Line of_file fault) next taken = (taken.0, lines, at_flaw fault next taken.1)
-  not_taken keeps (TooManyNames number) next taken = (taken.0, at_beyond number next taken.1 taken.2)
-  not_taken keeps (TooManyRanges number) next taken = (taken.0, at_beyond number next taken.1 taken.2)
-  not_taken keeps Memory next taken = next.0 ∙ read.reads.reads
+  pub not_added : (holds : List (List ℕ) → Type 0) (fault : LoadFault) → IsLineRead line new_line now new (Ok (Some tt))
+      → IsLineAdded file lines new_line (Err fault) holds → IsFileFault file fault old new
+  not_added holds (Line of_file fault) next taken = (taken.0, lines, at_record_fault fault next taken.1)
+  not_added holds (TooManyNames number) next taken = (taken.0, at_excess number next taken.1 taken.2)
+  not_added holds (TooManyRanges number) next taken = (taken.0, at_excess number next taken.1 taken.2)
+  not_added holds Memory next taken = next.0 ∙ read.reads.reads
 
   -- a line that couldn't be read
-  unread_comes : (flaw : LineFlaw) (number : ℕ) → number ≡ line.number + 1 → IsUnreadLine line.number flaw now new
-      → ComesAfter file flaw number lines old new
-  unread_comes WrongLength number at unread = (
+  unreadable_follows : (flaw : LineFaultKind) (number : ℕ) → number ≡ line.number + 1 → IsUnreadableLine line.number flaw now new
+      → IsFaultAfter file flaw number lines old new
+  unreadable_follows WrongLength number at unread = (
     omega (arith, at, unread.1),
     inl refl,
-    known_after BeginsTooLong (HasFlawAfter file WrongLength lines)
+    known_after BeginsTooLong (HasFaultAfter file WrongLength lines)
         (λ bytes mid rest a b. too_long_after file bytes mid rest lines a b) unread.2,
     unread.0 ∙ read.reads.reads,
   )
-  unread_comes Read number at unread = (
+  unreadable_follows Read number at unread = (
     omega (arith, at, read.small),
-    known_after (FailsWithin (most_bytes line.number)) (FailsAfter lines)
-        (λ bytes mid rest a b. (mid, a, subst (λ (n : ℕ). FailsWithin (most_bytes n) mid rest) read.counted b)) unread.1,
+    known_after (FailsWithin (max_bytes line.number)) (FailsAfter lines)
+        (λ bytes mid rest a b. (mid, a, subst (λ (n : ℕ). FailsWithin (max_bytes n) mid rest) read.counted b)) unread.1,
     λ e. unread.0 (e ∙ sym read.reads.reads),
   )
-  unread_comes TooManyLines number at unread = (
+  unreadable_follows TooManyLines number at unread = (
     omega (arith, at, unread.1),
-    known_after HasOneMore (HasMoreAfter lines) (λ bytes mid rest a b. (mid, a, b)) unread.2,
+    known_after HasOneMoreByte (HasMoreAfter lines) (λ bytes mid rest a b. (mid, a, b)) unread.2,
     unread.0 ∙ read.reads.reads,
   )
-  unread_comes flaw number at unread = absurd unread
+  unreadable_follows flaw number at unread = absurd unread
 
   pub at_fault : (fault : LineFault) → IsLineRead line new_line now new (Err fault) → IsFirstFault file fault lines old new
   at_fault fault next = record {
     good = read.reads.good;
     counted = omega (arith, next.1, read.counted);
-    follows = unread_comes fault.flaw fault.line next.1 next.2;
+    follows = unreadable_follows fault.flaw fault.line next.1 next.2;
   }
 
 module _ {lines : List (List ℕ)} {line : LineParts} {old now : Reader} (read : IsReadSoFar Rt1 lines line old now) (new_line : LineParts)
     (new : Reader) where
   -- one more good line of type 1
-  pub good_line_more : ReadsGoodLine line new_line now new → IsReadSoFar Rt1 (lines ++ new_line.bytes ∷ []) new_line old new
+  pub good_line_more : ReadsValidLine line new_line now new → IsReadSoFar Rt1 (lines ++ new_line.bytes ∷ []) new_line old new
   good_line_more next = one_line_more read new_line new next.0 (record { good = next.1; within = tt })
 
   -- the next line has a fault
   pub at_next_fault : (fault : LineFault) → IsNextFault fault line new_line now new → IsFirstFault Rt1 fault lines old new
   at_next_fault fault (inl next) = at_fault read new_line new fault next
-  at_next_fault fault (inr (next, flawed)) = at_flaw read new_line new fault next flawed
+  at_next_fault fault (inr (next, faulty)) = at_record_fault read new_line new fault next faulty

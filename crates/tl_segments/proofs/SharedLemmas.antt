@@ -9,19 +9,19 @@ use Rattle.std.proofs.lemmas.Bool.Decides.{nat_tests}
 use Rattle.tl_segments.specs.FullName.{FullNameFields, contents, with_names}
 use Rattle.tl_segments.specs.Joining.{JoinedLines, alternate_affixes, alternate_names, further_ranges, number_in, segment_of}
 use Rattle.tl_segments.specs.Range.{IsRange}
-use Rattle.tl_segments.specs.Segment.{Contents, IsSegment}
-use Rattle.tl_segments.specs.SharedLists.{IsJoinedTo, KeepsShared}
-use Rattle.tl_segments.specs.Joined.{MayJoin, contents_with, shared_names, shared_ranges}
+use Rattle.tl_segments.specs.Segment.{SegmentParts, IsSegment}
+use Rattle.tl_segments.specs.SharedLists.{IsJoinedTo, HoldsShared}
+use Rattle.tl_segments.specs.JoinedLists.{AreValidLists, contents_with, shared_names, shared_ranges}
 use Rattle.tl_segments.specs.declared.fault.CountyFile.TheVariants.{Rt1}
 use Rattle.tl_segments.specs.declared.index.Index.{Index}
 use Rattle.tl_segments.specs.declared.range.RangeFields.{RangeFields}
-use Rattle.tl_segments.specs.declared.limits.TheConstants.{RANGE_LIMIT}
-use Rattle.tl_segments.specs.declared.joined.Joined.{Joined}
+use Rattle.tl_segments.specs.declared.limits.TheConstants.{MAX_RANGES}
+use Rattle.tl_segments.specs.declared.joined.JoinedLists.{JoinedLists}
 use Rattle.tl_segments.specs.declared.shared_lists.SharedLists.{SharedLists}
 use Rattle.tl_segments.proofs.FullNameLemmas.{contents-more}
 
 -- the contents of a segment with more names of its own
-pub names_pushed : {A : Type 0} (shared : Option (Rc (Joined A) A)) (bytes : List ℕ) (names more : List FullNameFields)
+pub names_pushed : {A : Type 0} (shared : Option (Rc (JoinedLists A) A)) (bytes : List ℕ) (names more : List FullNameFields)
     (ranges : List RangeFields)
     → contents_with shared bytes (names ++ more) ranges ≡ with_names (contents_with shared bytes names ranges) more
 names_pushed shared bytes names more ranges =
@@ -29,14 +29,14 @@ names_pushed shared bytes names more ranges =
     ∙ contents-more bytes (shared_names shared ++ names) more (shared_ranges shared ++ ranges)
 
 -- and of one with more ranges
-pub ranges_pushed : {A : Type 0} (shared : Option (Rc (Joined A) A)) (bytes : List ℕ) (names : List FullNameFields)
+pub ranges_pushed : {A : Type 0} (shared : Option (Rc (JoinedLists A) A)) (bytes : List ℕ) (names : List FullNameFields)
     (ranges more : List RangeFields) → contents_with shared bytes names (ranges ++ more)
     ≡ (let before = contents_with shared bytes names ranges in record before { ranges = before.ranges ++ more })
 ranges_pushed shared bytes names ranges more =
     ap (λ all. contents bytes (shared_names shared ++ names) all) (sym (append_assoc (shared_ranges shared) ranges more))
 
 -- a segment with one more range
-pub with_range-is : (segment : Contents) (range : RangeFields) → IsSegment segment → IsRange range → length segment.ranges < RANGE_LIMIT
+pub with_range-is : (segment : SegmentParts) (range : RangeFields) → IsSegment segment → IsRange range → length segment.ranges < MAX_RANGES
     → IsSegment (record segment { ranges = segment.ranges ++ range ∷ [] })
 with_range-is segment range is good room = record {
   bytes = is.bytes;
@@ -49,9 +49,9 @@ with_range-is segment range is good room = record {
 }
 
 -- lists that one segment has, any segment may have
-pub may_join : {A : Type 0} (joined : Joined A) (bytes : List ℕ) → IsSegment (contents bytes joined.names.items joined.ranges.items)
-    → MayJoin joined
-may_join joined bytes is = λ others are. record {
+pub valid_lists : {A : Type 0} (joined : JoinedLists A) (bytes : List ℕ) → IsSegment (contents bytes joined.names.items joined.ranges.items)
+    → AreValidLists joined
+valid_lists joined bytes is = λ others are. record {
   bytes = are;
   names = is.names;
   few_names = is.few_names;
@@ -66,7 +66,7 @@ pub lists_made : (lines : JoinedLines) (names : List FullNameFields) (ranges : L
     → number_in Rt1 first ≡ Some tlid → contents first names ranges ≡ segment_of lines first → number_in Rt1 bytes ≡ Some tlid
     → contents bytes names ranges ≡ segment_of lines bytes
 lists_made lines names ranges {first} {bytes} has made is =
-    ap (λ (segment : Contents). record segment { bytes = bytes }) made
+    ap (λ (segment : SegmentParts). record segment { bytes = bytes }) made
     ∙ ap (λ found. record {
       bytes = bytes;
       names = option_map_or (alternate_names lines) found [];
@@ -75,12 +75,12 @@ lists_made lines names ranges {first} {bytes} has made is =
     }) (has ∙ sym is)
 
 -- lists stored along with those of other TLIDs
-pub keeps_one_more : {A : Type 0} (index : Index A) (old new : SharedLists A) (tlid : ℕ) (joined : Rc (Joined A) A) → KeepsShared index old
+pub holds_one_more : {A : Type 0} (index : Index A) (old new : SharedLists A) (tlid : ℕ) (joined : Rc (JoinedLists A) A) → HoldsShared index old
     → IsJoinedTo index tlid joined.value
-    → ((q : ℕ) → get nat_eq new.lists q ≡ (if nat_eq tlid q then Some joined else get nat_eq old.lists q)) → KeepsShared index new
-keeps_one_more index old new tlid joined keeps by lists = λ q. rw (lists q) (at_number q (nat_eq tlid q) refl)
+    → ((q : ℕ) → get nat_eq new.lists q ≡ (if nat_eq tlid q then Some joined else get nat_eq old.lists q)) → HoldsShared index new
+holds_one_more index old new tlid joined holds by lists = λ q. rw (lists q) (at_number q (nat_eq tlid q) refl)
   where
     at_number : (q : ℕ) (same : Bool) → nat_eq tlid q ≡ same
         → IfSome (if same then Some joined else get nat_eq old.lists q) (λ joined. IsJoinedTo index q joined.value)
     at_number q true e = subst (λ n. IsJoinedTo index n joined.value) (grind (arith, nat_tests)) by
-    at_number q false e = keeps q
+    at_number q false e = holds q

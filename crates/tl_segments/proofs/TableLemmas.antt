@@ -11,23 +11,23 @@ use Rattle.std.proofs.lemmas.Grind.{common_steps, take_at_read}
 use Rattle.std.proofs.lemmas.List.Elements.{filter_map-append}
 use Rattle.std.proofs.lemmas.Bool.Decides.{nat_tests}
 use Rattle.tl_segments.specs.FullName.{FullNameFields, with_names}
-use Rattle.tl_segments.specs.Segment.{Contents}
-use Rattle.tl_segments.specs.Tables.{HasShortLists, list_at}
-use Rattle.tl_segments.specs.declared.grouped.Grouped.{Grouped}
+use Rattle.tl_segments.specs.Segment.{SegmentParts}
+use Rattle.tl_segments.specs.TableContents.{HasShortLists, list_at}
+use Rattle.tl_segments.specs.declared.multi_map.MultiMap.{MultiMap}
 use Rattle.tl_segments.proofs.FullNameLemmas.{with_names-more}
 
 -- if no number has a value, all lists are short
-pub no_lists_short : {V A : Type 0} (table : Grouped V A) → ((number : ℕ) → list_at table number ≡ []) → HasShortLists table
+pub no_lists_short : {V A : Type 0} (table : MultiMap V A) → ((number : ℕ) → list_at table number ≡ []) → HasShortLists table
 no_lists_short table none number = rw (none number) (omega arith)
 
 -- a map without entries has no list
-pub no_list_in : {V A : Type 0} (table : Grouped V A) → hash_map_len table.lists ≡ 0 → (number : ℕ) → list_at table number ≡ []
+pub no_list_in : {V A : Type 0} (table : MultiMap V A) → hash_map_len table.lists ≡ 0 → (number : ℕ) → list_at table number ≡ []
 no_list_in {V = V} table none number =
     ap (λ entries. option_map_or (λ (list : Vec V _). list.items) (lookup (nat_eq number) entries) [])
     (nil_from_length table.lists.entries none)
 
 -- what a map returns for a number after a list was written: the previous list with one more value
-pub added_at : {V A : Type 0} (old : Grouped V A) (found : Option (Vec V A)) (number : ℕ) (value : V) (list : Vec V A) (q : ℕ)
+pub added_at : {V A : Type 0} (old : MultiMap V A) (found : Option (Vec V A)) (number : ℕ) (value : V) (list : Vec V A) (q : ℕ)
     → found ≡ cond (nat_eq number q) (Some list) (get nat_eq old.lists q) → list.items ≡ list_at old number ++ value ∷ []
     → option_map_or (λ list. list.items) found [] ≡ (if nat_eq number q then list_at old q ++ value ∷ [] else list_at old q)
 added_at old found number value list q here items = grind (arith, nat_tests, common_steps)
@@ -52,10 +52,10 @@ filter_map-some {Y = Y} h (x ∷ xs) (suc i) d y inside is = with_first (h x) (f
     with_first (Some first) others some = omega arith
 
 -- names appended to names
-pub names-more : {now next : Contents} (start : Contents) {all : List FullNameFields} (names more : List FullNameFields)
+pub names-more : {now next : SegmentParts} (start : SegmentParts) {all : List FullNameFields} (names more : List FullNameFields)
     → now ≡ with_names start names → next ≡ with_names now more → all ≡ names ++ more → next ≡ with_names start all
 names-more start names more so_far added is =
-    added ∙ ap (λ (segment : Contents). with_names segment more) so_far ∙ with_names-more start names more
+    added ∙ ap (λ (segment : SegmentParts). with_names segment more) so_far ∙ with_names-more start names more
     ∙ ap (λ names. with_names start names) (sym is)
 
 -- the element at an index, after one more was pushed

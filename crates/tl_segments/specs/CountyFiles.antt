@@ -1,6 +1,6 @@
 -- The readers of a county's files, as contracts see them.
 use Rattle.std.specs.Prelude.{ℕ, List, Option}
-use Rattle.counted_io.specs.Device.{reader}
+use Rattle.counted_io.specs.ReaderWriter.{reader}
 use Rattle.tl_segments.specs.County.{CountyReaders}
 use Rattle.tl_segments.specs.Loading.{Readers, readers}
 use Rattle.tl_segments.specs.declared.county_files.CountyFiles.{CountyFiles}

@@ -4,7 +4,7 @@ use Rattle.tl_records.specs.Layout.{field_at}
 use Rattle.tl_records.specs.declared.layout.TheConstants.Type1.{FEDIRP, FENAME, FETYPE, FEDIRS}
 use Rattle.tl_segments.specs.Affixes.{Affixes}
 use Rattle.tl_segments.specs.Range.{AreBytes}
-use Rattle.tl_segments.specs.Segment.{Contents}
+use Rattle.tl_segments.specs.Segment.{SegmentParts}
 use Rattle.tl_segments.specs.declared.full_name.FullName.{FullName}
 use Rattle.tl_segments.specs.declared.full_name.TheConstants.{DIRECTION_LENGTH, TYPE_LENGTH}
 use Rattle.tl_segments.specs.declared.name.TheConstants.{NAME_LENGTH}
@@ -57,7 +57,7 @@ all_with_affixes (affixes ∷ others) (name ∷ names) = with_affixes affixes na
 all_with_affixes affixes names = []
 
 -- the contents of a segment with this record, these alternate names and these further ranges
-abbrev pub contents : List ℕ → List FullNameFields → List RangeFields → Contents
+abbrev pub contents : List ℕ → List FullNameFields → List RangeFields → SegmentParts
 contents bytes names ranges = record {
   bytes = bytes;
   names = map (λ name. name.fename) names;
@@ -66,12 +66,12 @@ contents bytes names ranges = record {
 }
 
 -- the segment with more alternate names
-abbrev pub with_names : Contents → List FullNameFields → Contents
+abbrev pub with_names : SegmentParts → List FullNameFields → SegmentParts
 with_names segment names = record segment {
   names = segment.names ++ map (λ name. name.fename) names;
   affixes = segment.affixes ++ map affixes_of names;
 }
 
 -- the full names of a segment in order, counted from 0: that of the record, and then the alternate ones
-abbrev pub full_names_of : Contents → List FullNameFields
+abbrev pub full_names_of : SegmentParts → List FullNameFields
 full_names_of segment = own_full_name segment.bytes ∷ all_with_affixes segment.affixes segment.names

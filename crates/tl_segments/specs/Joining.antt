@@ -10,11 +10,11 @@ use Rattle.tl_records.specs.declared.layout.TheConstants.Type5.{FEDIRP, FENAME, 
 use Rattle.tl_records.specs.declared.layout.TheConstants.Type6.{FRADDL, TOADDL, FRADDR, TOADDR, ZIPL, ZIPR}
 use Rattle.tl_segments.specs.Affixes.{Affixes}
 use Rattle.tl_segments.specs.CountyFile.{layout}
-use Rattle.tl_segments.specs.Segment.{Contents}
+use Rattle.tl_segments.specs.Segment.{SegmentParts}
 use Rattle.tl_segments.specs.declared.fault.CountyFile.{CountyFile}
 use Rattle.tl_segments.specs.declared.fault.CountyFile.TheVariants.{Rt1, Rt4, Rt5, Rt6}
 use Rattle.tl_segments.specs.declared.range.RangeFields.{RangeFields}
-use Rattle.tl_segments.specs.declared.limits.TheConstants.{LINE_LIMIT}
+use Rattle.tl_segments.specs.declared.limits.TheConstants.{MAX_LINES_PER_TLID}
 
 -- the lines of types 4, 5 and 6, which are joined to those of type 1
 pub record JoinedLines : Type 0 where
@@ -77,7 +77,7 @@ abbrev pub further_ranges : JoinedLines → ℕ → List RangeFields
 further_ranges lines tlid = map further_range (lines_with Rt6 tlid lines.rt6)
 
 -- the segment of a type 1 line, with what belongs to its TLID
-abbrev pub segment_of : JoinedLines → List ℕ → Contents
+abbrev pub segment_of : JoinedLines → List ℕ → SegmentParts
 segment_of lines line = record {
   bytes = line;
   names = option_map_or (alternate_names lines) (number_in Rt1 line) [];
@@ -86,15 +86,15 @@ segment_of lines line = record {
 }
 
 -- the segments of the four files, one for each type 1 line
-abbrev pub segments_of : JoinedLines → List (List ℕ) → List Contents
+abbrev pub segments_of : JoinedLines → List (List ℕ) → List SegmentParts
 segments_of lines rt1 = map (segment_of lines) rt1
 
 -- each number occurs in at most 1,000 lines of the file
-abbrev pub FewHaveEach : CountyFile → List (List ℕ) → Type 0
-FewHaveEach file lines = (number : ℕ) → length (lines_with file number lines) ≤ LINE_LIMIT
+abbrev pub IsWithinLineLimit : CountyFile → List (List ℕ) → Type 0
+IsWithinLineLimit file lines = (number : ℕ) → length (lines_with file number lines) ≤ MAX_LINES_PER_TLID
 
 -- the limits of a county: at most 1,000 type 4 lines and 1,000 type 6 lines per TLID, including TLIDs that no type 1 line has
 abbrev pub IsWithinLimits : CountyFile → List (List ℕ) → Type 0
-IsWithinLimits Rt4 lines = FewHaveEach Rt4 lines
-IsWithinLimits Rt6 lines = FewHaveEach Rt6 lines
+IsWithinLimits Rt4 lines = IsWithinLineLimit Rt4 lines
+IsWithinLimits Rt6 lines = IsWithinLineLimit Rt6 lines
 IsWithinLimits file lines = Unit {0}

@@ -1,12 +1,12 @@
 -- The effect of loading a county's files on their readers, and the first fault of a file.
 use Rattle.std.specs.Prelude.{◌≡◌, ◌≢◌, ℕ, ◌+◌, ◌^◌, ◌<◌, ◌≤◌, ◌⊎◌, List, [], ◌∷◌, ◌++◌, length, All, Option, Some, IfSome}
 use Rattle.std.specs.Io.KnownBytes.{IsAtEnd}
-use Rattle.counted_io.specs.Device.{Reader, reader}
-use Rattle.tl_records.specs.Lines.{IsFirstLine, AreFirstLines, AreLines, BeginsTooLong, FailsWithin, HasOneMore, WhereKnown, most_bytes}
-use Rattle.tl_records.specs.Records.{IsGoodLine, line_flaw}
+use Rattle.counted_io.specs.ReaderWriter.{Reader, reader}
+use Rattle.tl_records.specs.Lines.{IsFirstLine, AreFirstLines, AreLines, BeginsTooLong, FailsWithin, HasOneMoreByte, IfKnown, max_bytes}
+use Rattle.tl_records.specs.Records.{IsValidLine, line_fault_kind}
 use Rattle.tl_records.specs.declared.fault.LineFault.{LineFault}
-use Rattle.tl_records.specs.declared.fault.LineFlaw.{LineFlaw}
-use Rattle.tl_records.specs.declared.fault.LineFlaw.TheVariants.{WrongLength, WrongType, Read, TooManyLines}
+use Rattle.tl_records.specs.declared.fault.LineFaultKind.{LineFaultKind}
+use Rattle.tl_records.specs.declared.fault.LineFaultKind.TheVariants.{WrongLength, WrongType, Read, TooManyLines}
 use Rattle.tl_segments.specs.CountyFile.{layout}
 use Rattle.tl_segments.specs.Joining.{JoinedLines, IsWithinLimits}
 use Rattle.tl_segments.specs.declared.fault.CountyFile.{CountyFile}
@@ -15,14 +15,14 @@ use Rattle.tl_segments.specs.declared.fault.LoadFault.{LoadFault}
 use Rattle.tl_segments.specs.declared.fault.LoadFault.TheVariants.{Line, TooManyNames, TooManyRanges, Memory}
 
 -- lines of a file without a fault: each is good for its type, and together they are within the limits
-pub record AreGoodLines (file : CountyFile) (lines : List (List ℕ)) : Type 0 where
-  pub good : All (IsGoodLine (layout file)) lines
+pub record AreValidLines (file : CountyFile) (lines : List (List ℕ)) : Type 0 where
+  pub good : All (IsValidLine (layout file)) lines
   pub within : IsWithinLimits file lines
 
 -- A file was read to its end, and no read failed. These are good lines, at most 2^32 - 1 of them; if the reader's bytes are known, they are the
 -- file's lines.
 pub record ReadsFile (file : CountyFile) (lines : List (List ℕ)) (old new : Reader) : Type 0 where
-  pub good : AreGoodLines file lines
+  pub good : AreValidLines file lines
   pub few : length lines < 2 ^ 32
   pub known : IfSome old.left (λ bytes. AreLines bytes lines)
   pub at_end : IsAtEnd new.left
@@ -30,8 +30,8 @@ pub record ReadsFile (file : CountyFile) (lines : List (List ℕ)) (old new : Re
 
 -- These are the first lines of a file, read so far without a fault. No read failed; if the reader's bytes are known, the rest is left.
 pub record ReadsLines (file : CountyFile) (lines : List (List ℕ)) (old new : Reader) : Type 0 where
-  pub good : AreGoodLines file lines
-  pub known : WhereKnown old.left new.left (λ bytes rest. AreFirstLines bytes lines rest)
+  pub good : AreValidLines file lines
+  pub known : IfKnown old.left new.left (λ bytes rest. AreFirstLines bytes lines rest)
   pub reads : new.failed ≡ old.failed
 
 -- a file was read to its end without a fault
@@ -40,55 +40,55 @@ HasNoFault file old new = (lines : List (List ℕ)) × ReadsFile file lines old 
 
 -- after these first lines of a file's bytes comes one more byte, which begins a line too many
 abbrev pub HasMoreAfter : List (List ℕ) → List ℕ → List ℕ → Type 0
-HasMoreAfter lines bytes rest = (after : List ℕ) × AreFirstLines bytes lines after × HasOneMore after rest
+HasMoreAfter lines bytes rest = (after : List ℕ) × AreFirstLines bytes lines after × HasOneMoreByte after rest
 
 -- After these first lines of a file's bytes comes a line with this flaw. If the line ends within 231 bytes, what follows it is left; otherwise it is
 -- refused as too long, and what follows its 231st byte is left.
-pub record HasFlawAfter (file : CountyFile) (flaw : LineFlaw) (lines : List (List ℕ)) (bytes left : List ℕ) : Type 0 where
+pub record HasFaultAfter (file : CountyFile) (flaw : LineFaultKind) (lines : List (List ℕ)) (bytes left : List ℕ) : Type 0 where
   pub after : List ℕ
   pub line : List ℕ
   pub rest : List ℕ
   pub before : AreFirstLines bytes lines after
   pub first : IsFirstLine after line rest
-  pub flawed : line_flaw (layout file) line ≡ Some flaw
-  pub stands : ((left ≡ rest) × (length after ≤ length rest + 231)) ⊎ BeginsTooLong after left
+  pub faulty : line_fault_kind (layout file) line ≡ Some flaw
+  pub leftover : ((left ≡ rest) × (length after ≤ length rest + 231)) ⊎ BeginsTooLong after left
 
 -- after these first lines of a file's bytes a read failed in the next line
 abbrev pub FailsAfter : List (List ℕ) → List ℕ → List ℕ → Type 0
-FailsAfter lines bytes rest = (after : List ℕ) × AreFirstLines bytes lines after × FailsWithin (most_bytes (length lines)) after rest
+FailsAfter lines bytes rest = (after : List ℕ) × AreFirstLines bytes lines after × FailsWithin (max_bytes (length lines)) after rest
 
 -- the flaws that a line of the file can have itself: in its length, its record type, or its required number
-abbrev pub MayHave : CountyFile → LineFlaw → Type 0
-MayHave file flaw = (flaw ≡ WrongLength) ⊎ (flaw ≡ WrongType) ⊎ (flaw ≡ (layout file).without_number)
+abbrev pub IsRecordFault : CountyFile → LineFaultKind → Type 0
+IsRecordFault file flaw = (flaw ≡ WrongLength) ⊎ (flaw ≡ WrongType) ⊎ (flaw ≡ (layout file).without_number)
 
 -- What holds if the line with this number, which follows these lines, has this flaw. Line numbers are below 2^32, except that a read can fail at line
 -- 2^32, and that a line too many has this number. If the reader's bytes are known, they contain the line, and nothing after the fault was read. A
 -- read failed if and only if that is the flaw.
-abbrev pub ComesAfter : CountyFile → LineFlaw → ℕ → List (List ℕ) → Reader → Reader → Type 0
-ComesAfter file Read number lines old new =
-    (number ≤ 2 ^ 32) × WhereKnown old.left new.left (FailsAfter lines) × (new.failed ≢ old.failed)
-ComesAfter file TooManyLines number lines old new =
-    (number ≡ 2 ^ 32) × WhereKnown old.left new.left (HasMoreAfter lines) × (new.failed ≡ old.failed)
-ComesAfter file flaw number lines old new =
-    (number < 2 ^ 32) × MayHave file flaw × WhereKnown old.left new.left (HasFlawAfter file flaw lines) × (new.failed ≡ old.failed)
+abbrev pub IsFaultAfter : CountyFile → LineFaultKind → ℕ → List (List ℕ) → Reader → Reader → Type 0
+IsFaultAfter file Read number lines old new =
+    (number ≤ 2 ^ 32) × IfKnown old.left new.left (FailsAfter lines) × (new.failed ≢ old.failed)
+IsFaultAfter file TooManyLines number lines old new =
+    (number ≡ 2 ^ 32) × IfKnown old.left new.left (HasMoreAfter lines) × (new.failed ≡ old.failed)
+IsFaultAfter file flaw number lines old new =
+    (number < 2 ^ 32) × IsRecordFault file flaw × IfKnown old.left new.left (HasFaultAfter file flaw lines) × (new.failed ≡ old.failed)
 
 -- the first fault of a file is in a line itself, after these lines without a fault
 pub record IsFirstFault (file : CountyFile) (fault : LineFault) (lines : List (List ℕ)) (old new : Reader) : Type 0 where
-  pub good : AreGoodLines file lines
+  pub good : AreValidLines file lines
   pub counted : fault.line ≡ length lines + 1
-  pub follows : ComesAfter file fault.flaw fault.line lines old new
+  pub follows : IsFaultAfter file fault.flaw fault.line lines old new
 
 -- The first fault of a file is that the line with this number is one too many for its TLID. The lines before it have no fault, and it is good itself,
 -- but with it the lines exceed the limits. If the reader's bytes are known, they begin with these lines, and the rest is left.
 pub record IsOneTooMany (file : CountyFile) (number : ℕ) (old new : Reader) : Type 0 where
   pub lines : List (List ℕ)
   pub line : List ℕ
-  pub good : AreGoodLines file lines
-  pub line_good : IsGoodLine (layout file) line
-  pub beyond : ¬ IsWithinLimits file (lines ++ line ∷ [])
+  pub good : AreValidLines file lines
+  pub line_good : IsValidLine (layout file) line
+  pub exceeds : ¬ IsWithinLimits file (lines ++ line ∷ [])
   pub counted : number ≡ length lines + 1
   pub small : number < 2 ^ 32
-  pub known : WhereKnown old.left new.left (λ bytes rest. AreFirstLines bytes (lines ++ line ∷ []) rest)
+  pub known : IfKnown old.left new.left (λ bytes rest. AreFirstLines bytes (lines ++ line ∷ []) rest)
   pub reads : new.failed ≡ old.failed
 
 -- why a file can't be loaded: this is its first fault, or memory ran out and no read failed

@@ -57,12 +57,12 @@ abbrev pub is_between : ℕ → ℕ → ℕ → Bool
 is_between from to number = nat_le (min from to) number && nat_le number (max from to)
 
 -- if both ends are even or both odd, the number has the same parity
-abbrev pub keeps_parity : ℕ → ℕ → ℕ → Bool
-keeps_parity from to number = not (from % 2 == to % 2) || number % 2 == from % 2
+abbrev pub matches_parity : ℕ → ℕ → ℕ → Bool
+matches_parity from to number = not (from % 2 == to % 2) || number % 2 == from % 2
 
 -- a house number lies on a side whose ends have these numbers
 abbrev pub lies_between : ℕ → Option ℕ → Option ℕ → Bool
-lies_between number (Some from) (Some to) = is_between from to number && keeps_parity from to number
+lies_between number (Some from) (Some to) = is_between from to number && matches_parity from to number
 lies_between number from to = false
 
 -- a house number lies on the side with these FR and TO addresses: both have a number, and it lies between them

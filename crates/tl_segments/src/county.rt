@@ -1,12 +1,12 @@
 //! The segments of a county's files.
 ghost use Rattle.std.specs.Prelude.{◌≡◌, ℕ, ◌^◌, ◌<◌, List, length, IfErr, IfOk, OnOk};
-ghost use Rattle.counted_io.specs.Device.{reader};
-ghost use Rattle.tl_segments.specs.County.{AreTlids, HasTlids, IsCountyFault, KeepsSegments, LoadsCounty};
+ghost use Rattle.counted_io.specs.ReaderWriter.{reader};
+ghost use Rattle.tl_segments.specs.County.{AreTlids, HasTlids, IsCountyFault, HoldsSegments, LoadsCounty};
 ghost use Rattle.tl_segments.specs.Indexing.{IsIndexOf};
 ghost use Rattle.tl_segments.specs.Joining.{JoinedLines, segments_of};
 ghost use Rattle.tl_segments.specs.Loading.{IsFileFault, readers};
-ghost use Rattle.tl_segments.specs.SharedLists.{KeepsShared};
-ghost use Rattle.tl_segments.specs.Taking.{IsTaken, KeepsFile};
+ghost use Rattle.tl_segments.specs.SharedLists.{HoldsShared};
+ghost use Rattle.tl_segments.specs.Adding.{IsLineAdded, HoldsFile};
 ghost use Rattle.tl_segments.specs.declared.fault.CountyFile.TheVariants.{Rt1};
 
 use crate::county_file::record_in;
@@ -84,7 +84,7 @@ fn read_segments<A: Allocator + Copy, R: CountedRead>(
     index: &Index<A>,
     input: &mut R,
 ) -> Result<County<A>, LoadFault>
-    ensures ok { IfOk result (λ county. KeepsFile Rt1
+    ensures ok { IfOk result (λ county. HoldsFile Rt1
         (λ lines. (joined : JoinedLines) → IsIndexOf index.now joined → county.segments ≡ segments_of joined lines)
         (reader R.remaining R.failed_reads input.old) (reader R.remaining R.failed_reads input.new)) }
     ensures err { IfErr result (λ fault. IsFileFault Rt1 fault
@@ -111,10 +111,10 @@ fn push_segment<A: Allocator + Copy>(
     segments: &mut Vec<Segment<A>, A>,
     tlids: &mut Vec<u64, A>,
 ) -> Result<(), LoadFault>
-    requires { KeepsShared index.now shared.old }
-    ensures keeps { OnOk result (KeepsShared index.now shared.new) }
-    ensures taken { (lines : List (List ℕ)) → KeepsSegments index.now segments.old.items tlids.old.items lines
-        → IsTaken Rt1 lines line.now result (KeepsSegments index.now segments.new.items tlids.new.items) }
+    requires { HoldsShared index.now shared.old }
+    ensures holds { OnOk result (HoldsShared index.now shared.new) }
+    ensures added_line { (lines : List (List ℕ)) → HoldsSegments index.now segments.old.items tlids.old.items lines
+        → IsLineAdded Rt1 lines line.now result (HoldsSegments index.now segments.new.items tlids.new.items) }
 {
     let record = record_in::<Type1>(line)?;
     segments.push(shared.segment(index, &record)?)?;

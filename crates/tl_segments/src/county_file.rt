@@ -1,12 +1,12 @@
 //! The lines of a county's file, read to its end.
 ghost use Rattle.std.specs.Prelude.{◌≡◌, ℕ, List, [], ◌∷◌, ◌++◌, IfErr, IfOk, OnOk, refl};
-ghost use Rattle.counted_io.specs.Device.{reader};
-ghost use Rattle.tl_records.specs.Records.{IsGoodLine, IsLineFault};
+ghost use Rattle.counted_io.specs.ReaderWriter.{reader};
+ghost use Rattle.tl_records.specs.Records.{IsValidLine, IsLineFault};
 ghost use Rattle.tl_records.specs.declared.fault.LineFault.{LineFault};
 ghost use Rattle.tl_segments.specs.CountyFile.{layout};
-ghost use Rattle.tl_segments.specs.Joining.{FewHaveEach, IsWithinLimits};
+ghost use Rattle.tl_segments.specs.Joining.{IsWithinLineLimit, IsWithinLimits};
 ghost use Rattle.tl_segments.specs.Loading.{IsFileFault};
-ghost use Rattle.tl_segments.specs.Taking.{IsAdded, IsTaken, KeepsFile};
+ghost use Rattle.tl_segments.specs.Adding.{IsAdded, IsLineAdded, HoldsFile};
 ghost use Rattle.tl_segments.specs.declared.fault.CountyFile.TheVariants.{Rt1, Rt4, Rt5, Rt6};
 ghost use Rattle.tl_segments.specs.declared.fault.LoadFault.TheVariants as load_fault;
 
@@ -60,7 +60,7 @@ impl FileType for Type6 {
 
 /// The record type of a file with a limited number of lines per TLID.
 pub(crate) trait Limited: FileType {
-    ghost limited: { (lines : List (List ℕ)) → IsWithinLimits Self.FILE lines → FewHaveEach Self.FILE lines };
+    ghost limited: { (lines : List (List ℕ)) → IsWithinLimits Self.FILE lines → IsWithinLineLimit Self.FILE lines };
 }
 
 impl Limited for Type4 {
@@ -76,13 +76,13 @@ pub(crate) trait Table {
     // The record type of the file's lines.
     type Lines: FileType;
 
-    // `keeps table lines`: the table holds what these lines say.
-    ghost keeps: { Self → List (List ℕ) → Type 0 };
+    // `holds table lines`: the table holds what these lines say.
+    ghost holds: { Self → List (List ℕ) → Type 0 };
 
     /// Adds one more line. Returns false if its TLID already has the maximum number of lines.
     fn add(&mut self, rt: &Record<'_, Self::Lines>) -> Result<bool, AllocError>
-        ensures { (lines : List (List ℕ)) → keeps self.old lines → IsWithinLimits Self.Lines.FILE lines
-            → IfOk result (IsAdded Self.Lines.FILE lines rt.now.bytes (keeps self.new)) };
+        ensures { (lines : List (List ℕ)) → holds self.old lines → IsWithinLimits Self.Lines.FILE lines
+            → IfOk result (IsAdded Self.Lines.FILE lines rt.now.bytes (holds self.new)) };
 }
 
 /// Reads a file into an empty table, to its end or its first fault, leaving the input there.
@@ -90,8 +90,8 @@ pub(crate) fn read_file<T: Table, R: CountedRead>(
     table: &mut T,
     input: &mut R,
 ) -> Result<(), LoadFault>
-    requires { T.keeps table.old [] }
-    ensures ok { OnOk result (KeepsFile T.Lines.FILE (T.keeps table.new)
+    requires { T.holds table.old [] }
+    ensures ok { OnOk result (HoldsFile T.Lines.FILE (T.holds table.new)
         (reader R.remaining R.failed_reads input.old) (reader R.remaining R.failed_reads input.new)) }
     ensures err { IfErr result (λ fault. IsFileFault T.Lines.FILE fault
         (reader R.remaining R.failed_reads input.old) (reader R.remaining R.failed_reads input.new)) }
@@ -99,7 +99,7 @@ pub(crate) fn read_file<T: Table, R: CountedRead>(
     let mut line = Line::new();
     loop {
         match read_line(input, &mut line) {
-            Ok(Some(())) => take(table, &line)?,
+            Ok(Some(())) => add_line(table, &line)?,
             Ok(None) => return Ok(()),
             Err(fault) => return Err(LoadFault::in_line(T::Lines::FILE, fault)),
         }
@@ -107,9 +107,9 @@ pub(crate) fn read_file<T: Table, R: CountedRead>(
 }
 
 /// Adds one more line to the table, or returns its fault.
-fn take<T: Table>(table: &mut T, line: &Line) -> Result<(), LoadFault>
-    ensures { (lines : List (List ℕ)) → T.keeps table.old lines → IsWithinLimits T.Lines.FILE lines
-        → IsTaken T.Lines.FILE lines line.now result (T.keeps table.new) }
+fn add_line<T: Table>(table: &mut T, line: &Line) -> Result<(), LoadFault>
+    ensures { (lines : List (List ℕ)) → T.holds table.old lines → IsWithinLimits T.Lines.FILE lines
+        → IsLineAdded T.Lines.FILE lines line.now result (T.holds table.new) }
 {
     let record = record_in::<T::Lines>(line)?;
     if table.add(&record)? {
@@ -125,7 +125,7 @@ fn take<T: Table>(table: &mut T, line: &Line) -> Result<(), LoadFault>
 
 /// Parses the line as a record of its file's type, or returns its fault.
 pub(crate) fn record_in<T: FileType>(line: &Line) -> Result<Record<'_, T>, LoadFault>
-    ensures ok { IfOk result (λ rt. (rt.bytes ≡ line.now.bytes) × IsGoodLine (layout T.FILE) line.now.bytes) }
+    ensures ok { IfOk result (λ rt. (rt.bytes ≡ line.now.bytes) × IsValidLine (layout T.FILE) line.now.bytes) }
     ensures err { IfErr result (λ fault. (flaw : LineFault)
         × (fault ≡ load_fault.Line T.FILE flaw) × IsLineFault (layout T.FILE) line.now flaw) }
 {

@@ -1,10 +1,10 @@
 //! Full names of features by number.
 ghost use Rattle.std.specs.Prelude.{◌≡◌, ℕ, None, option_and_then, option_copied, OnOk};
 ghost use Rattle.tl_segments.specs.FullName.{HasNameLengths, full_name_of};
-ghost use Rattle.tl_segments.specs.Tables.{AddsNameAt, following_name, name_at};
+ghost use Rattle.tl_segments.specs.TableContents.{AddsNameAt, following_name, name_at};
 
 use crate::full_name::{FullName, FullNameFields};
-use crate::near_hash::NearHasher;
+use crate::locality_hash::LocalityHasher;
 use std::alloc::{AllocError, Allocator};
 use std::collections::HashMap;
 use std::hash::BuildHasherDefault;
@@ -16,7 +16,7 @@ use std::hash::BuildHasherDefault;
 pub(crate) struct FeatureNames<A: Allocator> {
     first: u64,
     following: Vec<FullNameFields, A>,
-    others: HashMap<u64, FullNameFields, BuildHasherDefault<NearHasher>, A>,
+    others: HashMap<u64, FullNameFields, BuildHasherDefault<LocalityHasher>, A>,
 }
 
 impl<A: Allocator + Copy> FeatureNames<A> {

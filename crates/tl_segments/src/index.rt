@@ -1,21 +1,21 @@
 //! What is joined to the type 1 lines of a county, by TLID.
 ghost use Rattle.std.specs.Prelude.{◌≡◌, ◌≤◌, ◌+◌, ℕ, [], ◌++◌, length, IfErr, IfOk, IsTrue, OnErr, OnOk};
-ghost use Rattle.counted_io.specs.Device.{reader};
+ghost use Rattle.counted_io.specs.ReaderWriter.{reader};
 ghost use Rattle.tl_segments.specs.FullName.{with_names};
 ghost use Rattle.tl_segments.specs.Joining.{JoinedLines, no_lines, segment_of};
 ghost use Rattle.tl_segments.specs.Loading.{AreFaultless, IsJoinedFault, readers};
 ghost use Rattle.tl_segments.specs.Segment.{HasJoined, blank_segment, line_of};
-ghost use Rattle.tl_segments.specs.Tables.{HasShortLists, list_at, names_among};
-ghost use Rattle.tl_segments.specs.declared.limits.TheConstants.{NAME_LIMIT};
+ghost use Rattle.tl_segments.specs.TableContents.{HasShortLists, list_at, names_among};
+ghost use Rattle.tl_segments.specs.declared.limits.TheConstants.{MAX_NAMES};
 
-use crate::checked::{Counts, NoNames};
 use crate::county_file::read_file;
 use crate::fault::{CountyFile, LoadFault};
 use crate::feature_names::FeatureNames;
-use crate::grouped::Grouped;
+use crate::index_tables::Features;
+use crate::multi_map::MultiMap;
 use crate::range::RangeFields;
 use crate::segment::Segment;
-use crate::tables::Features;
+use crate::validation_tables::{IgnoreNames, LinesPerTlid};
 use counted_io::CountedRead;
 use std::alloc::{AllocError, Allocator};
 use tl_records::{Rt1, Type4, Type6};
@@ -24,9 +24,9 @@ use tl_records::{Rt1, Type4, Type6};
 #[derive(Drop)]
 pub struct Index<A: Allocator> {
     alloc: A,
-    features: Grouped<Features, A>,
+    features: MultiMap<Features, A>,
     names: FeatureNames<A>,
-    ranges: Grouped<RangeFields, A>,
+    ranges: MultiMap<RangeFields, A>,
     ghost few_names: { HasShortLists features },
     ghost few_ranges: { HasShortLists ranges },
 }
@@ -41,9 +41,9 @@ impl<A: Allocator + Copy> Index<A> {
     {
         Index {
             alloc,
-            features: Grouped::new(alloc),
+            features: MultiMap::new(alloc),
             names: FeatureNames::new(alloc),
-            ranges: Grouped::new(alloc),
+            ranges: MultiMap::new(alloc),
         }
     }
 
@@ -59,9 +59,9 @@ impl<A: Allocator + Copy> Index<A> {
         ensures err { IfErr result (λ fault. IsJoinedFault fault
             (readers R.remaining R.failed_reads rt4.old rt5.old rt6.old) (readers R.remaining R.failed_reads rt4.new rt5.new rt6.new)) }
     {
-        let mut features = Grouped::new(alloc);
+        let mut features = MultiMap::new(alloc);
         let mut names = FeatureNames::new(alloc);
-        let mut ranges = Grouped::new(alloc);
+        let mut ranges = MultiMap::new(alloc);
         read_file(&mut features, rt4)?;
         read_file(&mut names, rt5)?;
         read_file(&mut ranges, rt6)?;
@@ -86,9 +86,9 @@ impl<A: Allocator + Copy> Index<A> {
         ensures err { IfErr result (λ fault. IsJoinedFault fault
             (readers R.remaining R.failed_reads rt4.old rt5.old rt6.old) (readers R.remaining R.failed_reads rt4.new rt5.new rt6.new)) }
     {
-        read_file(&mut Counts::<Type4, A>::new(alloc), rt4)?;
-        read_file(&mut NoNames, rt5)?;
-        read_file(&mut Counts::<Type6, A>::new(alloc), rt6)?;
+        read_file(&mut LinesPerTlid::<Type4, A>::new(alloc), rt4)?;
+        read_file(&mut IgnoreNames, rt5)?;
+        read_file(&mut LinesPerTlid::<Type6, A>::new(alloc), rt6)?;
         Ok(())
     }
 
@@ -174,7 +174,7 @@ impl<A: Allocator + Copy> Index<A> {
         features: &Features,
         segment: &mut Segment<A>,
     ) -> Result<(), AllocError>
-        requires { length segment.old.names + 5 ≤ NAME_LIMIT }
+        requires { length segment.old.names + 5 ≤ MAX_NAMES }
         ensures names { OnOk result (segment.new ≡ with_names segment.old (names_among self.now.names features.now)) }
         ensures few { OnOk result (length segment.new.names ≤ length segment.old.names + 5) }
         ensures some { OnErr result (1 ≤ length (names_among self.now.names features.now)) }

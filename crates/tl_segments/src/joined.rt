@@ -5,7 +5,7 @@ use std::alloc::Allocator;
 
 /// The alternate names and further ranges of a TLID.
 #[derive(Drop)]
-pub(crate) struct Joined<A: Allocator> {
+pub(crate) struct JoinedLists<A: Allocator> {
     pub(crate) names: Vec<FullNameFields, A>,
     pub(crate) ranges: Vec<RangeFields, A>,
 }

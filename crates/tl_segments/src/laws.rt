@@ -1,7 +1,7 @@
 //! Laws about the definitions, stated as contracts of functions that do nothing.
 ghost use Rattle.std.specs.Prelude.{◌≡◌};
 
-use crate::limits::{LINE_LIMIT, NAME_LIMIT, RANGE_LIMIT};
+use crate::limits::{MAX_LINES_PER_TLID, MAX_NAMES, MAX_RANGES};
 use crate::name::NAME_LENGTH;
 use crate::range::{ADDRESS_LENGTH, ZIP_LENGTH};
 use tl_records::RECORD_LENGTH;
@@ -16,7 +16,7 @@ pub fn lengths()
 
 /// States how many lines of record types 4 and 6 a TLID may have, and thus the maximum numbers of a segment's alternate names and further ranges.
 pub fn limits()
-    ensures lines { LINE_LIMIT ≡ 1000 }
-    ensures names { NAME_LIMIT ≡ 5000 }
-    ensures ranges { RANGE_LIMIT ≡ 1000 }
+    ensures lines { MAX_LINES_PER_TLID ≡ 1000 }
+    ensures names { MAX_NAMES ≡ 5000 }
+    ensures ranges { MAX_RANGES ≡ 1000 }
 {}

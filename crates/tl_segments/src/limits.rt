@@ -1,10 +1,10 @@
 //! The maximum numbers of what is joined to a segment.
 
 /// The maximum number of type 4 lines, and of type 6 lines, with the same TLID.
-pub const LINE_LIMIT: usize = 1000;
+pub const MAX_LINES_PER_TLID: usize = 1000;
 
 /// The maximum number of a segment's alternate names: five for each type 4 line.
-pub const NAME_LIMIT: usize = 5000;
+pub const MAX_NAMES: usize = 5000;
 
 /// The maximum number of a segment's further ranges: one for each type 6 line.
-pub const RANGE_LIMIT: usize = 1000;
+pub const MAX_RANGES: usize = 1000;

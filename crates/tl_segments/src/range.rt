@@ -102,6 +102,6 @@ pub fn lies_on(n: u64, fr: &[u8], to: &[u8]) -> bool
         return false;
     };
     let is_between = from.min(to) <= n && n <= from.max(to);
-    let keeps_parity = from % 2 != to % 2 || n % 2 == from % 2;
-    is_between && keeps_parity
+    let matches_parity = from % 2 != to % 2 || n % 2 == from % 2;
+    is_between && matches_parity
 }

@@ -1,7 +1,7 @@
 //! Street segments.
 ghost use Rattle.std.specs.Prelude.{◌≡◌, ◌≤◌, ◌<◌, ◌+◌, [], ◌∷◌, ◌++◌, length, replicate, option_copied, option_map, slice_get, Some, IfOk, IfSome, OnOk, OnErr};
-ghost use Rattle.counted_io.specs.Device.{reader};
-ghost use Rattle.tl_records.specs.Records.{IsGoodLine};
+ghost use Rattle.counted_io.specs.ReaderWriter.{reader};
+ghost use Rattle.tl_records.specs.Records.{IsValidLine};
 ghost use Rattle.tl_segments.specs.Affixes.{no_affixes};
 ghost use Rattle.tl_segments.specs.CountyFile.{layout};
 ghost use Rattle.tl_segments.specs.FullName.{HasNameLengths, IsFullName, all_with_affixes, contents, full_name_of, full_names_of, with_names};
@@ -9,17 +9,17 @@ ghost use Rattle.tl_segments.specs.Indexing.{IsRecordRead, IsRt1Read};
 ghost use Rattle.tl_segments.specs.Joining.{number_in};
 ghost use Rattle.tl_segments.specs.Range.{AreBytes, HasFieldLengths, IsRange, fields_of};
 ghost use Rattle.tl_segments.specs.Segment.{IsSegment, blank_segment, line_of, names_of, ranges_of};
-ghost use Rattle.tl_segments.specs.Joined.{MayJoin, shared_names, shared_ranges};
+ghost use Rattle.tl_segments.specs.JoinedLists.{AreValidLists, shared_names, shared_ranges};
 ghost use Rattle.tl_segments.specs.declared.fault.CountyFile.TheVariants.{Rt1};
-ghost use Rattle.tl_segments.specs.declared.limits.TheConstants.{NAME_LIMIT, RANGE_LIMIT};
+ghost use Rattle.tl_segments.specs.declared.limits.TheConstants.{MAX_NAMES, MAX_RANGES};
 ghost use Rattle.tl_segments.specs.declared.range.RangeFields.{RangeFields};
 
 use crate::full_name::{DIRECTION_LENGTH, FullName, FullNameFields, TYPE_LENGTH, own_full_name};
-use crate::joined::Joined;
+use crate::joined::JoinedLists;
 use crate::name::NAME_LENGTH;
 use crate::range::{Range, RangeFields, own_range};
 use arrayvec::ArrayVec;
-use counted_io::{CountedRead, LONGEST_CONTENT};
+use counted_io::{CountedRead, MAX_CONTENT_LENGTH};
 use std::alloc::{AllocError, Allocator};
 use std::marker::Model;
 use std::rc::Rc;
@@ -31,19 +31,19 @@ use tl_records::{LineFault, RECORD_LENGTH, Rt1, Type1, read_line_into};
 /// ranges doesn't allocate. The segments of a TLID in a county share one copy of both lists.
 #[derive(Drop)]
 pub struct Segment<A: Allocator> {
-    // `LONGEST_CONTENT`, because a whole line is read here before its length is checked.
-    record: ArrayVec<u8, LONGEST_CONTENT>,
+    // `MAX_CONTENT_LENGTH`, because a whole line is read here before its length is checked.
+    record: ArrayVec<u8, MAX_CONTENT_LENGTH>,
     // Shared with the other segments of the TLID. Items pushed to this segment alone go to its own lists, which follow the shared ones.
-    shared: Option<Rc<Joined<A>, A>>,
+    shared: Option<Rc<JoinedLists<A>, A>>,
     names: Vec<FullNameFields, A>,
     ranges: Vec<RangeFields, A>,
 }
 
 impl<A: Allocator> Model for Segment<A> {
-    ghost use Rattle.tl_segments.specs.Segment.{Contents, IsSegment};
-    ghost use Rattle.tl_segments.specs.Joined.{contents_with};
+    ghost use Rattle.tl_segments.specs.Segment.{SegmentParts, IsSegment};
+    ghost use Rattle.tl_segments.specs.JoinedLists.{contents_with};
 
-    ghost Value = { Contents };
+    ghost Value = { SegmentParts };
 
     ghost view = { λ segment. contents_with segment.shared segment.record.items segment.names.items segment.ranges.items };
 
@@ -66,9 +66,9 @@ impl<A: Allocator + Copy> Segment<A> {
     }
 
     /// Creates the segment of a type 1 record with shared lists.
-    pub(crate) fn sharing(alloc: A, bytes: &[u8], joined: Rc<Joined<A>, A>) -> Self
+    pub(crate) fn sharing(alloc: A, bytes: &[u8], joined: Rc<JoinedLists<A>, A>) -> Self
         requires length { length bytes.now ≡ RECORD_LENGTH }
-        requires lists { MayJoin joined.value }
+        requires lists { AreValidLists joined.value }
         ensures { result ≡ contents bytes.now joined.value.names.items joined.value.ranges.items }
     {
         Segment {
@@ -81,17 +81,17 @@ impl<A: Allocator + Copy> Segment<A> {
 
     /// Turns the segment's own lists into shared ones and returns them with it. They are `None` if the segment has no lists of its own or already has
     /// shared ones.
-    pub(crate) fn share(self, alloc: A) -> Result<(Self, Option<Rc<Joined<A>, A>>), AllocError>
+    pub(crate) fn share(self, alloc: A) -> Result<(Self, Option<Rc<JoinedLists<A>, A>>), AllocError>
         ensures same { IfOk result (λ both. both.0 ≡ self) }
         ensures shares { IfOk result (λ both. IfSome both.1 (λ joined.
-            MayJoin joined.value × (self ≡ contents self.bytes joined.value.names.items joined.value.ranges.items))) }
+            AreValidLists joined.value × (self ≡ contents self.bytes joined.value.names.items joined.value.ranges.items))) }
     {
         if self.shared.is_some() || self.names.is_empty() && self.ranges.is_empty() {
             return Ok((self, None));
         }
         let names = exact_copy(alloc, self.names.as_slice())?;
         let ranges = exact_copy(alloc, self.ranges.as_slice())?;
-        let joined = Rc::new(alloc, Joined { names, ranges })?;
+        let joined = Rc::new(alloc, JoinedLists { names, ranges })?;
         let shared = joined.clone()?;
         let segment = Segment {
             record: self.record,
@@ -145,7 +145,7 @@ impl<A: Allocator> Segment<A> {
 
     /// Returns the number of the record's TLID.
     pub(crate) fn tlid(&self) -> u64
-        requires { IsGoodLine (layout Rt1) self.now.bytes }
+        requires { IsValidLine (layout Rt1) self.now.bytes }
         ensures { number_in Rt1 self.now.bytes ≡ Some result }
     {
         match number(Type1::TLID.of(self.record.as_slice())) {
@@ -157,7 +157,7 @@ impl<A: Allocator> Segment<A> {
     /// Appends an alternate name whose other three fields are blank.
     pub fn push_name(&mut self, name: &[u8]) -> Result<(), AllocError>
         requires length { length name.now ≡ NAME_LENGTH }
-        requires room { length self.old.names < NAME_LIMIT }
+        requires room { length self.old.names < MAX_NAMES }
         ensures ok { OnOk result (self.new ≡ record self.old
             { names = self.old.names ++ name.now ∷ []; affixes = self.old.affixes ++ no_affixes ∷ [] }) }
         ensures err { OnErr result (self.new ≡ self.old) }
@@ -173,7 +173,7 @@ impl<A: Allocator> Segment<A> {
     /// Appends an alternate name with all four fields.
     pub fn push_full_name(&mut self, name: FullName<'_>) -> Result<(), AllocError>
         requires lengths { HasNameLengths (full_name_of name) }
-        requires room { length self.old.names < NAME_LIMIT }
+        requires room { length self.old.names < MAX_NAMES }
         ensures ok { OnOk result (self.new ≡ with_names self.old (full_name_of name.entry ∷ [])) }
         ensures err { OnErr result (self.new ≡ self.old) }
     {
@@ -184,7 +184,7 @@ impl<A: Allocator> Segment<A> {
     /// Appends a further range.
     pub fn push_range(&mut self, range: Range<'_>) -> Result<(), AllocError>
         requires lengths { HasFieldLengths (fields_of range) }
-        requires room { length self.old.ranges < RANGE_LIMIT }
+        requires room { length self.old.ranges < MAX_RANGES }
         ensures ok { OnOk result (self.new ≡ record self.old { ranges = self.old.ranges ++ fields_of range.entry ∷ [] }) }
         ensures err { OnErr result (self.new ≡ self.old) }
     {
@@ -203,7 +203,7 @@ impl<A: Allocator> Segment<A> {
     /// Returns the number of alternate names.
     pub fn names(&self) -> u64
         ensures value { result ≡ length self.now.names }
-        ensures few { result ≤ NAME_LIMIT }
+        ensures few { result ≤ MAX_NAMES }
     {
         (shared_names(&self.shared).len() + self.names.len()) as u64
     }
@@ -255,14 +255,14 @@ impl<A: Allocator> Segment<A> {
         ensures value { option_copied result ≡ slice_get (all_with_affixes self.now.affixes self.now.names) index }
         ensures whole { IsSegment self.now }
     {
-        kept_at(shared_names(&self.shared), self.names.as_slice(), index)
+        item_at(shared_names(&self.shared), self.names.as_slice(), index)
     }
 
     /// Returns the number of ranges: the record's own, plus the further ones.
     pub fn ranges(&self) -> u64
         ensures value { result ≡ length (ranges_of self.now) }
         ensures some { 1 ≤ result }
-        ensures few { result ≤ RANGE_LIMIT + 1 }
+        ensures few { result ≤ MAX_RANGES + 1 }
     {
         (shared_ranges(&self.shared).len() + self.ranges.len()) as u64 + 1
     }
@@ -284,13 +284,13 @@ impl<A: Allocator> Segment<A> {
         ensures value { option_map fields_of result ≡ slice_get self.now.ranges index }
         ensures fields { IfSome result (λ range. IsRange (fields_of range)) }
     {
-        let fields = kept_at(shared_ranges(&self.shared), self.ranges.as_slice(), index)?;
+        let fields = item_at(shared_ranges(&self.shared), self.ranges.as_slice(), index)?;
         Some(fields.as_range())
     }
 }
 
 #[inline]
-fn shared_names<A: Allocator>(shared: &Option<Rc<Joined<A>, A>>) -> &[FullNameFields]
+fn shared_names<A: Allocator>(shared: &Option<Rc<JoinedLists<A>, A>>) -> &[FullNameFields]
     ensures { result.now ≡ shared_names shared.now }
 {
     match shared {
@@ -300,7 +300,7 @@ fn shared_names<A: Allocator>(shared: &Option<Rc<Joined<A>, A>>) -> &[FullNameFi
 }
 
 #[inline]
-fn shared_ranges<A: Allocator>(shared: &Option<Rc<Joined<A>, A>>) -> &[RangeFields]
+fn shared_ranges<A: Allocator>(shared: &Option<Rc<JoinedLists<A>, A>>) -> &[RangeFields]
     ensures { result.now ≡ shared_ranges shared.now }
 {
     match shared {
@@ -321,7 +321,7 @@ fn exact_copy<T: Copy, A: Allocator>(alloc: A, items: &[T]) -> Result<Vec<T, A>,
 
 /// Returns the item at an index that counts through both lists.
 #[inline]
-fn kept_at<'a, T>(shared: &'a [T], own: &'a [T], index: u64) -> Option<&'a T>
+fn item_at<'a, T>(shared: &'a [T], own: &'a [T], index: u64) -> Option<&'a T>
     ensures { option_copied result ≡ slice_get (shared.now ++ own.now) index }
 {
     match index.checked_sub(shared.len() as u64) {
@@ -331,7 +331,7 @@ fn kept_at<'a, T>(shared: &'a [T], own: &'a [T], index: u64) -> Option<&'a T>
 }
 
 /// Copies the bytes into a buffer with room for a line.
-fn record_of(bytes: &[u8]) -> ArrayVec<u8, LONGEST_CONTENT>
+fn record_of(bytes: &[u8]) -> ArrayVec<u8, MAX_CONTENT_LENGTH>
     requires { length bytes.now ≡ RECORD_LENGTH }
     ensures value { result.items ≡ bytes.now }
     ensures bytes { AreBytes RECORD_LENGTH result.items }
@@ -342,7 +342,7 @@ fn record_of(bytes: &[u8]) -> ArrayVec<u8, LONGEST_CONTENT>
 }
 
 #[cold]
-fn blank_record() -> ArrayVec<u8, LONGEST_CONTENT>
+fn blank_record() -> ArrayVec<u8, MAX_CONTENT_LENGTH>
     ensures value { result.items ≡ replicate RECORD_LENGTH 32 }
     ensures bytes { AreBytes RECORD_LENGTH result.items }
 {
@@ -354,7 +354,7 @@ fn blank_record() -> ArrayVec<u8, LONGEST_CONTENT>
 fn read_rt1<R: CountedRead>(
     input: &mut R,
     number: &mut u32,
-    content: &mut ArrayVec<u8, LONGEST_CONTENT>,
+    content: &mut ArrayVec<u8, MAX_CONTENT_LENGTH>,
 ) -> Result<Option<()>, LineFault>
     ensures { IsRt1Read (record { number = number.old; bytes = content.old.items }) (record { number = number.new; bytes = content.new.items })
         (reader R.remaining R.failed_reads input.old) (reader R.remaining R.failed_reads input.new) result }

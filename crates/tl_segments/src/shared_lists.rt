@@ -3,11 +3,11 @@ ghost use Rattle.std.specs.Prelude.{◌≡◌, ℕ, nat_eq, if◌then◌else◌,
 ghost use Rattle.std.specs.HashMap.{get};
 ghost use Rattle.tl_segments.specs.Indexing.{IsIndexOf};
 ghost use Rattle.tl_segments.specs.Joining.{JoinedLines, segment_of};
-ghost use Rattle.tl_segments.specs.SharedLists.{KeepsShared, IsJoinedTo};
+ghost use Rattle.tl_segments.specs.SharedLists.{HoldsShared, IsJoinedTo};
 
 use crate::index::Index;
-use crate::joined::Joined;
-use crate::near_hash::NearHasher;
+use crate::joined::JoinedLists;
+use crate::locality_hash::LocalityHasher;
 use crate::segment::Segment;
 use std::alloc::{AllocError, Allocator};
 use std::collections::HashMap;
@@ -19,7 +19,7 @@ use tl_records::Rt1;
 #[derive(Drop)]
 pub(crate) struct SharedLists<A: Allocator> {
     alloc: A,
-    lists: HashMap<u64, Rc<Joined<A>, A>, BuildHasherDefault<NearHasher>, A>,
+    lists: HashMap<u64, Rc<JoinedLists<A>, A>, BuildHasherDefault<LocalityHasher>, A>,
 }
 
 impl<A: Allocator + Copy> SharedLists<A> {
@@ -38,10 +38,10 @@ impl<A: Allocator + Copy> SharedLists<A> {
         index: &Index<A>,
         rt1: &Rt1<'_>,
     ) -> Result<Segment<A>, AllocError>
-        requires { KeepsShared index.now self.old }
+        requires { HoldsShared index.now self.old }
         ensures ok { IfOk result (λ segment. (lines : JoinedLines) → IsIndexOf index.now lines → segment ≡ segment_of lines rt1.now.bytes) }
         ensures bytes { IfOk result (λ segment. segment.bytes ≡ rt1.now.bytes) }
-        ensures keeps { OnOk result (KeepsShared index.now self.new) }
+        ensures holds { OnOk result (HoldsShared index.now self.new) }
     {
         let tlid = rt1.number();
         if index.joins_nothing_to(tlid) {
@@ -54,12 +54,12 @@ impl<A: Allocator + Copy> SharedLists<A> {
         let segment = index.segment(rt1)?;
         let (segment, joined) = segment.share(self.alloc)?;
         if let Some(joined) = joined {
-            self.keep(tlid, joined)?;
+            self.store(tlid, joined)?;
         }
         Ok(segment)
     }
 
-    fn keep(&mut self, tlid: u64, joined: Rc<Joined<A>, A>) -> Result<(), AllocError>
+    fn store(&mut self, tlid: u64, joined: Rc<JoinedLists<A>, A>) -> Result<(), AllocError>
         ensures { OnOk result ((q : ℕ) →
             get nat_eq self.new.lists q ≡ (if nat_eq tlid q then Some joined else get nat_eq self.old.lists q)) }
     {

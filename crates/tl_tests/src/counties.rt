@@ -124,19 +124,19 @@ const OTHERS: Table = Table {
 
 /// How a county is loaded: whole, line by line through an index, or line by line without the joined files, which are only checked.
 #[derive(Clone, Copy)]
-pub enum Way {
+pub enum Method {
     County,
     Index,
     Check,
 }
 
-impl Way {
+impl Method {
     /// Parses a name.
     pub fn named(name: &str) -> Result<Self, TableFault> {
         match name {
-            "county" => Ok(Way::County),
-            "index" => Ok(Way::Index),
-            "check" => Ok(Way::Check),
+            "county" => Ok(Method::County),
+            "index" => Ok(Method::Index),
+            "check" => Ok(Method::Check),
             _ => Err(TableFault::Word),
         }
     }
@@ -145,7 +145,7 @@ impl Way {
     pub fn or_plain(name: &str) -> Result<Option<Self>, TableFault> {
         match name {
             "plain" => Ok(None),
-            _ => Ok(Some(Way::named(name)?)),
+            _ => Ok(Some(Method::named(name)?)),
         }
     }
 }
@@ -153,20 +153,20 @@ impl Way {
 /// Loads a county in one of the ways, and shows its segments.
 pub fn load<A: Allocator + Copy, R: CountedRead>(
     alloc: A,
-    way: Way,
+    method: Method,
     rt1: &mut R,
     rt4: &mut R,
     rt5: &mut R,
     rt6: &mut R,
     seen: &mut Seen<'_>,
 ) -> Result<(), LoadFault> {
-    match way {
-        Way::County => {
+    match method {
+        Method::County => {
             show_county(&County::load(alloc, rt1, rt4, rt5, rt6)?, seen);
             Ok(())
         }
-        Way::Index => show_lines(&Index::load(alloc, rt4, rt5, rt6)?, rt1, seen),
-        Way::Check => {
+        Method::Index => show_lines(&Index::load(alloc, rt4, rt5, rt6)?, rt1, seen),
+        Method::Check => {
             Index::check(alloc, rt4, rt5, rt6)?;
             show_lines(&Index::new(alloc), rt1, seen)
         }
@@ -207,17 +207,17 @@ fn show_lines<A: Allocator + Copy, R: CountedRead>(
 #[derive(Drop)]
 pub struct Loading<'a> {
     files: Files,
-    said: &'a str,
+    expected: &'a str,
     seen: Seen<'a>,
 }
 
 impl<'a> Loading<'a> {
     /// Reads the cells of the files and of what is expected of them.
-    pub fn new(alloc: Global, texts: FileTexts<'_>, said: &'a str) -> Result<Self, TableFault> {
-        let seen = Seen::new(said)?;
+    pub fn new(alloc: Global, texts: FileTexts<'_>, expected: &'a str) -> Result<Self, TableFault> {
+        let seen = Seen::new(expected)?;
         Ok(Loading {
             files: Files::new(alloc, texts)?,
-            said,
+            expected,
             seen,
         })
     }
@@ -226,34 +226,34 @@ impl<'a> Loading<'a> {
     pub fn is_right<A: Allocator + Copy>(
         &self,
         alloc: A,
-        way: Option<Way>,
+        method: Option<Method>,
     ) -> Result<bool, LoadFault> {
         let mut seen = self.seen;
-        match load_files(alloc, way, &self.files, &mut seen) {
-            Ok(()) => Ok(seen.is_all() || self.is_checked(way)),
+        match load_files(alloc, method, &self.files, &mut seen) {
+            Ok(()) => Ok(seen.is_all() || self.is_checked(method)),
             Err(LoadFault::Memory) => Err(LoadFault::Memory),
-            Err(fault) => Ok(is_refusal(fault.line().as_str(), self.said)),
+            Err(fault) => Ok(is_refusal(fault.line().as_str(), self.expected)),
         }
     }
 
-    fn is_checked(&self, way: Option<Way>) -> bool {
-        matches!(way, Some(Way::Check)) && !self.said.starts_with("refused")
+    fn is_checked(&self, method: Option<Method>) -> bool {
+        matches!(method, Some(Method::Check)) && !self.expected.starts_with("refused")
     }
 }
 
 /// Loads a county in one of the ways, or filters its lines if there is none, and shows its segments.
 fn load_files<A: Allocator + Copy>(
     alloc: A,
-    way: Option<Way>,
+    method: Option<Method>,
     files: &Files,
     seen: &mut Seen<'_>,
 ) -> Result<(), LoadFault> {
-    let Some(way) = way else {
+    let Some(method) = method else {
         return Ok(plain::show_segments(alloc, files, seen)?);
     };
     load(
         alloc,
-        way,
+        method,
         &mut Buffered::new(files.rt1.as_slice()),
         &mut Buffered::new(files.rt4.as_slice()),
         &mut Buffered::new(files.rt5.as_slice()),
@@ -264,10 +264,10 @@ fn load_files<A: Allocator + Copy>(
 
 /// Returns whether a row is right in each of its ways.
 fn is_right(alloc: Global, row: &str) -> Result<bool, TableFault> {
-    let (rt1, rt4, rt5, rt6, said, ways) = cells(row)?.six()?;
-    let loading = Loading::new(alloc, (rt1, rt4, rt5, rt6), said)?;
-    for way in ways.split(' ') {
-        if loading.is_right(alloc, Way::or_plain(way)?) != Ok(true) {
+    let (rt1, rt4, rt5, rt6, expected, ways) = cells(row)?.six()?;
+    let loading = Loading::new(alloc, (rt1, rt4, rt5, rt6), expected)?;
+    for method in ways.split(' ') {
+        if loading.is_right(alloc, Method::or_plain(method)?) != Ok(true) {
             return Ok(false);
         }
     }

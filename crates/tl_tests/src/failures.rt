@@ -1,8 +1,10 @@
 //! Failures of each read of a county's files.
-use crate::counties::{Way, load};
+use crate::counties::{Method, load};
 use crate::seen::Seen;
-use counted_io::Burst;
-use fixtures::{Device, Files, Readers, Table, TableFault, cells, error_kind, is_refusal, number};
+use counted_io::InjectedFailure;
+use fixtures::{
+    FaultPlan, Files, Readers, Table, TableFault, cells, error_kind, is_refusal, number,
+};
 use refusals::Fault;
 use std::alloc::Global;
 use tl_segments::{CountyFile, LoadFault};
@@ -79,27 +81,27 @@ fn file_named(name: &str) -> Result<CountyFile, TableFault> {
 /// A row of `WAYS`.
 #[derive(Clone, Copy)]
 struct Failure {
-    way: Way,
-    device: Device,
+    method: Method,
+    plan: FaultPlan,
 }
 
 impl Failure {
     fn new(row: &str) -> Result<Self, TableFault> {
-        let (way, kind) = cells(row)?.two()?;
+        let (method, kind) = cells(row)?.two()?;
         Ok(Failure {
-            way: Way::named(way)?,
-            device: Device {
-                burst: Burst::Fails(error_kind(kind)?),
-                ..Device::sound()
+            method: Method::named(method)?,
+            plan: FaultPlan {
+                failure: InjectedFailure::Fails(error_kind(kind)?),
+                ..FaultPlan::sound()
             },
         })
     }
 }
 
 /// Returns the fault of a county loaded in one of the ways through these readers.
-fn fault_of(alloc: Global, way: Way, readers: &mut Readers<'_>) -> Option<LoadFault> {
+fn fault_of(alloc: Global, method: Method, readers: &mut Readers<'_>) -> Option<LoadFault> {
     let Readers { rt1, rt4, rt5, rt6 } = readers;
-    load(alloc, way, rt1, rt4, rt5, rt6, &mut Seen::nothing()).err()
+    load(alloc, method, rt1, rt4, rt5, rt6, &mut Seen::nothing()).err()
 }
 
 /// Returns whether a county's files are refused as a row says when this read of one of them fails, and nothing more is read.
@@ -110,8 +112,8 @@ fn is_stopped(
     reads: &Reads<'_>,
     read: u64,
 ) -> bool {
-    let mut readers = Readers::new(files, reads.file, failure.device.at_call(read));
-    match fault_of(alloc, failure.way, &mut readers) {
+    let mut readers = Readers::new(files, reads.file, failure.plan.at_call(read));
+    match fault_of(alloc, failure.method, &mut readers) {
         Some(fault) => {
             is_refusal(fault.line().as_str(), reads.refusal)
                 && readers.calls() == reads.before.wrapping_add(read)
@@ -138,8 +140,8 @@ fn are_all_stopped(
     row: &str,
 ) -> Result<bool, TableFault> {
     let reads = Reads::new(row)?;
-    for way in ways.lines() {
-        if !are_stopped(alloc, files, Failure::new(way)?, &reads) {
+    for method in ways.lines() {
+        if !are_stopped(alloc, files, Failure::new(method)?, &reads) {
             return Ok(false);
         }
     }

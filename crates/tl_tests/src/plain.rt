@@ -3,7 +3,7 @@ use crate::seen::Seen;
 use fixtures::Files;
 use std::alloc::{AllocError, Allocator};
 use tl_fields::{blank, field, number};
-use tl_segments::{FullName, NAME_LIMIT, RANGE_LIMIT, RECORD_LENGTH, Range, Segment};
+use tl_segments::{FullName, MAX_NAMES, MAX_RANGES, RECORD_LENGTH, Range, Segment};
 
 /// Shows the segments of files of good lines, each terminated by LF, in the order of the type 1 lines.
 pub fn show_segments<A: Allocator + Copy>(
@@ -67,7 +67,7 @@ fn push_name<A: Allocator>(
 ) -> Result<(), AllocError> {
     for line in rt5.chunks(57) {
         let is_found = number_in(line, 10, 18) == Some(feat);
-        if is_found && line.len() > 55 && segment.names() < NAME_LIMIT as u64 {
+        if is_found && line.len() > 55 && segment.names() < MAX_NAMES as u64 {
             let name = FullName {
                 fedirp: field(line, 19, 20),
                 fename: field(line, 21, 50),
@@ -85,7 +85,7 @@ fn push_name<A: Allocator>(
 
 /// Adds the range of a type 6 line.
 fn push_range<A: Allocator>(line: &[u8], segment: &mut Segment<A>) -> Result<(), AllocError> {
-    if line.len() < 76 || segment.ranges() > RANGE_LIMIT as u64 {
+    if line.len() < 76 || segment.ranges() > MAX_RANGES as u64 {
         return Ok(());
     }
     segment.push_range(Range {

@@ -1,7 +1,7 @@
 //! How often a reader is called, with and without a buffer: not after the end that it reported, and not again after a failure.
 use arrayvec::ArrayVec;
 use counted_io::{Buffered, CountedRead, Counting, Stop};
-use fixtures::{Device, Table, TableFault, cells, number, reader, size};
+use fixtures::{FaultPlan, Table, TableFault, cells, number, reader, size};
 use std::alloc::Global;
 use std::io::{BufReader, Read};
 use tl_records::{Line, read_line, read_line_into};
@@ -45,7 +45,7 @@ read; 300; by 2 interrupted; 0 0 1 1 2 3",
 
 /// How a line is read: three calls that read it whole, and two that read it byte by byte.
 #[derive(Clone, Copy)]
-enum Way {
+enum Method {
     Content,
     Line,
     LineInto,
@@ -53,14 +53,14 @@ enum Way {
     Read,
 }
 
-impl Way {
+impl Method {
     fn named(name: &str) -> Result<Self, TableFault> {
         match name {
-            "content" => Ok(Way::Content),
-            "line" => Ok(Way::Line),
-            "line into" => Ok(Way::LineInto),
-            "counted" => Ok(Way::Counted),
-            "read" => Ok(Way::Read),
+            "content" => Ok(Method::Content),
+            "line" => Ok(Method::Line),
+            "line into" => Ok(Method::LineInto),
+            "counted" => Ok(Method::Counted),
+            "read" => Ok(Method::Read),
             _ => Err(TableFault::Word),
         }
     }
@@ -69,30 +69,30 @@ impl Way {
 /// The first three cells of a row.
 #[derive(Clone, Copy)]
 struct Reading {
-    way: Way,
+    method: Method,
     size: usize,
-    device: Device,
+    plan: FaultPlan,
 }
 
 /// Returns the length of the next line, read in one of the ways, or `None` if a read fails.
-fn length_read<R: CountedRead>(reader: &mut R, way: Way) -> Option<usize> {
+fn length_read<R: CountedRead>(reader: &mut R, method: Method) -> Option<usize> {
     let mut content = ArrayVec::new();
-    match way {
-        Way::Content => {
+    match method {
+        Method::Content => {
             let stop = reader.read_content(&mut content);
             (stop != Stop::ReadFailed).then_some(content.len())
         }
-        Way::Line => {
+        Method::Line => {
             let mut line = Line::new();
             read_line(reader, &mut line).ok()?;
             Some(line.bytes().len())
         }
-        Way::LineInto => {
+        Method::LineInto => {
             read_line_into(reader, &mut 0, &mut content).ok()?;
             Some(content.len())
         }
-        Way::Counted => byte_count(reader, true),
-        Way::Read => byte_count(reader, false),
+        Method::Counted => byte_count(reader, true),
+        Method::Read => byte_count(reader, false),
     }
 }
 
@@ -113,10 +113,10 @@ fn byte_count<R: CountedRead>(reader: &mut R, is_counted: bool) -> Option<usize>
 }
 
 /// Counts the lines that are read in one of the ways, and the end as one more.
-fn lines_read<R: CountedRead>(reader: &mut R, way: Way) -> u64 {
+fn lines_read<R: CountedRead>(reader: &mut R, method: Method) -> u64 {
     let mut count = 0;
     for length in LENGTHS {
-        if length_read(reader, way) != Some(length) {
+        if length_read(reader, method) != Some(length) {
             return count;
         }
         count = count.wrapping_add(1);
@@ -125,30 +125,30 @@ fn lines_read<R: CountedRead>(reader: &mut R, way: Way) -> u64 {
 }
 
 /// Counts the same through a buffer of this size, or without one if it is 0.
-fn lines_through<R: Read>(alloc: Global, size: usize, device: &mut R, way: Way) -> Option<u64> {
+fn lines_through<R: Read>(alloc: Global, size: usize, plan: &mut R, method: Method) -> Option<u64> {
     if size == 0 {
-        return Some(lines_read(&mut Counting::new(device), way));
+        return Some(lines_read(&mut Counting::new(plan), method));
     }
-    let buffer = BufReader::with_capacity(alloc, size, device).ok()?;
-    Some(lines_read(&mut Buffered::new(buffer), way))
+    let buffer = BufReader::with_capacity(alloc, size, plan).ok()?;
+    Some(lines_read(&mut Buffered::new(buffer), method))
 }
 
 /// Returns whether this many lines are read if this call of the reader fails, and whether it is then the last call.
 fn is_read(alloc: Global, reading: Reading, failing: u64, lines: u64) -> bool {
-    let mut device = reader(FILE, reading.device.at_call(failing));
-    let read = lines_through(alloc, reading.size, &mut device, reading.way);
+    let mut plan = reader(FILE, reading.plan.at_call(failing));
+    let read = lines_through(alloc, reading.size, &mut plan, reading.method);
     let unmade = u64::from(lines == 3);
-    let calls = device.get_ref().calls.wrapping_add(unmade);
-    read == Some(lines) && calls == failing && device.failed_reads().wrapping_add(unmade) == 1
+    let calls = plan.get_ref().calls.wrapping_add(unmade);
+    read == Some(lines) && calls == failing && plan.failed_reads().wrapping_add(unmade) == 1
 }
 
 /// Returns whether a row's lines are read as expected for each failing call.
 fn are_read(alloc: Global, row: &str) -> Result<bool, TableFault> {
-    let (way, buffer, device, counts) = cells(row)?.four()?;
+    let (method, buffer, plan, counts) = cells(row)?.four()?;
     let reading = Reading {
-        way: Way::named(way)?,
+        method: Method::named(method)?,
         size: size(buffer)?,
-        device: Device::new(device)?,
+        plan: FaultPlan::new(plan)?,
     };
     if !counts.ends_with(" 3") {
         return Err(TableFault::Cells);

@@ -12,7 +12,7 @@ pub struct Seen<'a> {
     /// What remains of the row's text, if everything seen so far agrees with it.
     rest: Option<&'a [u8]>,
     /// The counts that the row says, if it says them.
-    said: Option<Counts>,
+    expected: Option<Counts>,
     counts: Counts,
 }
 
@@ -42,11 +42,14 @@ impl Counts {
 
 impl<'a> Seen<'a> {
     /// Reads what a row says, before anything is seen.
-    pub fn new(said: &'a str) -> Result<Self, TableFault> {
-        let counts = said.strip_prefix("counts ").map(Counts::new).transpose()?;
+    pub fn new(expected: &'a str) -> Result<Self, TableFault> {
+        let counts = expected
+            .strip_prefix("counts ")
+            .map(Counts::new)
+            .transpose()?;
         Ok(Seen {
-            rest: Some(said.as_bytes()),
-            said: counts,
+            rest: Some(expected.as_bytes()),
+            expected: counts,
             ..Seen::nothing()
         })
     }
@@ -60,7 +63,7 @@ impl<'a> Seen<'a> {
         };
         Seen {
             rest: Some(b""),
-            said: None,
+            expected: None,
             counts,
         }
     }
@@ -68,8 +71,8 @@ impl<'a> Seen<'a> {
     /// Compares the next segment with the row, and counts it.
     pub fn see<A: Allocator>(&mut self, segment: &Segment<A>) {
         let blank: &[u8] = if self.counts.segments == 0 { b"" } else { b" " };
-        let said = say(self.rest, blank, field(segment.bytes(), 6, 15));
-        self.rest = say_ranges(segment, say_names(segment, said));
+        let expected = strip_field(self.rest, blank, field(segment.bytes(), 6, 15));
+        self.rest = strip_ranges(segment, strip_names(segment, expected));
         let counts = &mut self.counts;
         counts.segments = counts.segments.wrapping_add(1);
         counts.names = counts.names.wrapping_add(segment.names());
@@ -78,7 +81,7 @@ impl<'a> Seen<'a> {
 
     /// Returns whether exactly what the row says was seen.
     pub fn is_all(&self) -> bool {
-        match self.said {
+        match self.expected {
             Some(counts) => self.counts == counts,
             None => self.rest == Some(b""),
         }
@@ -86,28 +89,36 @@ impl<'a> Seen<'a> {
 }
 
 /// Strips a sign and the contents of a field from the remaining text, if it begins with them.
-fn say<'a>(said: Option<&'a [u8]>, sign: &[u8], field: &[u8]) -> Option<&'a [u8]> {
-    said?.strip_prefix(sign)?.strip_prefix(field.trim_ascii())
+fn strip_field<'a>(expected: Option<&'a [u8]>, sign: &[u8], field: &[u8]) -> Option<&'a [u8]> {
+    expected?
+        .strip_prefix(sign)?
+        .strip_prefix(field.trim_ascii())
 }
 
 /// Strips the alternate names of a segment.
-fn say_names<'a, A: Allocator>(segment: &Segment<A>, said: Option<&'a [u8]>) -> Option<&'a [u8]> {
-    let mut said = said;
+fn strip_names<'a, A: Allocator>(
+    segment: &Segment<A>,
+    expected: Option<&'a [u8]>,
+) -> Option<&'a [u8]> {
+    let mut expected = expected;
     for n in 1..=segment.names() {
         let name = segment.full_name(n)?;
-        said = say(said, b"+", name.fedirp);
-        said = say(said, b"", segment.name(n)?);
-        said = say(said, b"", name.fetype);
-        said = say(said, b"", name.fedirs);
+        expected = strip_field(expected, b"+", name.fedirp);
+        expected = strip_field(expected, b"", segment.name(n)?);
+        expected = strip_field(expected, b"", name.fetype);
+        expected = strip_field(expected, b"", name.fedirs);
     }
-    said
+    expected
 }
 
 /// Strips the starts of a segment's further ranges.
-fn say_ranges<'a, A: Allocator>(segment: &Segment<A>, said: Option<&'a [u8]>) -> Option<&'a [u8]> {
-    let mut said = said;
+fn strip_ranges<'a, A: Allocator>(
+    segment: &Segment<A>,
+    expected: Option<&'a [u8]>,
+) -> Option<&'a [u8]> {
+    let mut expected = expected;
     for n in 1..segment.ranges() {
-        said = say(said, b"/", segment.range(n)?.fraddl);
+        expected = strip_field(expected, b"/", segment.range(n)?.fraddl);
     }
-    said
+    expected
 }

@@ -1,5 +1,5 @@
 //! Refusing each allocation of a call, one at a time.
-use crate::counties::{ALONE, Loading, NOTHING, REFUSALS, SEGMENTS, Way};
+use crate::counties::{ALONE, Loading, Method, NOTHING, REFUSALS, SEGMENTS};
 use crate::hits::{HITS, Search};
 use crate::matching::{MATCHES, StreetSearch};
 use fixtures::{Refusing, Table, TableFault, cells};
@@ -12,7 +12,7 @@ use tl_segments::LoadFault;
 enum Call<'a> {
     Hits(Search),
     Matches(StreetSearch<'a>),
-    Load(Option<Way>, Loading<'a>),
+    Load(Option<Method>, Loading<'a>),
 }
 
 impl<'a> Call<'a> {
@@ -21,11 +21,11 @@ impl<'a> Call<'a> {
         match name {
             "hits" => Ok(Call::Hits(Search::new(alloc, row)?)),
             "matches" => Ok(Call::Matches(StreetSearch::new(alloc, row)?)),
-            way => {
-                let way = Way::or_plain(way)?;
-                let (rt1, rt4, rt5, rt6, said) = cells(row)?.five()?;
-                let loading = Loading::new(alloc, (rt1, rt4, rt5, rt6), said)?;
-                Ok(Call::Load(way, loading))
+            method => {
+                let method = Method::or_plain(method)?;
+                let (rt1, rt4, rt5, rt6, expected) = cells(row)?.five()?;
+                let loading = Loading::new(alloc, (rt1, rt4, rt5, rt6), expected)?;
+                Ok(Call::Load(method, loading))
             }
         }
     }
@@ -35,7 +35,7 @@ impl<'a> Call<'a> {
         let answer = match self {
             Call::Hits(search) => search.is_right(heap),
             Call::Matches(search) => search.is_right(heap),
-            Call::Load(way, loading) => loading.is_right(heap, *way),
+            Call::Load(method, loading) => loading.is_right(heap, *method),
         };
         match answer {
             Ok(is_right) => is_right && !heap.was_refused(),

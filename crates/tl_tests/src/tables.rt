@@ -1,5 +1,5 @@
 //! Malformed tables and cells, which the reader of tables has to refuse.
-use fixtures::{Device, Files, Table, TableFault, bytes, cells, number, program};
+use fixtures::{FaultPlan, Files, Table, TableFault, bytes, cells, number, program};
 use std::alloc::Global;
 
 // A way of reading, and a text that it refuses.
@@ -56,7 +56,7 @@ fn is_refused(alloc: Global, row: &str) -> bool {
         Some(("number", text)) => number(text).err(),
         Some(("bytes", text)) => bytes(alloc, text).err(),
         Some(("program", text)) => program(alloc, text).err(),
-        Some(("device", text)) => Device::new(text).err(),
+        Some(("device", text)) => FaultPlan::new(text).err(),
         _ => None,
     };
     matches!(fault, Some(TableFault::Number | TableFault::Word))

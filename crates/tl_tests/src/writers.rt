@@ -1,6 +1,6 @@
 //! Writers that fail in the middle of their output: what they take, and what they count.
-use counted_io::{CountedWrite, Counting, WriteFault, write_whole};
-use fixtures::{Device, Table, TableFault, Writer, cells, number, size, taken, writer};
+use counted_io::{CountedWrite, Counting, WriteFault, write_text};
+use fixtures::{FaultPlan, Table, TableFault, Writer, cells, number, size, taken, writer};
 use std::alloc::Global;
 use std::io::Write;
 
@@ -47,9 +47,9 @@ fn given<W: CountedWrite>(
     }
 }
 
-/// Returns how many bytes `write_whole` takes: all, or 0 if a write takes nothing. Returns `None` if a write fails.
+/// Returns how many bytes `write_text` takes: all, or 0 if a write takes nothing. Returns `None` if a write fails.
 fn whole<W: CountedWrite>(writer: &mut W, text: &[u8]) -> Option<usize> {
-    match write_whole(writer, text) {
+    match write_text(writer, text) {
         Ok(()) => Some(text.len()),
         Err(WriteFault::WriteZero) => Some(0),
         Err(WriteFault::Write) => None,
@@ -102,8 +102,8 @@ fn is_given(writer: &mut Writer, word: &str) -> Result<bool, TableFault> {
 
 /// Returns whether a writer behaves as a row says.
 fn is_written(alloc: Global, row: &str) -> Result<bool, TableFault> {
-    let (device, words) = cells(row)?.two()?;
-    let mut writer = writer(alloc, Device::new(device)?);
+    let (plan, words) = cells(row)?.two()?;
+    let mut writer = writer(alloc, FaultPlan::new(plan)?);
     for word in words.split(' ') {
         if !is_given(&mut writer, word)? {
             return Ok(false);

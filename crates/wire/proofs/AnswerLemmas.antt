@@ -9,7 +9,7 @@ use Rattle.jobs.specs.declared.event.Event.TheVariants.{Submit, Turn, Fetch, Dro
 use Rattle.jobs.specs.declared.event.Reply.{Reply as JobReply}
 use Rattle.jobs.specs.declared.event.Reply.TheVariants.{Submitted, Turned, Rows, Dropped, Refused}
 use Rattle.jobs.specs.declared.fault.JobFault.TheVariants.{Full, NoJob, Program, Memory}
-use Rattle.counted_io.specs.Device.{Writer}
+use Rattle.counted_io.specs.ReaderWriter.{Writer}
 use Rattle.counted_io.specs.Writing.{WritesText}
 use Rattle.counted_io.specs.declared.writing.WriteFault.{WriteFault}
 use Rattle.wire.specs.Answer.{IsJobReply, status_reply}

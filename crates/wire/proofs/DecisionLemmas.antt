@@ -12,7 +12,7 @@ use Rattle.http_request.specs.Reading.{EndsInBody, FailsInBody, ReadsNoHead, Out
 use Rattle.http_request.specs.Whole.{left_of}
 use Rattle.http_request.specs.declared.length.LengthFault.{LengthFault}
 use Rattle.http_request.proofs.HeadLemmas.{HasHead-append, HasHead-some, HasHead-unique}
-use Rattle.http_request.specs.declared.head.TheConstants.{HEAD_LIMIT}
+use Rattle.http_request.specs.declared.head.TheConstants.{MAX_HEAD_LENGTH}
 use Rattle.http_request.proofs.TakeLemmas.{Takes-append}
 use Rattle.http_request.proofs.WholeLemmas.{had_head, had_no_head, had_request, had_short_request, known_whole}
 use Rattle.counted_io.proofs.KnownBytesLemmas.{Consumes-append}
@@ -20,7 +20,7 @@ use Rattle.http_routes.specs.Routes.{action_of, route_of}
 use Rattle.http_routes.specs.Target.{path_of}
 use Rattle.http_routes.specs.declared.route.Action.{Action}
 use Rattle.http_routes.specs.declared.route.Route.{Route}
-use Rattle.counted_io.specs.Device.{Reader}
+use Rattle.counted_io.specs.ReaderWriter.{Reader}
 use Rattle.wire.specs.Decision.{AnnouncesBody, DecisionParts, Refuses, Disallows, Accepts, IsDecided, IsEnough, requested_action, routed_by, decide}
 use Rattle.wire.specs.Decision.{decide_action, decide_body, decide_route, length_status, takes_body}
 use Rattle.wire.specs.Reading.{Decides, StopsInBody}
@@ -146,7 +146,7 @@ module _ (request : RequestParts) (count : ℕ) (old now new : Reader) (head : R
   }
     where
       enough : (more : List ℕ) → length more ≤ count - length request.after_head → IsEnough (head.reads.taken ++ more)
-      enough [] fits = inl (subst (λ taken. length taken ≤ HEAD_LIMIT) (sym (append-nil head.reads.taken)) head.reads.room)
+      enough [] fits = inl (subst (λ taken. length taken ≤ MAX_HEAD_LENGTH) (sym (append-nil head.reads.taken)) head.reads.room)
       enough (byte ∷ bytes) fits = inr (announced (byte ∷ bytes), (let long = length-append request.after_head (byte ∷ bytes) in omega arith))
 
   pub decides_with_body : (body : List ℕ) → ReadsBody request.after_head count body now new

@@ -62,7 +62,7 @@ disallowed route = record { status = status.MethodNotAllowed; media = Plain; all
 -- the status of a refusal, by its class
 abbrev pub class_status : Class → Status
 class_status class.Refused = status.UnprocessableEntity
-class_status class.Device = status.ServiceUnavailable
+class_status class.Io = status.ServiceUnavailable
 class_status class.Memory = status.ServiceUnavailable
 
 abbrev pub line_reply : Status → List ℕ → ReplyParts

@@ -4,7 +4,7 @@ use Rattle.std.specs.Prelude.{Option, Some, None, Result, Ok, Err, IsTrue}
 use Rattle.std.specs.Option.{option_and_then}
 use Rattle.http_request.specs.Head.{Head, HasHead, HasNoHead, MayBecomeHead}
 use Rattle.http_request.specs.Length.{body_length}
-use Rattle.http_request.specs.declared.head.TheConstants.{HEAD_LIMIT}
+use Rattle.http_request.specs.declared.head.TheConstants.{MAX_HEAD_LENGTH}
 use Rattle.http_request.specs.declared.length.LengthFault.{LengthFault}
 use Rattle.http_request.specs.declared.length.LengthFault.TheVariants.{Missing, Invalid, TooLarge}
 use Rattle.http_reply.specs.declared.status.Status.{Status}
@@ -99,11 +99,11 @@ pub record AnnouncesBody (input : List ℕ) : Type 0 where
 -- announces.
 abbrev pub IsUndecided : List ℕ → Type 0
 IsUndecided taken =
-    (HasNoHead taken × MayBecomeHead taken × (length taken < HEAD_LIMIT))
+    (HasNoHead taken × MayBecomeHead taken × (length taken < MAX_HEAD_LENGTH))
     ⊎ ((announced : AnnouncesBody taken) × (length announced.rest < announced.count))
 
 -- No more bytes were read than a decision needs: at most the greatest size of a head, or no more than a head and the body that it announces.
 abbrev pub IsEnough : List ℕ → Type 0
 IsEnough taken =
-    (length taken ≤ HEAD_LIMIT)
+    (length taken ≤ MAX_HEAD_LENGTH)
     ⊎ ((announced : AnnouncesBody taken) × (length announced.rest ≤ announced.count))

@@ -5,7 +5,7 @@ use Rattle.http_reply.specs.Reply.{ReplyParts, reply_text}
 use Rattle.http_request.specs.Reading.{IsClosed}
 use Rattle.http_request.specs.declared.head.HeadFault.{HeadFault}
 use Rattle.http_request.specs.declared.head.HeadFault.TheVariants as head_fault
-use Rattle.counted_io.specs.Device.{Reader, Writer}
+use Rattle.counted_io.specs.ReaderWriter.{Reader, Writer}
 use Rattle.counted_io.specs.Writing.{WritesText}
 use Rattle.counted_io.specs.declared.writing.WriteFault.{WriteFault}
 use Rattle.wire.specs.Decision.{AnnouncesBody, RoutedParts, DecisionParts, IsDecided}

@@ -3,7 +3,7 @@ use Rattle.std.specs.Prelude.{◌≡◌, ◌<◌, ℕ, List, length, Some, Resul
 use Rattle.std.specs.Io.KnownBytes.{Keeps}
 use Rattle.http_reply.specs.Reply.{ReplyParts, reply_text}
 use Rattle.http_request.specs.Reading.{FailsAfter, IsClosed, Takes}
-use Rattle.counted_io.specs.Device.{Reader, Writer}
+use Rattle.counted_io.specs.ReaderWriter.{Reader, Writer}
 use Rattle.counted_io.specs.Writing.{WritesText}
 use Rattle.counted_io.specs.declared.writing.WriteFault.{WriteFault}
 use Rattle.counted_io.specs.declared.writing.WriteFault.TheVariants as write_fault

@@ -1,6 +1,6 @@
 -- The refusal for a connection.
 use Rattle.std.specs.Prelude.{codes}
-use Rattle.refusals.specs.Refusal.{RefusalParts, device, refused}
+use Rattle.refusals.specs.Refusal.{RefusalParts, io, refused}
 use Rattle.counted_io.specs.declared.writing.WriteFault.{WriteFault}
 use Rattle.counted_io.specs.declared.writing.WriteFault.TheVariants as write_fault
 use Rattle.wire.specs.declared.fault.WireFault.{WireFault}
@@ -12,6 +12,6 @@ of_write write_fault.WriteZero = WriteZero
 
 abbrev pub refusal : WireFault → RefusalParts
 refusal Closed = refused 80 (codes "Closed")
-refusal Read = device 81 (codes "Read")
-refusal Write = device 82 (codes "Write")
-refusal WriteZero = device 83 (codes "WriteZero")
+refusal Read = io 81 (codes "Read")
+refusal Write = io 82 (codes "Write")
+refusal WriteZero = io 83 (codes "WriteZero")

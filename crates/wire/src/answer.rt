@@ -1,6 +1,6 @@
 //! The answers to requests.
 ghost use Rattle.std.specs.Prelude.{◌≡◌, ◌++◌, ◌∷◌, [], codes, decimal};
-ghost use Rattle.counted_io.specs.Device.{writer};
+ghost use Rattle.counted_io.specs.ReaderWriter.{writer};
 ghost use Rattle.counted_io.specs.Writing.{WritesText};
 ghost use Rattle.http_reply.specs.Reply.{parts_of, reply_text};
 ghost use Rattle.http_reply.specs.declared.status.Status.TheVariants as status;
@@ -9,7 +9,7 @@ ghost use Rattle.wire.specs.Reply.{reply_of};
 
 use arrayvec::{ArrayString, ArrayVec};
 use counted_io::{CountedWrite, WriteFault};
-use http_reply::{LEAD_LIMIT, MediaType, Reply, Status};
+use http_reply::{MAX_LEAD_LENGTH, MediaType, Reply, Status};
 use http_routes::Route;
 use itoa::Buffer;
 use refusals::{Class, Refusal};
@@ -88,12 +88,12 @@ fn class_status(class: Class) -> Status
 {
     match class {
         Class::Refused => Status::UnprocessableEntity,
-        Class::Device | Class::Memory => Status::ServiceUnavailable,
+        Class::Io | Class::Memory => Status::ServiceUnavailable,
     }
 }
 
 /// Returns a 200 with this body, as plain text.
-fn plain(lead: ArrayVec<u8, LEAD_LIMIT>, rest: &[u8]) -> Reply<'_>
+fn plain(lead: ArrayVec<u8, MAX_LEAD_LENGTH>, rest: &[u8]) -> Reply<'_>
     ensures { parts_of result ≡ plain status.Ok (lead.items ++ rest.now) }
 {
     Reply {
@@ -105,7 +105,7 @@ fn plain(lead: ArrayVec<u8, LEAD_LIMIT>, rest: &[u8]) -> Reply<'_>
     }
 }
 
-fn with_line_end(line: ArrayString<64>) -> ArrayVec<u8, LEAD_LIMIT>
+fn with_line_end(line: ArrayString<64>) -> ArrayVec<u8, MAX_LEAD_LENGTH>
     ensures { result.items ≡ line.bytes ++ 10 ∷ [] }
 {
     let mut text = ArrayVec::new();

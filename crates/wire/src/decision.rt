@@ -2,7 +2,7 @@
 ghost use Rattle.std.specs.Prelude.{◌≡◌, IfErr, IfOk, IsTrue};
 ghost use Rattle.http_request.specs.Reading.{ReadsHead};
 ghost use Rattle.http_routes.specs.Target.{path_of, query_of};
-ghost use Rattle.counted_io.specs.Device.{Reader, reader};
+ghost use Rattle.counted_io.specs.ReaderWriter.{Reader, reader};
 ghost use Rattle.wire.specs.Decision.{length_status, request_read_of, requested_action, takes_body};
 ghost use Rattle.wire.specs.Reading.{Decides, FailsToDecide, decision_of, of_head};
 

@@ -27,9 +27,9 @@ impl Fault for WireFault {
     fn refusal(&self) -> Refusal {
         match self {
             WireFault::Closed => Refusal::refused(80, "Closed"),
-            WireFault::Read => Refusal::device(81, "Read"),
-            WireFault::Write => Refusal::device(82, "Write"),
-            WireFault::WriteZero => Refusal::device(83, "WriteZero"),
+            WireFault::Read => Refusal::io(81, "Read"),
+            WireFault::Write => Refusal::io(82, "Write"),
+            WireFault::WriteZero => Refusal::io(83, "WriteZero"),
         }
     }
 }

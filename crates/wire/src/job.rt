@@ -3,7 +3,7 @@ ghost use Rattle.std.specs.Prelude.{◌≡◌, decimal, false};
 ghost use Rattle.http_reply.specs.Reply.{reply_text};
 ghost use Rattle.http_reply.specs.declared.status.Status.TheVariants.{NotFound};
 ghost use Rattle.http_routes.specs.Target.{job_id};
-ghost use Rattle.counted_io.specs.Device.{writer};
+ghost use Rattle.counted_io.specs.ReaderWriter.{writer};
 ghost use Rattle.counted_io.specs.Writing.{WritesText};
 ghost use Rattle.wire.specs.Answer.{IsJobReply, IsTableReply, job_fault_reply, job_reply, status_reply};
 ghost use Rattle.wire.specs.Reading.{WritesReply};

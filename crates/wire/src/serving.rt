@@ -1,5 +1,5 @@
 //! Reading and answering one request.
-ghost use Rattle.counted_io.specs.Device.{reader, writer};
+ghost use Rattle.counted_io.specs.ReaderWriter.{reader, writer};
 ghost use Rattle.std.specs.Prelude.{◌≡◌};
 ghost use Rattle.counted_io.specs.Writing.{WritesText};
 ghost use Rattle.http_reply.specs.Reply.{reply_text};

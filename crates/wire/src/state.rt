@@ -1,6 +1,6 @@
 //! The state of a server.
 ghost use Rattle.std.specs.Prelude.{◌≡◌, ◌≤◌, length, IfOk};
-ghost use Rattle.jobs.specs.declared.position.TheConstants.{COUNTY_LIMIT};
+ghost use Rattle.jobs.specs.declared.position.TheConstants.{MAX_COUNTIES};
 ghost use Rattle.wire.specs.State.{new_state};
 ghost use Rattle.wire.specs.Turn.{IsTurn};
 
@@ -40,7 +40,7 @@ impl<A: Allocator + Copy> State<A> {
         alloc: A,
         counties: Vec<County<A>, A>,
     ) -> Result<State<A>, AllocError>
-        requires { length counties.items ≤ COUNTY_LIMIT }
+        requires { length counties.items ≤ MAX_COUNTIES }
         ensures { IfOk result (λ state. state ≡ new_state counties.items) }
     {
         let routes = Routes::new(global)?;

@@ -1,9 +1,9 @@
 //! A server whose readers, writers and heap can fail.
 use crate::notation::counties_of;
 use crate::rows::Row;
-use counted_io::Burst;
-use fixtures::{Device, Files, Refusing, TableFault, cells, error_kind, reader, size, writer};
-use jobs::{COUNTY_LIMIT, Reply};
+use counted_io::InjectedFailure;
+use fixtures::{FaultPlan, Files, Refusing, TableFault, cells, error_kind, reader, size, writer};
+use jobs::{MAX_COUNTIES, Reply};
 use std::alloc::{AllocError, Global};
 use wire::{State, WireFault, serve_one};
 
@@ -11,13 +11,13 @@ use wire::{State, WireFault, serve_one};
 #[derive(Clone, Copy)]
 pub enum Trial {
     /// One read ends there.
-    Cut(Device),
+    Cut(FaultPlan),
     /// The request ends there.
-    End(Device),
+    End(FaultPlan),
     /// The read with that number, counted from 1, fails.
-    Read(Device),
+    Read(FaultPlan),
     /// A write fails after that number of bytes.
-    Write(Device),
+    Write(FaultPlan),
     /// Each allocation fails, wherever it is.
     Growths,
 }
@@ -25,9 +25,9 @@ pub enum Trial {
 impl Trial {
     /// Returns the trial in which one read ends at a place, and the others take at most this number of bytes.
     pub fn cut(step: usize) -> Self {
-        Trial::Cut(Device {
+        Trial::Cut(FaultPlan {
             step,
-            ..Device::sound()
+            ..FaultPlan::sound()
         })
     }
 
@@ -39,9 +39,9 @@ impl Trial {
         } else {
             size(step)?
         };
-        let sound = Device {
+        let sound = FaultPlan {
             step,
-            ..Device::sound()
+            ..FaultPlan::sound()
         };
         match (what, fault) {
             ("end", "none") => Ok(Trial::End(sound)),
@@ -54,9 +54,9 @@ impl Trial {
 }
 
 /// Returns a reader or writer that fails by a kind of error.
-fn failing(device: Device, word: &str) -> Result<Device, TableFault> {
-    let burst = Burst::Fails(error_kind(word)?);
-    Ok(Device { burst, ..device })
+fn failing(plan: FaultPlan, word: &str) -> Result<FaultPlan, TableFault> {
+    let failure = InjectedFailure::Fails(error_kind(word)?);
+    Ok(FaultPlan { failure, ..plan })
 }
 
 /// A server over counties.
@@ -87,7 +87,7 @@ impl<'a> Server<'a> {
     pub fn new(alloc: Global, heap: &'a Refusing<Global>, files: &[Files]) -> Option<Self> {
         for nth in 1..=u64::MAX {
             let counties = counties_of(heap, files)?;
-            if counties.len() > COUNTY_LIMIT {
+            if counties.len() > MAX_COUNTIES {
                 return None;
             }
             heap.refuse(nth);
@@ -115,7 +115,7 @@ impl<'a> Server<'a> {
         }
     }
 
-    fn serve(&mut self, request: &[u8], input: Device, output: Device) -> Served {
+    fn serve(&mut self, request: &[u8], input: FaultPlan, output: FaultPlan) -> Served {
         let mut input = reader(request, input);
         let mut out = writer(self.alloc, output);
         let received = serve_one(&mut self.state, &mut input, &mut out);
@@ -131,14 +131,12 @@ impl<'a> Server<'a> {
 
     /// Serves a row's request in a trial at a place.
     fn serve_at(&mut self, request: &[u8], trial: Trial, place: usize) -> Served {
-        let sound = Device::sound();
+        let sound = FaultPlan::sound();
         match trial {
-            Trial::Cut(device) => self.serve(request, device.cut_at(place), sound),
-            Trial::End(device) => {
-                self.serve(request.get(..place).unwrap_or(request), device, sound)
-            }
-            Trial::Read(device) => self.serve(request, device.at_call(place as u64), sound),
-            Trial::Write(device) => self.serve(request, sound, device.after(place)),
+            Trial::Cut(plan) => self.serve(request, plan.cut_at(place), sound),
+            Trial::End(plan) => { self.serve(request.get(..place).unwrap_or(request), plan, sound) }
+            Trial::Read(plan) => self.serve(request, plan.at_call(place as u64), sound),
+            Trial::Write(plan) => self.serve(request, sound, plan.after(place)),
             Trial::Growths => self.serve(request, sound, sound),
         }
     }
@@ -231,7 +229,7 @@ fn stride_of(places: usize) -> usize {
 /// Returns the greatest number of writes of a reply: one for a small reply and two for a large one, plus one if a write fails; or one per byte.
 fn most_writes(length: usize, trial: Trial) -> u64 {
     match trial {
-        Trial::Write(device) if device.step == 1 => (length as u64).wrapping_add(1),
+        Trial::Write(plan) if plan.step == 1 => (length as u64).wrapping_add(1),
         Trial::Write(_) => 3,
         _ if length < 1000 => 1,
         _ => 2,
@@ -248,16 +246,16 @@ fn expected<'r>(row: &'r Row<'_>, trial: Trial, place: usize) -> (Option<WireFau
         Trial::End(_) if 0 < place && place < length => (None, BAD_REQUEST),
         Trial::End(_) if place < length => (Some(WireFault::Closed), b""),
         Trial::Read(_) if place <= length => (Some(WireFault::Read), b""),
-        Trial::Write(device) if place < reply.len() => {
-            (Some(write_fault(device.burst)), &reply[..place])
+        Trial::Write(plan) if place < reply.len() => {
+            (Some(write_fault(plan.failure)), &reply[..place])
         }
         _ => ((length == 0).then_some(WireFault::Closed), reply),
     }
 }
 
-fn write_fault(burst: Burst) -> WireFault {
-    match burst {
-        Burst::Fails(_) => WireFault::Write,
-        Burst::TakesNothing => WireFault::WriteZero,
+fn write_fault(failure: InjectedFailure) -> WireFault {
+    match failure {
+        InjectedFailure::Fails(_) => WireFault::Write,
+        InjectedFailure::TakesNothing => WireFault::WriteZero,
     }
 }

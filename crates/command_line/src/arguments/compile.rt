@@ -1,6 +1,6 @@
 //! The arguments of `compile`.
 use crate::fault::ArgumentsFault;
-use crate::options::{compiling, file, option, score_option};
+use crate::options::{file, filter_options, option, score_option};
 use clap::{ArgMatches, Command};
 use commands::Compile;
 use std::alloc::{AllocError, Global};
@@ -28,6 +28,6 @@ pub fn request<'a>(
 ) -> Result<Compile<'a>, ArgumentsFault<'a>> {
     Ok(Compile {
         filter: file(matches, "filter")?,
-        compiling: compiling(alloc, matches)?,
+        filter_options: filter_options(alloc, matches)?,
     })
 }

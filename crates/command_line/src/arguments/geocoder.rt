@@ -3,7 +3,7 @@ use crate::fault::ArgumentsFault;
 use crate::options::{codes, counties_option, option, value};
 use clap::{ArgMatches, Command};
 use commands::Geocode;
-use geocode::{MOST_DIGITS, Query, QueryFault};
+use geocode::{MAX_HOUSE_NUMBER_DIGITS, Query, QueryFault};
 use std::alloc::{AllocError, Global};
 
 pub fn command<'a>(alloc: Global, name: &'a str) -> Result<Command<'a>, AllocError> {
@@ -67,7 +67,7 @@ fn query<'a>(
 fn no_number<'a>(name: &'static str, text: &'a str) -> ArgumentsFault<'a> {
     ArgumentsFault::Number {
         name,
-        most_digits: MOST_DIGITS,
+        most_digits: MAX_HOUSE_NUMBER_DIGITS,
         text,
     }
 }

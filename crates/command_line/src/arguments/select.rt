@@ -1,6 +1,6 @@
 //! The arguments of `select`.
 use crate::fault::ArgumentsFault;
-use crate::options::{codes, compiling, counties_option, option, score_option, value};
+use crate::options::{codes, counties_option, filter_options, option, score_option, value};
 use clap::{ArgMatches, Command};
 use commands::Select;
 use std::alloc::{AllocError, Global};
@@ -32,7 +32,7 @@ pub fn request<'a>(
 ) -> Result<Select<'a>, ArgumentsFault<'a>> {
     Ok(Select {
         filter: value(matches, "where")?,
-        compiling: compiling(alloc, matches)?,
+        filter_options: filter_options(alloc, matches)?,
         data: value(matches, "data")?,
         codes: codes(alloc, matches)?,
     })

@@ -40,15 +40,15 @@ Example:
 }
 
 // The maximum number of digits of a number, so that each is below 2^64.
-const MOST_DIGITS: usize = 19;
+const MAX_ARGUMENT_DIGITS: usize = 19;
 
 /// Returns the request that the matched arguments make.
 pub fn request<'a>(matches: &ArgMatches<'a>) -> Result<Trace<'a>, ArgumentsFault<'a>> {
     Ok(Trace {
         program: value(matches, "program")?,
         data: value(matches, "data")?,
-        line: number(matches, "line", MOST_DIGITS)?,
-        limit: number(matches, "limit", MOST_DIGITS)?,
+        line: number(matches, "line", MAX_ARGUMENT_DIGITS)?,
+        limit: number(matches, "limit", MAX_ARGUMENT_DIGITS)?,
         code: code(matches)?,
     })
 }

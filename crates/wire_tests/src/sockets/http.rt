@@ -3,7 +3,7 @@ use crate::notation::{counties_of, files_of};
 use crate::sockets::exchange::{Then, client_that, short_limits};
 use counted_io::Counting;
 use fixtures::{Table, TableFault, bytes, cells, size};
-use jobs::COUNTY_LIMIT;
+use jobs::MAX_COUNTIES;
 use server::{Acceptor, serve_next};
 use std::alloc::{AllocError, Global};
 use std::io;
@@ -71,7 +71,7 @@ impl Case {
 pub fn state_of(alloc: Global, county: &str) -> Option<State<Global>> {
     let files = files_of(alloc, county).ok()?;
     let counties = counties_of(alloc, &files)?;
-    if counties.len() > COUNTY_LIMIT {
+    if counties.len() > MAX_COUNTIES {
         return None;
     }
     State::new(alloc, alloc, counties).ok()

@@ -4,7 +4,7 @@ use Rattle.addresses.proofs.records.read_record.Goals as goal
 
 pub returns-then-is_blank-clause-read : goal.returns-then-is_blank-clause-read
 returns-then-is_blank-clause-read c =
-    no-record-in c.args.first.text.now (sym c.requires.open ∙ c.if-first.false) c.if-first-gt-RECORD_LIMIT.false
+    no-record-in c.args.first.text.now (sym c.requires.open ∙ c.if-first.false) c.if-first-gt-MAX_RECORD_LENGTH.false
     (blank c.args.first.text.now (sym c.is_blank.ensures ∙ c.if-is_blank.true))
 
 pub returns-then-is_blank-clause-after : goal.returns-then-is_blank-clause-after

@@ -28,12 +28,12 @@ loop-at-preserved c =
     let byte = get_or c.args.file.now c.loop-at.at 0 in
     let next : IsNextByte c.args.file.now c.loop-at.at byte = record { below = c.loop-at-test.true; is = refl } in
     let inside = c.inside_after-is_open.result in
-    let goes_on : (is_line_feed byte && not inside) ≡ false = elim c.else-byte-eq10.either [
+    let continues : (is_line_feed byte && not inside) ≡ false = elim c.else-byte-eq10.either [
       | inl both ↦ feed-inside byte inside both.1
       | inr other ↦ not-feed byte inside other
     ] in
     let is = c.inside_after-is_open.ensures in
-    rw is (scanned-next c.args.file.now c.loop-at.at byte c.loop-at.is_open next c.loop-at.invariant (rw is at goes_on))
+    rw is (scanned-next c.args.file.now c.loop-at.at byte c.loop-at.is_open next c.loop-at.invariant (rw is at continues))
 
 pub returns-clause-texts : goal.returns-clause-texts
 returns-clause-texts c = scanned-whole c.args.file.now c.loop-at.at c.loop-at.is_open c.loop-at-test.false c.loop-at.invariant

@@ -2,7 +2,7 @@ use Rattle.std.proofs.Common.{◌++◌, ℕ, List, map, ap, sym, ◌∙◌, arit
 use Rattle.std.specs.List.{flat_map}
 use Rattle.std.proofs.lemmas.List.{take_all}
 use Rattle.std.proofs.lemmas.List.Folds.{flat_map-map}
-use Rattle.batch.specs.Answer.{status_of}
+use Rattle.batch.specs.LookupResult.{status_of}
 use Rattle.batch.specs.Lines.{line, match_cells}
 use Rattle.batch.proofs.CellLemmas.{flat_map-next}
 use Rattle.geocode.specs.Matches.{MatchParts, match_of}

@@ -1,6 +1,6 @@
 use Rattle.std.proofs.Common.{◌≡◌, ◌++◌, map, take}
 use Rattle.std.specs.List.{flat_map}
-use Rattle.batch.specs.Answer.{status_of}
+use Rattle.batch.specs.LookupResult.{status_of}
 use Rattle.batch.specs.Lines.{line, match_cells}
 use Rattle.geocode.specs.Matches.{match_of}
 use Rattle.batch.proofs.cells.push_matches.Given as goal

@@ -1,6 +1,6 @@
 use Rattle.std.proofs.Common.{◌≡◌, ◌∷◌, [], replicate}
 use Rattle.batch.specs.Lines.{cells_of, reason_text, status_text}
-use Rattle.batch.specs.declared.answer.Status.TheVariants.{NoMatch}
+use Rattle.batch.specs.declared.lookup.Status.TheVariants.{NoMatch}
 use Rattle.batch.proofs.cells.push_none.Given as goal
 
 abbrev pub invariant-loop-empty : goal.invariant-loop-empty

@@ -1,6 +1,6 @@
 use Rattle.std.proofs.Common.{ap, sym}
 use Rattle.bpf_assembler.specs.Operand.{or_fault}
-use Rattle.bpf_assembler.specs.declared.fault.TextFlaw.TheVariants.{WritesFramePointer}
+use Rattle.bpf_assembler.specs.declared.fault.TextFaultKind.TheVariants.{WritesFramePointer}
 use Rattle.bpf_assembler.proofs.OperandLemmas.{writable_at-same}
 use Rattle.bpf_assembler.proofs.operand.destination_of.Goals as goal
 

@@ -3,7 +3,7 @@ use Rattle.std.proofs.lemmas.List.{take_all}
 use Rattle.std.proofs.lemmas.Option.{none-some}
 use Rattle.bpf_insn.specs.Code.{word_count}
 use Rattle.bpf_insn.proofs.SpanLemmas.{ends_within}
-use Rattle.bpf_flow.proofs.FlowLemmas.{stands_at, next_place, lead_more, lead_all, jumps_by, leads_by}
+use Rattle.bpf_flow.proofs.FlowLemmas.{instruction_at_index, next_place, lead_more, all_jumps_forward, jumps_by, leads_by}
 use Rattle.bpf_flow.proofs.flow.check_jumps.Goals as goal
 use Rattle.bpf_flow.proofs.flow.check_jumps.Goals.{in-Some+in_ok-check_jump, in_default}
 
@@ -11,28 +11,28 @@ pub check_jump-requires-clause-jump : goal.check_jump-requires-clause-jump
 check_jump-requires-clause-jump g c =
     let fits : FitsSigned w32 c.in-Some.distance = search rules in
     jumps_by c.args.code.now c.loop-insn.place c.insn-item.result c.in-Some.distance fits
-    (stands_at c.loop-insn.insn-index c.loop-insn.place
+    (instruction_at_index c.loop-insn.insn-index c.loop-insn.place
     (record { same = c.instructions-instructions.ensures.value; within = c.loop-insn-test.true; is = c.insn-item.is })
     c.loop-insn.invariant.place) c.in-Some.ensures
 
 pub overflow_add-place : goal.overflow_add-place
 overflow_add-place g c =
-    let stands = stands_at c.loop-insn.insn-index c.loop-insn.place
+    let is_insn = instruction_at_index c.loop-insn.insn-index c.loop-insn.place
     (record { same = c.instructions-instructions.ensures.value; within = c.loop-insn-test.true; is = c.insn-item.is })
     c.loop-insn.invariant.place in
-    let ends = ends_within c.args.code.now c.loop-insn.place c.insn-item.result stands in
+    let ends = ends_within c.args.code.now c.loop-insn.place c.insn-item.result is_insn in
     let sized = c.instructions-instructions.ensures.sized in omega (arith, c.words-place.ensures)
 
 pub loop-insn-preserved : goal.loop-insn-preserved
 loop-insn-preserved g c =
-    let stands = stands_at c.loop-insn.insn-index c.loop-insn.place
+    let is_insn = instruction_at_index c.loop-insn.insn-index c.loop-insn.place
     (record { same = c.instructions-instructions.ensures.value; within = c.loop-insn-test.true; is = c.insn-item.is })
     c.loop-insn.invariant.place in
     record {
       place = next_place c.loop-insn.insn-index c.loop-insn.place c.words-place.result
           (record { same = c.instructions-instructions.ensures.value; within = c.loop-insn-test.true; is = c.insn-item.is })
           c.loop-insn.invariant.place c.words-place.ensures;
-      jumps = lead_more c.args.code.now c.loop-insn.place c.words-place.result c.insn-item.result stands c.words-place.ensures
+      jumps = lead_more c.args.code.now c.loop-insn.place c.words-place.result c.insn-item.result is_insn c.words-place.ensures
           c.loop-insn.invariant.jumps
           (elim c.match-jump_distance.branch [
             | in-Some+in_ok-check_jump w ↦
@@ -48,4 +48,4 @@ returns-clause-ok g c =
     let all : word_count c.args.code.now ≡ c.loop-insn.place =
     ap word_count (sym (take_all c.loop-insn.insn-index c.args.code.now
     (let long = ap length same in omega (arith, c.loop-insn-test.false)))) ∙ sym c.loop-insn.invariant.place in
-    lead_all c.args.code.now c.loop-insn.place (omega arith) c.loop-insn.invariant.jumps
+    all_jumps_forward c.args.code.now c.loop-insn.place (omega arith) c.loop-insn.invariant.jumps

@@ -1,6 +1,6 @@
 use Rattle.std.proofs.Common.{◌+◌, Bool, List, ap, ⊎_elim}
 use Rattle.bpf_frame.specs.FrameMap.{Contents}
-use Rattle.bpf_frame.proofs.MarkLemmas.{mark_none, mark_keeps, marked_inside, marked_before_or_inside}
+use Rattle.bpf_frame.proofs.MarkLemmas.{mark_none, mark_preserves, marked_inside, marked_before_or_inside}
 use Rattle.bpf_frame.proofs.ProperLemmas.{in_frame, mark_is_proper}
 use Rattle.bpf_frame.proofs.SlotLemmas.{mark_forgets, mark_leaves}
 use Rattle.bpf_frame.proofs.laws.mark_is_exact.Goals as goal
@@ -12,7 +12,7 @@ pub returns-clause-byte : goal.returns-clause-byte
 returns-clause-byte c = λ map from len at proper within.
     let short = in_frame map (from + len) proper within in (
       marked_before_or_inside map.marks from len at short,
-      ⊎_elim (mark_keeps map.marks from len at short) (λ inside. marked_inside map.marks from len at short inside.0 inside.1),
+      ⊎_elim (mark_preserves map.marks from len at short) (λ inside. marked_inside map.marks from len at short inside.0 inside.1),
     )
 
 pub returns-clause-forgets : goal.returns-clause-forgets

@@ -1,12 +1,12 @@
 use Rattle.std.proofs.Common.{sym, subst, arith}
 use Rattle.bpf_meaning.specs.Step.{after}
-use Rattle.bpf_meaning.proofs.RunLemmas.{goes_on}
+use Rattle.bpf_meaning.proofs.RunLemmas.{continues}
 use Rattle.bpf_machine.specs.Machine.{StepsTo}
 use Rattle.bpf_machine.proofs.MachineLemmas.{comes_to_answer, has_ended, has_exited, reached_by, went_on}
 use Rattle.bpf_machine.proofs.machine.run_in.Goals as goal
 
-pub step_from-requires-clause-way : goal.step_from-requires-clause-way
-step_from-requires-clause-way g c =
+pub step_from-requires-clause-reachable : goal.step_from-requires-clause-reachable
+step_from-requires-clause-reachable g c =
     let found = c.loop-steps.invariant in
     record {
       state = found.0;
@@ -33,7 +33,7 @@ loop-steps-preserved g c =
     let leads = subst (λ to. StepsTo code (after code c.args.segment.now found.0) to c.loop-steps.bare c.step_from.new.bare) c.in-Some.is
     (c.step_from.ensures found.0 reached found.2) in
     let on = went_on code _ c.loop-steps.bare (record c.step_from.new.bare { at = c.in-Some.next }) leads in
-    (on.0, goes_on code c.args.segment.now c.loop-steps._steps found.0 on.0 found.1 (sym on.1), on.2)
+    (on.0, continues code c.args.segment.now c.loop-steps._steps found.0 on.0 found.1 (sym on.1), on.2)
 
 pub unreachable-requires : goal.unreachable-requires
 unreachable-requires g c =

@@ -4,5 +4,5 @@ use Rattle.bpf_meaning.proofs.laws.calls_empty_registers.Goals as goal
 pub returns : goal.returns
 returns c = record {
   empty = λ code segment state there immediate at step. (step_after_call code segment state there immediate at step).empty;
-  kept = λ code segment state there immediate at step. (step_after_call code segment state there immediate at step).kept;
+  preserved = λ code segment state there immediate at step. (step_after_call code segment state there immediate at step).preserved;
 }

@@ -1,5 +1,5 @@
-use Rattle.bpf_meaning.proofs.RunLemmas.{running_goes_on, exited_ends, stuck_ends}
+use Rattle.bpf_meaning.proofs.RunLemmas.{running_continues, exited_ends, stuck_ends}
 use Rattle.bpf_meaning.proofs.laws.one_step.Goals as goal
 
 pub returns : goal.returns
-returns c = record { running = running_goes_on; exited = exited_ends; stuck = stuck_ends }
+returns c = record { running = running_continues; exited = exited_ends; stuck = stuck_ends }

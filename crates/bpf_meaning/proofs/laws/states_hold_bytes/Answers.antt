@@ -1,4 +1,4 @@
-use Rattle.bpf_meaning.proofs.WholeLemmas.{step_bytes, run_bytes}
+use Rattle.bpf_meaning.proofs.WellFormedLemmas.{step_bytes, run_bytes}
 use Rattle.bpf_meaning.proofs.laws.states_hold_bytes.Goals as goal
 
 pub returns : goal.returns

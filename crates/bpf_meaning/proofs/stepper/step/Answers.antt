@@ -1,4 +1,4 @@
-use Rattle.bpf_meaning.proofs.WholeLemmas.{effect_within}
+use Rattle.bpf_meaning.proofs.WellFormedLemmas.{effect_within}
 use Rattle.bpf_meaning.proofs.stepper.step.Goals as goal
 
 pub apply-requires : goal.apply-requires

@@ -1,10 +1,10 @@
 use Rattle.std.proofs.Common.{arith}
-use Rattle.bpf_meaning.proofs.RunLemmas.{goes_on, traces_end, traces_on}
+use Rattle.bpf_meaning.proofs.RunLemmas.{continues, traces_end, traces_on}
 use Rattle.bpf_meaning.proofs.stepper.trace.Goals as goal
 
 pub loop-steps-preserved : goal.loop-steps-preserved
 loop-steps-preserved g c =
-    goes_on c.args.code.now c.args.segment.now c.loop-steps._steps c.loop-steps.state c.step.new.state c.loop-steps.invariant
+    continues c.args.code.now c.args.segment.now c.loop-steps._steps c.loop-steps.state c.step.new.state c.loop-steps.invariant
     c.in-Running.ensures.next
 
 pub returns-in_default : goal.returns-in_default

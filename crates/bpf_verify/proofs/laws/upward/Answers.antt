@@ -1,5 +1,5 @@
-use Rattle.bpf_verify.proofs.RiseInstructions as rises
+use Rattle.bpf_verify.proofs.MonotoneInstructions as is_monotone
 use Rattle.bpf_verify.proofs.laws.upward.Goals as goal
 
 pub returns : goal.returns
-returns c = rises.upward
+returns c = is_monotone.upward

@@ -1,17 +1,17 @@
 use Rattle.std.proofs.Common.{◌∙◌, subst, sym}
 use Rattle.commands.specs.Counties.{AreCountiesOf}
 use Rattle.named_files.specs.Files.{disk}
-use Rattle.commands.proofs.CountiesLemmas.{counties_more, load_told, load_usage, memory_told, named_behind, refused_behind}
+use Rattle.commands.proofs.CountiesLemmas.{counties_more, earlier_load_failure, load_usage, memory_failure, named_after, refused_after}
 use Rattle.named_files.proofs.FileLemmas.{unfailed_both}
 use Rattle.commands.proofs.counties.load_counties.Goals as goal
 
 pub returns-in-Err-clause-err : goal.returns-in-Err-clause-err
 returns-in-Err-clause-err g c =
     let so_far = c.loop-code.invariant in
-    load_told (disk g.F.Files.bytes g.F.Files.failed_opens g.F.Files.failed_reads c.args.files.now)
+    earlier_load_failure (disk g.F.Files.bytes g.F.Files.failed_opens g.F.Files.failed_reads c.args.files.now)
     (disk g.F.Files.bytes g.F.Files.failed_opens g.F.Files.failed_reads c.loop-code.files)
     (disk g.F.Files.bytes g.F.Files.failed_opens g.F.Files.failed_reads c.load_county.new.files) c.in-Err.failure so_far.counts
-    (λ _. refused_behind so_far.stay c.args.codes.now c.loop-code.code-index _ c.loop-code.counties.items c.loop-code-test.true
+    (λ _. refused_after so_far.stay c.args.codes.now c.loop-code.code-index _ c.loop-code.counties.items c.loop-code-test.true
     so_far.loaded)
     c.in-Err.ensures.err
 
@@ -22,14 +22,14 @@ returns-in-Err-clause-usage g c =
 
 pub returns-in-Err-clause-names : goal.returns-in-Err-clause-names
 returns-in-Err-clause-names g c =
-    named_behind c.args.folder.now c.args.codes.now c.loop-code.code-index _ c.loop-code-test.true c.in-Err.failure c.in-Err.ensures.names
+    named_after c.args.folder.now c.args.codes.now c.loop-code.code-index _ c.loop-code-test.true c.in-Err.failure c.in-Err.ensures.names
 
 pub returns-in-Err-clause-counts : goal.returns-in-Err-clause-counts
 returns-in-Err-clause-counts g c = λ other. unfailed_both c.loop-code.invariant.counts (c.in-Err.ensures.counts other)
 
 pub returns-in_err-push-in-Ok-clause-err : goal.returns-in_err-push-in-Ok-clause-err
 returns-in_err-push-in-Ok-clause-err g c =
-    memory_told c.from_residual.result _ (disk g.F.Files.bytes g.F.Files.failed_opens g.F.Files.failed_reads c.args.files.now)
+    memory_failure c.from_residual.result _ (disk g.F.Files.bytes g.F.Files.failed_opens g.F.Files.failed_reads c.args.files.now)
     (disk g.F.Files.bytes g.F.Files.failed_opens g.F.Files.failed_reads c.load_county.new.files) c.from_residual.ensures.1
 
 pub loop-code-preserved : goal.loop-code-preserved

@@ -1,10 +1,10 @@
 use Rattle.named_files.specs.Files.{disk}
-use Rattle.commands.proofs.CountiesLemmas.{open_counts, open_named, open_told}
+use Rattle.commands.proofs.CountiesLemmas.{open_counts, open_named, open_failure}
 use Rattle.commands.proofs.counties.load_county.Goals as goal
 
 pub returns-in-Err-clause-err : goal.returns-in-Err-clause-err
 returns-in-Err-clause-err g c =
-    rw c.of_county_file.ensures (open_told _ (disk g.F.Files.bytes g.F.Files.failed_opens g.F.Files.failed_reads c.args.files.now)
+    rw c.of_county_file.ensures (open_failure _ (disk g.F.Files.bytes g.F.Files.failed_opens g.F.Files.failed_reads c.args.files.now)
     (disk g.F.Files.bytes g.F.Files.failed_opens g.F.Files.failed_reads c.open_county.new.files) c.args.folder c.args.code
     c.in-Err.fault.file c.in-Err.fault.fault c.in-Err.ensures.opens.opens)
 

@@ -32,4 +32,4 @@ loop-place-preserved g c =
     }
 
 pub returns : goal.returns
-returns g c = front_last c.loop-place.invariant.wrote _ c.write_whole-2.result c.in_default.ensures.value c.write_whole-2.ensures
+returns g c = front_last c.loop-place.invariant.wrote _ c.write_text-2.result c.in_default.ensures.value c.write_text-2.ensures

@@ -1,5 +1,5 @@
 use Rattle.std.proofs.Common.{◌≤◌, length}
-use Rattle.counted_io.specs.Device.{writer}
+use Rattle.counted_io.specs.ReaderWriter.{writer}
 use Rattle.commands.proofs.EscapeLemmas.{WritesFront}
 use Rattle.commands.proofs.escape.write_escaped.Given as goal
 

@@ -1,7 +1,7 @@
 use Rattle.std.proofs.Common.{ℕ, List, Ok, subst}
 use Rattle.bpf_explain.specs.Explanation.{IsExplained}
 use Rattle.bpf_source_lines.specs.SourceLines.{parts_of}
-use Rattle.counted_io.specs.Device.{writer}
+use Rattle.counted_io.specs.ReaderWriter.{writer}
 use Rattle.counted_io.specs.Writing.{WritesText}
 use Rattle.commands.proofs.ExplainLemmas.{refusal_written}
 use Rattle.commands.proofs.explain.write_explained.Goals as goal

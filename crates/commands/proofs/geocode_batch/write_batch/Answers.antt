@@ -1,7 +1,7 @@
 use Rattle.std.proofs.Common.{ℕ, List, Ok, Err, subst, ◌∙◌}
 use Rattle.addresses.specs.Address.{address_in}
 use Rattle.addresses.specs.Listing.{addresses_left}
-use Rattle.counted_io.specs.Device.{writer}
+use Rattle.counted_io.specs.ReaderWriter.{writer}
 use Rattle.counted_io.specs.Writing.{WritesText}
 use Rattle.commands.specs.Failure.{WritesAs}
 use Rattle.commands.proofs.BatchLemmas.{batch_done, batch_further, batch_stopped, batch_unread, header_stopped, header_unread, header_written}

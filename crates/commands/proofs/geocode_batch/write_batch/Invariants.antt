@@ -1,7 +1,7 @@
 use Rattle.std.proofs.Common.{length}
 use Rattle.addresses.specs.Listing.{addresses_left}
 use Rattle.batch.specs.Lines.{lines_of_all}
-use Rattle.counted_io.specs.Device.{writer}
+use Rattle.counted_io.specs.ReaderWriter.{writer}
 use Rattle.commands.proofs.BatchLemmas.{IsWrittenTo}
 use Rattle.commands.proofs.geocode_batch.write_batch.Given as goal
 

@@ -1,6 +1,6 @@
 use Rattle.std.proofs.Common.{ℕ, List, ap, subst, ◌∙◌}
 use Rattle.batch.specs.Lines.{lines_of}
-use Rattle.counted_io.specs.Device.{writer}
+use Rattle.counted_io.specs.ReaderWriter.{writer}
 use Rattle.commands.specs.Failure.{WritesAs}
 use Rattle.commands.proofs.BatchLemmas.{written_unless}
 use Rattle.commands.proofs.geocode_batch.write_lines.Goals as goal

@@ -1,6 +1,6 @@
 use Rattle.std.proofs.Common.{Ok, take}
 use Rattle.geocode.specs.HitLine.{hit_lines}
-use Rattle.counted_io.specs.Device.{writer}
+use Rattle.counted_io.specs.ReaderWriter.{writer}
 use Rattle.counted_io.specs.Writing.{WritesText}
 use Rattle.commands.proofs.geocoder.write_lines.Given as goal
 

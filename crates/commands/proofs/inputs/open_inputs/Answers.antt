@@ -4,8 +4,8 @@ use Rattle.std.proofs.Math.Path.{fun_ext}
 use Rattle.tl_segments.specs.County.{CountyReaders}
 use Rattle.named_files.specs.County.{HoldCounty, county_readers}
 use Rattle.commands.specs.Failure.{NamesFile, of_program}
-use Rattle.named_files.specs.Files.{Disk, TellsProgram, TellsProgramUse, disk}
-use Rattle.commands.specs.Inputs.{IsInput, TellsInputs}
+use Rattle.named_files.specs.Files.{Disk, IsProgramInputFault, CountsProgramUse, disk}
+use Rattle.commands.specs.Inputs.{IsInput, IsInputsFailure}
 use Rattle.named_files.specs.declared.files.FileFault.TheVariants as fault
 use Rattle.named_files.specs.declared.files.ProgramInputFault.{ProgramInputFault}
 use Rattle.named_files.specs.declared.files.ProgramInputFault.TheVariants as input
@@ -16,14 +16,14 @@ use Rattle.commands.proofs.inputs.open_inputs.Goals as goal
 
 -- the program's file can't be read, or the program is too long
 module _ (disk disk' : Disk) (name folder code : Bor (List ℕ)) (left : Option (List ℕ)) {readers : CountyReaders} where
-  program_told : (of : ProgramInputFault) → Keeps (disk.known name.now) left → TellsProgram left of
-      → TellsProgramUse {T = ℕ} (Err of) disk disk' → HoldCounty disk.known folder.now code.now readers
-      → TellsInputs name.now folder.now code.now disk disk' (of_program name of)
-  program_told (input.File (fault.Unusable error)) kept told uses hold = uses
-  program_told (input.File fault.Memory) kept told uses hold = tt
-  program_told (input.Code of) kept told uses hold = record {
+  program_failure : (of : ProgramInputFault) → Keeps (disk.known name.now) left → IsProgramInputFault left of
+      → CountsProgramUse {T = ℕ} (Err of) disk disk' → HoldCounty disk.known folder.now code.now readers
+      → IsInputsFailure name.now folder.now code.now disk disk' (of_program name of)
+  program_failure (input.File (fault.Unusable error)) unchanged is_failure uses hold = uses
+  program_failure (input.File fault.Memory) unchanged is_failure uses hold = tt
+  program_failure (input.Code of) unchanged is_failure uses hold = record {
     fault = of;
-    long = too_long_as (disk.known name.now) left of kept told;
+    long = too_long_as (disk.known name.now) left of unchanged is_failure;
     is_refusal = refl;
     readers = readers;
     hold = hold;
@@ -41,7 +41,7 @@ returns-in-Err-read-clause-err g c =
     let opened = c.in-Ok.ensures in
     let county = c.in-Ok-open_county.ensures in
     let closed = c.close_county.ensures in
-    rw c.of_program.ensures (program_told (disk g.F.Files.bytes g.F.Files.failed_opens g.F.Files.failed_reads c.args.files.now)
+    rw c.of_program.ensures (program_failure (disk g.F.Files.bytes g.F.Files.failed_opens g.F.Files.failed_reads c.args.files.now)
     (disk g.F.Files.bytes g.F.Files.failed_opens g.F.Files.failed_reads c.close_county.new.files) c.args.name c.args.folder c.args.code _
     c.in-Err-read.fault opened.known.left c.in-Err-read.ensures.refused
     (used_program _ _ (closed.opens ∙ c.close-2.ensures.opens ∙ county.opens.opens ∙ opened.opens.opens) opened.known.failed

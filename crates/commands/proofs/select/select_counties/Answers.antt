@@ -1,10 +1,10 @@
 use Rattle.std.proofs.Common.{ap, refl, ◌∙◌}
-use Rattle.counted_io.specs.Device.{WriteCounts, writer}
+use Rattle.counted_io.specs.ReaderWriter.{WriteCounts, writer}
 use Rattle.named_files.specs.Files.{disk}
 use Rattle.commands.specs.Select.{none}
-use Rattle.commands.proofs.CountiesLemmas.{named_behind}
+use Rattle.commands.proofs.CountiesLemmas.{named_after}
 use Rattle.named_files.proofs.FileLemmas.{unfailed_both}
-use Rattle.commands.proofs.SelectLemmas.{counties_counts, counties_stopped, fails_behind, written_more}
+use Rattle.commands.proofs.SelectLemmas.{counties_counts, counties_stopped, fails_after, written_more}
 use Rattle.commands.proofs.select.select_counties.Goals as goal
 
 pub loop-code-init : goal.loop-code-init
@@ -18,14 +18,14 @@ returns-in-Err-clause-outcome g c = let so_far = c.loop-code.invariant in
 
 pub returns-in-Err-clause-fails : goal.returns-in-Err-clause-fails
 returns-in-Err-clause-fails g c =
-    fails_behind c.in-Err.failure (disk g.F.Files.bytes g.F.Files.failed_opens g.F.Files.failed_reads c.args.files.now)
+    fails_after c.in-Err.failure (disk g.F.Files.bytes g.F.Files.failed_opens g.F.Files.failed_reads c.args.files.now)
     (disk g.F.Files.bytes g.F.Files.failed_opens g.F.Files.failed_reads c.loop-code.files)
     (disk g.F.Files.bytes g.F.Files.failed_opens g.F.Files.failed_reads c.select_county.new.files) c.loop-code.invariant.counts
     c.in-Err.ensures.fails
 
 pub returns-in-Err-clause-names : goal.returns-in-Err-clause-names
 returns-in-Err-clause-names g c =
-    named_behind c.args.folder.now c.args.codes.now c.loop-code.code-index _ c.loop-code-test.true c.in-Err.failure c.in-Err.ensures.names
+    named_after c.args.folder.now c.args.codes.now c.loop-code.code-index _ c.loop-code-test.true c.in-Err.failure c.in-Err.ensures.names
 
 pub returns-in-Err-clause-counts : goal.returns-in-Err-clause-counts
 returns-in-Err-clause-counts g c = λ other. unfailed_both c.loop-code.invariant.counts (c.in-Err.ensures.counts other)

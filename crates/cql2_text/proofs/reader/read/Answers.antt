@@ -1,10 +1,10 @@
 use Rattle.std.proofs.Common.{arith}
 use Rattle.std.proofs.lemmas.List.{length-take-le}
-use Rattle.cql2_text.specs.declared.reader.TheConstants.{TEXT_LIMIT}
+use Rattle.cql2_text.specs.declared.reader.TheConstants.{MAX_TEXT_LENGTH}
 use Rattle.cql2_text.proofs.reader.read.Goals as goal
 
 pub slice_bounds-fault_after-end : goal.slice_bounds-fault_after-end
-slice_bounds-fault_after-end g c = omega (arith, length-take-le TEXT_LIMIT c.args.text.now (omega (arith, c.if-text-gt-TEXT_LIMIT.true)))
+slice_bounds-fault_after-end g c = omega (arith, length-take-le MAX_TEXT_LENGTH c.args.text.now (omega (arith, c.if-text-gt-MAX_TEXT_LENGTH.true)))
 
 pub fault_after-requires : goal.fault_after-requires
-fault_after-requires g c = omega (arith, length-take-le TEXT_LIMIT c.args.text.now (omega (arith, c.if-text-gt-TEXT_LIMIT.true)))
+fault_after-requires g c = omega (arith, length-take-le MAX_TEXT_LENGTH c.args.text.now (omega (arith, c.if-text-gt-MAX_TEXT_LENGTH.true)))

@@ -1,5 +1,5 @@
 use Rattle.std.proofs.Common.{◌-◌, ◌^◌}
-use Rattle.counted_io.specs.Device.{reader, writer}
+use Rattle.counted_io.specs.ReaderWriter.{reader, writer}
 use Rattle.tl_segments.specs.Segment.{line_of}
 use Rattle.extract.proofs.ExtractLemmas.{IsExtractedSoFar}
 use Rattle.extract.proofs.extractor.write_rows.Given as goal

@@ -7,4 +7,4 @@ use Rattle.extractd.proofs.serving.load_state.Goals as goal
 pub new-requires : goal.new-requires
 new-requires g c =
     let counted = AllZip-long _ _ _ c.in-Ok.ensures.ok ∙ length-map _ _ ∙ c.as_slice.ensures.len in
-    subst (λ n. n ≤ 100000) (sym counted) c.args.asked.now.few
+    subst (λ n. n ≤ 100000) (sym counted) c.args.options.now.few

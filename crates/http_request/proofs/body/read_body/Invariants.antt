@@ -1,5 +1,5 @@
 use Rattle.std.proofs.Common.{◌≡◌, ◌-◌, length, vec_len}
-use Rattle.counted_io.specs.Device.{reader}
+use Rattle.counted_io.specs.ReaderWriter.{reader}
 use Rattle.http_request.proofs.BodyLemmas.{IsBodySoFar}
 use Rattle.http_request.proofs.body.read_body.Given as goal
 

@@ -1,5 +1,5 @@
 use Rattle.std.proofs.Common.{length, ◌-◌}
-use Rattle.counted_io.specs.Device.{reader}
+use Rattle.counted_io.specs.ReaderWriter.{reader}
 use Rattle.http_request.proofs.SearchLemmas.{HasReadSoFar}
 use Rattle.http_request.proofs.head.find_head.Given as goal
 

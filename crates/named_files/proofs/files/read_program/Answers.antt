@@ -24,7 +24,7 @@ pub loop-preserved : goal.loop-preserved
 loop-preserved g c = (
   _,
   Consumes-append _ _ _ _ _ c.loop.invariant.1 c.in-Ok.ensures.bytes.0,
-  c.in_ok-keep-in-Ok.ensures c.loop.invariant.0 c.loop.invariant.2,
+  c.in_ok-append_up_to-in-Ok.ensures c.loop.invariant.0 c.loop.invariant.2,
   rest_more c.loop.invariant.0 c.read_counted.new.buf _ _ c.loop.invariant.3 c.in-Ok.ensures.bound.0,
   c.in-Ok.ensures.failures ∙ c.loop.invariant.4,
 )

@@ -7,16 +7,16 @@ pub returns : goal.returns
 returns c is =
     let first = c.args.first in
     let count = c.args.last + 1 - first in
-    let blanks = c.blanks_in_front-blanks.result in
-    let digits = c.digits_in_front-digits.result in
+    let blanks = c.leading_blanks-blanks.result in
+    let digits = c.leading_digits-digits.result in
     let least : c.args.last - (first - 1) - blanks ≤ c.min.result = leb-true _ _ is in
     aligned_field c.args.line.now (first - 1) count blanks digits (record {
       within = omega arith;
       some = omega arith;
       ends = omega (arith, c.min.ensures);
       few = omega (arith, c.min.ensures);
-      blanks_few = c.blanks_in_front-blanks.ensures.within;
-      digits_few = c.digits_in_front-digits.ensures.within;
-      are_blanks = c.blanks_in_front-blanks.ensures.blanks;
-      are_digits = c.digits_in_front-digits.ensures.digits;
+      blanks_few = c.leading_blanks-blanks.ensures.within;
+      digits_few = c.leading_digits-digits.ensures.within;
+      are_blanks = c.leading_blanks-blanks.ensures.blanks;
+      are_digits = c.leading_digits-digits.ensures.digits;
     })

@@ -6,7 +6,7 @@ pub returns-in-LineFeed : goal.returns-in-LineFeed
 returns-in-LineFeed g c =
     let content = c.read_content.new.content.items in
     let read = c.in-LineFeed.ensures in
-    let without = c.take_off_return.ensures in (
+    let without = c.strip_carriage_return.ensures in (
       read.0,
       omega arith,
       refl,

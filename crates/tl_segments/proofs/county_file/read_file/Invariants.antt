@@ -1,11 +1,11 @@
 use Rattle.std.proofs.Common.{◌-◌, ◌^◌}
-use Rattle.counted_io.specs.Device.{reader}
-use Rattle.tl_segments.proofs.ReadingLemmas.{KeepsSoFar}
+use Rattle.counted_io.specs.ReaderWriter.{reader}
+use Rattle.tl_segments.proofs.ReadingLemmas.{HoldsSoFar}
 use Rattle.tl_segments.proofs.county_file.read_file.Given as goal
 
 abbrev pub invariant-loop-table : goal.invariant-loop-table
 invariant-loop-table g l =
-    KeepsSoFar g.T.Lines.FileType.FILE (g.T.Table.keeps l.table) l.line
+    HoldsSoFar g.T.Lines.FileType.FILE (g.T.Table.holds l.table) l.line
     (reader g.R.Read.remaining g.R.CountedRead.failed_reads l.initial.input)
     (reader g.R.Read.remaining g.R.CountedRead.failed_reads l.input)
 

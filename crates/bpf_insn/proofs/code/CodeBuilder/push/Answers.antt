@@ -2,7 +2,7 @@ use Rattle.std.proofs.Common.{◌≡◌, ◌≤◌, ◌+◌, ◌++◌, ◌∷◌
 use Rattle.bpf_insn.specs.Code.{word_count}
 use Rattle.bpf_insn.specs.Form.{spelling}
 use Rattle.bpf_insn.specs.Table.{indexes_in}
-use Rattle.bpf_insn.specs.declared.code.TheConstants.{WORD_LIMIT}
+use Rattle.bpf_insn.specs.declared.code.TheConstants.{MAX_WORDS}
 use Rattle.bpf_insn.proofs.PlaceLemmas.{all_grow, few_instructions, grown}
 use Rattle.bpf_insn.proofs.code.CodeBuilder.push.Goals as goal
 
@@ -16,7 +16,7 @@ invariant_of-self-2 g c =
     c.words-place.ensures ∙ sym (ap word_count c.self.view_is) in
     let seen = ap length c.reserve.ensures.items in
     let counted : c.len.result ≡ length c.self.inside.instructions.items = omega (arith, c.len.ensures) in
-    let fits : word_count c.self.inside.instructions.items + length (spelling c.args.insn) ≤ WORD_LIMIT =
+    let fits : word_count c.self.inside.instructions.items + length (spelling c.args.insn) ≤ MAX_WORDS =
     omega (arith, at, c.words.ensures, c.if-place-words.false, c.self.invariant.2) in
     all_grow c.args.insn c.self.invariant
     (record {

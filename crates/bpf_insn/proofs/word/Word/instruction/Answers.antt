@@ -5,8 +5,8 @@ use Rattle.bpf_insn.proofs.word.Word.instruction.Goals as goal
 
 pub instruction_of-requires : goal.instruction_of-requires
 instruction_of-requires c =
-    let stands = fits c.row.result c.args.self (sym c.in-None.ensures) in
+    let is_insn = fits c.row.result c.args.self (sym c.in-None.ensures) in
     record {
-      form = record { opcode = c.in-Some.ensures.opcode; fits = subst (λ row. Fits row c.args.self) c.row.ensures stands };
+      form = record { opcode = c.in-Some.ensures.opcode; fits = subst (λ row. Fits row c.args.self) c.row.ensures is_insn };
       one_word = c.in_default-form.not-WideLoad;
     }

@@ -5,7 +5,7 @@ use Rattle.bpf_assembler.specs.TextFault as text_fault
 use Rattle.bpf_text.specs.declared.fault.SourceFault.{SourceFault}
 use Rattle.bpf_text.specs.declared.fault.SourceFault.TheVariants as source
 use Rattle.bpf_assembler.specs.declared.fault.TextFault.TheVariants as text
-use Rattle.counted_io.specs.Device.{Writer}
+use Rattle.counted_io.specs.ReaderWriter.{Writer}
 use Rattle.commands.specs.Command.{CarriesOut}
 use Rattle.commands.specs.Failure.{of_source}
 use Rattle.named_files.specs.Files.{Disk, IsUnfailed}
@@ -16,18 +16,18 @@ use Rattle.commands.proofs.ClassLemmas.{text_status}
 use Rattle.commands.proofs.ReadLemmas.{sound}
 use Rattle.commands.proofs.assemble.Assemble.carry_out.Goals as goal
 
-source_refused : {disk disk' : Disk} {out : Writer} (asked : Assemble) (bytes : List ℕ) (fault : SourceFault) → IsUnfailed disk disk'
-    → Keeps (disk.known asked.source.now) (Some bytes) → IsSourceFault bytes fault
-    → CarriesOut (request.Assemble asked) (Err (of_source asked.source fault)) disk disk' out out
-source_refused asked bytes source.NotUtf8 counts is no_text = record {
+source_refused : {disk disk' : Disk} {out : Writer} (arguments : Assemble) (bytes : List ℕ) (fault : SourceFault) → IsUnfailed disk disk'
+    → Keeps (disk.known arguments.source.now) (Some bytes) → IsSourceFault bytes fault
+    → CarriesOut (request.Assemble arguments) (Err (of_source arguments.source fault)) disk disk' out out
+source_refused arguments bytes source.NotUtf8 counts is no_text = record {
   outcome = (refl, record { is_source = refl; source = bytes; holds = is; no_text = no_text });
   names = tt;
   counts = λ other. counts;
   unflushed = refl;
 }
-source_refused asked bytes (source.Text text.Memory) counts is faulty =
+source_refused arguments bytes (source.Text text.Memory) counts is faulty =
     record { outcome = refl; names = tt; counts = λ other. counts; unflushed = refl }
-source_refused asked bytes (source.Text (text.InLine line flaw)) counts is faulty =
+source_refused arguments bytes (source.Text (text.InLine line flaw)) counts is faulty =
     refused_carried (text_fault.refusal (text.InLine line flaw)) (record {
       source = bytes;
       is_source = is;

@@ -1,5 +1,5 @@
 use Rattle.std.proofs.Common.{ℕ, ◌<◌, List, length, subst}
-use Rattle.cql2_text.specs.declared.reader.TheConstants.{TEXT_LIMIT}
+use Rattle.cql2_text.specs.declared.reader.TheConstants.{MAX_TEXT_LENGTH}
 use Rattle.commands.specs.Failure.{IsOfFilter}
 use Rattle.commands.specs.Filter.{IsFilterFailure, IsProgramOf, length_fault}
 use Rattle.commands.proofs.CarriedLemmas.{written_carried}
@@ -9,8 +9,8 @@ use Rattle.commands.proofs.compile.Compile.carry_out.Goals as goal
 
 pub returns-in-Ok-program-clause-carried : goal.returns-in-Ok-program-clause-carried
 returns-in-Ok-program-clause-carried g c =
-    let score = c.args.self.compiling.score in
-    let read = c.in-Ok.ensures.front in
+    let score = c.args.self.filter_options.score in
+    let read = c.in-Ok.ensures.prefix in
     let text = c.as_slice.ensures.value in
     let made : IsProgramOf c.in-Ok.text.items score c.in-Ok-program.program.items =
     subst (λ (text : List ℕ). IsProgramOf text score c.in-Ok-program.program.items) text c.in-Ok-program.ensures.ok in
@@ -26,16 +26,16 @@ returns-in-Ok-program-clause-carried g c =
 
 pub returns-clause-carried : goal.returns-clause-carried
 returns-clause-carried g c =
-    let score = c.args.self.compiling.score in
-    let read = c.in-Ok.ensures.front in
+    let score = c.args.self.filter_options.score in
+    let read = c.in-Ok.ensures.prefix in
     let text = c.as_slice.ensures.value in
     let failure = c.in-Err-program.failure in
     filter_carried read.whole score failure
     (whole_failure read score failure
-    (subst (λ (text : List ℕ). TEXT_LIMIT < length text → IsOfFilter (length_fault text) failure) text c.in-Err-program.ensures.too_long)
+    (subst (λ (text : List ℕ). MAX_TEXT_LENGTH < length text → IsOfFilter (length_fault text) failure) text c.in-Err-program.ensures.too_long)
     (subst (λ (text : List ℕ). IsFilterFailure text score failure) text c.in-Err-program.ensures.err))
     (λ refusal is. record { text = read.whole; is_text = read.is_whole; refused = is }) c.in-Ok.ensures.uses
 
 pub returns-clause-usage : goal.returns-clause-usage
 returns-clause-usage g c =
-    failure_usage c.as_slice.result.now c.args.self.compiling.score c.in-Err-program.failure c.in-Err-program.ensures.err
+    failure_usage c.as_slice.result.now c.args.self.filter_options.score c.in-Err-program.failure c.in-Err-program.ensures.err

@@ -1,6 +1,6 @@
 use Rattle.std.proofs.Common.{ℕ, List, ap, map, subst, sym, ◌∙◌}
-use Rattle.counted_io.specs.Device.{writer}
-use Rattle.commands.specs.GeocodeBatch.{AreAddressesOf, TellsAddresses}
+use Rattle.counted_io.specs.ReaderWriter.{writer}
+use Rattle.commands.specs.GeocodeBatch.{AreAddressesOf, IsAddressesFault}
 use Rattle.commands.proofs.BatchLemmas.{addresses_failed, batch_lent, batch_usage, counties_failed, inputs_of}
 use Rattle.named_files.proofs.FileLemmas.{unfailed_both}
 use Rattle.commands.proofs.geocode_batch.GeocodeBatch.carry_out.Goals as goal
@@ -17,7 +17,7 @@ returns-in-Err-check_addresses-clause-carried g c =
     c.in-Ok.ensures.known c.in-Ok-load_counties.counties.items c.in-Ok-load_counties.ensures.ok in
     addresses_failed c.args.self inputs (unfailed_both c.in-Ok.ensures.uses c.in-Ok-load_counties.ensures.counts)
     c.in-Err-check_addresses.fault c.of_addresses.result
-    (subst (λ (file : List ℕ). TellsAddresses file c.in-Err-check_addresses.fault) c.as_slice-2.ensures.value
+    (subst (λ (file : List ℕ). IsAddressesFault file c.in-Err-check_addresses.fault) c.as_slice-2.ensures.value
     c.in-Err-check_addresses.ensures.err) c.of_addresses.ensures
 
 pub returns-clause-carried : goal.returns-clause-carried

@@ -3,10 +3,10 @@ use Rattle.counted_io.proofs.buffered.BufferedCountedRead.read_content.Goals as 
 
 pub returns-in-Some-clause-content : goal.returns-in-Some-clause-content
 returns-in-Some-clause-content g c =
-    stopped_unknown _ c.read_front.new.content.items _ _ _ c.in-Some.stop c.loop-stop.invariant.so_far
-    c.in-Some.ensures.front
+    stopped_unknown _ c.read_from_buffer.new.content.items _ _ _ c.in-Some.stop c.loop-stop.invariant.so_far
+    c.in-Some.ensures.buffer
 
 pub returns-in-Some-clause-known : goal.returns-in-Some-clause-known
 returns-in-Some-clause-known g c =
-    stopped_known _ c.read_front.new.content.items _ _ _ c.in-Some.stop c.loop-stop.invariant.so_far
-    c.in-Some.ensures.front
+    stopped_known _ c.read_from_buffer.new.content.items _ _ _ c.in-Some.stop c.loop-stop.invariant.so_far
+    c.in-Some.ensures.buffer

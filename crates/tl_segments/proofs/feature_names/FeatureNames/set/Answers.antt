@@ -4,7 +4,7 @@ use Rattle.std.proofs.lemmas.Grind.{common_steps}
 use Rattle.std.specs.HashMap.{get}
 use Rattle.std.specs.Option.{option_or}
 use Rattle.tl_segments.specs.FullName.{full_name_of}
-use Rattle.tl_segments.specs.Tables.{name_at}
+use Rattle.tl_segments.specs.TableContents.{name_at}
 use Rattle.tl_segments.proofs.TableLemmas.{AreNames, follows-push}
 use Rattle.tl_segments.proofs.feature_names.FeatureNames.set.Goals as goal
 use Rattle.tl_segments.proofs.feature_names.FeatureNames.set.Goals.{then-is_empty, else-is_empty}

@@ -2,8 +2,8 @@ use Rattle.std.proofs.Common.{ap, sym, ◌∙◌}
 use Rattle.std.proofs.lemmas.Result.{err_from_is_err_and}
 use Rattle.tl_segments.specs.FullName.{contents, with_names}
 use Rattle.tl_segments.specs.Indexing.{names_in}
-use Rattle.tl_segments.specs.Segment.{Contents, line_of}
-use Rattle.tl_segments.specs.Tables.{list_at}
+use Rattle.tl_segments.specs.Segment.{SegmentParts, line_of}
+use Rattle.tl_segments.specs.TableContents.{list_at}
 use Rattle.tl_segments.proofs.IndexLemmas.{has_line, segment_read, wants_names, wants_ranges}
 use Rattle.tl_segments.proofs.index.Index.next_segment.Goals as goal
 
@@ -16,8 +16,8 @@ returns g c =
     let is = rw c.in-Ok-Some.field-0-is at c.in-Ok-Some.ensures in
     let same = c.push_ranges.ensures.bytes ∙ c.push_names.ensures.bytes in
     let made = c.in_ok-push_ranges.ensures.ranges
-    ∙ ap (λ (segment : Contents). record segment { ranges = ranges }) c.in_ok-push_names.ensures.names
-    ∙ ap (λ (segment : Contents). record (with_names segment names) { ranges = ranges }) is.1 in
+    ∙ ap (λ (segment : SegmentParts). record segment { ranges = ranges }) c.in_ok-push_names.ensures.names
+    ∙ ap (λ (segment : SegmentParts). record (with_names segment names) { ranges = ranges }) is.1 in
     segment_read index (has_line (line_of c.args.number.now c.args.segment.now) _ tlid c.read_record.new.self is c.tlid-tlid.ensures same)
     (made ∙ ap (λ bytes. contents bytes names ranges) (sym same))
 

@@ -2,7 +2,7 @@ use Rattle.std.proofs.Common.{◌≤◌, [], length, subst, arith}
 use Rattle.std.specs.List.{flat_map}
 use Rattle.std.proofs.lemmas.List.Folds.{length-flat_map-take}
 use Rattle.std.proofs.lemmas.Result.{err_from_is_err_and}
-use Rattle.tl_segments.specs.Tables.{names_among}
+use Rattle.tl_segments.specs.TableContents.{names_among}
 use Rattle.tl_segments.proofs.index.Index.push_names.Goals as goal
 
 pub returns-in_err-push_names_among-clause-some : goal.returns-in_err-push_names_among-clause-some

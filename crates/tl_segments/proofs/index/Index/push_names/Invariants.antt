@@ -1,7 +1,7 @@
 use Rattle.std.proofs.Common.{◌≡◌, ◌*◌, ◌≤◌, length, take}
 use Rattle.std.specs.List.{flat_map}
 use Rattle.tl_segments.specs.FullName.{with_names}
-use Rattle.tl_segments.specs.Tables.{names_among}
+use Rattle.tl_segments.specs.TableContents.{names_among}
 use Rattle.tl_segments.proofs.index.Index.push_names.Given as goal
 
 abbrev pub invariant-loop-features : goal.invariant-loop-features

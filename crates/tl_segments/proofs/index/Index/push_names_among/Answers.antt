@@ -3,7 +3,7 @@ use Rattle.std.specs.Option.{option_and_then}
 use Rattle.std.proofs.lemmas.Grind.{common_steps}
 use Rattle.std.proofs.lemmas.Result.{err_from_is_err_and}
 use Rattle.tl_segments.specs.FullName.{with_names}
-use Rattle.tl_segments.specs.Tables.{name_at, names_among}
+use Rattle.tl_segments.specs.TableContents.{name_at, names_among}
 use Rattle.tl_segments.proofs.FullNameLemmas.{with_names-none}
 use Rattle.tl_segments.proofs.TableLemmas.{filter_map-more, filter_map-some, names-more}
 use Rattle.tl_segments.proofs.index.Index.push_names_among.Goals as goal

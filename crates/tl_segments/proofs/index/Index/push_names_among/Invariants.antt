@@ -1,6 +1,6 @@
 use Rattle.std.proofs.Common.{◌≡◌, ◌+◌, ◌≤◌, length, take}
 use Rattle.tl_segments.specs.FullName.{with_names}
-use Rattle.tl_segments.specs.Tables.{names_among}
+use Rattle.tl_segments.specs.TableContents.{names_among}
 use Rattle.tl_segments.proofs.index.Index.push_names_among.Given as goal
 
 abbrev pub invariant-loop-feat : goal.invariant-loop-feat

@@ -2,8 +2,8 @@ use Rattle.std.proofs.Common.{◌≡◌, [], ap, ◌∙◌}
 use Rattle.std.proofs.lemmas.Result.{err_from_is_err_and}
 use Rattle.tl_segments.specs.FullName.{with_names}
 use Rattle.tl_segments.specs.Indexing.{names_in}
-use Rattle.tl_segments.specs.Segment.{Contents}
-use Rattle.tl_segments.specs.Tables.{list_at}
+use Rattle.tl_segments.specs.Segment.{SegmentParts}
+use Rattle.tl_segments.specs.TableContents.{list_at}
 use Rattle.tl_segments.proofs.IndexLemmas.{names_joined, ranges_joined, segment_from_index}
 use Rattle.tl_segments.proofs.index.Index.segment.Goals as goal
 
@@ -14,11 +14,11 @@ returns-clause-ok g c = λ lines of_lines.
     let names = names_in index tlid in
     let ranges = list_at index.ranges tlid in
     let line = c.args.rt1.now.bytes in
-    let first : ◌≡◌ {A = Contents} c.of-segment.result record { bytes = line; names = []; affixes = []; ranges = [] } =
-    c.of-segment.ensures ∙ ap (λ bytes. let segment : Contents = record { bytes = bytes; names = []; affixes = []; ranges = [] } in segment)
+    let first : ◌≡◌ {A = SegmentParts} c.of-segment.result record { bytes = line; names = []; affixes = []; ranges = [] } =
+    c.of-segment.ensures ∙ ap (λ bytes. let segment : SegmentParts = record { bytes = bytes; names = []; affixes = []; ranges = [] } in segment)
     c.bytes.ensures.value in
-    let named = c.in_ok-push_names.ensures.names ∙ ap (λ (segment : Contents). with_names segment names) first in
-    let ranged = c.in_ok-push_ranges.ensures.ranges ∙ ap (λ (segment : Contents). record segment { ranges = ranges }) named in
+    let named = c.in_ok-push_names.ensures.names ∙ ap (λ (segment : SegmentParts). with_names segment names) first in
+    let ranged = c.in_ok-push_ranges.ensures.ranges ∙ ap (λ (segment : SegmentParts). record segment { ranges = ranges }) named in
     segment_from_index index lines line tlid c.push_ranges.new.segment of_lines c.number-tlid.ensures.value ranged
 
 pub returns-in_err-push_names-clause-memory : goal.returns-in_err-push_names-clause-memory

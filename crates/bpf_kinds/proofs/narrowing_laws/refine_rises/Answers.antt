@@ -1,6 +1,0 @@
-use Rattle.bpf_kinds.proofs.NarrowingRises.{refine_rises}
-use Rattle.bpf_kinds.proofs.narrowing_laws.refine_rises.Goals as goal
-
-pub returns : goal.returns
-returns c = λ condition width x y a b taken both proper-x proper-y left right. refine_rises condition width taken
-    (record { within = left; ordered = proper-x.ordered }) (record { within = right; ordered = proper-y.ordered })

@@ -1,9 +1,0 @@
-use Rattle.std.proofs.Common.{append_assoc}
-use Rattle.commands.proofs.EscapeLemmas.{escaped_name}
-use Rattle.commands.proofs.failure.say_of_county_file.Goals as goal
-
-pub returns : goal.returns
-returns g c = (
-  c.args.reason.now,
-  (c.say.ensures.0, rw (escaped_name c.args.«data».now c.args.code.now c.args.«end».now) (simp append_assoc c.say.ensures.1)),
-)
