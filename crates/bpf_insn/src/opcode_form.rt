@@ -165,6 +165,7 @@ impl OpcodeForm {
             OpcodeForm::WideLoad => uses(Written, false, Unused, Any),
         }
     }
+
     /// Returns whether the instruction reads the register that the destination field names. A move only writes it.
     pub(crate) fn reads_destination(self) -> bool
         ensures { result ≡ reads_destination self }
