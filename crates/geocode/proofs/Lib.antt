@@ -5,7 +5,7 @@ mod MatchHitLemmas
 mod MatchLemmas
 mod NameHashLemmas
 mod NameIndexLemmas
-mod PositionLemmas
+mod MeasureLemmas
 mod SearchLemmas
 mod SpanLemmas
 mod StreetLemmas

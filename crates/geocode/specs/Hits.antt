@@ -10,7 +10,7 @@ use Rattle.tl_segments.specs.Name.{name_equals}
 use Rattle.tl_segments.specs.Range.{lies_on}
 use Rattle.tl_segments.specs.Segment.{SegmentParts, names_of, ranges_of}
 use Rattle.tl_segments.specs.declared.range.RangeFields.{RangeFields}
-use Rattle.geocode.specs.Position.{place_on}
+use Rattle.geocode.specs.Measure.{place_on}
 use Rattle.geocode.specs.Sides.{SideParts, side_of}
 use Rattle.geocode.specs.declared.hit.Hit.{Hit}
 use Rattle.geocode.specs.declared.hit.Side.{Side}

@@ -7,7 +7,7 @@ pub mod Matches
 pub mod NameHash
 pub mod NameIndex
 pub mod NameText
-pub mod Position
+pub mod Measure
 pub mod Query
 pub mod Sides
 pub mod Span

@@ -8,7 +8,7 @@ ghost use Rattle.tl_records.specs.declared.layout.TheConstants.Type1.{TLID};
 ghost use Rattle.tl_segments.specs.Range.{fields_of};
 
 use crate::hit::{Hit, Side};
-use crate::position::place_on;
+use crate::measure::place_on;
 use crate::sides::SideFields;
 use tl_fields::number as number_of;
 use tl_segments::{RECORD_LENGTH, Range, lies_on};

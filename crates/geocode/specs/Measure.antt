@@ -9,29 +9,29 @@ use Rattle.tl_records.specs.declared.layout.TheConstants.Type1.{FRLONG, FRLAT, T
 use Rattle.tl_segments.specs.Range.{is_between}
 use Rattle.geocode.specs.Sides.{SideParts}
 use Rattle.geocode.specs.declared.hit.Place.{Place}
-use Rattle.geocode.specs.declared.position.Position.{Position}
+use Rattle.geocode.specs.declared.measure.Measure.{Measure}
 
 -- a house number and the addresses of its side, if both have a number
-abbrev pub position_between : ℕ → Option ℕ → Option ℕ → Option Position
-position_between number (Some from) (Some to) = Some (record { number = number; from = from; to = to })
-position_between number from to = None
+abbrev pub measure_between : ℕ → Option ℕ → Option ℕ → Option Measure
+measure_between number (Some from) (Some to) = Some (record { number = number; from = from; to = to })
+measure_between number from to = None
 
 -- a house number on a side
-abbrev pub position_on : ℕ → SideParts → Option Position
-position_on number side = position_between number (number_of side.from) (number_of side.to)
+abbrev pub measure_on : ℕ → SideParts → Option Measure
+measure_on number side = measure_between number (number_of side.from) (number_of side.to)
 
 -- a house number between addresses of at most 11 digits
-pub record IsPosition (position : Position) : Type 0 where
-  pub from : position.from < 10 ^ 11
-  pub to : position.to < 10 ^ 11
-  pub between : IsTrue (is_between position.from position.to position.number)
+pub record IsMeasure (measure : Measure) : Type 0 where
+  pub from : measure.from < 10 ^ 11
+  pub to : measure.to < 10 ^ 11
+  pub between : IsTrue (is_between measure.from measure.to measure.number)
 
 -- As far from one coordinate to the other as the number is from the FR to the TO address, with the quotient truncated toward zero. If the addresses
 -- are equal, it is the first coordinate.
-abbrev pub coordinate_along : ℤ → ℤ → Position → ℤ
-coordinate_along from to position =
-    if position.from == position.to then from
-    else from +ℤ int_div ((to -ℤ from) *ℤ (pos position.number -ℤ pos position.from)) (pos position.to -ℤ pos position.from)
+abbrev pub coordinate_along : ℤ → ℤ → Measure → ℤ
+coordinate_along from to measure =
+    if measure.from == measure.to then from
+    else from +ℤ int_div ((to -ℤ from) *ℤ (pos measure.number -ℤ pos measure.from)) (pos measure.to -ℤ pos measure.from)
 
 -- the place with these coordinates, if both are known
 abbrev pub known_place : Option ℤ → Option ℤ → Option Place
@@ -48,13 +48,13 @@ abbrev pub place_at : Places → Places → List ℕ → Option Place
 place_at longitude latitude bytes = known_place (coordinate_of (field_at longitude bytes)) (coordinate_of (field_at latitude bytes))
 
 -- the place of a house number between the ends of the segment, if all four coordinates are known
-abbrev pub place_between : Option Place → Option Place → Option Position → Option Place
-place_between (Some from) (Some to) (Some position) = Some (record {
-  longitude = coordinate_along from.longitude to.longitude position;
-  latitude = coordinate_along from.latitude to.latitude position;
+abbrev pub place_between : Option Place → Option Place → Option Measure → Option Place
+place_between (Some from) (Some to) (Some measure) = Some (record {
+  longitude = coordinate_along from.longitude to.longitude measure;
+  latitude = coordinate_along from.latitude to.latitude measure;
 })
-place_between from to position = None
+place_between from to measure = None
 
 -- the place of a house number on this side of a segment with this type 1 record
 abbrev pub place_on : ℕ → List ℕ → SideParts → Option Place
-place_on number bytes side = place_between (place_at FRLONG FRLAT bytes) (place_at TOLONG TOLAT bytes) (position_on number side)
+place_on number bytes side = place_between (place_at FRLONG FRLAT bytes) (place_at TOLONG TOLAT bytes) (measure_on number side)

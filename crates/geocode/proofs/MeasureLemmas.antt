@@ -5,8 +5,8 @@ use Rattle.std.specs.Int.{w128}
 use Rattle.std.proofs.Math.Nat.{div-le_of_le-mul, mul-le-mul_right, mul_comm}
 use Rattle.std.proofs.lemmas.Bool.Decides.{nat_tests}
 use Rattle.std.proofs.lemmas.Int.{ints, fits_signed_from_abs, fits_signed_mul, to_z-of_z, unsigned_abs-mul}
-use Rattle.geocode.specs.Position.{coordinate_along}
-use Rattle.geocode.specs.declared.position.Position.{Position}
+use Rattle.geocode.specs.Measure.{coordinate_along}
+use Rattle.geocode.specs.declared.measure.Measure.{Measure}
 
 abs-neg : (n : ℕ) → nat_abs (neg_ℤ (pos n)) ≡ n
 abs-neg zero = refl
@@ -62,7 +62,7 @@ difference_is a b x y is is' small small' =
     rw (is, is', to_z-of_z w128 a fits, to_z-of_z w128 b fits', to_z-of_z w128 (a -ℤ b) difference) refl
 
 -- a coordinate between two others if the addresses differ
-pub coordinate_along-apart : (from to : ℤ) (position : Position) → position.from ≢ position.to
-    → coordinate_along from to position ≡ from +ℤ int_div ((to -ℤ from) *ℤ (pos position.number -ℤ pos position.from))
-    (pos position.to -ℤ pos position.from)
-coordinate_along-apart from to position apart = grind (arith, nat_tests)
+pub coordinate_along-apart : (from to : ℤ) (measure : Measure) → measure.from ≢ measure.to
+    → coordinate_along from to measure ≡ from +ℤ int_div ((to -ℤ from) *ℤ (pos measure.number -ℤ pos measure.from))
+    (pos measure.to -ℤ pos measure.from)
+coordinate_along-apart from to measure apart = grind (arith, nat_tests)

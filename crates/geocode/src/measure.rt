@@ -1,6 +1,6 @@
 //! Where a house number lies along a street segment.
 ghost use Rattle.std.specs.Prelude.{◌≡◌, ◌^◌, ◌*◌, ◌<◌, ◌≤◌, ◌*ℤ◌, int_div, nat_abs, length, IfSome, IsTrue};
-ghost use Rattle.geocode.specs.Position.{IsPosition, IsNear, coordinate_along, place_at, place_on, position_on};
+ghost use Rattle.geocode.specs.Measure.{IsMeasure, IsNear, coordinate_along, place_at, place_on, measure_on};
 ghost use Rattle.geocode.specs.Sides.{parts_of};
 ghost use Rattle.tl_records.specs.Layout.{IsWithin};
 ghost use Rattle.tl_segments.specs.Range.{lies_on};
@@ -13,7 +13,7 @@ use tl_segments::RECORD_LENGTH;
 
 /// A house number, and the numbers of the FR and TO addresses of the side that it lies on.
 #[derive(Clone, Copy)]
-pub(crate) struct Position {
+pub(crate) struct Measure {
     pub number: u64,
     pub from: u64,
     pub to: u64,
@@ -27,10 +27,10 @@ pub(crate) fn place_on(number: u64, bytes: &[u8], side: SideFields<'_>) -> Optio
 {
     let from = place_at(Type1::FRLONG, Type1::FRLAT, bytes)?;
     let to = place_at(Type1::TOLONG, Type1::TOLAT, bytes)?;
-    let position = position_on(number, side)?;
+    let measure = measure_on(number, side)?;
     Some(Place {
-        longitude: coordinate_along(from.longitude, to.longitude, position),
-        latitude: coordinate_along(from.latitude, to.latitude, position),
+        longitude: coordinate_along(from.longitude, to.longitude, measure),
+        latitude: coordinate_along(from.latitude, to.latitude, measure),
     })
 }
 
@@ -47,12 +47,12 @@ fn place_at(longitude: Places, latitude: Places, bytes: &[u8]) -> Option<Place>
     })
 }
 
-fn position_on(number: u64, side: SideFields<'_>) -> Option<Position>
+fn measure_on(number: u64, side: SideFields<'_>) -> Option<Measure>
     requires { IsTrue (lies_on number side.from.now side.to.now) }
-    ensures value { result ≡ position_on number (parts_of side.entry) }
-    ensures between { IfSome result IsPosition }
+    ensures value { result ≡ measure_on number (parts_of side.entry) }
+    ensures between { IfSome result IsMeasure }
 {
-    Some(Position {
+    Some(Measure {
         number,
         from: number_of(side.from)?,
         to: number_of(side.to)?,
@@ -60,18 +60,18 @@ fn position_on(number: u64, side: SideFields<'_>) -> Option<Position>
 }
 
 /// Returns the coordinate as far from `from` to `to` as the house is along its side.
-fn coordinate_along(from: i64, to: i64, position: Position) -> i64
+fn coordinate_along(from: i64, to: i64, measure: Measure) -> i64
     requires from { nat_abs from < 10 ^ 9 }
     requires to { nat_abs to < 10 ^ 9 }
-    requires position { IsPosition position }
-    ensures { result ≡ coordinate_along from to position }
+    requires measure { IsMeasure measure }
+    ensures { result ≡ coordinate_along from to measure }
 {
-    if position.from == position.to {
+    if measure.from == measure.to {
         return from;
     }
     let length = i128::from(to) - i128::from(from);
-    let offset = i128::from(position.number) - i128::from(position.from);
-    let total = i128::from(position.to) - i128::from(position.from);
+    let offset = i128::from(measure.number) - i128::from(measure.from);
+    let total = i128::from(measure.to) - i128::from(measure.from);
     from + interpolate(length, offset, total)
 }
 

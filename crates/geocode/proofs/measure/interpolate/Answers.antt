@@ -1,8 +1,8 @@
 use Rattle.std.proofs.Common.{w64, ◌*ℤ◌, int_div, FitsSigned, arith}
 use Rattle.std.specs.Int.{w128}
 use Rattle.std.proofs.lemmas.Int.{fits_signed_from_abs, ints, to_z-of_z}
-use Rattle.geocode.proofs.PositionLemmas.{abs-share, product-fits, share-fits, share_is}
-use Rattle.geocode.proofs.position.interpolate.Goals as goal
+use Rattle.geocode.proofs.MeasureLemmas.{abs-share, product-fits, share-fits, share_is}
+use Rattle.geocode.proofs.measure.interpolate.Goals as goal
 
 pub overflow_mul-result : goal.overflow_mul-result
 overflow_mul-result c =

@@ -1,8 +1,8 @@
 use Rattle.std.proofs.Common.{◌≡◌, ◌≢◌, ◌<◌, ◌^◌, w64, pos, ◌+ℤ◌, ◌-ℤ◌, ◌*ℤ◌, int_div, FitsSigned, refl, ap, sym, ◌∙◌, arith}
 use Rattle.std.proofs.lemmas.Bool.Decides.{nat_tests}
 use Rattle.std.proofs.lemmas.Int.{fits_signed_from_abs, ints, to_z-of_z}
-use Rattle.geocode.proofs.PositionLemmas.{coordinate_along-apart, difference_is}
-use Rattle.geocode.proofs.position.coordinate_along.Goals as goal
+use Rattle.geocode.proofs.MeasureLemmas.{coordinate_along-apart, difference_is}
+use Rattle.geocode.proofs.measure.coordinate_along.Goals as goal
 
 pub overflow_add-result : goal.overflow_add-result
 overflow_add-result c =
@@ -14,24 +14,24 @@ pub returns : goal.returns
 returns c =
     let from = c.args.from in
     let to = c.args.to in
-    let position = c.args.position in
-    let apart : position.from ≢ position.to = grind (arith, nat_tests, c.if-position.false) in
-    let number : position.number < 10 ^ 11 = grind (
+    let measure = c.args.measure in
+    let apart : measure.from ≢ measure.to = grind (arith, nat_tests, c.if-measure.false) in
+    let number : measure.number < 10 ^ 11 = grind (
       arith,
       nat_tests,
-      c.requires.position.between,
-      c.requires.position.from,
-      c.requires.position.to,
+      c.requires.measure.between,
+      c.requires.measure.from,
+      c.requires.measure.to,
     ) in
     let length = difference_is to from c.from.result c.from-2.result (c.from.ensures ∙ to_z-of_z w64 to c.ranges.to)
     (c.from-2.ensures ∙ to_z-of_z w64 from c.ranges.from) (omega (arith, c.requires.to)) (omega (arith, c.requires.from)) in
-    let offset = difference_is (pos position.number) (pos position.from) c.from-3.result c.from-4.result c.from-3.ensures c.from-4.ensures
-    number c.requires.position.from in
-    let total = difference_is (pos position.to) (pos position.from) c.from-5.result c.from-6.result c.from-5.ensures c.from-6.ensures
-    c.requires.position.to c.requires.position.from in
-    let share : c.interpolate.result ≡ int_div ((to -ℤ from) *ℤ (pos position.number -ℤ pos position.from))
-    (pos position.to -ℤ pos position.from) = c.interpolate.ensures.value ∙ rw (length, offset, total) refl in
+    let offset = difference_is (pos measure.number) (pos measure.from) c.from-3.result c.from-4.result c.from-3.ensures c.from-4.ensures
+    number c.requires.measure.from in
+    let total = difference_is (pos measure.to) (pos measure.from) c.from-5.result c.from-6.result c.from-5.ensures c.from-6.ensures
+    c.requires.measure.to c.requires.measure.from in
+    let share : c.interpolate.result ≡ int_div ((to -ℤ from) *ℤ (pos measure.number -ℤ pos measure.from))
+    (pos measure.to -ℤ pos measure.from) = c.interpolate.ensures.value ∙ rw (length, offset, total) refl in
     let fits : FitsSigned w64 c.interpolate.result = fits_signed_from_abs w64 c.interpolate.result (omega (arith, c.interpolate.ensures.near)) in
     let sum : FitsSigned w64 (from +ℤ c.interpolate.result) = grind (arith, ints, c.requires.from, c.interpolate.ensures.near) in
     rw (to_z-of_z w64 from c.ranges.from, to_z-of_z w64 c.interpolate.result fits, to_z-of_z w64 (from +ℤ c.interpolate.result) sum)
-    (ap (λ share. from +ℤ share) share ∙ sym (coordinate_along-apart from to position apart))
+    (ap (λ share. from +ℤ share) share ∙ sym (coordinate_along-apart from to measure apart))
