@@ -28,6 +28,8 @@ extractd compile --filter f.cql;; 3; error: f.cql: not found
 extractd compile --filter - > /dev/stdin;; 3; error: /dev/stdin: not found
 extractd select --where ZIPL_=_36067 --data d 01001; 0\t{rt1}\n0\t{rt1 TLID=7}\n; 0;;
   d/TGR01001.RT1: {rt1}\n{rt1 ZIPL=36066}\n{rt1 ZIPL=}\n{rt1 TLID=7}
+extractd select --where ZIPL_=_'36067' --data d 01001;; 1; refused 92 line 1 column 8 WrongType\nthe column isn't of this
+  type; d/TGR01001.RT1: {rt1}\n
 extractd select --where FALSE --data d 01001;; 0;; d/TGR01001.RT1: {rt1}\n
 extractd select --where TRUE --score ZIPL --data d 01003 01001; 0\t{rt1 ZIPL=}\n36067\t{rt1}\n; 0;;
   d/TGR01001.RT1: {rt1}\n; d/TGR01003.RT1: {rt1 ZIPL=}\n
@@ -45,7 +47,5 @@ extractd select --where TRUE --data d 01001 01003; 0\t{rt1}\n; 3; refused 5 rt1 
   d/TGR01001.RT1: {rt1}\n; d/TGR01003.RT1: ! call 1 pipe
 extractd select --where TRUE --data d 01001 01003; 0\t{rt1}\n; 4; refused memory\ncounty 01003;
   d/TGR01001.RT1: {rt1}\n; d/TGR01003.RT1: ! closed memory
-extractd select --where ZIPL_=_'36067' --data d 01001;; 1; refused 92 line 1 column 8 WrongType\nthe column isn't of this
-  type; d/TGR01001.RT1: {rt1}\n
 ",
 };

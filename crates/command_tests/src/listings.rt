@@ -39,7 +39,7 @@ extractd explain --program p.bpf --lines l;; 1; refused 112 line 3 LineOutOfOrde
   0\tx\n1\tx\n0\tx\n
 extractd explain --program p.bpf --lines l;; 1; refused 30 place 1 BackwardJump; p.bpf: {asm mov r0, 1 | ja -1 | exit};
   l: int x\n
-extractd explain --program p.bpf;; 1; refused 10 Empty; p.bpf:
 extractd explain --program p.bpf --lines l;; 3; error: l: not found; p.bpf: {asm mov r0, 0 | exit}
+extractd explain --program p.bpf;; 1; refused 10 Empty; p.bpf:
 ",
 };
