@@ -106,7 +106,7 @@ module _ {A : Type 0} (total : ℕ) (entries : List (ℕ × Job A)) (entry : ℕ
   split_more : entries ≡ (so_far.seen ++ entry ∷ []) ++ rest
   split_more = split_here ∙ sym (append_assoc so_far.seen (entry ∷ []) rest)
 
-  pub next_same : least ≤ entry.1.position.done → IsNextSoFar total entries rest next least
+  pub next_same : least ≤ entry.1.cursor.done → IsNextSoFar total entries rest next least
   next_same further = record {
     seen = so_far.seen ++ entry ∷ [];
     split = split_more;
@@ -117,12 +117,12 @@ module _ {A : Type 0} (total : ℕ) (entries : List (ℕ × Job A)) (entry : ℕ
         (before_all so_far.seen entry.0 below) further so_far.first);
   }
 
-  pub next_changed : entry.1.position.done < least → IsNextSoFar total entries rest (Some entry.0) entry.1.position.done
+  pub next_changed : entry.1.cursor.done < least → IsNextSoFar total entries rest (Some entry.0) entry.1.cursor.done
   next_changed back = record {
     seen = so_far.seen ++ entry ∷ [];
     split = split_more;
     first =
-        subst (λ jobs. FirstOf total jobs (Some entry.0) entry.1.position.done) (sym jobs_more)
+        subst (λ jobs. FirstOf total jobs (Some entry.0) entry.1.cursor.done) (sym jobs_more)
         (first_changed total (jobs_of so_far.seen) next least (entry.0, parts_of entry.1) back so_far.first);
   }
 

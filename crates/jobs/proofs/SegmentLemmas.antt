@@ -1,4 +1,4 @@
--- A job's position among segments, and the rows that a turn adds.
+-- Where a job continues among segments, and the rows that a turn adds.
 use Rattle.std.specs.List.{Contains}
 use Rattle.std.proofs.Common.{◌≡◌, ℕ, zero, suc, ◌+◌, ◌-◌, ◌*◌, ◌^◌, ◌<◌, ◌≤◌, nat_lt, true, List, [], ◌∷◌, ◌++◌, length, take, drop, min}
 use Rattle.std.proofs.Common.{slice_index_or, refl, sym, ap, ◌∙◌, subst, append_assoc, arith}
@@ -13,9 +13,9 @@ use Rattle.tl_segments.specs.County.{CountyParts}
 use Rattle.tl_segments.specs.Segment.{SegmentParts}
 use Rattle.extract.specs.Rows.{AppendsRow, IsChosen}
 use Rattle.bpf_meaning.proofs.ExtractLemmas.{extract_append, extract_push}
-use Rattle.jobs.specs.Inside.{IsPositionIn, left_at, segments_after}
+use Rattle.jobs.specs.Inside.{IsCursorIn, left_at, segments_after}
 use Rattle.jobs.specs.Segments.{Advances, NeedsRow, segments_of}
-use Rattle.jobs.specs.declared.position.Position.{Position}
+use Rattle.jobs.specs.declared.cursor.Cursor.{Cursor}
 use Rattle.jobs.specs.declared.turn.TheConstants.{SEGMENTS_PER_TURN}
 
 -- the list from an element on
@@ -32,7 +32,7 @@ pub after_none : (counties : List CountyParts) → segments_after 0 counties ≡
 after_none [] = refl
 after_none (county ∷ counties) = refl
 
--- a position in the first county leaves all segments of the other counties
+-- a cursor in the first county leaves all segments of the other counties
 pub after_within : (segment : ℕ) (county : CountyParts) (counties : List CountyParts) → segment ≤ length county.segments
     → segments_after segment (county ∷ counties) ≡ drop segment (segments_of (county ∷ counties))
 after_within segment county counties within = sym (drop-append-le segment county.segments (segments_of counties) within)
@@ -100,9 +100,9 @@ module _ (counties : List CountyParts) (done number left : ℕ) (county : County
       }
 
   -- a county with segments that aren't done
-  pub position_here : length (segments_of counties) < 2 ^ 64 → done ≤ length (segments_of counties) → left < length county.segments
-      → IsPositionIn counties (record { done = done; county = number; segment = left })
-  position_here few within some = record {
+  pub cursor_here : length (segments_of counties) < 2 ^ 64 → done ≤ length (segments_of counties) → left < length county.segments
+      → IsCursorIn counties (record { done = done; county = number; segment = left })
+  cursor_here few within some = record {
     within = within;
     few = few;
     left =
@@ -113,10 +113,10 @@ module _ (counties : List CountyParts) (done number left : ℕ) (county : County
   }
 
 -- all counties are done
-pub position_end : (counties : List CountyParts) (done number left : ℕ) → IsLeftAfter counties done number left → number ≡ length counties
+pub cursor_end : (counties : List CountyParts) (done number left : ℕ) → IsLeftAfter counties done number left → number ≡ length counties
     → length (segments_of counties) < 2 ^ 64 → done ≤ length (segments_of counties)
-    → IsPositionIn counties (record { done = done; county = length counties; segment = 0 })
-position_end counties done number left so_far last few within =
+    → IsCursorIn counties (record { done = done; county = length counties; segment = 0 })
+cursor_end counties done number left so_far last few within =
     let none : drop number counties ≡ [] = drop_all number counties (omega (arith, last)) in
     record {
       within = within;
@@ -128,10 +128,10 @@ position_end counties done number left so_far last few within =
           ∙ sym so_far.rest;
     }
 
--- the position after one more segment
-pub position_more : (counties : List CountyParts) (old new : Position) (segment : SegmentParts) → IsPositionIn counties old
-    → left_at counties old ≡ segment ∷ left_at counties new → new.done ≡ old.done + 1 → IsPositionIn counties new
-position_more counties old new segment is left done =
+-- the cursor after one more segment
+pub cursor_more : (counties : List CountyParts) (old new : Cursor) (segment : SegmentParts) → IsCursorIn counties old
+    → left_at counties old ≡ segment ∷ left_at counties new → new.done ≡ old.done + 1 → IsCursorIn counties new
+cursor_more counties old new segment is left done =
     let all = segments_of counties in
     let rest : drop old.done all ≡ segment ∷ left_at counties new = sym is.left ∙ left in
     let long : length all - old.done ≡ suc (length (left_at counties new)) =
@@ -163,8 +163,8 @@ next_among {X = X} front x back n within =
     at_end [] = refl
     at_end (first ∷ front) = at_end front
 
--- The next `count` segments from a position were processed, and the rows that the code selects from them were appended.
-pub record IsTurnedSoFar (code : List Insn) (counties : List CountyParts) (from now : Position) (count : ℕ)
+-- The next `count` segments from a cursor were processed, and the rows that the code selects from them were appended.
+pub record IsTurnedSoFar (code : List Insn) (counties : List CountyParts) (from now : Cursor) (count : ℕ)
     (rows new_rows : List ℕ) : Type 0 where
   pub seen : List SegmentParts
   pub left : drop from.done (segments_of counties) ≡ seen ++ left_at counties now
@@ -175,7 +175,7 @@ pub record IsTurnedSoFar (code : List Insn) (counties : List CountyParts) (from 
   pub is_extract : IsExtract code seen text chosen
   pub appended : new_rows ≡ rows ++ text
 
-pub none_turned : (code : List Insn) (counties : List CountyParts) (from : Position) (rows : List ℕ) → IsPositionIn counties from
+pub none_turned : (code : List Insn) (counties : List CountyParts) (from : Cursor) (rows : List ℕ) → IsCursorIn counties from
     → IsTurnedSoFar code counties from from 0 rows rows
 none_turned code counties from rows is = record {
   seen = [];
@@ -188,9 +188,9 @@ none_turned code counties from rows is = record {
   appended = sym (append-nil rows);
 }
 
-module _ (code : List Insn) (counties : List CountyParts) (from now : Position) (count : ℕ) (rows new_rows : List ℕ)
+module _ (code : List Insn) (counties : List CountyParts) (from now : Cursor) (count : ℕ) (rows new_rows : List ℕ)
     (so_far : IsTurnedSoFar code counties from now count rows new_rows) where
-  pub one_turned_more : (next : Position) (segment : SegmentParts) (next_rows : List ℕ) → left_at counties now ≡ segment ∷ left_at counties next
+  pub one_turned_more : (next : Cursor) (segment : SegmentParts) (next_rows : List ℕ) → left_at counties now ≡ segment ∷ left_at counties next
       → next.done ≡ now.done + 1 → AppendsRow code segment new_rows next_rows
       → IsTurnedSoFar code counties from next (count + 1) rows next_rows
   one_turned_more next segment next_rows left done (answer, score, answers, appended) = record {

@@ -10,7 +10,7 @@ use Rattle.std.proofs.lemmas.List.{length-map}
 use Rattle.std.proofs.lemmas.Map.Steps.{set_value_same}
 use Rattle.std.proofs.lemmas.Map.Views.{All-values-insert_entry, All-map-remove_entry, All-values-set_value}
 use Rattle.tl_segments.specs.County.{CountyParts}
-use Rattle.jobs.specs.Inside.{Ascend, IsPositionIn, IsTable, jobs_of, parts_of}
+use Rattle.jobs.specs.Inside.{Ascend, IsCursorIn, IsTable, jobs_of, parts_of}
 use Rattle.jobs.specs.Table.{IsFull}
 use Rattle.jobs.specs.declared.job.Job.{Job}
 use Rattle.jobs.specs.declared.table.TheConstants.{MAX_JOBS}
@@ -20,29 +20,29 @@ use Rattle.jobs.proofs.MapLemmas.{remove_entry-seen, set_value-seen}
 module _ {A : Type 0} (counties : List CountyParts) (total : ℕ) (entries : List (ℕ × Job A)) (last_id : ℕ)
     (is : IsTable counties total entries last_id) where
   same_counties : (others : List (ℕ × Job A)) (new_id : ℕ) → Ascend 0 others new_id
-      → All (λ (job : Job A). IsPositionIn counties job.position) (values_of others) → IsTable counties total others new_id
-  same_counties others new_id ascend positions =
-      record { within = is.within; counted = is.counted; few = is.few; ascend = ascend; positions = positions }
+      → All (λ (job : Job A). IsCursorIn counties job.cursor) (values_of others) → IsTable counties total others new_id
+  same_counties others new_id ascend cursors =
+      record { within = is.within; counted = is.counted; few = is.few; ascend = ascend; cursors = cursors }
 
   -- one more job
-  pub table_pushed : (job : Job A) → IsPositionIn counties job.position
+  pub table_pushed : (job : Job A) → IsCursorIn counties job.cursor
       → IsTable counties total (insert_entry nat_cmp entries (last_id + 1) job) (last_id + 1)
-  table_pushed job position = same_counties _ _
+  table_pushed job cursor = same_counties _ _
       (subst (λ entries. Ascend 0 entries (last_id + 1))
       (sym (insert_entry-last 0 entries last_id (last_id + 1) job is.ascend (omega arith)))
       (Ascend-push 0 entries last_id (last_id + 1) job (omega arith) (omega arith) is.ascend))
-      (All-values-insert_entry nat_cmp (last_id + 1) job (λ (job : Job A). IsPositionIn counties job.position) entries is.positions
-      position)
+      (All-values-insert_entry nat_cmp (last_id + 1) job (λ (job : Job A). IsCursorIn counties job.cursor) entries is.cursors
+      cursor)
 
   pub jobs_pushed : (job : Job A) → jobs_of (insert_entry nat_cmp entries (last_id + 1) job) ≡ jobs_of
       entries ++ (last_id + 1, parts_of job) ∷ []
   jobs_pushed job = insert_entry-seen parts_of 0 entries last_id (last_id + 1) job is.ascend (omega arith)
 
   -- one job changed
-  pub table_changed : (id : ℕ) (job : Job A) → IsPositionIn counties job.position
+  pub table_changed : (id : ℕ) (job : Job A) → IsCursorIn counties job.cursor
       → IsTable counties total (set_value (is_at (nat_cmp id)) entries job) last_id
-  table_changed id job position = same_counties _ _ (Ascend-set (is_at (nat_cmp id)) 0 entries last_id job is.ascend)
-      (All-values-set_value (is_at (nat_cmp id)) (λ (job : Job A). IsPositionIn counties job.position) entries job is.positions position)
+  table_changed id job cursor = same_counties _ _ (Ascend-set (is_at (nat_cmp id)) 0 entries last_id job is.ascend)
+      (All-values-set_value (is_at (nat_cmp id)) (λ (job : Job A). IsCursorIn counties job.cursor) entries job is.cursors cursor)
 
   pub jobs_changed : (id : ℕ) (job : Job A) → jobs_of (set_value (is_at (nat_cmp id)) entries job) ≡ set_value (nat_eq id) (jobs_of entries)
       (parts_of job)
@@ -60,8 +60,8 @@ module _ {A : Type 0} (counties : List CountyParts) (total : ℕ) (entries : Lis
   -- one job fewer
   pub table_removed : (id : ℕ) → IsTable counties total (remove_entry (is_at (nat_cmp id)) entries) last_id
   table_removed id = same_counties _ _ (Ascend-remove (is_at (nat_cmp id)) 0 entries last_id is.ascend)
-      (All-map-remove_entry (is_at (nat_cmp id)) (λ (e : ℕ × Job A). e.1) (λ (job : Job A). IsPositionIn counties job.position) entries
-      is.positions)
+      (All-map-remove_entry (is_at (nat_cmp id)) (λ (e : ℕ × Job A). e.1) (λ (job : Job A). IsCursorIn counties job.cursor) entries
+      is.cursors)
 
   pub jobs_removed : (id : ℕ) → jobs_of (remove_entry (is_at (nat_cmp id)) entries) ≡ remove_entry (nat_eq id) (jobs_of entries)
   jobs_removed id = remove_entry-seen parts_of id entries

@@ -1,6 +1,6 @@
-//! A job's position among the segments of all counties.
+//! Where a job continues among the segments of all counties.
 ghost use Rattle.std.specs.Prelude.{◌≡◌, ◌+◌, ◌^◌, ◌<◌, ◌≤◌, ◌∷◌, [], length, MatchOption};
-ghost use Rattle.jobs.specs.Inside.{IsPositionIn, left_at};
+ghost use Rattle.jobs.specs.Inside.{IsCursorIn, left_at};
 ghost use Rattle.jobs.specs.Segments.{segments_of};
 
 use std::alloc::Allocator;
@@ -20,9 +20,9 @@ pub(crate) fn count_segments<A: Allocator>(counties: &[County<A>]) -> u64
     total
 }
 
-/// A job's position: after all segments of the counties before its own, and after the first ones of its own.
+/// Where a job continues: after all segments of the counties before its own, and after the first ones of its own.
 #[derive(Clone, Copy)]
-pub(crate) struct Position {
+pub(crate) struct Cursor {
     /// The total number of segments done.
     pub done: u64,
     /// The county of the next segment, counted from 0.
@@ -31,29 +31,29 @@ pub(crate) struct Position {
     pub segment: usize,
 }
 
-impl Position {
+impl Cursor {
     pub fn start() -> Self
         ensures { result ≡ record { done = 0; county = 0; segment = 0 } }
     {
-        Position {
+        Cursor {
             done: 0,
             county: 0,
             segment: 0,
         }
     }
 
-    /// Finds the position after `done` segments. Visits the counties, but not their segments.
+    /// Finds the cursor after `done` segments. Visits the counties, but not their segments.
     pub fn after<A: Allocator>(done: u64, counties: &[County<A>]) -> Self
         requires within { done ≤ length (segments_of counties.now) }
         requires few { length (segments_of counties.now) < 2 ^ 64 }
         ensures done { result.done ≡ done }
-        ensures position { IsPositionIn counties.now result }
+        ensures cursor { IsCursorIn counties.now result }
     {
         let mut left = done;
         for (number, county) in counties.iter().enumerate() {
             let segments = county.segments().len() as u64;
             if left < segments {
-                return Position {
+                return Cursor {
                     done,
                     county: number,
                     segment: left as usize,
@@ -61,7 +61,7 @@ impl Position {
             }
             left -= segments;
         }
-        Position {
+        Cursor {
             done,
             county: counties.len(),
             segment: 0,
@@ -71,8 +71,8 @@ impl Position {
     /// Returns the next segment and moves past it, or returns `None` after the last one.
     #[inline]
     pub fn next<'a, A: Allocator>(&mut self, counties: &'a [County<A>]) -> Option<&'a Segment<A>>
-        requires { IsPositionIn counties.now self.old }
-        ensures position { IsPositionIn counties.now self.new }
+        requires { IsCursorIn counties.now self.old }
+        ensures cursor { IsCursorIn counties.now self.new }
         ensures next { MatchOption result ((left_at counties.now self.old ≡ []) × (self.new.done ≡ self.old.done))
             (λ segment. (left_at counties.now self.old ≡ segment.now ∷ left_at counties.now self.new) × (self.new.done ≡ self.old.done + 1)) }
     {

@@ -10,7 +10,7 @@ ghost use Rattle.jobs.specs.declared.event.Event.TheVariants.{Submit};
 ghost use Rattle.jobs.specs.declared.event.Reply.{Reply};
 ghost use Rattle.jobs.specs.declared.event.Reply.TheVariants.{Refused};
 ghost use Rattle.jobs.specs.declared.fault.JobFault.TheVariants.{Memory};
-ghost use Rattle.jobs.specs.declared.position.TheConstants.{MAX_COUNTIES};
+ghost use Rattle.jobs.specs.declared.cursor.TheConstants.{MAX_COUNTIES};
 ghost use Rattle.jobs.specs.declared.table.TheConstants.{MAX_JOBS};
 ghost use Rattle.jobs.specs.declared.turn.TheConstants.{SEGMENTS_PER_TURN};
 

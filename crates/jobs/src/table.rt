@@ -6,10 +6,10 @@ ghost use Rattle.jobs.specs.Table.{IsNextTurn, Step, empty_table, total_of};
 ghost use Rattle.jobs.specs.declared.event.Event.TheVariants.{Drop, Fetch, Submit, Turn};
 ghost use Rattle.jobs.specs.declared.event.Reply.TheVariants.{Dropped, Refused, Submitted, Turned};
 
+use crate::cursor::{MAX_COUNTIES, count_segments};
 use crate::event::{Event, Reply};
 use crate::fault::JobFault;
 use crate::job::Job;
-use crate::position::{MAX_COUNTIES, count_segments};
 use bpf_program::accept;
 use std::alloc::Allocator;
 use std::collections::BTreeMap;
@@ -114,7 +114,7 @@ impl<A: Allocator + Copy> Jobs<A> {
             return Err(JobFault::NoJob);
         };
         job.advance(self.counties.as_slice())?;
-        Ok(job.position.done)
+        Ok(job.cursor.done)
     }
 
     fn fetch(&self, id: u64) -> Reply<'_>
@@ -122,7 +122,7 @@ impl<A: Allocator + Copy> Jobs<A> {
     {
         match self.jobs.get(&id) {
             Some(job) => Reply::Rows {
-                done: job.position.done,
+                done: job.cursor.done,
                 total: self.total,
                 rows: job.rows.as_slice(),
             },
@@ -147,9 +147,9 @@ impl<A: Allocator + Copy> Jobs<A> {
         let mut next = None;
         let mut least = self.total;
         for (id, job) in self.jobs.iter() {
-            if job.position.done < least {
+            if job.cursor.done < least {
                 next = Some(*id);
-                least = job.position.done;
+                least = job.cursor.done;
             }
         }
         next

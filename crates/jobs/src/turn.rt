@@ -1,9 +1,9 @@
 //! Turns, which advance an extract by a limited number of segments.
 ghost use Rattle.std.specs.Prelude.{◌≡◌, ◌≤◌, length, IfOk, OnErr};
-ghost use Rattle.jobs.specs.Inside.{IsPositionIn};
+ghost use Rattle.jobs.specs.Inside.{IsCursorIn};
 ghost use Rattle.jobs.specs.Segments.{Advances, NeedsRow, segments_of};
 
-use crate::position::{MAX_COUNTIES, Position, count_segments};
+use crate::cursor::{Cursor, MAX_COUNTIES, count_segments};
 use bpf_machine::Bare;
 use bpf_verify::Verified;
 use extract::push_row_if_chosen;
@@ -16,7 +16,7 @@ pub const SEGMENTS_PER_TURN: usize = 256;
 /// Appends the rows that a code selects from the next 256 segments after the first `done`, or from all that are left, and returns the number of
 /// segments done then. If an allocation fails, the rows are unchanged.
 ///
-/// Visits the counties twice, to count all segments and to find the position; a turn in a table needs neither. Only rows are allocated.
+/// Visits the counties twice, to count all segments and to find the cursor; a turn in a table needs neither. Only rows are allocated.
 pub fn advance<A: Allocator>(
     verified: &Verified<A>,
     counties: &[County<A>],
@@ -29,37 +29,37 @@ pub fn advance<A: Allocator>(
     ensures err { OnErr result (rows.new.items ≡ rows.old.items) }
     ensures needs_row { OnErr result (NeedsRow verified.now.code (segments_of counties.now) done) }
 {
-    // Counting shows that the number of segments fits in 64 bits, which a position requires.
+    // Counting shows that the number of segments fits in 64 bits, which a cursor requires.
     let _total = count_segments(counties);
-    let from = Position::after(done, counties);
-    let position = advance_from(verified, counties, from, rows)?;
-    Ok(position.done)
+    let from = Cursor::after(done, counties);
+    let cursor = advance_from(verified, counties, from, rows)?;
+    Ok(cursor.done)
 }
 
-/// [`advance`] from a known position, without a visit to the counties before it. Returns the position after the turn.
+/// [`advance`] from a known cursor, without a visit to the counties before it. Returns the cursor after the turn.
 pub(crate) fn advance_from<A: Allocator>(
     verified: &Verified<A>,
     counties: &[County<A>],
-    from: Position,
+    from: Cursor,
     rows: &mut Vec<u8, A>,
-) -> Result<Position, AllocError>
-    requires { IsPositionIn counties.now from }
-    ensures position { IfOk result (IsPositionIn counties.now) }
+) -> Result<Cursor, AllocError>
+    requires { IsCursorIn counties.now from }
+    ensures cursor { IfOk result (IsCursorIn counties.now) }
     ensures ok { IfOk result (λ now. Advances verified.now.code (segments_of counties.now) from.done rows.old.items now.done rows.new.items) }
     ensures err { OnErr result (rows.new.items ≡ rows.old.items) }
     ensures needs_row { OnErr result (NeedsRow verified.now.code (segments_of counties.now) from.done) }
 {
     let before = rows.len();
     let mut bare = Bare::start();
-    let mut position = from;
+    let mut cursor = from;
     for _turned in 0..SEGMENTS_PER_TURN {
-        let Some(segment) = position.next(counties) else {
-            return Ok(position);
+        let Some(segment) = cursor.next(counties) else {
+            return Ok(cursor);
         };
         if let Err(error) = push_row_if_chosen(verified, segment, &mut bare, rows) {
             rows.truncate(before);
             return Err(error);
         }
     }
-    Ok(position)
+    Ok(cursor)
 }

@@ -1,6 +1,6 @@
 //! The state of a server.
 ghost use Rattle.std.specs.Prelude.{◌≡◌, ◌≤◌, length, IfOk};
-ghost use Rattle.jobs.specs.declared.position.TheConstants.{MAX_COUNTIES};
+ghost use Rattle.jobs.specs.declared.cursor.TheConstants.{MAX_COUNTIES};
 ghost use Rattle.wire.specs.State.{new_state};
 ghost use Rattle.wire.specs.Turn.{IsTurn};
 

@@ -1,5 +1,5 @@
 use Rattle.jobs.proofs.SegmentLemmas.{segments_more}
-use Rattle.jobs.proofs.position.count_segments.Goals as goal
+use Rattle.jobs.proofs.cursor.count_segments.Goals as goal
 
 pub loop-county-preserved : goal.loop-county-preserved
 loop-county-preserved g c =

@@ -23,13 +23,13 @@ returns-in-Err-clause-needs_row g c =
 
 pub loop-turned-preserved : goal.loop-turned-preserved
 loop-turned-preserved g c = (
-  c.next.ensures.position,
+  c.next.ensures.cursor,
   one_turned_more _ _ _ _ _ _ _ c.loop-turned.invariant.1 _ c.in-Some.segment.now _ c.in-Some.ensures.next.0
       c.in-Some.ensures.next.1 c.in_default-push_row_if_chosen.ensures.ok,
 )
 
-pub returns-clause-position : goal.returns-clause-position
-returns-clause-position g c = c.loop-turned.invariant.0
+pub returns-clause-cursor : goal.returns-clause-cursor
+returns-clause-cursor g c = c.loop-turned.invariant.0
 
 pub returns-clause-ok : goal.returns-clause-ok
 returns-clause-ok g c =

@@ -11,7 +11,7 @@ returns-in_err-insert-clause-err g c =
 
 pub invariant_of-self-2 : goal.invariant_of-self-2
 invariant_of-self-2 g c =
-    rw c.in_ok-insert.ensures.entries (table_pushed _ _ _ _ c.self.invariant c.of.result (c.of.ensures.position _ c.self.invariant.few))
+    rw c.in_ok-insert.ensures.entries (table_pushed _ _ _ _ c.self.invariant c.of.result (c.of.ensures.cursor _ c.self.invariant.few))
 
 pub returns-clause-ok : goal.returns-clause-ok
 returns-clause-ok g c =

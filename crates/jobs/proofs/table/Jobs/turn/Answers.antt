@@ -11,8 +11,8 @@ returns-in_default-clause-err g c =
 
 pub invariant_of-self-in_err-advance : goal.invariant_of-self-in_err-advance
 invariant_of-self-in_err-advance g c =
-    let position = rw c.as_slice.ensures.value at c.advance.ensures.position in
-    rw (c.get_mut.follows.holds c.advance.new.self).0 (table_changed _ _ _ _ c.self.invariant c.args.id c.advance.new.self position)
+    let cursor = rw c.as_slice.ensures.value at c.advance.ensures.cursor in
+    rw (c.get_mut.follows.holds c.advance.new.self).0 (table_changed _ _ _ _ c.self.invariant c.args.id c.advance.new.self cursor)
 
 pub returns-in_err-advance-clause-err : goal.returns-in_err-advance-clause-err
 returns-in_err-advance-clause-err g c =
@@ -25,8 +25,8 @@ returns-in_err-advance-clause-err g c =
 
 pub invariant_of-self-2 : goal.invariant_of-self-2
 invariant_of-self-2 g c =
-    let position = rw c.as_slice.ensures.value at c.advance.ensures.position in
-    rw (c.get_mut.follows.holds c.advance.new.self).0 (table_changed _ _ _ _ c.self.invariant c.args.id c.advance.new.self position)
+    let cursor = rw c.as_slice.ensures.value at c.advance.ensures.cursor in
+    rw (c.get_mut.follows.holds c.advance.new.self).0 (table_changed _ _ _ _ c.self.invariant c.args.id c.advance.new.self cursor)
 
 pub returns-clause-ok : goal.returns-clause-ok
 returns-clause-ok g c =
