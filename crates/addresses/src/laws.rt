@@ -5,6 +5,12 @@ ghost use Rattle.addresses.specs.Address.{AddressParts};
 ghost use Rattle.addresses.specs.Listing.{Listing, ended, ended_by, with_addresses};
 ghost use Rattle.addresses.specs.RecordText.{IsFirstText, is_open, quotation_marks, record_texts};
 ghost use Rattle.addresses.specs.declared.fault.AddressFault.{AddressFault as AnAddressFault};
+ghost use Rattle.addresses.specs.declared.record.TheConstants.{MAX_RECORD_LENGTH};
+
+/// States that a record has at most 65,536 bytes, its line end included.
+pub fn record_limit()
+    ensures { MAX_RECORD_LENGTH ≡ 65536 }
+{}
 
 /// States that a file consists of its record texts, one after the other.
 #[tactic(auto, using(crate::proofs::TextLaws::whole_file_lem))]
