@@ -72,47 +72,57 @@ nothing_found code place none some =
 
 -- the list with one more flat form
 
-pub forms_grow : {code : List Insn} {areas : List (Option Area)} {count : ℕ} {flats more : List FlatInsn} {insn : Insn} (flat : FlatInsn)
-    → AreFlatForms code areas count flats → more ≡ flats ++ flat ∷ [] → insn ≡ get_or code count insn → count < length code
-    → IsFlatForm code (place_of code count) insn (get_or areas count None) flat → AreFlatForms code areas (count + 1) more
-forms_grow {code} {areas} {count} {flats} {more} {insn} flat are grown is_insn within form = record {
-  count_is = let long = are.count_is in ap length grown ∙ length-append flats (flat ∷ []) ∙ omega arith;
-  each = λ index other last below there is. by_place index other last below there is (cases_lt index count);
-}
-  where
-    before : (index : ℕ) (last : FlatInsn) → index < count → get_or more index last ≡ get_or flats index last
-    before index last below = let long = are.count_is in ap (λ (l : List FlatInsn). get_or l index last) grown ∙ grind (arith, common_steps)
+-- the flat form of the instruction at an index
+pub record IsFormAt (code : List Insn) (areas : List (Option Area)) (index : ℕ) (flat : FlatInsn) : Type 0 where
+  pub within : index < length code
+  pub insn : Insn
+  pub is_insn : insn ≡ get_or code index insn
+  pub form : IsFlatForm code (place_of code index) insn (get_or areas index None) flat
 
-    at_end : (last : FlatInsn) → get_or more count last ≡ flat
-    at_end last = let long = are.count_is in ap (λ (l : List FlatInsn). get_or l count last) grown ∙ grind (arith, common_steps)
+module _ {code : List Insn} {areas : List (Option Area)} {count : ℕ} {flats more : List FlatInsn} {flat : FlatInsn}
+    (are : AreFlatForms code areas count flats) (grown : more ≡ flats ++ flat ∷ []) (next : IsFormAt code areas count flat) where
+  before : (index : ℕ) (last : FlatInsn) → index < count → get_or more index last ≡ get_or flats index last
+  before index last below = let long = are.count_is in ap (λ (l : List FlatInsn). get_or l index last) grown ∙ grind (arith, common_steps)
 
-    same_insn : (other : Insn) → other ≡ get_or code count other → other ≡ insn
-    same_insn other there = there ∙ get_or_default code count other insn within ∙ sym is_insn
+  at_end : (last : FlatInsn) → get_or more count last ≡ flat
+  at_end last = let long = are.count_is in ap (λ (l : List FlatInsn). get_or l count last) grown ∙ grind (arith, common_steps)
 
-    by_place : (index : ℕ) (other : Insn) (last : FlatInsn) → index < count + 1 → other ≡ get_or code index other
-        → last ≡ get_or more index last → (index < count) ⊎ (count ≤ index)
-        → IsFlatForm code (place_of code index) other (get_or areas index None) last
-    by_place index other last below there is (inl less) = are.each index other last less there (is ∙ before index last less)
-    by_place index other last below there is (inr past) =
-        let same : index ≡ count = omega arith in
-        subst (λ (i : ℕ). IsFlatForm code (place_of code i) other (get_or areas i None) last) (sym same)
-        (subst (λ (x : Insn). IsFlatForm code (place_of code count) x (get_or areas count None) last)
-        (sym (same_insn other (subst (λ (i : ℕ). other ≡ get_or code i other) same there)))
-        (subst (λ (f : FlatInsn). IsFlatForm code (place_of code count) insn (get_or areas count None) f)
-        (sym (subst (λ (i : ℕ). last ≡ get_or more i last) same is ∙ at_end last)) form))
+  same_insn : (other : Insn) → other ≡ get_or code count other → other ≡ next.insn
+  same_insn other there = there ∙ get_or_default code count other next.insn next.within ∙ sym next.is_insn
 
-pub form_at : {code : List Insn} {place : ℕ} (index target : ℕ) {insn : Insn} {area : Option Area} {flat : FlatInsn}
-    → place ≡ place_of code index → instruction_at code place ≡ Some insn
-    → IfSome (instruction_at code place) (λ insn. JumpsTo code place insn target) → insn_of flat ≡ without_distance insn
-    → HasImmediates insn → Keeps insn area target flat → IsFlatForm code (place_of code index) insn area flat
-form_at {code} {place} index target {insn} at is_insn jumps is immediates keeps = record {
-  represents = is;
-  immediates = immediates;
-  target = target;
-  jumps = subst (λ (p : ℕ). JumpsTo code p insn target) at
-      (subst (λ (o : Option Insn). IfSome o (λ insn. JumpsTo code place insn target)) is_insn jumps);
-  keeps = keeps;
-}
+  by_place : (index : ℕ) (other : Insn) (last : FlatInsn) → index < count + 1 → other ≡ get_or code index other
+      → last ≡ get_or more index last → (index < count) ⊎ (count ≤ index)
+      → IsFlatForm code (place_of code index) other (get_or areas index None) last
+  by_place index other last below there is (inl less) = are.each index other last less there (is ∙ before index last less)
+  by_place index other last below there is (inr past) =
+      let same : index ≡ count = omega arith in
+      subst (λ (i : ℕ). IsFlatForm code (place_of code i) other (get_or areas i None) last) (sym same)
+      (subst (λ (x : Insn). IsFlatForm code (place_of code count) x (get_or areas count None) last)
+      (sym (same_insn other (subst (λ (i : ℕ). other ≡ get_or code i other) same there)))
+      (subst (λ (f : FlatInsn). IsFlatForm code (place_of code count) next.insn (get_or areas count None) f)
+      (sym (subst (λ (i : ℕ). last ≡ get_or more i last) same is ∙ at_end last)) next.form))
+
+  -- one more flat form
+  pub forms_grow : AreFlatForms code areas (count + 1) more
+  forms_grow = record {
+    count_is = let long = are.count_is in ap length grown ∙ length-append flats (flat ∷ []) ∙ omega arith;
+    each = λ index other last below there is. by_place index other last below there is (cases_lt index count);
+  }
+
+-- the flat form of the instruction at a place
+module _ {code : List Insn} {place : ℕ} (index target : ℕ) {insn : Insn} (at : place ≡ place_of code index)
+    (is_insn : instruction_at code place ≡ Some insn) where
+  pub form_at : {area : Option Area} {flat : FlatInsn} → IfSome (instruction_at code place) (λ insn. JumpsTo code place insn target)
+      → insn_of flat ≡ without_distance insn → HasImmediates insn → Keeps insn area target flat
+      → IsFlatForm code (place_of code index) insn area flat
+  form_at jumps is immediates keeps = record {
+    represents = is;
+    immediates = immediates;
+    target = target;
+    jumps = subst (λ (p : ℕ). JumpsTo code p insn target) at
+        (subst (λ (o : Option Insn). IfSome o (λ insn. JumpsTo code place insn target)) is_insn jumps);
+    keeps = keeps;
+  }
 
 -- the index found at the place of an instruction
 

@@ -28,9 +28,13 @@ loop-index-preserved g c =
     (record { same = items; within = inside; is = c.index-instructions-index.is }) place in
     let is = c.index-instructions-index.is ∙ ap (λ (code : List Insn). get_or code c.loop-index.index c.index-instructions-index.result)
     items in
-    forms_grow c.flatten.result c.loop-index.invariant (search rules) is within
-    (form_at c.loop-index.index c.target_index-target.result place is_insn c.target_index-target.ensures
-    c.flatten.ensures.insn c.flatten.ensures.immediates c.flatten.ensures.keeps)
+    forms_grow c.loop-index.invariant (search rules) (record {
+      within = within;
+      insn = c.index-instructions-index.result;
+      is_insn = is;
+      form = form_at c.loop-index.index c.target_index-target.result place is_insn c.target_index-target.ensures
+          c.flatten.ensures.insn c.flatten.ensures.immediates c.flatten.ensures.keeps;
+    })
 
 pub returns : goal.returns
 returns g c =
