@@ -5,3 +5,4 @@ pub mod ReadingLemmas
 pub mod SegmentLemmas
 pub mod SharedLemmas
 pub mod TableLemmas
+pub mod ValidLemmas

@@ -19,6 +19,12 @@ pub record AreValidLines (file : CountyFile) (lines : List (List ℕ)) : Type 0 
   pub good : All (IsValidLine (layout file)) lines
   pub within : IsWithinLimits file lines
 
+-- lines of types 4, 5 and 6 without a fault
+pub record AreValidJoined (lines : JoinedLines) : Type 0 where
+  pub rt4 : AreValidLines Rt4 lines.rt4
+  pub rt5 : AreValidLines Rt5 lines.rt5
+  pub rt6 : AreValidLines Rt6 lines.rt6
+
 -- A file was read to its end, and no read failed. These are good lines, at most 2^32 - 1 of them; if the reader's bytes are known, they are the
 -- file's lines.
 pub record ReadsFile (file : CountyFile) (lines : List (List ℕ)) (old new : Reader) : Type 0 where

@@ -1,5 +1,10 @@
 //! Laws about the definitions, stated as contracts of functions that do nothing.
-ghost use Rattle.std.specs.Prelude.{◌≡◌};
+ghost use Rattle.std.specs.Prelude.{◌≡◌, ℕ, List, All};
+ghost use Rattle.tl_segments.specs.County.{CountyParts, CountyReaders, LoadsCounty};
+ghost use Rattle.tl_segments.specs.Joining.{JoinedLines, segments_of};
+ghost use Rattle.tl_segments.specs.Loading.{AreValidJoined, AreValidLines};
+ghost use Rattle.tl_segments.specs.Segment.{IsSegment};
+ghost use Rattle.tl_segments.specs.declared.fault.CountyFile.TheVariants.{Rt1};
 
 use crate::limits::{MAX_LINES_PER_TLID, MAX_NAMES, MAX_RANGES};
 use crate::name::NAME_LENGTH;
@@ -19,4 +24,11 @@ pub fn limits()
     ensures lines { MAX_LINES_PER_TLID ≡ 1000 }
     ensures names { MAX_NAMES ≡ 5000 }
     ensures ranges { MAX_RANGES ≡ 1000 }
+{}
+
+/// States that lines without a fault make segments: their fields have the lengths of the layout, and their names and ranges are within the limits.
+pub fn lines_make_segments()
+    ensures lines { (joined : JoinedLines) → AreValidJoined joined → (lines : List (List ℕ)) → AreValidLines Rt1 lines
+        → All IsSegment (segments_of joined lines) }
+    ensures county { (county : CountyParts) (old new : CountyReaders) → LoadsCounty county old new → All IsSegment county.segments }
 {}
