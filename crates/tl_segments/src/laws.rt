@@ -6,6 +6,7 @@ ghost use Rattle.tl_segments.specs.Loading.{AreValidJoined, AreValidLines};
 ghost use Rattle.tl_segments.specs.Segment.{IsSegment};
 ghost use Rattle.tl_segments.specs.declared.fault.CountyFile.TheVariants.{Rt1};
 
+use crate::full_name::{DIRECTION_LENGTH, TYPE_LENGTH};
 use crate::limits::{MAX_LINES_PER_TLID, MAX_NAMES, MAX_RANGES};
 use crate::name::NAME_LENGTH;
 use crate::range::{ADDRESS_LENGTH, ZIP_LENGTH};
@@ -15,6 +16,8 @@ use tl_records::RECORD_LENGTH;
 pub fn lengths()
     ensures record { RECORD_LENGTH ≡ 228 }
     ensures name { NAME_LENGTH ≡ 30 }
+    ensures direction { DIRECTION_LENGTH ≡ 2 }
+    ensures street_type { TYPE_LENGTH ≡ 4 }
     ensures address { ADDRESS_LENGTH ≡ 11 }
     ensures zip { ZIP_LENGTH ≡ 5 }
 {}
