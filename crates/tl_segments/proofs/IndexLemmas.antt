@@ -121,15 +121,14 @@ pub record HasLine (line : LineParts) (number tlid : ℕ) (old new : Reader) (se
   pub good : ReadsValidLine line (line_of number segment) old new
   pub numbered : number_in Rt1 segment.bytes ≡ Some tlid
 
--- this also holds for any segment with the bytes that the line was read into
-pub has_line : {segment : SegmentParts} (line : LineParts) (number tlid : ℕ) (read : SegmentParts) {old new : Reader}
-    → IsRecordRead line (record { number = number; segment = read }) old new (Ok (Some tt)) → number_in Rt1 read.bytes ≡ Some tlid
-    → segment.bytes ≡ read.bytes
-    → HasLine line number tlid old new segment
-has_line line number tlid read {old = old} {new = new} is numbered same = record {
-  good = subst (λ bytes. ReadsValidLine line (record { number = number; bytes = bytes }) old new) (sym same) is.0;
-  numbered = ap (number_in Rt1) same ∙ numbered;
-}
+module _ {segment : SegmentParts} (line : LineParts) (number tlid : ℕ) (read : SegmentParts) {old new : Reader} where
+  -- this also holds for any segment with the bytes that the line was read into
+  pub has_line : IsRecordRead line (record { number = number; segment = read }) old new (Ok (Some tt)) → number_in Rt1 read.bytes ≡ Some tlid
+      → segment.bytes ≡ read.bytes → HasLine line number tlid old new segment
+  has_line is numbered same = record {
+    good = subst (λ bytes. ReadsValidLine line (record { number = number; bytes = bytes }) old new) (sym same) is.0;
+    numbered = ap (number_in Rt1) same ∙ numbered;
+  }
 
 numbered_by : (row : Layout) (long typed : Bool) (found : Option ℕ)
     → (if long then (if typed then (if is_some found then None else Some row.without_number) else Some WrongType) else Some WrongLength) ≡ None
