@@ -131,26 +131,27 @@ digits-view numeral (byte ∷ whole) after rest is plus_sign are fraction =
           (record { after = after; is = ap (λ (w : List ℕ). w ++ after) (sym is); digits = are; fraction = fraction }));
     }
 
-number-view : {after rest : List ℕ} (numeral : Numeral) (is_negative : Bool) (sign : List ℕ) → numeral.is_negative ≡ is_negative
-    → IsSign is_negative sign
-    → AreDigits numeral.whole.now after → HasDecimals after rest numeral.decimals.now
-    → FirstByte (sign ++ (numeral.whole.now ++ after)) rest (Number numeral)
-number-view {after = after} {rest = rest} numeral true sign negative is are fraction =
-    rw is (record {
-      byte = 45;
-      after = numeral.whole.now ++ after;
-      is = refl;
-      view = minus 45 numeral _ rest negative (record { after = after; is = refl; digits = are; fraction = fraction });
-    })
-number-view {after = after} {rest = rest} numeral false sign negative (inl is) are fraction =
-    rw is (digits-view numeral numeral.whole.now after rest refl negative are fraction)
-number-view {after = after} {rest = rest} numeral false sign negative (inr is) are fraction =
-    rw is (record {
-      byte = 43;
-      after = numeral.whole.now ++ after;
-      is = refl;
-      view = plus 43 numeral _ rest negative (record { after = after; is = refl; digits = are; fraction = fraction });
-    })
+module _ {after rest : List ℕ} where
+  number-view : (numeral : Numeral) (is_negative : Bool) (sign : List ℕ) → numeral.is_negative ≡ is_negative
+      → IsSign is_negative sign
+      → AreDigits numeral.whole.now after → HasDecimals after rest numeral.decimals.now
+      → FirstByte (sign ++ (numeral.whole.now ++ after)) rest (Number numeral)
+  number-view numeral true sign negative is are fraction =
+      rw is (record {
+        byte = 45;
+        after = numeral.whole.now ++ after;
+        is = refl;
+        view = minus 45 numeral _ rest negative (record { after = after; is = refl; digits = are; fraction = fraction });
+      })
+  number-view numeral false sign negative (inl is) are fraction =
+      rw is (digits-view numeral numeral.whole.now after rest refl negative are fraction)
+  number-view numeral false sign negative (inr is) are fraction =
+      rw is (record {
+        byte = 43;
+        after = numeral.whole.now ++ after;
+        is = refl;
+        view = plus 43 numeral _ rest negative (record { after = after; is = refl; digits = are; fraction = fraction });
+      })
 
 compared-view : (comparison : Comparison) (rest : List ℕ) → continues comparison rest ≡ false
     → FirstByte (sign_of comparison ++ rest) rest (Compared comparison)
@@ -190,22 +191,24 @@ first-byte _ _ _ (numeric_literal numeral sign after rest signs are fraction) =
 first-byte _ _ _ (character_literal spelling rest paired single) =
     record { byte = 39; after = spelling.now ++ 39 ∷ rest; is = refl; view = literal 39 spelling _ rest refl paired single }
 
-view-by : {later after rest : List ℕ} {token : Token} (first byte : ℕ) (kind : Kind) → View (kind_of first) first later rest token
-    → first ∷ later ≡ byte ∷ after → kind_of byte ≡ kind → View kind byte after rest token
-view-by {later = later} {after = after} {rest = rest} {token = token} first byte kind is same_text same_kind =
-    let bytes : first ≡ byte = cc in
-    let texts : later ≡ after = cc in
-    let moved = subst (λ (b : ℕ). View (kind_of b) b later rest token) bytes is in
-    let kinds = subst (λ (k : Kind). View k byte later rest token) same_kind moved in
-    subst (λ (t : List ℕ). View kind byte t rest token) texts kinds
+module _ {later after rest : List ℕ} {token : Token} where
+  view-by : (first byte : ℕ) (kind : Kind) → View (kind_of first) first later rest token
+      → first ∷ later ≡ byte ∷ after → kind_of byte ≡ kind → View kind byte after rest token
+  view-by first byte kind is same_text same_kind =
+      let bytes : first ≡ byte = cc in
+      let texts : later ≡ after = cc in
+      let moved = subst (λ (b : ℕ). View (kind_of b) b later rest token) bytes is in
+      let kinds = subst (λ (k : Kind). View k byte later rest token) same_kind moved in
+      subst (λ (t : List ℕ). View kind byte t rest token) texts kinds
 
--- the bytes after the first one, as a token of that byte's kind
-pub view-at : {text rest : List ℕ} {token : Token} (byte : ℕ) (after : List ℕ) (kind : Kind) → IsToken text rest token → text ≡ byte ∷ after
-    → kind_of byte ≡ kind → View kind byte after rest token
-view-at {text = text} {rest = rest} {token = token} byte after kind is begun same_kind =
-    let first = first-byte text rest token is in
-    let e : first.byte ∷ first.after ≡ byte ∷ after = sym first.is ∙ begun in
-    view-by first.byte byte kind first.view e same_kind
+module _ {text rest : List ℕ} {token : Token} where
+  -- the bytes after the first one, as a token of that byte's kind
+  pub view-at : (byte : ℕ) (after : List ℕ) (kind : Kind) → IsToken text rest token → text ≡ byte ∷ after
+      → kind_of byte ≡ kind → View kind byte after rest token
+  view-at byte after kind is begun same_kind =
+      let first = first-byte text rest token is in
+      let e : first.byte ∷ first.after ≡ byte ∷ after = sym first.is ∙ begun in
+      view-by first.byte byte kind first.view e same_kind
 
 quote-stops : (rest later : List ℕ) → rest ≡ 39 ∷ later → begins is_quote rest ≡ false → ⊥
 quote-stops rest later is single = let e : begins is_quote (39 ∷ later) ≡ false = rw is at single in cc
@@ -426,8 +429,9 @@ pub record IsNoSign (byte : ℕ) : Type 0 where
 other-kind : (byte : ℕ) → IsNoSign byte → is_ascii_digit byte ≡ false → is_name_start byte ≡ false → kind_of byte ≡ NoKind
 other-kind byte none_of no_digit no_name = rw (no_name, no_digit) (grind (arith, nat_tests))
 
-pub other-at : {text rest : List ℕ} {token : Token} (after : List ℕ) (byte : ℕ) → IsToken text rest token → text ≡ byte ∷ after
-    → IsNoSign byte → is_ascii_digit byte ≡ false → begins is_name_start text ≡ false → ⊥
-other-at {text = text} {rest = rest} {token = token} after byte is begun none_of no_digit no_name =
-    let name : is_name_start byte ≡ false = rw begun at no_name in
-    nothing-at text rest after token byte is begun (other-kind byte none_of no_digit name)
+module _ {text rest : List ℕ} {token : Token} where
+  pub other-at : (after : List ℕ) (byte : ℕ) → IsToken text rest token → text ≡ byte ∷ after
+      → IsNoSign byte → is_ascii_digit byte ≡ false → begins is_name_start text ≡ false → ⊥
+  other-at after byte is begun none_of no_digit no_name =
+      let name : is_name_start byte ≡ false = rw begun at no_name in
+      nothing-at text rest after token byte is begun (other-kind byte none_of no_digit name)
