@@ -6,6 +6,12 @@ ghost use Rattle.geocode.specs.Hits.{find};
 ghost use Rattle.geocode.specs.Matches.{hits_on_street, matches};
 ghost use Rattle.geocode.specs.Street.{StreetParts, WantsNameAlone};
 ghost use Rattle.geocode.specs.declared.house.House.{House};
+ghost use Rattle.geocode.specs.declared.query.TheConstants.{MAX_HOUSE_NUMBER_DIGITS};
+
+/// States that a house number has at most 11 digits.
+pub fn digit_limit()
+    ensures { MAX_HOUSE_NUMBER_DIGITS ≡ 11 }
+{}
 
 /// States that the hits of matches are those on the segments that are on the street. With a direction or a type they are some of the hits of its
 /// name.
