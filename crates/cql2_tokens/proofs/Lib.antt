@@ -4,3 +4,4 @@ mod LongestLemmas
 mod NameLemmas
 mod QuoteLemmas
 mod ViewLemmas
+pub mod NearestLemmas

@@ -71,7 +71,7 @@ fn is_name_start(byte: u8) -> bool
     byte.is_ascii_alphabetic() || byte == b'_'
 }
 
-pub(crate) fn is_name_byte(byte: u8) -> bool
+fn is_name_byte(byte: u8) -> bool
     ensures { result ≡ is_name_byte byte }
 {
     byte.is_ascii_alphanumeric() || byte == b'_'
@@ -100,7 +100,7 @@ fn first_token<'a>(text: &'a [u8]) -> Option<(Token<'a>, &'a [u8])>
 }
 
 /// Returns the text after its first byte, if that is `byte`.
-fn after_byte(text: &[u8], byte: u8) -> Option<&[u8]>
+pub(crate) fn after_byte(text: &[u8], byte: u8) -> Option<&[u8]>
     ensures { MatchOption result (begins (λ first. first == byte) text.now ≡ false) (λ rest. text.now ≡ byte ∷ rest.now) }
 {
     match text.split_first() {
@@ -211,7 +211,7 @@ fn begins_name(text: &[u8]) -> bool
 }
 
 /// Splits a text after the letters, digits and underscores that it begins with.
-fn split_name(text: &[u8]) -> (&[u8], &[u8])
+pub(crate) fn split_name(text: &[u8]) -> (&[u8], &[u8])
     ensures all { text.now ≡ result.0.now ++ result.1.now }
     ensures longest { IsLongest is_name_byte result.0.now result.1.now }
 {
