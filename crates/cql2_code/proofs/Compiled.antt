@@ -72,7 +72,7 @@ chosen_words score first all =
 pub program_written : {question : Question} {exits : Exits} {end whole : List Insn} (score : Option NumericColumn)
     → end ≡ chosen_code score ++ answer_code 0 → exits.falls ≡ true → exits.skip ≡ word_count (chosen_code score)
     → Writes question exits end whole → copy into_record from_argument_1 ∷ whole ≡ program score question
-program_written {question} {exits} {end} {whole} score last falls skip written =
+program_written {question} {exits} {end} score last falls skip written =
     ap (λ (rest : List Insn). copy into_record from_argument_1 ∷ rest)
     (written.code ∙ ap (λ (b : Bool). question_code question b exits.skip ++ end) falls
     ∙ ap (λ (n : ℕ). question_code question true n ++ end) skip
@@ -106,7 +106,7 @@ if_ok {E} {whole} P result same holds =
 -- a filter's question is written if that of an equal filter is
 pub asks_as : {A : Type 0} {filter other : Filter A} {exits : Exits} {old new : List Insn} (asked : Bool) → filter ≡ other
     → Writes (asks_whether other asked) exits old new → Writes (asks_whether filter asked) exits old new
-asks_as {A} {filter} {other} {exits} {old} {new} asked same written =
+asks_as {A} {exits = exits} {old = old} {new = new} asked same written =
     subst (λ (f : Filter A). Writes (asks_whether f asked) exits old new) (sym same) written
 
 -- Extracts
