@@ -9,14 +9,20 @@ use Rattle.bpf_helpers.specs.Meaning as number
 use Rattle.bpf_insn.proofs.PlaceLemmas.{word_count-append}
 use Rattle.bpf_insn.specs.Code.{word_count}
 use Rattle.bpf_insn.specs.declared.instruction.Insn.{Insn}
+use Rattle.bpf_meaning.proofs.ExtractLemmas.{one_extract_lem}
 use Rattle.bpf_meaning.specs.Extract.{IsExtract, chosen_count, row_if_chosen, row_of}
 use Rattle.bpf_meaning.specs.Run.{Answers}
 use Rattle.bpf_verify.specs.Annotation.{HasGoodAnnotation}
 use Rattle.cql2.specs.Truth.{selects}
 use Rattle.cql2.specs.declared.column.NumericColumn.{NumericColumn}
 use Rattle.cql2.specs.declared.filter.Filter.{Filter}
+use Rattle.tl_segments.proofs.ValidLemmas.{are_segments, county_segments}
+use Rattle.tl_segments.specs.County.{CountyParts, CountyReaders, LoadsCounty}
+use Rattle.tl_segments.specs.Joining.{JoinedLines, segments_of}
+use Rattle.tl_segments.specs.Loading.{AreValidJoined, AreValidLines}
 use Rattle.tl_segments.specs.Segment.{SegmentParts, IsSegment}
-use Rattle.cql2_code.specs.Chosen.{Chooses, count_of, rows_of, score_of}
+use Rattle.tl_segments.specs.declared.fault.CountyFile.TheVariants.{Rt1}
+use Rattle.cql2_code.specs.Chosen.{Chooses, IsExtractOf, count_of, rows_of, score_of}
 use Rattle.cql2_code.specs.declared.fault.CompileFault.{CompileFault}
 use Rattle.cql2_code.specs.Layout.{IsTooLong, MayBeRefused, Refuses, Writes, answer_code, chosen_code, copy, program, question_code, from_argument_1, score_code, into_record}
 use Rattle.cql2_code.specs.Lowering.{asks_whether}
@@ -136,3 +142,23 @@ extracts code filter score chooses (segment ∷ segments) all =
       ap (λ (n : ℕ). n + count_of filter segments) (count_is chosen),
       extracts code filter score chooses segments (All-tail IsSegment segment segments all),
     )
+
+module _ {A : Type 0} (code : List Insn) (filter : Filter A) (score : Option NumericColumn) (chooses : Chooses code filter score) where
+  -- any extract of the program has exactly those rows
+  only_extract : (segments : List SegmentParts) → All IsSegment segments → (text : List ℕ) (rows : ℕ) → IsExtract code segments text rows
+      → IsExtractOf filter score segments text rows
+  only_extract segments all text rows is =
+      let same = one_extract_lem code segments text (rows_of filter score segments) rows (count_of filter segments) is
+      (extracts code filter score chooses segments all) in
+      record { text_is = same.0; rows_are = same.1 }
+
+  -- the segments may be those of lines without a fault
+  pub extract_of_lines : (joined : JoinedLines) (lines : List (List ℕ)) → AreValidJoined joined → AreValidLines Rt1 lines
+      → (text : List ℕ) (rows : ℕ) → IsExtract code (segments_of joined lines) text rows
+      → IsExtractOf filter score (segments_of joined lines) text rows
+  extract_of_lines joined lines valid are = only_extract (segments_of joined lines) (are_segments joined valid lines are)
+
+  -- or those of a county that was loaded
+  pub extract_of_county : (county : CountyParts) (old new : CountyReaders) → LoadsCounty county old new → (text : List ℕ) (rows : ℕ)
+      → IsExtract code county.segments text rows → IsExtractOf filter score county.segments text rows
+  extract_of_county county old new loads = only_extract county.segments (county_segments county old new loads)

@@ -1,5 +1,5 @@
 -- What a filter's program does: it selects the segments on which the filter is true.
-use Rattle.std.specs.Prelude.{ℕ, ◌+◌, List, [], ◌∷◌, ◌++◌, Option, Some, None, if◌then◌else◌}
+use Rattle.std.specs.Prelude.{◌≡◌, ℕ, ◌+◌, List, [], ◌∷◌, ◌++◌, Option, Some, None, if◌then◌else◌}
 use Rattle.bpf_helpers.specs.Meaning as number
 use Rattle.bpf_helpers.specs.Meaning.{coordinate, field_number, or_zero}
 use Rattle.bpf_insn.specs.declared.instruction.Insn.{Insn}
@@ -32,3 +32,9 @@ rows_of filter score (segment ∷ segments) =
 abbrev pub count_of : {A : Type 0} → Filter A → List SegmentParts → ℕ
 count_of filter [] = 0
 count_of filter (segment ∷ segments) = (if selects filter segment then 1 else 0) + count_of filter segments
+
+-- the text is the rows of the segments for which a filter is true, and `rows` is their number
+pub record IsExtractOf {A : Type 0} (filter : Filter A) (score : Option NumericColumn) (segments : List SegmentParts) (text : List ℕ) (rows : ℕ)
+    : Type 0 where
+  pub text_is : text ≡ rows_of filter score segments
+  pub rows_are : rows ≡ count_of filter segments
