@@ -91,7 +91,7 @@ same_key id x y same = let is : id ≡ x = grind (arith, nat_tests) in ap (λ id
 pub found_changed : {X : Type 0} (es : List (ℕ × X)) (id : ℕ) (old value : X) (q : ℕ) (found : X) → lookup (nat_eq id) es ≡ Some old
     → lookup (nat_eq q) (set_value (nat_eq id) es value) ≡ Some found → ((q ≢ id) × (lookup (nat_eq q) es ≡ Some found))
     ⊎ ((q ≡ id) × (found ≡ value))
-found_changed {X} es id old value q found there is =
+found_changed es id old value q found there is =
     by (nat_eq id q) refl (sym (lookup-set_value nat_eq_equiv (nat_eq id) (same_key id) q value es (rw there refl)) ∙ is)
   where
     by : (same : Bool) → nat_eq id q ≡ same → cond same (Some value) (lookup (nat_eq q) es) ≡ Some found

@@ -28,32 +28,33 @@ both_appended {code} front back {rows} first second = record {
 take_item : {X : Type 0} (xs : List X) (i : ℕ) (x : X) → i < length xs → x ≡ slice_index_or xs i x → take (i + 1) xs ≡ take i xs ++ x ∷ []
 take_item xs i x inside is = take_more xs i x inside ∙ ap (λ found. take i xs ++ found ∷ []) (sym is)
 
--- the row of one more segment
-pub segment_appended : {code : List Insn} (segments : List SegmentParts) (i : ℕ) (segment : SegmentParts) {rows now new : List ℕ} → i < length segments
-    → segment ≡ slice_index_or segments i segment → AppendsExtract code (take i segments) rows now → AppendsRow code segment now new
-    → AppendsExtract code (take (i + 1) segments) rows new
-segment_appended {code} segments i segment {rows} {now} {new} inside is so_far (answer, score, answers, appended) =
-    subst (λ seen. AppendsExtract code seen rows new) (sym (take_item segments i segment inside is))
-    (both_appended (take i segments) (segment ∷ []) so_far (record {
-      text = row_if_chosen answer score segment;
-      chosen = chosen_count answer;
-      is_extract = (answer, score, [], 0, answers, sym (append-nil (row_if_chosen answer score segment)), (omega arith), (refl, refl));
-      appended = appended;
-    }))
+module _ {code : List Insn} {rows now new : List ℕ} where
+  -- the row of one more segment
+  pub segment_appended : (segments : List SegmentParts) (i : ℕ) (segment : SegmentParts) → i < length segments
+      → segment ≡ slice_index_or segments i segment → AppendsExtract code (take i segments) rows now → AppendsRow code segment now new
+      → AppendsExtract code (take (i + 1) segments) rows new
+  segment_appended segments i segment inside is so_far (answer, score, answers, appended) =
+      subst (λ seen. AppendsExtract code seen rows new) (sym (take_item segments i segment inside is))
+      (both_appended (take i segments) (segment ∷ []) so_far (record {
+        text = row_if_chosen answer score segment;
+        chosen = chosen_count answer;
+        is_extract = (answer, score, [], 0, answers, sym (append-nil (row_if_chosen answer score segment)), (omega arith), (refl, refl));
+        appended = appended;
+      }))
 
--- the rows of one more county
-pub county_appended : {code : List Insn} (counties : List CountyParts) (i : ℕ) (county : CountyParts) {rows now new : List ℕ}
-    → i < length counties → county ≡ slice_index_or counties i county → AppendsExtract code (segments_of (take i counties)) rows now
-    → AppendsExtract code county.segments now new → AppendsExtract code (segments_of (take (i + 1) counties)) rows new
-county_appended {code} counties i county {rows} {now} {new} inside is so_far more =
-    subst (λ seen. AppendsExtract code seen rows new) (sym segments)
-    (both_appended (segments_of (take i counties)) county.segments so_far more)
-  where
-    segments : segments_of (take (i + 1) counties) ≡ segments_of (take i counties) ++ county.segments
-    segments =
-        ap (λ counties. segments_of counties) (take_item counties i county inside is)
-        ∙ flat_map-append (λ (county : CountyParts). county.segments) (take i counties) (county ∷ [])
-        ∙ ap (λ (more : List SegmentParts). segments_of (take i counties) ++ more) (append-nil county.segments)
+  -- the rows of one more county
+  pub county_appended : (counties : List CountyParts) (i : ℕ) (county : CountyParts) → i < length counties
+      → county ≡ slice_index_or counties i county → AppendsExtract code (segments_of (take i counties)) rows now
+      → AppendsExtract code county.segments now new → AppendsExtract code (segments_of (take (i + 1) counties)) rows new
+  county_appended counties i county inside is so_far more =
+      subst (λ seen. AppendsExtract code seen rows new) (sym segments)
+      (both_appended (segments_of (take i counties)) county.segments so_far more)
+    where
+      segments : segments_of (take (i + 1) counties) ≡ segments_of (take i counties) ++ county.segments
+      segments =
+          ap (λ counties. segments_of counties) (take_item counties i county inside is)
+          ∙ flat_map-append (λ (county : CountyParts). county.segments) (take i counties) (county ∷ [])
+          ∙ ap (λ (more : List SegmentParts). segments_of (take i counties) ++ more) (append-nil county.segments)
 
 pub all_segments : {code : List Insn} {segments : List SegmentParts} {i : ℕ} {rows new : List ℕ} → length segments ≤ i
     → AppendsExtract code (take i segments) rows new → AppendsExtract code segments rows new

@@ -141,12 +141,13 @@ module _ (counties : List CountyParts) (past : List Exchange) (event : Event) (r
       own = λ id job found. own_unchanged id job (no_program id) (no_turn id) (so_far.own id job (there id job found));
     }
 
-unchanged : {counties : List CountyParts} {past : List Exchange} (event : Event) (reply : Reply) {old new : Table}
-    → IsSoFar counties past old → assigned_id event reply ≡ None → ((id : ℕ) → program_of id event reply ≡ None)
-    → ((id : ℕ) → turn_count id event reply ≡ 0) → new ≡ old → IsSoFar counties (past ++ exchange_of event reply ∷ []) new
-unchanged {counties} {past} event reply {old} so_far no_id no_program no_turn same =
-    subst (λ table. IsSoFar counties (past ++ exchange_of event reply ∷ []) table) (sym same)
-    (nothing_assigned counties past event reply old old so_far no_id no_program no_turn refl refl so_far.ascend (λ id job found. found))
+-- an exchange that changes nothing
+module _ {counties : List CountyParts} {past : List Exchange} (event : Event) (reply : Reply) {old new : Table} where
+  unchanged : IsSoFar counties past old → assigned_id event reply ≡ None → ((id : ℕ) → program_of id event reply ≡ None)
+      → ((id : ℕ) → turn_count id event reply ≡ 0) → new ≡ old → IsSoFar counties (past ++ exchange_of event reply ∷ []) new
+  unchanged so_far no_id no_program no_turn same =
+      subst (λ table. IsSoFar counties (past ++ exchange_of event reply ∷ []) table) (sym same)
+      (nothing_assigned counties past event reply old old so_far no_id no_program no_turn refl refl so_far.ascend (λ id job found. found))
 
 -- one more step
 step_more : (counties : List CountyParts) (past : List Exchange) (event : Event) (reply : Reply) (old new : Table)
