@@ -145,15 +145,16 @@ moved-at : (Spelled : List Token → List Token → Type 0) (others known rest :
     → Moved Spelled others rest
 moved-at Spelled others known rest is moved = rw is moved
 
--- a token that holds no bytes, followed by tokens that are moved
-moved-after : {P Q : List Token → List Token → Type 0} (token : Token) (words others rest : List Token) → is_plain token ≡ true
-    → AreLike (token ∷ words) others → ((later : List Token) → AreLike words later → Moved P later rest)
-    → ((w r : List Token) → P w r → Q (token ∷ w) r) → Moved Q others rest
-moved-after {Q = Q} token words others rest plain alike inner whole =
-    let first = same-first token words others plain alike in
-    let moved = inner first.later first.alike in
-    moved-at Q others _ rest first.is
-    (record { after = moved.after; alike = moved.alike; is = whole first.later moved.after moved.is })
+module _ {P Q : List Token → List Token → Type 0} where
+  -- a token that holds no bytes, followed by tokens that are moved
+  moved-after : (token : Token) (words others rest : List Token) → is_plain token ≡ true → AreLike (token ∷ words) others
+      → ((later : List Token) → AreLike words later → Moved P later rest) → ((w r : List Token) → P w r → Q (token ∷ w) r)
+      → Moved Q others rest
+  moved-after token words others rest plain alike inner whole =
+      let first = same-first token words others plain alike in
+      let moved = inner first.later first.alike in
+      moved-at Q others _ rest first.is
+      (record { after = moved.after; alike = moved.alike; is = whole first.later moved.after moved.is })
 
 number_of-like : (c : NumericColumn) (numeral another : Numeral) → numeral.is_negative ≡ another.is_negative
     → numeral.whole.now ≡ another.whole.now → numeral.decimals.now ≡ another.decimals.now → number_of c numeral ≡ number_of c another
