@@ -4,6 +4,7 @@
 mod connective;
 mod fault;
 mod function;
+pub mod laws;
 mod literal;
 mod nearest;
 mod operand;
@@ -15,6 +16,6 @@ mod syntax_fault;
 mod terminal;
 mod text;
 
-pub use cql2_tokens::{column_named, laws};
+pub use cql2_tokens::column_named;
 pub use fault::{Expected, FilterFault, FilterFaultKind};
 pub use reader::{MAX_TEXT_LENGTH, read};
