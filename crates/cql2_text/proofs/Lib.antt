@@ -2,6 +2,7 @@ pub mod AlikeLemmas
 pub mod ChainLemmas
 pub mod CharacterLemmas
 pub mod PatternLemmas
+pub mod PlaceLemmas
 pub mod ShorterLemmas
 pub mod SpelledLemmas
 pub mod TextLemmas

@@ -1,8 +1,8 @@
 -- Positions in a text: a line, and a character in it, both counted from 1.
-use Rattle.std.specs.Prelude.{ℕ, ◌+◌, Bool, ◌&&◌, ◌==◌, nat_le, nat_lt, if◌then◌else◌, List}
+use Rattle.std.specs.Prelude.{◌≡◌, ℕ, ◌+◌, ◌++◌, Bool, ◌&&◌, ◌==◌, nat_le, nat_lt, if◌then◌else◌, List, ⊤}
 use Rattle.std.specs.List.{count_by, fold}
 use Rattle.cql2_text.specs.declared.fault.FilterFault.{FilterFault}
-use Rattle.cql2_text.specs.declared.fault.FilterFault.TheVariants.{At}
+use Rattle.cql2_text.specs.declared.fault.FilterFault.TheVariants.{At, Memory}
 use Rattle.cql2_text.specs.declared.fault.FilterFaultKind.{FilterFaultKind}
 
 abbrev pub is_line_feed : ℕ → Bool
@@ -27,3 +27,9 @@ column_after front = fold next_column 1 front
 -- a flaw, placed after this prefix of a text
 abbrev pub fault_after : List ℕ → FilterFaultKind → FilterFault
 fault_after front flaw = At (line_after front) (column_after front) flaw
+
+-- a fault lies within a text: it is placed after a prefix of it
+abbrev pub IsPlacedIn : List ℕ → FilterFault → Type 0
+IsPlacedIn text Memory = ⊤
+IsPlacedIn text (At line column flaw) =
+    (front : List ℕ) × (after : List ℕ) × (text ≡ front ++ after) × (line ≡ line_after front) × (column ≡ column_after front)

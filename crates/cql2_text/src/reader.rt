@@ -1,8 +1,8 @@
 //! Reading texts as filters.
-ghost use Rattle.std.specs.Prelude.{◌≡◌, ◌<◌, ◌≤◌, ◌+◌, length, take, IfOk, Err, MatchResult};
+ghost use Rattle.std.specs.Prelude.{◌≡◌, ◌<◌, ◌≤◌, ◌+◌, length, take, IfErr, IfOk, Err, MatchResult};
 ghost use Rattle.std.specs.Str.{IsUtf8};
 ghost use Rattle.std.specs.Str.Lossy.{utf8_valid_len};
-ghost use Rattle.cql2_text.specs.Position.{column_after, fault_after, is_continuation, line_after, next_column};
+ghost use Rattle.cql2_text.specs.Position.{IsPlacedIn, column_after, fault_after, is_continuation, line_after, next_column};
 ghost use Rattle.cql2.specs.declared.filter.Filter.{Filter as AFilter};
 ghost use Rattle.cql2_text.specs.Content.{content};
 ghost use Rattle.cql2_text.specs.Spelled.{IsFilterText};
@@ -21,6 +21,7 @@ pub const MAX_TEXT_LENGTH: usize = 1_048_576;
 /// Reads a text as a filter.
 pub fn read<A: Allocator + Copy>(alloc: A, text: &[u8]) -> Result<Filter<A>, FilterFault>
     ensures ok { IfOk result (IsFilterText text.now) }
+    ensures err { IfErr result (IsPlacedIn text.now) }
 
     // A text that spells a filter is read as that filter, unless it is too long or an allocation fails.
     ensures reads { length text.now ≤ MAX_TEXT_LENGTH → IsUtf8 text.now → (filter : AFilter A) → IsFilterText text.now filter
@@ -49,6 +50,7 @@ pub fn read<A: Allocator + Copy>(alloc: A, text: &[u8]) -> Result<Filter<A>, Fil
 fn read_utf8<A: Allocator + Copy>(alloc: A, text: &[u8]) -> Result<Filter<A>, FilterFault>
     requires { length text.now ≤ MAX_TEXT_LENGTH }
     ensures ok { IfOk result (IsFilterText text.now) }
+    ensures err { IfErr result (IsPlacedIn text.now) }
     ensures reads { (filter : AFilter A) → IsFilterText text.now filter
         → MatchResult result (λ read. content read ≡ content filter) (λ fault. fault ≡ FilterFault.Memory) }
 {
