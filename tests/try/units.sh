@@ -16,7 +16,7 @@ describe_parts() {
   c            programs in C, against native code
   commands     arguments, missing and faulty files, outcomes
   exhaustion   too little memory, space or descriptors
-  sources      files of the clone that have to agree: links, calls, examples
+  sources      files of the clone that have to agree: links, calls, names, examples
 END
 }
 
@@ -30,7 +30,7 @@ units_of() {
     c) printf '%s\n' tests/random_programs.py tests/test_forward.py ;;
     commands) printf '%s\n' tests/try/commands/*.sh ;;
     exhaustion) printf '%s\n' tests/exhaustion/{memory,server,files}.sh ;;
-    sources) printf '%s\n' tests/annotations.py tools/make_town.py tests/calls.py tools/links.py tools/edges.py tools/mutants.py ;;
+    sources) printf '%s\n' tests/annotations.py tools/make_town.py tests/calls.py tools/links.py tools/edges.py tools/contract_names.py tools/mutants.py ;;
     esac
 }
 
@@ -41,7 +41,7 @@ commands_of() {
     *.md) sed -n -E '/tigerline/d; s/^```(console|bash) //p; s/^```http [^ ]+/curl/p' "$1" ;;
     tests/verdicts/* | tests/try/commands/long_program.sh) echo curl ;;
     tests/try/commands/batches.sh) echo script ;;
-    tests/rows/* | tests/annotations.py | tests/calls.py | tools/links.py | tools/edges.py | tools/mutants.py) echo python3 ;;
+    tests/rows/* | tests/annotations.py | tests/calls.py | tools/links.py | tools/edges.py | tools/contract_names.py | tools/mutants.py) echo python3 ;;
     tests/exhaustion/*) echo curl python3 ;;
     tests/random_programs.py) echo python3.11 clang llvm-objcopy cc ;;
     *.py) echo python3.11 ;;

@@ -1,0 +1,204 @@
+#!/usr/bin/env python3
+"""Compares the names in docs/contracts.md with the sources.
+
+    python3 tools/contract_names.py
+
+Each section is about a crate, and each crate but those of tests has one. The words in backticks of a section are names,
+unless they have other characters:
+
+- `Type::method`, `Type::Variant` or `module::item`: the crate, or a library of its, has it.
+- A word in parentheses is a clause of a function that the section has named so far. A type or a module stands for its
+  functions. It may also be an item or a definition.
+- `specs/Name` and `proofs/Name` are files of the crate.
+- Any other word is in a source of the crate, or names a library.
+
+Prints what isn't so, and then the number of names. Exit status 1 means that something isn't so.
+"""
+# Needs only Python 3.9.
+
+import re
+import sys
+from collections.abc import Iterator
+from pathlib import Path
+from typing import NamedTuple, Optional
+
+TOP = Path(__file__).resolve().parent.parent
+PAGE = TOP / "docs" / "contracts.md"
+NAME = re.compile(r"[A-Za-z_]\w*(::[A-Za-z_]\w*)*")
+OWN_FILE = re.compile(r"(specs|proofs)/\w+")
+ITEM = re.compile(r"^\s*(?:pub(?:\([a-z]+\))? )?(?:const )?(fn|struct|enum|trait|type|const) (\w+)")
+BLOCK = re.compile(r"(?:pub(?:\([a-z]+\))? )?(?:(?:trait|enum|struct) |impl (?:.* for )?)&?(\w+)")
+VARIANT = re.compile(r"^ {4}(?:#\[.*\] )?([A-Z]\w*)(?:[(,]| \{|$)")
+BACKTICKS = re.compile(r"`([^`]+)`")
+# Names of std.
+STANDARD = ("From",)
+CLAUSE = re.compile(r"\bensures (\w+) \{")
+DEFINITION = re.compile(r"^(?:abbrev |unfoldable )?pub (?:record |data )?(\w+)", re.MULTILINE)
+
+
+class Function(NamedTuple):
+    """A function with its clauses. It is a method of a type or a trait, or one of a module."""
+
+    owners: frozenset[str]
+    name: str
+    clauses: set[str]
+
+
+class Crate(NamedTuple):
+    functions: list[Function]
+    members: set[tuple[str, str]]  # an item or a variant, after its module or its type
+    definitions: set[str]
+    words: set[str]
+    libraries: list[str]
+
+    def items(self) -> set[str]:
+        return {member for _, member in self.members} | self.definitions
+
+    def named(self, name: str) -> list[Function]:
+        """Returns the functions that a name stands for: itself, those of a type, or those of a module."""
+        owner, _, item = name.rpartition("::")
+        exact = [it for it in self.functions if it.name == item and (not owner or owner.split("::")[-1] in it.owners)]
+        return exact or [it for it in self.functions if item in it.owners]
+
+
+def without_generics(line: str) -> str:
+    while line != (shorter := re.sub(r"<[^<>]*>", "", line)):
+        line = shorter
+    return line
+
+
+def read_source(path: Path, crate: Crate) -> None:
+    """Adds the items of a source file."""
+    module, block = path.stem, ""
+    crate.definitions.add(module)
+    for line in path.read_text(encoding="utf-8").splitlines():
+        if opened := BLOCK.match(without_generics(line)):
+            block = opened[1]
+        elif line == "}":
+            block = ""
+        if found := ITEM.match(line):
+            owners = frozenset(filter(None, (block, module) if found[1] == "fn" or not block else (module,)))
+            crate.members.update((owner, found[2]) for owner in owners)
+            if found[1] == "fn":
+                crate.functions.append(Function(owners, found[2], set()))
+        elif (found := VARIANT.match(line)) and block:
+            crate.members.add((block, found[1]))
+        if (found := CLAUSE.search(line)) and crate.functions:
+            crate.functions[-1].clauses.add(found[1])
+
+
+def read_crate(name: str, libraries: list[str]) -> Crate:
+    crate = Crate([], set(), set(), {name, *libraries}, libraries)
+    folder = TOP / "crates" / name
+    for path in sorted((folder / "src").rglob("*.rt")):
+        read_source(path, crate)
+        crate.words.update(re.findall(r"\w+", path.read_text(encoding="utf-8")))
+    for path in sorted((folder / "specs").rglob("*.antt")):
+        text = path.read_text(encoding="utf-8")
+        crate.definitions.update(DEFINITION.findall(text))
+        crate.words.update(re.findall(r"\w+", text))
+    return crate
+
+
+def read_crates() -> dict[str, Crate]:
+    table = (TOP / "crates.txt").read_text(encoding="utf-8").splitlines()
+    rows = (line.partition(":") for line in table if not line.startswith("#"))
+    return {name.split()[0]: read_crate(name.split()[0], libraries.split()) for name, _, libraries in rows}
+
+
+class Section:
+    """A section of the page, with the crates that its names are looked up in: its own, its libraries, and for types its users."""
+
+    def __init__(self, name: str, crates: dict[str, Crate]) -> None:
+        self.name = name
+        self.own = crates[name]
+        self.libraries = [crates[library] for library in self.own.libraries if library in crates]
+        self.users = [crate for crate in crates.values() if name in crate.libraries]
+        self.clauses: set[str] = set()  # those of the functions that were named so far
+
+    def has_item(self, name: str) -> bool:
+        owner, _, item = name.rpartition("::")
+        crates = [self.own, *self.libraries]
+        if not owner:
+            return any(name in crate.items() for crate in crates)
+        # A crate that uses this one may have a type that is named, too, but a law is this crate's.
+        crates = [self.own] if owner.endswith("laws") else [*crates, *self.users]
+        return any((owner.split("::")[-1], item) in crate.members for crate in crates)
+
+    def has_word(self, name: str) -> bool:
+        return name in STANDARD or any(name in crate.words for crate in (self.own, *self.libraries))
+
+    def clauses_of(self, names: list[str]) -> set[str]:
+        functions = (
+            function for name in names for crate in (self.own, *self.libraries) for function in crate.named(name)
+        )
+        return {clause for function in functions for clause in function.clauses}
+
+    def file_words(self, words: list[str]) -> Iterator[str]:
+        """Yields the words of those of the crate's files that are named."""
+        for word in words:
+            path = TOP / "crates" / self.name / f"{word}.antt"
+            if OWN_FILE.fullmatch(word) and path.exists():
+                yield from re.findall(r"\w+", path.read_text(encoding="utf-8"))
+
+    def fault_of(self, name: str, is_grouped: bool) -> Optional[str]:
+        if "::" in name or name.startswith("Is"):
+            return None if self.has_item(name) else f"no `{name}`"
+        if is_grouped and name not in self.clauses and not self.has_item(name) and name not in STANDARD:
+            return f"no clause `{name}` of a function that was named"
+        return None if self.has_word(name) else f"no `{name}`"
+
+    def faults(self, paragraph: str) -> Iterator[str]:
+        """Yields what the sources lack of a paragraph."""
+        words = BACKTICKS.findall(paragraph)
+        grouped = {name for group in re.findall(r"\(([^()]*)\)", paragraph) for name in BACKTICKS.findall(group)}
+        names = [word for word in words if NAME.fullmatch(word)]
+        functions = [name for name in names if name not in grouped or "::" in name] + re.findall(
+            r"of `(\w+)`", paragraph
+        )
+        self.clauses |= self.clauses_of(functions)
+        quoted = set(self.file_words(words))
+        for name in names:
+            fault = self.fault_of(name, name in grouped)
+            if fault is not None and name not in quoted:
+                yield fault
+        for word in words:
+            if OWN_FILE.fullmatch(word) and not (TOP / "crates" / self.name / f"{word}.antt").exists():
+                yield f"no file {word}.antt"
+
+
+def sections_of(text: str) -> Iterator[tuple[int, str, list[tuple[int, str]]]]:
+    """Yields each section: the number of its first line, its name, and its paragraphs and points with their numbers."""
+    line = text.partition("\n## ")[0].count("\n") + 2
+    for part in re.split(r"^## ", text, flags=re.MULTILINE)[1:]:
+        heading, _, body = part.partition("\n")
+        paragraphs, begin = [], line + 1
+        for paragraph in re.split(r"\n(?=\n|- )", body):
+            paragraphs.append((begin + len(paragraph) - len(paragraph.lstrip("\n")), paragraph))
+            begin += paragraph.count("\n") + 1
+        yield line, heading, paragraphs
+        line += part.count("\n")
+
+
+def main() -> int:
+    crates = read_crates()
+    count, faults, seen = 0, [], set()
+    for number, heading, paragraphs in sections_of(PAGE.read_text(encoding="utf-8")):
+        name = heading.partition(",")[0]
+        seen.add(name)
+        if name not in crates:
+            faults.append(f"line {number}: no crate {name}")
+            continue
+        section = Section(name, crates)
+        for begin, paragraph in paragraphs:
+            count += len(re.findall(r"`[^`]+`", paragraph))
+            faults += [f"line {begin}: {name}: {fault}" for fault in section.faults(paragraph)]
+    faults += [f"no section on {name}" for name in crates if name not in seen and not name.endswith("_tests")]
+    for fault in faults:
+        print(f"docs/contracts.md: {fault}")
+    print(f"{count} names, {len(faults)} of them wrong")
+    return 1 if faults else 0
+
+
+if __name__ == "__main__":
+    sys.exit(main())
