@@ -2,7 +2,7 @@
 # The parts of ../try.sh, and their units. A unit is named by its file, from the top of the clone. ../try.sh sources this.
 
 # all_parts: prints the parts in the order in which they begin, those with the longest units first.
-all_parts() { echo exhaustion listings addresses filters sources c rows commands verdicts documents; }
+all_parts() { echo exhaustion clients listings addresses filters sources c rows commands verdicts documents; }
 
 # describe_parts: prints a line for each part.
 describe_parts() {
@@ -16,6 +16,7 @@ describe_parts() {
   c            programs in C, against native code
   commands     arguments, missing and faulty files, outcomes
   exhaustion   too little memory, space or descriptors
+  clients      silent and slow clients of the server, in real time
   sources      files of the clone that have to agree: links, calls, names, examples
 END
 }
@@ -26,7 +27,7 @@ units_of() {
     documents) printf '%s\n' docs/*.md README.md examples/README.md ;;
     verdicts) printf '%s\n' tests/verdicts/*.txt ;;
     rows) printf '%s\n' tests/rows/*.txt ;;
-    filters | addresses | listings) echo "tests/$1.py" ;;
+    filters | addresses | listings | clients) echo "tests/$1.py" ;;
     c) printf '%s\n' tests/random_programs.py tests/test_forward.py ;;
     commands) printf '%s\n' tests/try/commands/*.sh ;;
     exhaustion) printf '%s\n' tests/exhaustion/{memory,server,files}.sh ;;
