@@ -2,7 +2,7 @@
 # The parts of ../try.sh, and their units. A unit is named by its file, from the top of the clone. ../try.sh sources this.
 
 # all_parts: prints the parts in the order in which they begin, those with the longest units first.
-all_parts() { echo exhaustion clients listings addresses filters sources c rows commands verdicts documents; }
+all_parts() { echo exhaustion clients costs listings addresses filters sources c rows commands verdicts documents; }
 
 # describe_parts: prints a line for each part.
 describe_parts() {
@@ -17,6 +17,7 @@ describe_parts() {
   commands     arguments, missing and faulty files, outcomes
   exhaustion   too little memory, space or descriptors
   clients      silent and slow clients of the server, in real time
+  costs        the instructions that each command takes, counted by valgrind
   sources      files of the clone that have to agree: links, calls, names, examples
 END
 }
@@ -27,7 +28,7 @@ units_of() {
     documents) printf '%s\n' docs/*.md README.md examples/README.md ;;
     verdicts) printf '%s\n' tests/verdicts/*.txt ;;
     rows) printf '%s\n' tests/rows/*.txt ;;
-    filters | addresses | listings | clients) echo "tests/$1.py" ;;
+    filters | addresses | listings | clients | costs) echo "tests/$1.py" ;;
     c) printf '%s\n' tests/random_programs.py tests/test_forward.py ;;
     commands) printf '%s\n' tests/try/commands/*.sh ;;
     exhaustion) printf '%s\n' tests/exhaustion/{memory,server,files}.sh ;;
@@ -44,6 +45,7 @@ commands_of() {
     tests/try/commands/batches.sh) echo script ;;
     tests/rows/* | tests/annotations.py | tests/calls.py | tools/links.py | tools/edges.py | tools/contract_names.py | tools/mutants.py) echo python3 ;;
     tests/exhaustion/*) echo curl python3 ;;
+    tests/costs.py) echo python3.11 valgrind ;;
     tests/random_programs.py) echo python3.11 clang llvm-objcopy cc ;;
     *.py) echo python3.11 ;;
     esac
