@@ -103,11 +103,9 @@ def expect_rows(reply: bytes, segments: int) -> None:
     head, _, body = reply.partition(b"\r\n\r\n")
     expect_status(head, 200)
     length = re.search(rb"Content-Length: (\d+)", head)
-    if length is None or int(length[1]) != len(body) or body.count(b"\n") != segments:
-        raise RowError(f"the reply should have {segments} rows, and has {body.count(LINE_FEED)} in {len(body)} bytes")
-
-
-LINE_FEED = b"\n"
+    rows = body.count(b"\n")
+    if length is None or int(length[1]) != len(body) or rows != segments:
+        raise RowError(f"the reply should have {segments} rows, and has {rows} in {len(body)} bytes")
 
 
 def expect_wait(server: Server, start: float, limit: float) -> None:
@@ -173,6 +171,17 @@ def a_client_that_goes_on_sending(server: Server, _: int) -> None:
         sending.result()
 
 
+def a_client_that_sends_too_much(server: Server, _: int) -> None:
+    """When the reply is written, it has sent more than the server reads at once."""
+    with server.connect() as first, ThreadPoolExecutor() as pool:
+        first.sendall(request("verify", WORDS) + bytes(20_000))
+        start = time.monotonic()
+        sending = pool.submit(keep_sending, first, bytes(4 * (LINGER + LATER)), 0.25)
+        expect_status(first.recv(65536), 200)
+        expect_wait(server, start, LINGER)
+        sending.result()
+
+
 def an_interrupted_read(server: Server, _: int) -> None:
     data = request("verify", WORDS)
     with server.connect() as client:
@@ -197,6 +206,7 @@ ROWS: tuple[Callable[[Server, int], None], ...] = (
     a_slow_client,
     a_client_that_reads_nothing,
     a_client_that_goes_on_sending,
+    a_client_that_sends_too_much,
     an_interrupted_read,
     an_interrupted_write,
 )
