@@ -73,7 +73,6 @@ packages_of() {
     nsenter | prlimit | setpriv | setsid | unshare) echo util-linux ;;
     ogr2ogr | ogrinfo) echo gdal-bin ;;
     python3.11) echo python3 ;;
-    script) echo bsdutils ;;
     strip) echo binutils ;;
     systemd-analyze) echo systemd ;;
     *) echo "$1" ;;

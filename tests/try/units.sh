@@ -42,7 +42,7 @@ commands_of() {
     case $1 in
     *.md) sed -n -E '/tigerline/d; s/^```(console|bash) //p; s/^```http [^ ]+/curl/p' "$1" ;;
     tests/verdicts/* | tests/try/commands/long_program.sh) echo curl ;;
-    tests/try/commands/batches.sh) echo script ;;
+    tests/try/commands/batches.sh) echo python3 ;;
     tests/rows/* | tests/annotations.py | tests/calls.py | tools/links.py | tools/edges.py | tools/contract_names.py | tools/mutants.py) echo python3 ;;
     tests/exhaustion/*) echo curl python3 ;;
     tests/costs.py) echo python3.11 valgrind ;;

@@ -13,7 +13,7 @@ make_batches() {
     printf 'number,name\n751,Ma\0in\n123456789012,Main\n751,%s\n' abcdefghijklmnopqrstuvwxyzabcde > batch/odd.csv
     printf '\357\273\277Name ,NUMBER\r\nmain,751\r\n\r\n' > batch/marked.csv
     printf 'number,name\n751,"Main\nStreet"\n751,Main\n' > batch/lines.csv
-    { printf 'number,name\n'; yes 751,Main | head -n 100000; } > batch/many.csv
+    { printf 'number,name\n'; yes 751,Main | head -n 30000; } > batch/many.csv
 }
 
 # try_lines COMMAND: the command gets the header of a batch and then the lines of standard input.
@@ -24,14 +24,45 @@ try_lines() {
     if [ "$(tail -n +2 out)" = "$lines" ]; then pass; else fail "$1" "gives $(cat out)"; fi
 }
 
-# Progress of a batch is shown only on a terminal.
-try_progress() {
-    try_case 0 '*' '' 'extractd geocode-batch --addresses batch/many.csv --data "$county" 01001'
-    needs 'the progress of a batch' script || return
-    script -qec "extractd geocode-batch --addresses batch/many.csv --data '$county' 01001 > out" said < /dev/null > /dev/null
-    if [ "$(wc -l < out)" = 200001 ] && grep -q '[0-9] lines' said; then pass; else
-        fail "geocode-batch tells a terminal how far it is" "$(head -c 400 said)"
+# now: the time in milliseconds.
+now() { echo $(($(date +%s%N) / 1000000)); }
+
+# on_terminal DESCRIPTOR COMMAND: runs it with a terminal as standard output or standard error. The file `said` is what the terminal gets.
+on_terminal() { python3 -B "$top/tests/try/terminal.py" "$1" said bash -c "$2"; }
+
+# try_shown_progress: a batch that takes a while shows its count of lines, which grows, and then clears it. It is shown ten times a second at most.
+try_shown_progress() {
+    local start shown=$'^(\e\\[K[0-9]+ lines\r)+\r\e\\[K$' counts most
+    start=$(now)
+    on_terminal 2 'extractd geocode-batch --addresses batch/many.csv --data "$county" 01001 > out'
+    most=$((($(now) - start) / 100 + 1))
+    tr '\r' '\n' < said | sed -n 's/.*K\([0-9]*\) lines$/\1/p' > counts
+    counts=$(wc -l < counts)
+    if [ "$(wc -l < out)" = 60001 ] && [[ $(cat said) =~ $shown ]] && sort -n -u -c counts && [ "$(tail -n 1 counts)" -le 60001 ]; then
+        pass
+    else
+        fail "geocode-batch shows a terminal how far it is, and clears it" "$(head -c 400 said | cat -v)"
     fi
+    if [ "$counts" -le $most ]; then pass; else fail "geocode-batch shows its count $counts times, and should show it $most times at most"; fi
+}
+
+# Progress is shown only by a batch, and only if standard error is a terminal.
+try_progress() {
+    local command wanted
+    try_case 0 '*' '' 'extractd geocode-batch --addresses batch/many.csv --data "$county" 01001'
+    needs 'the progress of a batch' python3 || return
+    export county all
+    try_shown_progress
+    wanted=$(extractd geocode-batch --addresses "$county/addresses.csv" --data "$county" 01001)
+    try_case 0 0 '' 'on_terminal 1 "extractd geocode-batch --addresses $county/addresses.csv --data $county 01001"'
+    if [ "$(cat said)" = "$wanted" ]; then pass; else fail 'geocode-batch to a terminal writes its lines alone' "$(head -c 400 said | cat -v)"; fi
+    # The reader of the rows is late, so that `select` takes long enough.
+    for command in 'verify --program "$all"' 'dis --program "$all"' 'explain --program "$all"' 'run --program "$all" --data "$county" 01001' \
+        'asm --source <(echo exit)' 'compile --filter <(echo TRUE)' 'trace --program "$all" --data "$county" --line 1 --limit 9 01001' \
+        'geocode --data "$county" --number 751 --name main 01001' 'select --where TRUE --data "$county" 01001 01001 01001 01001'; do
+        try_case 0 0 '' "on_terminal 2 'set -o pipefail; extractd $command | { sleep 0.3; cat > late; }'"
+        if [ ! -s said ]; then pass; else fail "$command shows a terminal nothing" "$(head -c 400 said | cat -v)"; fi
+    done
 }
 
 make_batches
