@@ -33,8 +33,18 @@ try_missing_files() {
 1 0 0
 END
     make_county 456
-    try_case 3 0 'error: county/TGR01001.RT1: not found' 'extractd run --program "$all" --data county 01001'
-    try_case 3 0 'error: county/TGR01001.RT1: not found' 'extractd trace --program "$all" --data county --line 1 --limit 1 01001'
+    try_missing_type_1 county
+    # A folder without a name is the root.
+    try_missing_type_1 ''
+}
+
+# try_missing_type_1 FOLDER: a county without its file of type 1 is no empty county, for no command.
+try_missing_type_1() {
+    local command
+    for command in 'run --program "$all"' 'trace --program "$all" --line 1 --limit 1' 'select --where TRUE' 'geocode --number 751 --name main' \
+        'geocode-batch --addresses "$county/addresses.csv"' 'serve --port 1'; do
+        try_case 3 0 "error: $1/TGR01001.RT1: not found$([[ $command != select* ]] || printf '*')" "timeout 20 extractd $command --data '$1' 01001"
+    done
 }
 
 # Empty files, and folders instead of files.
