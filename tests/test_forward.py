@@ -46,13 +46,10 @@ ORDERS = (
         "ja start | found: | lddw r0, 4294967296 | exit | start: | jeq r1, 1, found | lddw r0, 1 | exit",
         "jeq r1, 1, +3 | lddw r0, 0x0000000000000001 | exit | lddw r0, 0x0000000100000000 | exit",
     ),
-    # Every kind of jump: 32 bits, registers, signed.
-    (
-        "ja32 start | out: | mov r0, 1 | exit | start: | jsgt32 r1, -1, out | jset r1, r2, out | jle r1, r2, out |"
-        " mov r0, 0 | exit",
-        "jsgt32 r1, -1, +4 | jset r1, r2, +3 | jle r1, r2, +2 | mov r0, 0 | exit | mov r0, 1 | exit",
-    ),
 )
+
+# The conditions of RFC 9669, section 4.3.
+CONDITIONS = ("jeq", "jgt", "jge", "jset", "jne", "jsgt", "jsge", "jlt", "jle", "jslt", "jsle")
 
 ERRORS = (
     (
@@ -110,6 +107,19 @@ class ForwardTest(unittest.TestCase):
             with self.subTest(text):
                 words, _ = forward.put_in_order(self.assemble(text))
                 self.assertEqual(self.disassemble(words).splitlines(), expected.split(" | "))
+
+    def test_conditions(self) -> None:
+        """Each condition, of 64 and of 32 bits, on a register and on a number. All jump to a block that is moved."""
+        jumps = [
+            f"{name}{bits} r1, {operand}" for name in CONDITIONS for bits in ("", "32") for operand in ("-1", "r2")
+        ]
+        conditions = " | ".join(f"{jump}, out" for jump in jumps)
+        words, _ = forward.put_in_order(
+            self.assemble(f"ja32 start | out: | mov r0, 1 | exit | start: | {conditions} | mov r0, 0 | exit")
+        )
+        expected = [f"{jump}, +{len(jumps) + 1 - place}" for place, jump in enumerate(jumps)]
+        expected += ["mov r0, 0", "exit", "mov r0, 1", "exit"]
+        self.assertEqual(self.disassemble(words).splitlines(), expected)
 
     def test_errors(self) -> None:
         for text, expected in ERRORS:
