@@ -56,6 +56,9 @@ try_building() {
     same 'no package of a script' "deb.sh: $packaging/deb.sh: not an x86-64 ELF file" "$("$packaging/deb.sh" "$packaging/deb.sh" "$scratch/no.deb" 2>&1)"
     same 'no package of another program' 'deb.sh: /bin/true: --version isn'\''t that of extractd' "$("$packaging/deb.sh" /bin/true "$scratch/no.deb" 2>&1)"
     same 'nothing is left of it' '' "$(find "$scratch" -name 'no.deb' -o -name '.extractd*')"
+    same 'the modes of its files and folders' $'-rw-r--r--\n-rwxr-xr-x\ndrwxr-xr-x' "$(dpkg-deb -c "$package" | cut -c 1-10 | sort -u)"
+    same 'its program is for all, and nobody but root may write it' '-rwxr-xr-x root/root' \
+        "$(dpkg-deb -c "$package" | sed -n 's|^\([^ ]* [^ ]*\) .* \./usr/bin/extractd$|\1|p')"
     same 'it depends on the C library' libc6 "$(dpkg-deb -f "$package" Depends | tr -d ' ' | tr ',' '\n' | sed -n 's/^\(libc6\)(.*/\1/p')"
     needs 'what lintian reports' lintian || return
     # The package isn't for Debian's archive, so it closes no request for packaging.
