@@ -3,12 +3,13 @@
 
     python3 tools/contract_names.py
 
-Each section is about a crate, and each crate but those of tests has one. The words in backticks of a section are names,
-unless they have other characters:
+Each section is about a crate, and each crate but those of tests has one. What comes before is about all crates. The
+words in backticks are names, unless they have other characters:
 
-- `Type::method`, `Type::Variant` or `module::item`: the crate, or a library of its, has it.
-- A word in parentheses is a clause of a function that the section has named so far. A type or a module stands for its
-  functions. It may also be an item or a definition.
+- `Type::method`, `Type::Variant` or `module::item`: the crate, or a library of it, has it.
+- Words in parentheses directly after a function are its clauses.
+- Another word in parentheses is a clause of a function that the section has named so far. A type or a module stands for
+  its functions. The word may also be an item or a definition of the crate, or a function of a library.
 - `specs/Name` and `proofs/Name` are files of the crate.
 - Any other word is in a source of the crate, or names a library.
 
@@ -30,9 +31,11 @@ ITEM = re.compile(r"^\s*(?:pub(?:\([a-z]+\))? )?(?:const )?(fn|struct|enum|trait
 BLOCK = re.compile(r"(?:pub(?:\([a-z]+\))? )?(?:(?:trait|enum|struct) |impl (?:.* for )?)&?(\w+)")
 VARIANT = re.compile(r"^ {4}(?:#\[.*\] )?([A-Z]\w*)(?:[(,]| \{|$)")
 BACKTICKS = re.compile(r"`([^`]+)`")
+# A name, and only words in backticks in the parentheses after it.
+ADJACENT = re.compile(r"`([\w:]+)`\s\(((?:`[a-z]\w*`,?\s*)+)\)")
 # Names of std.
 STANDARD = ("From",)
-CLAUSE = re.compile(r"\bensures (\w+) \{")
+CLAUSE = re.compile(r"\bensures\*? (\w+) \{")
 DEFINITION = re.compile(r"^(?:abbrev |unfoldable )?pub (?:record |data )?(\w+)", re.MULTILINE)
 
 
@@ -54,11 +57,17 @@ class Crate(NamedTuple):
     def items(self) -> set[str]:
         return {member for _, member in self.members} | self.definitions
 
+    def free_functions(self) -> set[str]:
+        return {function.name for function in self.functions if len(function.owners) == 1}
+
     def named(self, name: str) -> list[Function]:
         """Returns the functions that a name stands for: itself, those of a type, or those of a module."""
-        owner, _, item = name.rpartition("::")
-        exact = [it for it in self.functions if it.name == item and (not owner or owner.split("::")[-1] in it.owners)]
-        return exact or [it for it in self.functions if item in it.owners]
+        item = name.split("::")[-1]
+        return self.exactly_named(name) or [it for it in self.functions if item in it.owners]
+
+    def exactly_named(self, name: str) -> list[Function]:
+        *owner, item = name.split("::")
+        return [it for it in self.functions if it.name == item and (not owner or owner[-1] in it.owners)]
 
 
 def without_generics(line: str) -> str:
@@ -107,11 +116,14 @@ def read_crates() -> dict[str, Crate]:
 
 
 class Section:
-    """A section of the page, with the crates that its names are looked up in: its own, its libraries, and for types its users."""
+    """A section of the page, with the crates that its names are looked up in.
+
+    They are its own, its libraries, and for types its users; or all crates, if it is about none.
+    """
 
     def __init__(self, name: str, crates: dict[str, Crate]) -> None:
         self.name = name
-        self.own = crates[name]
+        self.own = crates.get(name, Crate([], set(), set(), set(), list(crates)))
         self.libraries = [crates[library] for library in self.own.libraries if library in crates]
         self.users = [crate for crate in crates.values() if name in crate.libraries]
         self.clauses: set[str] = set()  # those of the functions that were named so far
@@ -127,6 +139,11 @@ class Section:
 
     def has_word(self, name: str) -> bool:
         return name in STANDARD or any(name in crate.words for crate in (self.own, *self.libraries))
+
+    def is_grouped_item(self, name: str) -> bool:
+        """Returns whether a word in parentheses may be no clause. Libraries have too many names to take them all."""
+        libraries = {item for crate in self.libraries for item in crate.free_functions()}
+        return name in self.own.items() or name in libraries or (name[0].isupper() and self.has_word(name))
 
     def clauses_of(self, names: list[str]) -> set[str]:
         functions = (
@@ -144,39 +161,51 @@ class Section:
     def fault_of(self, name: str, is_grouped: bool) -> Optional[str]:
         if "::" in name or name.startswith("Is"):
             return None if self.has_item(name) else f"no `{name}`"
-        if is_grouped and name not in self.clauses and not self.has_item(name) and name not in STANDARD:
+        if is_grouped and name not in self.clauses and not self.is_grouped_item(name):
             return f"no clause `{name}` of a function that was named"
         return None if self.has_word(name) else f"no `{name}`"
+
+    def adjacent_faults(self, paragraph: str) -> Iterator[str]:
+        """Yields the clauses directly after a function, as in `push` (`refused`), that it lacks."""
+        for name, group in ADJACENT.findall(paragraph):
+            functions = [it for crate in (self.own, *self.libraries) for it in crate.exactly_named(name)]
+            clauses = {clause for function in functions for clause in function.clauses}
+            for clause in re.findall(r"`([a-z]\w*)`", group):
+                if functions and clause not in clauses:
+                    yield f"no clause `{clause}` of `{name}`"
 
     def faults(self, paragraph: str) -> Iterator[str]:
         """Yields what the sources lack of a paragraph."""
         words = BACKTICKS.findall(paragraph)
         grouped = {name for group in re.findall(r"\(([^()]*)\)", paragraph) for name in BACKTICKS.findall(group)}
         names = [word for word in words if NAME.fullmatch(word)]
-        functions = [name for name in names if name not in grouped or "::" in name] + re.findall(
-            r"of `(\w+)`", paragraph
-        )
-        self.clauses |= self.clauses_of(functions)
+        # In `only` of `verify`, the second is no clause.
+        grouped -= set(re.findall(r"of `(\w+)`", paragraph))
+        self.clauses |= self.clauses_of([name for name in names if name not in grouped or "::" in name])
         quoted = set(self.file_words(words))
         for name in names:
             fault = self.fault_of(name, name in grouped)
             if fault is not None and name not in quoted:
                 yield fault
+        yield from self.adjacent_faults(paragraph)
         for word in words:
             if OWN_FILE.fullmatch(word) and not (TOP / "crates" / self.name / f"{word}.antt").exists():
                 yield f"no file {word}.antt"
 
 
 def sections_of(text: str) -> Iterator[tuple[int, str, list[tuple[int, str]]]]:
-    """Yields each section: the number of its first line, its name, and its paragraphs and points with their numbers."""
-    line = text.partition("\n## ")[0].count("\n") + 2
-    for part in re.split(r"^## ", text, flags=re.MULTILINE)[1:]:
-        heading, _, body = part.partition("\n")
-        paragraphs, begin = [], line + 1
-        for paragraph in re.split(r"\n(?=\n|- )", body):
+    """Yields each section: the number of its first line, its name, and its paragraphs and points with their numbers.
+
+    The first one, without a name, is what comes before the sections.
+    """
+    line = 1
+    for part in re.split(r"^(?=## )", text, flags=re.MULTILINE):
+        heading = part.partition("\n")[0]
+        paragraphs, begin = [], line
+        for paragraph in re.split(r"\n(?=\n|- )", part):
             paragraphs.append((begin + len(paragraph) - len(paragraph.lstrip("\n")), paragraph))
             begin += paragraph.count("\n") + 1
-        yield line, heading, paragraphs
+        yield line, heading.removeprefix("## ") if heading.startswith("## ") else "", paragraphs
         line += part.count("\n")
 
 
@@ -186,13 +215,13 @@ def main() -> int:
     for number, heading, paragraphs in sections_of(PAGE.read_text(encoding="utf-8")):
         name = heading.partition(",")[0]
         seen.add(name)
-        if name not in crates:
+        if name and name not in crates:
             faults.append(f"line {number}: no crate {name}")
             continue
         section = Section(name, crates)
         for begin, paragraph in paragraphs:
             count += len(re.findall(r"`[^`]+`", paragraph))
-            faults += [f"line {begin}: {name}: {fault}" for fault in section.faults(paragraph)]
+            faults += [f"line {begin}: {name or 'all crates'}: {fault}" for fault in section.faults(paragraph)]
     faults += [f"no section on {name}" for name in crates if name not in seen and not name.endswith("_tests")]
     for fault in faults:
         print(f"docs/contracts.md: {fault}")
