@@ -1,6 +1,7 @@
 pub mod Content
 pub mod FilterFault
 pub mod FilterFaultKind
+pub mod Nearest
 pub mod Number
 pub mod Pattern
 pub mod Position
