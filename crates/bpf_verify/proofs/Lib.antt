@@ -24,3 +24,4 @@ pub mod PassLemmas
 pub mod WorklistLemmas
 pub mod VerdictLemmas
 mod VisitLemmas
+mod CauseLemmas

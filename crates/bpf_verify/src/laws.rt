@@ -1,5 +1,5 @@
 //! Laws of the definitions themselves. The functions do nothing: each contract is a law.
-ghost use Rattle.std.specs.Prelude.{◌≡◌, ℕ, ℤ, List, Option, Ok, Some};
+ghost use Rattle.std.specs.Prelude.{◌≡◌, ◌≢◌, ℕ, ℤ, List, Option, Ok, Some};
 ghost use Rattle.bpf_insn.specs.Immediates.{HaveImmediates};
 ghost use Rattle.bpf_insn.specs.declared.instruction.Insn.{Insn};
 ghost use Rattle.bpf_insn.specs.declared.value.Area.{Area};
@@ -15,6 +15,7 @@ ghost use Rattle.bpf_kinds.specs.declared.offsets.Offsets.{Offsets};
 ghost use Rattle.bpf_meaning.specs.Checks.{Sound};
 ghost use Rattle.bpf_meaning.specs.Run.{IsSafe};
 ghost use Rattle.bpf_meaning.specs.declared.cause.Cause.{Cause};
+ghost use Rattle.bpf_meaning.specs.declared.cause.Cause.TheVariants.{IntoWide, OutOfProgram};
 ghost use Rattle.bpf_meaning.specs.declared.state.State.{State};
 ghost use Rattle.bpf_verify.specs.Annotation.{HasGoodAnnotation, IsAccepted, IsRefusedAt};
 ghost use Rattle.bpf_verify.specs.LiftedState.{LiftedState, Admits, AreEdgesWithin, Edges, IsBelow, IsProper, IsWithin, IsWithinState, Unreached, join};
@@ -87,4 +88,10 @@ pub fn verdicts()
     ensures refused { (code : List Insn) (place other : ℕ) (cause why : Cause) → IsRefusedAt code place cause → IsRefusedAt code other why
         → (place ≡ other) × (cause ≡ why) }
     ensures areas { (code : List Insn) (areas others : List (Option Area)) → IsAccepted code areas → IsAccepted code others → areas ≡ others }
+{}
+
+/// A code is refused for a check that an instruction fails, never because control leaves the program or enters a wide load.
+pub fn refusals_are_of_checks()
+    ensures program { (code : List Insn) (place : ℕ) (cause : Cause) → IsRefusedAt code place cause → cause ≢ OutOfProgram }
+    ensures wide_load { (code : List Insn) (place : ℕ) (cause : Cause) → IsRefusedAt code place cause → cause ≢ IntoWide }
 {}
