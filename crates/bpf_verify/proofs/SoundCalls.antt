@@ -141,11 +141,11 @@ small_inside n word count ends is =
     subst (λ (w : ℕ). IsInside (pos n) w count) (sym same)
     (record { same = omega (arith, ints); ends = ends; inside = grind (arith, ints, nat_tests) })
 
-is_inside : (low high : ℤ) {at : ℤ} {word count : ℕ} (most : ℕ) → low ≤ℤ at → at ≤ℤ high → word ≡ cast_unsigned w64 at → count ≤ most
-    → (int_le (pos 0) (low +ℤ pos 0) && int_le ((high +ℤ pos 0) +ℤ pos most) (pos FRAME_LENGTH)) ≡ true → IsInside at word count
-is_inside low high {at = pos n} {word} {count} most above below is less within =
-    small_inside n word count (grind (arith, ints, nat_tests)) is
-is_inside low high {at = negsuc n} most above below is less within = let no : ⊥ = grind (arith, ints, nat_tests) in absurd no
+module _ (low high : ℤ) (most : ℕ) {word count : ℕ} where
+  is_inside : {at : ℤ} → low ≤ℤ at → at ≤ℤ high → word ≡ cast_unsigned w64 at → count ≤ most
+      → (int_le (pos 0) (low +ℤ pos 0) && int_le ((high +ℤ pos 0) +ℤ pos most) (pos FRAME_LENGTH)) ≡ true → IsInside at word count
+  is_inside {at = pos n} above below is less within = small_inside n word count (grind (arith, ints, nat_tests)) is
+  is_inside {at = negsuc n} above below is less within = let no : ⊥ = grind (arith, ints, nat_tests) in absurd no
 
 lent_inside : (bytes : LentBytes) (words : List ℕ) (lent : AreLent bytes words) → IsInside lent.offset.offset (second words) (third words)
 lent_inside bytes words lent =

@@ -119,34 +119,35 @@ module _ {x : Offsets} {at : ℤ} (offset : ℤ) (admits : Admits x at) where
             (λ slot inside apart. written.preserved slot inside (λ i above below same. apart i (omega arith) (omega arith) same));
       }
 
-  -- and after the bytes that were written in any case are marked
-  marks_admit : {known : AbstractState} {after : State} → IsProperState known → AdmitsState known after → (count least : ℕ)
-      → lie_within x offset count FRAME_LENGTH ≡ true → least ≤ count → AreWritten after.frame.bytes (at +ℤ offset) count
-      → AdmitsState (mark_bytes known x offset least) after
-  marks_admit {known} {after} proper admitted count least within fewer written = by_test (int_eq x.low x.high) refl
-    where
-      from : ℕ
-      from = unsigned_abs (x.low +ℤ offset)
+  module _ {known : AbstractState} {after : State} where
+    -- and after the bytes that were written in any case are marked
+    marks_admit : IsProperState known → AdmitsState known after → (count least : ℕ)
+        → lie_within x offset count FRAME_LENGTH ≡ true → least ≤ count → AreWritten after.frame.bytes (at +ℤ offset) count
+        → AdmitsState (mark_bytes known x offset least) after
+    marks_admit proper admitted count least within fewer written = by_test (int_eq x.low x.high) refl
+      where
+        from : ℕ
+        from = unsigned_abs (x.low +ℤ offset)
 
-      marked : AbstractState
-      marked = record known { frame = map.mark known.frame from least }
+        marked : AbstractState
+        marked = record known { frame = map.mark known.frame from least }
 
-      only_one : (low high z : ℤ) → low ≤ℤ z → z ≤ℤ high → int_eq low high ≡ true → z ≡ low
-      only_one low high z above below one = grind (arith, ints, nat_tests)
+        only_one : (low high z : ℤ) → low ≤ℤ z → z ≤ℤ high → int_eq low high ≡ true → z ≡ low
+        only_one low high z above below one = grind (arith, ints, nat_tests)
 
-      by_test : (one : Bool) → int_eq x.low x.high ≡ one → AdmitsState (if one then marked else known) after
-      by_test true one =
-          let same : at ≡ x.low = only_one x.low x.high at admits.above admits.below one in
-          let here : AreWritten after.frame.bytes (x.low +ℤ offset) count =
-          subst (λ (z : ℤ). AreWritten after.frame.bytes (z +ℤ offset) count) same written in
-          let ends = lie_between x.low x.high at offset count admits.above admits.below within in
-          let left = ends.above in let right = ends.below in let short = ends.within in
-          record {
-            registers = admitted.registers;
-            frame = mark_admits after.frame proper.frame admitted.frame from least (omega arith) (λ i there. there)
-                (λ i above below. here i above (omega arith)) (λ slot inside apart. refl);
-          }
-      by_test false many = admitted
+        by_test : (one : Bool) → int_eq x.low x.high ≡ one → AdmitsState (if one then marked else known) after
+        by_test true one =
+            let same : at ≡ x.low = only_one x.low x.high at admits.above admits.below one in
+            let here : AreWritten after.frame.bytes (x.low +ℤ offset) count =
+            subst (λ (z : ℤ). AreWritten after.frame.bytes (z +ℤ offset) count) same written in
+            let ends = lie_between x.low x.high at offset count admits.above admits.below within in
+            let left = ends.above in let right = ends.below in let short = ends.within in
+            record {
+              registers = admitted.registers;
+              frame = mark_admits after.frame proper.frame admitted.frame from least (omega arith) (λ i there. there)
+                  (λ i above below. here i above (omega arith)) (λ slot inside apart. refl);
+            }
+        by_test false many = admitted
 
   -- the state after bytes are written from one of the offsets on
   pub writes_admit : {known : AbstractState} {before : FrameContents} {after : State} → IsKnownBefore known before after → (count least most : ℕ)

@@ -51,26 +51,26 @@ record ExitsFrom (code : List Insn) (segment : SegmentParts) (state : State) (st
   exits : last_of (Running state) run ≡ Exited answer score
   short : length run ≤ steps
 
--- by what follows the state
-exits_by : {code : List Insn} (segment : SegmentParts) {annotation : Annotation} {state : State} (steps : ℕ) → IsAdmittedState code annotation state
-    → count_from code state.place ≤ suc steps
-    → ((there : State) → IsAdmittedState code annotation there → count_from code there.place ≤ steps → ExitsFrom code segment there steps)
-    → {next : Configuration} → next ≡ after code segment state → ComesTo code annotation state next
-    → ExitsFrom code segment state (suc steps)
-exits_by segment steps admitted_state few others {next = Stuck place cause} is comes = absurd comes
-exits_by segment steps admitted_state few others {next = Exited answer score} is comes =
-    record { run = Exited answer score ∷ []; follow = (is, tt); answer = answer; score = score; exits = refl; short = omega arith }
-exits_by {code} segment {state} steps admitted_state few others {next = Running there} is comes =
-    let fewer = count_from-later code state.place there.place admitted_state.insn admitted_state.is_insn comes.1 in
-    let rest = others there comes.0 (omega arith) in
-    record {
-      run = Running there ∷ rest.run;
-      follow = (is, rest.follow);
-      answer = rest.answer;
-      score = rest.score;
-      exits = rest.exits;
-      short = let short = rest.short in omega arith;
-    }
+module _ {code : List Insn} (segment : SegmentParts) {annotation : Annotation} {state : State} (steps : ℕ) where
+  -- by what follows the state
+  exits_by : IsAdmittedState code annotation state → count_from code state.place ≤ suc steps
+      → ((there : State) → IsAdmittedState code annotation there → count_from code there.place ≤ steps → ExitsFrom code segment there steps)
+      → {next : Configuration} → next ≡ after code segment state → ComesTo code annotation state next
+      → ExitsFrom code segment state (suc steps)
+  exits_by admitted_state few others {next = Stuck place cause} is comes = absurd comes
+  exits_by admitted_state few others {next = Exited answer score} is comes =
+      record { run = Exited answer score ∷ []; follow = (is, tt); answer = answer; score = score; exits = refl; short = omega arith }
+  exits_by admitted_state few others {next = Running there} is comes =
+      let fewer = count_from-later code state.place there.place admitted_state.insn admitted_state.is_insn comes.1 in
+      let rest = others there comes.0 (omega arith) in
+      record {
+        run = Running there ∷ rest.run;
+        follow = (is, rest.follow);
+        answer = rest.answer;
+        score = rest.score;
+        exits = rest.exits;
+        short = let short = rest.short in omega arith;
+      }
 
 exits_from : (code : List Insn) (segment : SegmentParts) (annotation : Annotation) → IsVerified code segment annotation
     → (steps : ℕ) (state : State) → IsAdmittedState code annotation state → count_from code state.place ≤ steps

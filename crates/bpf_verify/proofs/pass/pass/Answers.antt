@@ -27,15 +27,15 @@ module _ {code items : List Insn} (index : ℕ) {insn : Insn} (same : items ≡ 
       ap (take (index + 1)) (sym same) ∙ take_more items index insn within ∙ ap (λ (next : Insn). take index items ++ next ∷ []) (sym is)
       ∙ ap (λ (code : List Insn). take index code ++ insn ∷ []) same
 
-  -- an iteration
-  one_more : {before after : PassState} {areas more : List (Option Area)} {area : Option Area} {earlier : List Visit} → IsForward code
-      → IsAnnotatedUpTo code (take index code) before areas earlier
-      → Visits insn before after → AreProper (pending after) → area ≡ area_of (pending before before.place) insn → more ≡ areas ++ area ∷ []
-      → IsAnnotatedUpTo code (take (index + 1) code) after more (earlier ++ visit_of before insn ∷ [])
-  one_more {before} {after} {areas} {more} {earlier = earlier} forward progress visits proper found pushed =
-      let all : more ≡ areas ++ area_of (pending before before.place) insn ∷ [] =
-      pushed ∙ ap (λ (area : Option Area). areas ++ area ∷ []) found in
-      rw (passed_more, all) (continues code (take index code) insn before after areas earlier forward (comes_to progress) progress proper visits)
+  module _ {before after : PassState} {areas more : List (Option Area)} {area : Option Area} {earlier : List Visit} where
+    -- an iteration
+    one_more : IsForward code → IsAnnotatedUpTo code (take index code) before areas earlier → Visits insn before after
+        → AreProper (pending after) → area ≡ area_of (pending before before.place) insn → more ≡ areas ++ area ∷ []
+        → IsAnnotatedUpTo code (take (index + 1) code) after more (earlier ++ visit_of before insn ∷ [])
+    one_more forward progress visits proper found pushed =
+        let all : more ≡ areas ++ area_of (pending before before.place) insn ∷ [] =
+        pushed ∙ ap (λ (area : Option Area). areas ++ area ∷ []) found in
+        rw (passed_more, all) (continues code (take index code) insn before after areas earlier forward (comes_to progress) progress proper visits)
 
 pub loop-insn-init : goal.loop-insn-init
 loop-insn-init g c = record {
