@@ -27,10 +27,17 @@ CountsOpen (Err error) failed failed' =
 abbrev pub CountsClose : ℕ → ℕ → ℕ → Type 0
 CountsClose reads failed failed' = (reads ≡ 0 → failed' ≡ failed) × (reads ≢ 0 → failed' ≢ failed)
 
--- an open that fails because the file doesn't exist yields nothing; any other error is passed on
-abbrev pub IsNotFoundAsNone : {T : Type 0} → Result T Error → Result (Option T) Error → Type 0
-IsNotFoundAsNone (Ok value) opened = opened ≡ Ok (Some value)
-IsNotFoundAsNone (Err error) opened = (error_kind error ≡ NotFound → opened ≡ Ok None) × (error_kind error ≢ NotFound → opened ≡ Err error)
+-- An opened reader reads from the file that the system opened. If there is no reader, the system's open failed with this error, or there was no
+-- memory for the reader.
+abbrev pub OpensReader : {F R : Type 0} → (Result F Error → Type 0) → (R → F) → Result R Error → Type 0
+OpensReader Opens file_of (Ok reader) = Opens (Ok (file_of reader))
+OpensReader Opens file_of (Err error) = Opens (Err error) ⊎ (error_kind error ≡ OutOfMemory)
+
+-- the open of a file that may be missing: there is no reader only if the open failed because the file doesn't exist
+abbrev pub OpensOptional : {R : Type 0} → (Result R Error → Type 0) → Result (Option R) Error → Type 0
+OpensOptional Opens (Ok (Some reader)) = Opens (Ok reader)
+OpensOptional Opens (Ok None) = (error : Error) × Opens (Err error) × (error_kind error ≡ NotFound)
+OpensOptional Opens (Err error) = Opens (Err error) × (error_kind error ≢ NotFound)
 
 -- the bytes that an opened reader has left, if they are known; none if there is no file
 abbrev pub optional_remaining : {R : Type 0} → (R → Option (List ℕ)) → Option R → Option (List ℕ)

@@ -1,10 +1,12 @@
 //! The files that a command reads, by name.
-ghost use Rattle.std.specs.Prelude.{◌≡◌, ◌≤◌, ◌*◌, ◌%◌, ℕ, List, ◌++◌, length, take, Option, IfOk, IfErr, MatchResult, None, Ok, Err, Some};
+ghost use Rattle.std.specs.Prelude.{◌≡◌, ◌≤◌, ◌*◌, ◌%◌, ℕ, List, ◌++◌, length, take, Option, IfOk, IfErr, MatchResult, None, Result, Ok, Err, Some, ⊤};
 ghost use Rattle.std.specs.Io.{ReadsAtMost};
+ghost use Rattle.std.specs.Io.Buffered.{reader_inner};
 ghost use Rattle.std.specs.Io.KnownBytes.{Keeps, ReadConsumes};
+ghost use Rattle.std.specs.declared.io.Error.{Error};
 ghost use Rattle.counted_io.specs.Counting.{CountsFailure};
 ghost use Rattle.counted_io.specs.ReaderWriter.{reader};
-ghost use Rattle.named_files.specs.Files.{Closes, CountsClose, CountsOpen, CountsProgramFault, IsPrefix, IsNotFoundAsNone, IsTooLong, IsUnread, Opens, CountsFileResult, IsProgramInputFault, CountsProgramUse, CountsUseResult, disk, input_failed_reads, input_reader, input_remaining};
+ghost use Rattle.named_files.specs.Files.{Closes, CountsClose, CountsOpen, CountsProgramFault, IsPrefix, IsTooLong, IsUnread, Opens, OpensOptional, OpensReader, CountsFileResult, IsProgramInputFault, CountsProgramUse, CountsUseResult, disk, input_failed_reads, input_reader, input_remaining};
 ghost use Rattle.named_files.specs.declared.files.FileFault.TheVariants.{Memory};
 ghost use Rattle.named_files.specs.declared.files.ProgramInputFault.TheVariants.{File};
 ghost use Rattle.named_files.specs.declared.files.TheConstants.{MAX_STORED_BYTES};
@@ -53,13 +55,16 @@ impl From<AllocError> for ProgramInputFault {
 
 /// Files, opened by name.
 pub trait Files {
-    ghost use Rattle.named_files.specs.Files.{CountsClose, CountsOpen, optional_failed_reads, optional_remaining};
+    ghost use Rattle.named_files.specs.Files.{CountsClose, CountsOpen, OpensOptional, optional_failed_reads, optional_remaining};
 
     // It can't be dropped: each opened reader must be closed, so no failed read goes unnoticed.
     type Reader: CountedRead;
 
-    // The bytes of the file of this name, if they are known; none for a file that doesn't exist.
+    // The bytes of the file of this name, if they are known. A file that doesn't exist has no bytes, or unknown ones.
     ghost bytes: { Self → List ℕ → Option (List ℕ) } = { λ _ _. None };
+
+    // An open of the file of this name had this result.
+    ghost opens: { List ℕ → Result Self.Reader Error → Type 0 } = { λ _ _. ⊤ };
 
     // The number of failed opens, except those that ran out of memory, modulo 2^64.
     ghost failed_opens: { Self → ℕ };
@@ -69,6 +74,7 @@ pub trait Files {
 
     /// Opens a file for reading and returns a reader with its own buffer.
     fn open(&mut self, name: &str) -> io::Result<Self::Reader>
+        ensures opened { opens name.now result }
         ensures known { IfOk result (λ reader. Keeps (bytes self.old name.now) (Self.Reader.remaining reader)) }
         ensures unread { IfOk result (λ reader. Self.Reader.failed_reads reader ≡ 0) }
         ensures stay { (other : List ℕ) → bytes self.new other ≡ bytes self.old other }
@@ -77,6 +83,7 @@ pub trait Files {
 
     /// Opens a file for reading. Returns `None` if it doesn't exist; any other failure is an error.
     fn open_optional(&mut self, name: &str) -> io::Result<Option<Self::Reader>>
+        ensures opened { OpensOptional (opens name.now) result }
         ensures known { IfOk result (λ opened. Keeps (bytes self.old name.now) (optional_remaining Self.Reader.remaining opened)) }
         ensures unread { IfOk result (λ opened. optional_failed_reads Self.Reader.failed_reads opened ≡ 0) }
         ensures stay { (other : List ℕ) → bytes self.new other ≡ bytes self.old other }
@@ -90,10 +97,30 @@ pub trait Files {
         ensures reads { CountsClose (Self.Reader.failed_reads reader) (failed_reads self.old) (failed_reads self.new) };
 }
 
+/// A file system, which opens files by name. No contract says which bytes a file has, but this one says which name was opened.
+pub trait FileSystem {
+    type File: Read + Drop;
+
+    // An open of the file of this name had this result.
+    ghost opens: { List ℕ → Result Self.File Error → Type 0 } = { λ _ _. ⊤ };
+
+    /// Opens a file for reading.
+    fn open_path(&self, name: &str) -> io::Result<Self::File>
+        ensures { opens name.now result };
+}
+
+impl<R: rt::Files> FileSystem for R {
+    type File = R::File;
+
+    fn open_path(&self, name: &str) -> io::Result<R::File> {
+        File::open(self, name)
+    }
+}
+
 /// The system's files.
 #[derive(Drop)]
-pub struct SystemFiles<'a, R> {
-    runtime: &'a R,
+pub struct SystemFiles<'a, S> {
+    system: &'a S,
     failed_opens: u64,
     failed_reads: u64,
 }
@@ -101,13 +128,13 @@ pub struct SystemFiles<'a, R> {
 // The number of bytes that a reader fetches at once.
 pub const INPUT_BUFFER: usize = 65536;
 
-impl<'a, R> SystemFiles<'a, R> {
-    pub fn new(runtime: &'a R) -> Self
+impl<'a, S> SystemFiles<'a, S> {
+    pub fn new(system: &'a S) -> Self
         ensures opens { result.failed_opens ≡ 0 }
         ensures reads { result.failed_reads ≡ 0 }
     {
         SystemFiles {
-            runtime,
+            system,
             failed_opens: 0,
             failed_reads: 0,
         }
@@ -123,15 +150,17 @@ impl<'a, R> SystemFiles<'a, R> {
     }
 }
 
-impl<R: rt::Files + AllocGlobal> Files for SystemFiles<'_, R> {
-    type Reader = Buffered<BufReader<R::File>>;
+impl<S: FileSystem + AllocGlobal> Files for SystemFiles<'_, S> {
+    type Reader = Buffered<BufReader<S::File>>;
+
+    ghost opens = { λ name. OpensReader (S.opens name) (λ reader. reader_inner reader.reader) };
 
     ghost failed_opens = { λ files. files.failed_opens };
 
     ghost failed_reads = { λ files. files.failed_reads };
 
-    fn open(&mut self, name: &str) -> io::Result<Buffered<BufReader<R::File>>> {
-        match open_buffered(self.runtime, name) {
+    fn open(&mut self, name: &str) -> io::Result<Buffered<BufReader<S::File>>> {
+        match open_buffered(self.system, name) {
             Ok(reader) => Ok(reader),
             Err(error) => {
                 self.count_open(error);
@@ -140,8 +169,8 @@ impl<R: rt::Files + AllocGlobal> Files for SystemFiles<'_, R> {
         }
     }
 
-    fn open_optional(&mut self, name: &str) -> io::Result<Option<Buffered<BufReader<R::File>>>> {
-        match not_found_as_none(open_buffered(self.runtime, name)) {
+    fn open_optional(&mut self, name: &str) -> io::Result<Option<Buffered<BufReader<S::File>>>> {
+        match not_found_as_none(open_buffered(self.system, name)) {
             Ok(opened) => Ok(opened),
             Err(error) => {
                 self.count_open(error);
@@ -150,27 +179,28 @@ impl<R: rt::Files + AllocGlobal> Files for SystemFiles<'_, R> {
         }
     }
 
-    fn close(&mut self, reader: Buffered<BufReader<R::File>>) {
+    fn close(&mut self, reader: Buffered<BufReader<S::File>>) {
         if reader.failed_reads() != 0 {
             count_one(&mut self.failed_reads);
         }
     }
 }
 
-fn open_buffered<R: rt::Files + AllocGlobal>(
-    runtime: &R,
+fn open_buffered<S: FileSystem + AllocGlobal>(
+    system: &S,
     name: &str,
-) -> io::Result<Buffered<BufReader<R::File>>>
-    ensures { IfOk result (λ reader. reader.failed_reads ≡ 0) }
+) -> io::Result<Buffered<BufReader<S::File>>>
+    ensures opened { OpensReader (S.opens name.now) (λ reader. reader_inner reader.reader) result }
+    ensures unread { IfOk result (λ reader. reader.failed_reads ≡ 0) }
 {
-    let file = File::open(runtime, name)?;
-    let reader = BufReader::with_capacity(runtime.alloc(), INPUT_BUFFER, file)?;
+    let file = system.open_path(name)?;
+    let reader = BufReader::with_capacity(system.alloc(), INPUT_BUFFER, file)?;
     Ok(Buffered::new(reader))
 }
 
 /// Returns the opened value, or `None` if the file doesn't exist. Any other failure is an error.
 fn not_found_as_none<T>(opened: io::Result<T>) -> io::Result<Option<T>>
-    ensures { IsNotFoundAsNone opened result }
+    ensures { OpensOptional (λ outcome. outcome ≡ opened) result }
 {
     match opened {
         Ok(reader) => Ok(Some(reader)),

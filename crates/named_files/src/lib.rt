@@ -6,6 +6,6 @@ mod files;
 
 pub use county::{CountyFileFault, CountyInputs, close_county, name_end, open_county};
 pub use files::{
-    FileFault, Files, INPUT_BUFFER, ProgramInputFault, SystemFiles, open, read_file,
+    FileFault, FileSystem, Files, INPUT_BUFFER, ProgramInputFault, SystemFiles, open, read_file,
     read_file_prefix, read_program, read_program_file, read_to_end,
 };
