@@ -1,10 +1,13 @@
 -- What opening, reading and closing files counts.
-use Rattle.std.proofs.Common.{◌≡◌, ◌≢◌, ℕ, List, Option, Result, MatchResult, sym, ◌∙◌, arith}
+use Rattle.std.proofs.Common.{◌≡◌, ◌≢◌, ℕ, List, Option, Result, Ok, Err, IfErr, MatchResult, inr, sym, ◌∙◌, arith}
 use Rattle.std.specs.Io.KnownBytes.{Keeps}
+use Rattle.std.specs.declared.io.Error.{Error}
 use Rattle.named_files.specs.Files.{CountsClose, CountsProgramFault, Disk, IsUnfailed}
-use Rattle.named_files.specs.Files.{CountsFileResult, CountsProgramUse, CountsUseResult}
+use Rattle.named_files.specs.Files.{CountsFileResult, CountsProgramUse, CountsUseResult, IsProgramUseFault, IsUseFault}
 use Rattle.named_files.specs.declared.files.FileFault.{FileFault}
+use Rattle.named_files.specs.declared.files.FileFault.TheVariants.{Unusable, Memory}
 use Rattle.named_files.specs.declared.files.ProgramInputFault.{ProgramInputFault}
+use Rattle.named_files.specs.declared.files.ProgramInputFault.TheVariants.{File, Code}
 
 -- what is known stays the same over two calls
 pub preserves_both : (a b c : Option (List ℕ)) → Keeps a b → Keeps b c → Keeps a c
@@ -33,3 +36,23 @@ module _ (disk disk' : Disk) {before after between : ℕ} (opens : disk'.failed_
       → MatchResult result (λ _. after ≡ before) (λ of. CountsProgramFault of before after)
       → CountsClose after between disk'.failed_reads → CountsProgramUse result disk disk'
   used_program result reads closes = grind (arith, reads, closes)
+
+-- the file of this name was opened; if it can't be used, a read failed
+module _ {R : Type 0} (HasResult : Result R Error → Type 0) (disk disk' : Disk) {before after between : ℕ} (unread : before ≡ 0)
+    (same : between ≡ disk.failed_reads) (reader : R) (opened : HasResult (Ok reader)) where
+  pub read_fault : {T : Type 0} (result : Result T FileFault) → CountsFileResult result before after
+      → CountsClose after between disk'.failed_reads → IfErr result (IsUseFault HasResult disk disk')
+  read_fault (Ok bytes) reads closes = tt
+  read_fault (Err (Unusable error)) reads closes =
+      inr (reader, opened, λ as_before. broken_close unread closes reads (as_before ∙ sym same))
+  read_fault (Err Memory) reads closes = tt
+
+  -- the same for a program
+  pub read_program_fault : {T : Type 0} (result : Result T ProgramInputFault)
+      → MatchResult result (λ _. after ≡ before) (λ of. CountsProgramFault of before after)
+      → CountsClose after between disk'.failed_reads → IfErr result (IsProgramUseFault HasResult disk disk')
+  read_program_fault (Ok program) reads closes = tt
+  read_program_fault (Err (File (Unusable error))) reads closes =
+      inr (reader, opened, λ as_before. broken_close unread closes reads (as_before ∙ sym same))
+  read_program_fault (Err (File Memory)) reads closes = tt
+  read_program_fault (Err (Code fault)) reads closes = tt

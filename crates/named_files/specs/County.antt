@@ -1,5 +1,6 @@
 -- The files of a county in a folder, by name, and the bytes that their readers hold.
-use Rattle.std.specs.Prelude.{◌≡◌, ℕ, List, ◌++◌, codes, Option, ⊤}
+use Rattle.std.specs.Prelude.{◌≡◌, ℕ, List, ◌++◌, codes, Option, ⊤, Result}
+use Rattle.std.specs.declared.io.Error.{Error}
 use Rattle.tl_segments.specs.County.{CountyReaders}
 use Rattle.tl_segments.specs.CountyFiles as county_files
 use Rattle.tl_segments.specs.Loading.{Readers}
@@ -7,7 +8,8 @@ use Rattle.tl_segments.specs.declared.county_files.CountyFiles.{CountyFiles}
 use Rattle.tl_segments.specs.declared.county_files.JoinedFiles.{JoinedFiles}
 use Rattle.tl_segments.specs.declared.fault.CountyFile.{CountyFile}
 use Rattle.tl_segments.specs.declared.fault.CountyFile.TheVariants.{Rt1, Rt4, Rt5, Rt6}
-use Rattle.named_files.specs.Files.{CountsClose, IsUnread, input_failed_reads, input_remaining}
+use Rattle.named_files.specs.Files.{CountsClose, IsOpenFault, IsUnread, input_failed_reads, input_remaining}
+use Rattle.named_files.specs.declared.county.CountyFileFault.{CountyFileFault}
 use Rattle.named_files.specs.declared.files.Input.{Input}
 use Rattle.named_files.specs.declared.files.Input.TheVariants as input
 
@@ -57,3 +59,7 @@ pub record ClosesCounty (readers : CountyReaders) (failed failed' : ℕ) : Type 
   pub after_rt5 : ℕ
   pub rt5 : CountsClose readers.joined.rt5.failed after_rt4 after_rt5
   pub rt6 : CountsClose readers.joined.rt6.failed after_rt5 failed'
+
+-- why a county's file can't be opened: an open of it failed with this error, or memory ran out
+abbrev pub IsCountyOpenFault : {R : Type 0} → (List ℕ → Result R Error → Type 0) → List ℕ → List ℕ → CountyFileFault → Type 0
+IsCountyOpenFault opens folder code fault = IsOpenFault (opens (file_name folder code fault.file)) fault.fault

@@ -30,14 +30,14 @@ CountsClose reads failed failed' = (reads ≡ 0 → failed' ≡ failed) × (read
 -- An opened reader reads from the file that the system opened. If there is no reader, the system's open failed with this error, or there was no
 -- memory for the reader.
 abbrev pub OpensReader : {F R : Type 0} → (Result F Error → Type 0) → (R → F) → Result R Error → Type 0
-OpensReader Opens file_of (Ok reader) = Opens (Ok (file_of reader))
-OpensReader Opens file_of (Err error) = Opens (Err error) ⊎ (error_kind error ≡ OutOfMemory)
+OpensReader HasResult file_of (Ok reader) = HasResult (Ok (file_of reader))
+OpensReader HasResult file_of (Err error) = HasResult (Err error) ⊎ (error_kind error ≡ OutOfMemory)
 
 -- the open of a file that may be missing: there is no reader only if the open failed because the file doesn't exist
 abbrev pub OpensOptional : {R : Type 0} → (Result R Error → Type 0) → Result (Option R) Error → Type 0
-OpensOptional Opens (Ok (Some reader)) = Opens (Ok reader)
-OpensOptional Opens (Ok None) = (error : Error) × Opens (Err error) × (error_kind error ≡ NotFound)
-OpensOptional Opens (Err error) = Opens (Err error) × (error_kind error ≢ NotFound)
+OpensOptional HasResult (Ok (Some reader)) = HasResult (Ok reader)
+OpensOptional HasResult (Ok None) = (error : Error) × HasResult (Err error) × (error_kind error ≡ NotFound)
+OpensOptional HasResult (Err error) = HasResult (Err error) × (error_kind error ≢ NotFound)
 
 -- the bytes that an opened reader has left, if they are known; none if there is no file
 abbrev pub optional_remaining : {R : Type 0} → (R → Option (List ℕ)) → Option R → Option (List ℕ)
@@ -145,3 +145,19 @@ abbrev pub CountsProgramUse : {T : Type 0} → Result T ProgramInputFault → Di
 CountsProgramUse (Ok program) disk disk' = IsUnfailed disk disk'
 CountsProgramUse (Err (File fault)) disk disk' = CountsUse fault disk disk'
 CountsProgramUse (Err (Code fault)) disk disk' = IsUnfailed disk disk'
+
+-- why a file can't be opened: an open of it failed with this error, or memory ran out
+abbrev pub IsOpenFault : {R : Type 0} → (Result R Error → Type 0) → FileFault → Type 0
+IsOpenFault HasResult (Unusable error) = HasResult (Err error)
+IsOpenFault HasResult Memory = ⊤
+
+-- why a file can't be read: an open of it failed with this error; or it was opened, and then a read failed; or memory ran out
+abbrev pub IsUseFault : {R : Type 0} → (Result R Error → Type 0) → Disk → Disk → FileFault → Type 0
+IsUseFault {R} HasResult disk disk' (Unusable error) =
+    HasResult (Err error) ⊎ ((reader : R) × HasResult (Ok reader) × (disk'.failed_reads ≢ disk.failed_reads))
+IsUseFault HasResult disk disk' Memory = ⊤
+
+-- the same for a program, unless it is refused for its length
+abbrev pub IsProgramUseFault : {R : Type 0} → (Result R Error → Type 0) → Disk → Disk → ProgramInputFault → Type 0
+IsProgramUseFault HasResult disk disk' (File fault) = IsUseFault HasResult disk disk' fault
+IsProgramUseFault HasResult disk disk' (Code fault) = ⊤

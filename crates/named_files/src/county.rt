@@ -1,6 +1,6 @@
 //! The files of a county (TIGER/Line 2006, record types 1, 4, 5 and 6), opened by name.
 ghost use Rattle.std.specs.Prelude.{◌≡◌, IfErr, IfOk, string_bytes};
-ghost use Rattle.named_files.specs.County.{ClosesCounty, HoldCounty, HoldJoined, IsOpened, county_readers, file_name, joined_readers, name_end};
+ghost use Rattle.named_files.specs.County.{ClosesCounty, HoldCounty, HoldJoined, IsCountyOpenFault, IsOpened, county_readers, file_name, joined_readers, name_end};
 ghost use Rattle.named_files.specs.Files.{Closes, IsUnread, Opens, disk, input_reader};
 ghost use Rattle.named_files.specs.declared.files.FileFault.TheVariants.{Memory};
 
@@ -29,6 +29,7 @@ pub fn open_county<A: Allocator + Copy, F: Files>(
     ensures hold { IfOk result (λ inputs. HoldCounty (F.bytes files.old) folder.now code.now
         (county_readers F.Reader.remaining F.Reader.failed_reads inputs)) }
     ensures is_open { IfOk result (λ inputs. IsOpened inputs.rt1) }
+    ensures fault { IfErr result (IsCountyOpenFault F.opens folder.now code.now) }
     ensures opens { Opens result (λ fault. fault.fault) (disk F.bytes F.failed_opens F.failed_reads files.old)
         (disk F.bytes F.failed_opens F.failed_reads files.new) }
 {
@@ -54,6 +55,7 @@ fn open_joined<A: Allocator + Copy, F: Files>(
 ) -> Result<JoinedFiles<Input<F::Reader>>, CountyFileFault>
     ensures hold { IfOk result (λ inputs. HoldJoined (F.bytes files.old) folder.now code.now
         (joined_readers F.Reader.remaining F.Reader.failed_reads inputs)) }
+    ensures fault { IfErr result (IsCountyOpenFault F.opens folder.now code.now) }
     ensures opens { Opens result (λ fault. fault.fault) (disk F.bytes F.failed_opens F.failed_reads files.old)
         (disk F.bytes F.failed_opens F.failed_reads files.new) }
 {
@@ -89,6 +91,8 @@ fn open_file<A: Allocator + Copy, F: Files>(
     ensures known { IfOk result (λ input. IsUnread (F.bytes files.old (file_name folder.now code.now file))
         (input_reader F.Reader.remaining F.Reader.failed_reads input)) }
     ensures is_open { IfOk result (λ input. file ≡ CountyFile.Rt1 → IsOpened input) }
+    ensures fault { IfErr result (IsCountyOpenFault F.opens folder.now code.now) }
+    ensures of_file { IfErr result (λ fault. fault.file ≡ file) }
     ensures opens { Opens result (λ fault. fault.fault) (disk F.bytes F.failed_opens F.failed_reads files.old)
         (disk F.bytes F.failed_opens F.failed_reads files.new) }
 {

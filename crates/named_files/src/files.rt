@@ -6,7 +6,7 @@ ghost use Rattle.std.specs.Io.KnownBytes.{Keeps, ReadConsumes};
 ghost use Rattle.std.specs.declared.io.Error.{Error};
 ghost use Rattle.counted_io.specs.Counting.{CountsFailure};
 ghost use Rattle.counted_io.specs.ReaderWriter.{reader};
-ghost use Rattle.named_files.specs.Files.{Closes, CountsClose, CountsOpen, CountsProgramFault, IsPrefix, IsTooLong, IsUnread, Opens, OpensOptional, OpensReader, CountsFileResult, IsProgramInputFault, CountsProgramUse, CountsUseResult, disk, input_failed_reads, input_reader, input_remaining};
+ghost use Rattle.named_files.specs.Files.{Closes, CountsClose, CountsOpen, CountsProgramFault, IsOpenFault, IsPrefix, IsProgramUseFault, IsTooLong, IsUseFault, IsUnread, Opens, OpensOptional, OpensReader, CountsFileResult, IsProgramInputFault, CountsProgramUse, CountsUseResult, disk, input_failed_reads, input_reader, input_remaining};
 ghost use Rattle.named_files.specs.declared.files.FileFault.TheVariants.{Memory};
 ghost use Rattle.named_files.specs.declared.files.ProgramInputFault.TheVariants.{File};
 ghost use Rattle.named_files.specs.declared.files.TheConstants.{MAX_STORED_BYTES};
@@ -213,6 +213,8 @@ fn not_found_as_none<T>(opened: io::Result<T>) -> io::Result<Option<T>>
 pub fn open<F: Files>(files: &mut F, name: &str) -> Result<F::Reader, FileFault>
     ensures known { IfOk result (λ opened. IsUnread (F.bytes files.old name.now)
         (reader F.Reader.remaining F.Reader.failed_reads opened)) }
+    ensures opened { IfOk result (λ reader. F.opens name.now (Ok reader)) }
+    ensures fault { IfErr result (IsOpenFault (F.opens name.now)) }
     ensures opens { Opens result (λ fault. fault) (disk F.bytes F.failed_opens F.failed_reads files.old)
         (disk F.bytes F.failed_opens F.failed_reads files.new) }
 {
@@ -227,6 +229,7 @@ pub fn open<F: Files>(files: &mut F, name: &str) -> Result<F::Reader, FileFault>
 pub fn open_optional<F: Files>(files: &mut F, name: &str) -> Result<Input<F::Reader>, FileFault>
     ensures known { IfOk result (λ input. IsUnread (F.bytes files.old name.now)
         (input_reader F.Reader.remaining F.Reader.failed_reads input)) }
+    ensures fault { IfErr result (IsOpenFault (F.opens name.now)) }
     ensures opens { Opens result (λ fault. fault) (disk F.bytes F.failed_opens F.failed_reads files.old)
         (disk F.bytes F.failed_opens F.failed_reads files.new) }
 {
@@ -281,6 +284,8 @@ pub fn read_file<A: Allocator, F: Files>(
 ) -> Result<Vec<u8, A>, FileFault>
     ensures known { IfOk result (λ bytes. Keeps (F.bytes files.old name.now) (Some bytes.items)) }
     ensures stay { (other : List ℕ) → F.bytes files.new other ≡ F.bytes files.old other }
+    ensures fault { IfErr result (IsUseFault (F.opens name.now) (disk F.bytes F.failed_opens F.failed_reads files.old)
+        (disk F.bytes F.failed_opens F.failed_reads files.new)) }
     ensures uses { CountsUseResult result (disk F.bytes F.failed_opens F.failed_reads files.old)
         (disk F.bytes F.failed_opens F.failed_reads files.new) }
 {
@@ -344,6 +349,8 @@ pub fn read_file_prefix<A: Allocator, F: Files>(
 ) -> Result<Vec<u8, A>, FileFault>
     ensures prefix { IfOk result (λ prefix. IsPrefix limit (F.bytes files.old name.now) prefix.items) }
     ensures stay { (other : List ℕ) → F.bytes files.new other ≡ F.bytes files.old other }
+    ensures fault { IfErr result (IsUseFault (F.opens name.now) (disk F.bytes F.failed_opens F.failed_reads files.old)
+        (disk F.bytes F.failed_opens F.failed_reads files.new)) }
     ensures uses { CountsUseResult result (disk F.bytes F.failed_opens F.failed_reads files.old)
         (disk F.bytes F.failed_opens F.failed_reads files.new) }
 {
@@ -421,6 +428,8 @@ pub fn read_program_file<A: Allocator, F: Files>(
     ensures known { IfOk result (λ program. Keeps (F.bytes files.old name.now) (Some program.items)) }
     ensures stay { (other : List ℕ) → F.bytes files.new other ≡ F.bytes files.old other }
     ensures refused { IfErr result (IsProgramInputFault (F.bytes files.old name.now)) }
+    ensures fault { IfErr result (IsProgramUseFault (F.opens name.now) (disk F.bytes F.failed_opens F.failed_reads files.old)
+        (disk F.bytes F.failed_opens F.failed_reads files.new)) }
     ensures uses { CountsProgramUse result (disk F.bytes F.failed_opens F.failed_reads files.old)
         (disk F.bytes F.failed_opens F.failed_reads files.new) }
 {
