@@ -1,24 +1,22 @@
 -- What each exit status guarantees, given how a request was carried out.
-use Rattle.std.proofs.Common.{◌≡◌, ◌≢◌, ℕ, List, Option, Result, Err, ap, subst, sym, arith, ◌∙◌}
-use Rattle.std.specs.Io.KnownBytes.{Keeps}
+use Rattle.std.proofs.Common.{◌≡◌, ◌≢◌, ℕ, List, Option, Result, Ok, Err, refl, ap, subst, sym, arith, ◌∙◌}
 use Rattle.std.specs.declared.io.Error.{Error}
 use Rattle.refusals.specs.Refusal.{RefusalParts}
 use Rattle.counted_io.specs.Counting.{CountsFault, CountsFlush}
 use Rattle.counted_io.specs.ReaderWriter.{WriteCounts, Writer}
 use Rattle.counted_io.specs.declared.writing.WriteFault.{WriteFault}
-use Rattle.commands.specs.Command.{CarriesOut, IsTextRefused, ReportsMissingLine, IsOutOfMemory, IsRefusal, IsRefusalOf, IsRefusedWith}
-use Rattle.commands.specs.Command.{Writes, of_library, of_other}
+use Rattle.commands.specs.Command.{CarriesOut, Ends, IsCarriedOut, IsFlushed, IsTextRefused, IsRefusal, IsRefusalOf, IsRefusedWith}
+use Rattle.commands.specs.Command.{Writes, after_failed_flush, after_flush, after_write}
 use Rattle.named_files.specs.County.{file_name}
-use Rattle.commands.specs.Failure.{Reports, refusal_status, status}
+use Rattle.commands.specs.Failure.{IsFailureBeforeFlush, Reports, refusal_status, status}
 use Rattle.named_files.specs.Files.{Disk}
-use Rattle.commands.specs.Command.{IsUnusable, of_county, of_county_file, of_file, of_source, of_write}
-use Rattle.commands.proofs.CarriedLemmas.{refusal_not_usage}
+use Rattle.commands.specs.Command.{IsUnusable, of_county, of_county_file, of_file, of_source, of_two, of_write}
 use Rattle.commands.proofs.ClassLemmas.{address_status, filter_status}
 use Rattle.commands.proofs.SelectLemmas.{counties_counts}
 use Rattle.commands.specs.declared.request.Request.{Request}
 use Rattle.commands.specs.declared.request.Request.TheVariants.{Run, Compile, GeocodeBatch, Select}
 use Rattle.commands.specs.declared.failure.Failure.{Failure}
-use Rattle.commands.specs.declared.failure.Failure.TheVariants.{Refusal, Memory, Write, File, CountyFile, NotUtf8, Noted, County, Output}
+use Rattle.commands.specs.declared.failure.Failure.TheVariants.{Refusal, Write, File, CountyFile, NotUtf8, NoLine, Noted, County, Output}
 
 -- an attempted flush is counted
 pub flush_counted : (flush : Result (Unit {0}) Error) (counts counts' : WriteCounts) → CountsFlush flush counts counts'
@@ -43,65 +41,93 @@ text_usable (Select arguments) known refusal is = filter_status arguments.filter
 text_usable (GeocodeBatch arguments) known refusal is = λ three. address_status is.fault (ap refusal_status (sym is.refused) ∙ three)
 text_usable request known refusal is = absurd is
 
-unchanged_as : {out unflushed : Writer} (held : Option (List ℕ)) → unflushed ≡ out → Keeps unflushed.held held → Keeps out.held held
-unchanged_as held same = subst (λ (writer : Writer). Keeps writer.held held) same
+flushed_as : {out unflushed out' : Writer} → unflushed ≡ out → IsFlushed unflushed out' → IsFlushed out out'
+flushed_as {out' = out'} = subst (λ (writer : Writer). IsFlushed writer out')
 
--- status 2 means that the line doesn't exist
-pub line_missing : {request : Request} {disk disk' : Disk} {out out' errors errors' : Writer} (failure : Failure)
-    → CarriesOut request (Err failure) disk disk' out out' → Reports failure errors errors' → status failure ≡ 2
-    → ReportsMissingLine request disk.known errors errors'
-line_missing failure carried reported two = grind (arith, refusal_not_usage, carried.outcome, reported, two)
+module _ (failure : Failure) {of : ℕ} {out out' errors errors' : Writer} (other : of ≢ 3) where
+  -- another status than 3 is that of the failure, which was reported after a flush
+  ends_status : Ends failure of out out' errors errors' → of ≡ status failure
+  ends_status (after_flush is flush reported) = is
+  ends_status (after_write fault is three unchanged reported flush counts) = absurd (other three)
+  ends_status (after_failed_flush before three between reported flush) = absurd (other three)
 
--- a library's refusal was reported, and then a flush was attempted, which keeps what was written
-refusal_reported : {of : ℕ} {request : Request} (known : List ℕ → Option (List ℕ)) {out out' errors errors' : Writer} (unflushed : Writer)
-    (failure : Failure) → IsRefusedWith request known failure out unflushed → Reports failure errors errors' → Keeps unflushed.held out'.held
-    → status failure ≡ of → IsRefusalOf of request known out out' errors errors'
-refusal_reported known unflushed failure refused reported unchanged is = record {
-  failure = failure;
-  is_status = is;
-  unflushed = unflushed;
-  refused = refused;
-  unchanged = unchanged;
-  reported = reported;
-}
+  ends_flushed : Ends failure of out out' errors errors' → IsFlushed out out' × Reports failure errors errors'
+  ends_flushed (after_flush is flush reported) = (flush, reported)
+  ends_flushed (after_write fault is three unchanged reported flush counts) = absurd (other three)
+  ends_flushed (after_failed_flush before three between reported flush) = absurd (other three)
 
-module _ {request : Request} {disk disk' : Disk} {out unflushed out' errors errors' : Writer} where
-  pub refused_reported : (failure : Failure) → CarriesOut request (Err failure) disk disk' out unflushed → Reports failure errors errors'
-      → Keeps unflushed.held out'.held → status failure ≡ 1 → IsRefusal request disk.known out out' errors errors'
-  refused_reported (Refusal refusal) carried reported unchanged one = refusal_reported disk.known unflushed (Refusal refusal) carried.outcome.0 reported unchanged one
-  refused_reported (Noted refusal note) carried reported unchanged one = refusal_reported disk.known unflushed (Noted refusal note) carried.outcome reported unchanged one
-  refused_reported (County code refusal) carried reported unchanged one = refusal_reported disk.known unflushed (County code refusal) carried.outcome.0 reported unchanged one
-  refused_reported failure carried reported unchanged one = absurd (omega (arith, one))
+-- a failure that is neither a failed write nor a usage error
+pub before_flush : (failure : Failure) → ((fault : WriteFault) → failure ≢ Write fault) → status failure ≢ 2 → IsFailureBeforeFlush failure
+before_flush (Write fault) written usage = absurd (written fault refl)
+before_flush (NoLine number) written usage = absurd (usage refl)
+before_flush failure written usage = tt
 
-  -- memory ran out
-  pub memory_reported : (failure : Failure) → CarriesOut request (Err failure) disk disk' out unflushed → Reports failure errors errors'
-      → Keeps unflushed.held out'.held → status failure ≡ 4 → IsOutOfMemory request disk.known out out' errors errors'
-  memory_reported (Refusal refusal) carried reported unchanged four =
-      of_library (refusal_reported disk.known unflushed (Refusal refusal) carried.outcome.0 reported unchanged four)
-  memory_reported (Noted refusal note) carried reported unchanged four =
-      of_library (refusal_reported disk.known unflushed (Noted refusal note) carried.outcome reported unchanged four)
-  memory_reported (County code refusal) carried reported unchanged four =
-      of_library (refusal_reported disk.known unflushed (County code refusal) carried.outcome.0 reported unchanged four)
-  memory_reported Memory carried reported unchanged four = of_other (unchanged_as out'.held carried.outcome unchanged) reported
-  memory_reported failure carried reported unchanged four = absurd (omega (arith, four))
+-- what was written was flushed, and then a library's refusal was reported
+module _ {of : ℕ} {request : Request} (known : List ℕ → Option (List ℕ)) {out out' errors errors' : Writer} (unflushed : Writer)
+    (flushed : IsFlushed unflushed out') where
+  refusal_reported : (failure : Failure) → IsRefusedWith request known failure out unflushed → Reports failure errors errors'
+      → status failure ≡ of → IsRefusalOf of request known out out' errors errors'
+  refusal_reported failure refused reported is = record {
+    failure = failure;
+    is_status = is;
+    unflushed = unflushed;
+    refused = refused;
+    flushed = flushed;
+    reported = reported;
+  }
 
-  -- a file or the output can't be used
-  pub unusable_reported : (failure : Failure) (flush : Result (Unit {0}) Error) → CarriesOut request (Err failure) disk disk' out unflushed
-      → Reports failure errors errors' → Keeps unflushed.held out'.held → CountsFlush flush unflushed.counts out'.counts → status failure ≡ 3
-      → IsUnusable request disk disk' out out' errors errors'
-  unusable_reported (Refusal refusal) flush carried reported unchanged flushed three =
-      of_county (carried.outcome.1 three) (refusal_reported disk.known unflushed (Refusal refusal) carried.outcome.0 reported unchanged three)
-  unusable_reported (County code refusal) flush carried reported unchanged flushed three =
-      of_county (carried.outcome.1 three) (refusal_reported disk.known unflushed (County code refusal) carried.outcome.0 reported unchanged three)
-  unusable_reported (Noted refusal note) flush carried reported unchanged flushed three =
-      absurd (text_usable request disk.known refusal carried.outcome.0 three)
-  unusable_reported (Write fault) flush carried reported unchanged flushed three =
-      of_write fault unflushed carried.outcome (write_counts request disk.known fault out unflushed carried.outcome) reported unchanged flush flushed
-  unusable_reported (File name error) flush carried reported unchanged flushed three =
-      of_file name.now carried.names carried.outcome.1 (unchanged_as out'.held carried.outcome.0 unchanged) reported
-  unusable_reported (CountyFile folder code file error) flush carried reported unchanged flushed three =
-      of_county_file (file_name folder.now code.now file) carried.names carried.outcome.1 unflushed carried.outcome.0 unchanged reported
-  unusable_reported (NotUtf8 name) flush carried reported unchanged flushed three =
-      of_source name.now carried.outcome.1 (unchanged_as out'.held carried.outcome.0 unchanged) reported
-  unusable_reported (Output error) flush carried reported unchanged flushed three = absurd carried.outcome
-  unusable_reported failure flush carried reported unchanged flushed three = absurd (omega (arith, three))
+module _ {request : Request} {disk disk' : Disk} {out unflushed out' errors errors' : Writer} (flush : IsFlushed unflushed out') where
+  refused_flushed : (failure : Failure) → CarriesOut request (Err failure) disk disk' out unflushed → Reports failure errors errors'
+      → status failure ≡ 1 → IsRefusal request disk.known out out' errors errors'
+  refused_flushed (Refusal refusal) carried reported one = refusal_reported disk.known unflushed flush (Refusal refusal) carried.outcome.0 reported one
+  refused_flushed (Noted refusal note) carried reported one = refusal_reported disk.known unflushed flush (Noted refusal note) carried.outcome reported one
+  refused_flushed (County code refusal) carried reported one = refusal_reported disk.known unflushed flush (County code refusal) carried.outcome.0 reported one
+  refused_flushed failure carried reported one = absurd (omega (arith, one))
+
+  unusable_flushed : (failure : Failure) → CarriesOut request (Err failure) disk disk' out unflushed → Reports failure errors errors'
+      → status failure ≡ 3 → IsUnusable request disk disk' out out' errors errors'
+  unusable_flushed (Refusal refusal) carried reported three =
+      of_county (carried.outcome.1 three) (refusal_reported disk.known unflushed flush (Refusal refusal) carried.outcome.0 reported three)
+  unusable_flushed (County code refusal) carried reported three =
+      of_county (carried.outcome.1 three) (refusal_reported disk.known unflushed flush (County code refusal) carried.outcome.0 reported three)
+  unusable_flushed (Noted refusal note) carried reported three = absurd (text_usable request disk.known refusal carried.outcome.0 three)
+  unusable_flushed (Write fault) carried reported three =
+      of_write fault unflushed carried.outcome (write_counts request disk.known fault out unflushed carried.outcome) reported
+      flush.unchanged (Ok tt) (flush.failed, flush.empty, flush.flushes)
+  unusable_flushed (File name error) carried reported three =
+      of_file name.now carried.names carried.outcome.1 (flushed_as carried.outcome.0 flush) reported
+  unusable_flushed (CountyFile folder code file error) carried reported three =
+      of_county_file (file_name folder.now code.now file) carried.names carried.outcome.1 unflushed carried.outcome.0 flush reported
+  unusable_flushed (NotUtf8 name) carried reported three =
+      of_source name.now carried.outcome.1 (flushed_as carried.outcome.0 flush) reported
+  unusable_flushed (Output error) carried reported three = absurd carried.outcome
+  unusable_flushed failure carried reported three = absurd (omega (arith, three))
+
+module _ {of : ℕ} {request : Request} {disk disk' : Disk} {out unflushed out' errors errors' : Writer} (failure : Failure)
+    (carried : CarriesOut request (Err failure) disk disk' out unflushed) (ends : Ends failure of unflushed out' errors errors') where
+  -- a library refused the request
+  pub refused_ended : of ≡ 1 → IsRefusal request disk.known out out' errors errors'
+  refused_ended one =
+      let other : of ≢ 3 = λ three. omega (arith, one, three) in
+      let is = ends_flushed failure other ends in
+      refused_flushed is.0 failure carried is.1 (sym (ends_status failure other ends) ∙ one)
+
+-- a file or the output can't be used
+module _ {of : ℕ} {request : Request} {disk disk' : Disk} {out unflushed out' errors errors' : Writer} where
+  pub unusable_ended : (failure : Failure) → CarriesOut request (Err failure) disk disk' out unflushed
+      → Ends failure of unflushed out' errors errors' → of ≡ 3 → IsUnusable request disk disk' out out' errors errors'
+  unusable_ended failure carried (after_flush is flush reported) three = unusable_flushed flush failure carried reported (sym is ∙ three)
+  unusable_ended failure carried (after_write fault is unusable unchanged reported flush counts) three =
+      let outcome : Writes request disk.known (Err fault) out unflushed =
+      subst (λ (failure : Failure). IsCarriedOut request (Err failure) disk disk' out unflushed) is carried.outcome in
+      of_write fault unflushed outcome (write_counts request disk.known fault out unflushed outcome)
+      (subst (λ (failure : Failure). Reports failure errors errors') is reported) unchanged flush counts
+  unusable_ended failure carried (after_failed_flush before unusable between reported flush) three = of_two (record {
+    failure = failure;
+    is_other = before;
+    unflushed = unflushed;
+    carried = carried;
+    between = between;
+    reported = reported;
+    flush = flush;
+  })

@@ -130,23 +130,23 @@ module _ (codes : List (List ℕ)) (counties : List CountyParts) where
   header_unread file addresses Memory a b are is written = (refl, (0, written))
 
   -- an allocation failed before the lines for the next address, or they aren't written completely
-  row_stopped : (rows later : List AddressParts) (address : AddressParts) (failure : Failure) (a b c : Writer)
-      → WritesText (lines_of_all codes counties rows) (Ok tt) a b
-      → WritesUnlessMemory (lines_of codes counties address) (λ before after. after ≡ before) (Err failure) b c
-      → WritesBatch (lines_of_all codes counties) (rows ++ address ∷ later) (Err failure) a c
-  row_stopped rows later address (failure.Write fault) a b c before stopped =
-      subst (λ text. WritesText text (Err fault) a c) (all_more rows (address ∷ later))
-      (stopped_further (lines_of_all codes counties rows) (lines_of codes counties address) (flat_map (lines_of codes counties) later) fault
-      a b c before stopped)
-  row_stopped rows later address (failure.Refusal refusal) a b c before stopped = (
-    stopped.0,
-    (
-      length rows,
-      first_written rows (address ∷ later) a c
-          (subst (λ (c : Writer). WritesText (lines_of_all codes counties rows) (Ok tt) a c) (sym stopped.1) before),
-    ),
-  )
-  row_stopped rows later address failure a b c before stopped = absurd stopped
+  module _ (rows later : List AddressParts) (address : AddressParts) (a b c : Writer)
+      (before : WritesText (lines_of_all codes counties rows) (Ok tt) a b) where
+    row_stopped : (failure : Failure) → WritesUnlessMemory (lines_of codes counties address) (λ before after. after ≡ before) (Err failure) b c
+        → WritesBatch (lines_of_all codes counties) (rows ++ address ∷ later) (Err failure) a c
+    row_stopped (failure.Write fault) stopped =
+        subst (λ text. WritesText text (Err fault) a c) (all_more rows (address ∷ later))
+        (stopped_further (lines_of_all codes counties rows) (lines_of codes counties address) (flat_map (lines_of codes counties) later)
+        fault a b c before stopped)
+    row_stopped (failure.Refusal refusal) stopped = (
+      stopped.0,
+      (
+        length rows,
+        first_written rows (address ∷ later) a c
+            (subst (λ (c : Writer). WritesText (lines_of_all codes counties rows) (Ok tt) a c) (sym stopped.1) before),
+      ),
+    )
+    row_stopped failure stopped = absurd stopped
 
   module _ {file : List ℕ} {left : Listing} {a b : Writer} (so_far : IsWrittenTo (lines_of_all codes counties) file left a b) where
     -- the lines for one more address are written
@@ -189,7 +189,7 @@ module _ (codes : List (List ℕ)) (counties : List CountyParts) where
       batch_stopped address new failure c next stopped =
           subst (λ all. WritesBatch (lines_of_all codes counties) all (Err failure) a c)
           (sym (rows_first file so_far.rows left so_far.read addresses are ∙ ap (λ (left : Listing). so_far.rows ++ left.addresses) next))
-          (row_stopped so_far.rows new.addresses address failure a b c so_far.written stopped)
+          (row_stopped so_far.rows new.addresses address a b c so_far.written failure stopped)
 
 -- a write in which no allocation failed satisfies `WritesUnlessMemory`
 pub written_unless : (text : List ℕ) (WritesBefore : Writer → Writer → Type 0) (result : Result (Unit {0}) Failure) (a b : Writer)

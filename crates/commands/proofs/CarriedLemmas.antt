@@ -77,8 +77,9 @@ module _ {request : Request} {disk disk' : Disk} {out : Writer} where
   program_carried name known fault is is_failure uses each = grind (arith, is, is_failure, uses, code_status)
 
   -- the program or the county can't be read
-  pub inputs_carried : (name folder code : List ℕ) (failure : Failure) → IsInputsFailure name folder code disk disk' failure
-      → NamesFile (IsFileOf request) failure → IsUnfailedUnlessUnusable {T = ℕ} (Err failure) disk disk' → WritesBefore request disk.known out out
-      → ((refusal : RefusalParts) → HoldTooLong name folder code disk.known refusal → IsRefused request disk.known refusal out out)
-      → CarriesOut request (Err failure) disk disk' out out
-  inputs_carried name folder code failure is_failure names counts before each = grind (arith, before, code_status)
+  module _ (name folder code : List ℕ) where
+    pub inputs_carried : (failure : Failure) → IsInputsFailure name folder code disk disk' failure → NamesFile (IsFileOf request) failure
+        → IsUnfailedUnlessUnusable {T = ℕ} (Err failure) disk disk' → WritesBefore request disk.known out out
+        → ((refusal : RefusalParts) → HoldTooLong name folder code disk.known refusal → IsRefused request disk.known refusal out out)
+        → CarriesOut request (Err failure) disk disk' out out
+    inputs_carried failure is_failure names counts before each = grind (arith, before, code_status)

@@ -6,7 +6,6 @@ use Rattle.bpf_explain.specs.Explanation.{IsExplained}
 use Rattle.bpf_source_lines.specs.LinesFault as lines_fault
 use Rattle.bpf_source_lines.specs.SourceLines.{SourceLine, lines_in}
 use Rattle.bpf_source_lines.specs.declared.source_lines.LinesFault.{LinesFault}
-use Rattle.bpf_insn.specs.Code.{IsCodeOf}
 use Rattle.bpf_insn.specs.declared.instruction.Insn.{Insn}
 use Rattle.bpf_program.specs.ProgramFault as program_fault
 use Rattle.bpf_program.specs.declared.program.ProgramFault.{ProgramFault}

@@ -33,12 +33,13 @@ written_further first second a b c before written =
     (Appends-append a.held b.held c.held first second before.0 written.0, written.1 ∙ before.1)
 
 -- the second text isn't written completely
-pub stopped_further : (first second more : List ℕ) (fault : WriteFault) (a b c : Writer) → WritesText first (Ok tt) a b
-    → WritesText second (Err fault) b c → WritesText (first ++ (second ++ more)) (Err fault) a c
-stopped_further first second more fault a b c before stopped = (
-  AppendsBeginning-further a.held b.held c.held first (second ++ more) before.0 (beginning_longer b.held c.held second more stopped.0),
-  subst (λ (counts : WriteCounts). CountsFault fault counts c.counts) before.1 stopped.1,
-)
+module _ (first second more : List ℕ) (fault : WriteFault) (a b c : Writer) where
+  pub stopped_further : WritesText first (Ok tt) a b → WritesText second (Err fault) b c
+      → WritesText (first ++ (second ++ more)) (Err fault) a c
+  stopped_further before stopped = (
+    AppendsBeginning-further a.held b.held c.held first (second ++ more) before.0 (beginning_longer b.held c.held second more stopped.0),
+    subst (λ (counts : WriteCounts). CountsFault fault counts c.counts) before.1 stopped.1,
+  )
 
 module _ {A : Type 0} (f : A → List ℕ) (xs : List A) (i : ℕ) (d : A) (inside : i < length xs) where
   all_pieces : flat_map f (take i xs) ++ (f (get_or xs i d) ++ flat_map f (drop (suc i) xs)) ≡ flat_map f xs

@@ -12,7 +12,7 @@ use Rattle.commands.specs.Compile as compile
 use Rattle.commands.specs.Counties.{IsFileOfCounties}
 use Rattle.commands.specs.Disassemble as disassemble
 use Rattle.commands.specs.Explain as explain
-use Rattle.commands.specs.Failure.{NamesFile, Reports, ReportsFile, ReportsLine, ReportsMemory, ReportsNotUtf8, ReportsOutput, ReportsText, IsUnfailedUnlessUnusable, refusal_status}
+use Rattle.commands.specs.Failure.{IsFailureBeforeFlush, NamesFile, Reports, ReportsFile, ReportsLine, ReportsMemory, ReportsNotUtf8, ReportsOutput, ReportsText, IsUnfailedUnlessUnusable, refusal_status}
 use Rattle.commands.specs.Failure.{status as status_of}
 use Rattle.named_files.specs.Files.{Disk, IsFailed}
 use Rattle.commands.specs.Filter.{IsFilterRefusal}
@@ -157,13 +157,13 @@ pub record IsDone (request : Request) (known : List ℕ → Option (List ℕ)) (
   pub written : IsWritten request known out unflushed
   pub flushed : IsFlushed unflushed out'
 
--- A library refused the request, with this exit status, and the refusal was reported. The output keeps what it held at that point.
+-- A library refused the request, with this exit status. What was written by then was flushed, and the refusal was reported.
 pub record IsRefusalOf (status : ℕ) (request : Request) (known : List ℕ → Option (List ℕ)) (out out' errors errors' : Writer) : Type 0 where
   pub failure : Failure
   pub is_status : status_of failure ≡ status
   pub unflushed : Writer
   pub refused : IsRefusedWith request known failure out unflushed
-  pub unchanged : Keeps unflushed.held out'.held
+  pub flushed : IsFlushed unflushed out'
   pub reported : Reports failure errors errors'
 
 -- the request was refused, and neither I/O nor an allocation failed
@@ -176,24 +176,45 @@ pub record ReportsMissingLine (request : Request) (known : List ℕ → Option (
   pub missing : IsMissingLine request known number
   pub reported : ReportsText (codes "error: the type 1 file has no line " ++ decimal number ++ 10 ∷ []) errors errors'
 
--- An allocation failed, and this was reported: either in a library, which refused the request for it, or elsewhere, and nothing was written.
+-- An allocation failed, and this was reported: either in a library, which refused the request for it, or elsewhere, and nothing was written. The
+-- output was flushed.
 pub data IsOutOfMemory (request : Request) (known : List ℕ → Option (List ℕ)) (out out' errors errors' : Writer) : Type 0 where
   of_library : IsRefusalOf 4 request known out out' errors errors' → IsOutOfMemory request known out out' errors errors'
-  of_other : Keeps out.held out'.held → ReportsMemory errors errors' → IsOutOfMemory request known out out' errors errors'
+  of_other : IsFlushed out out' → ReportsMemory errors errors' → IsOutOfMemory request known out out' errors errors'
+
+-- The request failed, but no write did, and then the flush of what was written failed. The failure was reported, and the failed flush after it.
+pub record FailsTwice (request : Request) (disk disk' : Disk) (out out' errors errors' : Writer) : Type 0 where
+  pub failure : Failure
+  pub is_other : IsFailureBeforeFlush failure
+  pub unflushed : Writer
+  pub carried : CarriesOut request (Err failure) disk disk' out unflushed
+  pub between : Writer
+  pub reported : Reports failure errors between
+  pub flush : FailsFlush unflushed out' between errors'
+
+-- How a command ends that has failed, from the output that isn't flushed yet. The output was flushed and the failure reported. Or a write failed, and
+-- the flush is attempted, but not reported. Or the flush failed too, and was reported after the failure.
+pub data Ends (failure : Failure) (status : ℕ) (out out' errors errors' : Writer) : Type 0 where
+  after_flush : status ≡ status_of failure → IsFlushed out out' → Reports failure errors errors' → Ends failure status out out' errors errors'
+  after_write : (fault : WriteFault) → failure ≡ Write fault → status ≡ 3 → Keeps out.held out'.held → Reports failure errors errors'
+      → (flush : Result (Unit {0}) Error) → CountsFlush flush out.counts out'.counts → Ends failure status out out' errors errors'
+  after_failed_flush : IsFailureBeforeFlush failure → status ≡ 3 → (between : Writer) → Reports failure errors between
+      → FailsFlush out out' between errors' → Ends failure status out out' errors errors'
 
 -- Why a request fails with status 3. An open or a read failed, so one of the request's files can't be used, and nothing was written. Or a
 -- county's file can't be opened, and only the extracts of the counties before it were written. Or a read of a county's file failed, and a library
--- refused the request. Or a source isn't UTF-8, and nothing was written. Or a write failed or wrote 0 bytes: a prefix was written, and a flush was
--- attempted. Or everything was written, but the flush failed. Each of these was reported.
+-- refused the request. Or a source isn't UTF-8, and nothing was written. In all of these the output was flushed. Or a write failed or wrote 0 bytes:
+-- a prefix was written, and a flush was attempted. Or everything was written, but the flush failed. Each of these was reported. Or the request
+-- failed otherwise, and so did the flush, and both were reported.
 pub data IsUnusable (request : Request) (disk disk' : Disk) (out out' errors errors' : Writer) : Type 0 where
-  of_file : (name : List ℕ) → IsFileOf request name → IsFailed disk disk' → Keeps out.held out'.held → ReportsFile name errors errors'
+  of_file : (name : List ℕ) → IsFileOf request name → IsFailed disk disk' → IsFlushed out out' → ReportsFile name errors errors'
       → IsUnusable request disk disk' out out' errors errors'
   of_county_file : (name : List ℕ) → IsFileOf request name → disk'.failed_opens ≢ disk.failed_opens → (unflushed : Writer)
-      → WritesBefore request disk.known out unflushed → Keeps unflushed.held out'.held → ReportsFile name errors errors'
+      → WritesBefore request disk.known out unflushed → IsFlushed unflushed out' → ReportsFile name errors errors'
       → IsUnusable request disk disk' out out' errors errors'
   of_county : disk'.failed_reads ≢ disk.failed_reads → IsRefusalOf 3 request disk.known out out' errors errors'
       → IsUnusable request disk disk' out out' errors errors'
-  of_source : (name : List ℕ) → IsNotUtf8 request disk.known name → Keeps out.held out'.held → ReportsNotUtf8 name errors errors'
+  of_source : (name : List ℕ) → IsNotUtf8 request disk.known name → IsFlushed out out' → ReportsNotUtf8 name errors errors'
       → IsUnusable request disk disk' out out' errors errors'
   of_write : (fault : WriteFault) (unflushed : Writer) → Writes request disk.known (Err fault) out unflushed
       → CountsFault fault out.counts unflushed.counts → ReportsLine (line (write_fault.refusal fault)) errors errors'
@@ -201,3 +222,4 @@ pub data IsUnusable (request : Request) (disk disk' : Disk) (out out' errors err
       → IsUnusable request disk disk' out out' errors errors'
   of_flush : (unflushed : Writer) → IsWritten request disk.known out unflushed → FailsFlush unflushed out' errors errors'
       → IsUnusable request disk disk' out out' errors errors'
+  of_two : FailsTwice request disk disk' out out' errors errors' → IsUnusable request disk disk' out out' errors errors'

@@ -56,6 +56,13 @@ status Memory = 4
 status (NoLine number) = 2
 status failure = 3
 
+-- A failed flush is reported after this failure. It isn't after a failed write, whose report is already about the output, nor after a usage error,
+-- which leaves the output alone.
+abbrev pub IsFailureBeforeFlush : Failure → Type 0
+IsFailureBeforeFlush (Write fault) = ⊥
+IsFailureBeforeFlush (NoLine number) = ⊥
+IsFailureBeforeFlush failure = ⊤
+
 -- why the file of this name, or a county's file, can't be used
 abbrev pub of_file : Bor (List ℕ) → FileFault → Failure
 of_file name (fault.Unusable error) = File name error

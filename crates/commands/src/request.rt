@@ -1,8 +1,8 @@
 //! A request, its execution, and its exit status.
 ghost use Rattle.std.specs.Prelude.{◌≡◌, ◌≢◌, ◌≤◌, ◌⊎◌};
 ghost use Rattle.counted_io.specs.ReaderWriter.{writer};
-ghost use Rattle.commands.specs.Command.{CarriesOut, FailsFlush, IsDone, IsFlushed, ReportsMissingLine, IsOutOfMemory, IsRefusal, IsUnusable};
-ghost use Rattle.commands.specs.Failure.{IsUnchangedOnUsage};
+ghost use Rattle.commands.specs.Command.{CarriesOut, Ends, FailsFlush, IsDone, IsFlushed, ReportsMissingLine, IsOutOfMemory, IsRefusal, IsUnusable};
+ghost use Rattle.commands.specs.Failure.{IsUnchangedOnUsage, status};
 ghost use Rattle.named_files.specs.Files.{disk};
 
 use crate::assemble::Assemble;
@@ -39,7 +39,8 @@ impl<'a> Request<'a> {
     /// Carries out the request, reports any failure on `errors`, and returns the exit status.
     ///
     /// 0 means success, even if no row was selected; 1 refused; 2 a line that the file doesn't have; 3 a file or an output that can't be used, or
-    /// a source that isn't UTF-8; 4 out of memory. Except for 2, a flush of `out` has been attempted. A failed write to `errors` changes nothing.
+    /// a source that isn't UTF-8; 4 out of memory. Except for 2, `out` is flushed before anything is reported. If the flush of a command that failed
+    /// otherwise fails too, both are reported and the status is 3. A failed write to `errors` changes nothing.
     pub fn answer<A: Allocator + Copy, F: Files, W: CountedWrite, E: CountedWrite>(
         self,
         alloc: A,
@@ -70,16 +71,12 @@ impl<'a> Request<'a> {
     {
         match self.carry_out(alloc, files, out) {
             Ok(()) => flush(out, errors),
-            Err(failure) => {
+            // A usage error leaves the output alone.
+            Err(failure) if failure.status() == USAGE => {
                 failure.report(errors);
-                let status = failure.status();
-                // A usage error leaves the output alone.
-                if status == USAGE {
-                    return status;
-                }
-                let _ = out.flush_counted();
-                status
+                USAGE
             }
+            Err(failure) => end_failed(&failure, out, errors),
         }
     }
 
@@ -125,5 +122,32 @@ fn flush<W: CountedWrite, E: CountedWrite>(out: &mut W, errors: &mut E) -> u8
             failure.report(errors);
             failure.status()
         }
+    }
+}
+
+/// Flushes the output of a command that failed, other than by a usage error, and then reports the failure. Reports a failed flush after it, unless a
+/// write has failed, which is reported already. Returns the exit status.
+fn end_failed<W: CountedWrite, E: CountedWrite>(
+    failure: &Failure<'_>,
+    out: &mut W,
+    errors: &mut E,
+) -> u8
+    requires { status failure.now ≢ 2 }
+    ensures ends { Ends failure.now result (writer W.contents W.counts out.old) (writer W.contents W.counts out.new)
+        (writer E.contents E.counts errors.old) (writer E.contents E.counts errors.new) }
+    ensures flushed { (W.counts out.new).flushes ≢ (W.counts out.old).flushes }
+{
+    let flushed = out.flush_counted();
+    failure.report(errors);
+    match flushed {
+        Ok(()) => failure.status(),
+        Err(error) => match failure {
+            Failure::Write(_) => failure.status(),
+            _ => {
+                let failure = Failure::Output(error);
+                failure.report(errors);
+                failure.status()
+            }
+        },
     }
 }

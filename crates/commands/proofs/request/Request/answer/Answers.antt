@@ -1,6 +1,6 @@
 use Rattle.std.proofs.Common.{◌∙◌, sym}
 use Rattle.commands.specs.Command.{of_flush}
-use Rattle.commands.proofs.AnswerLemmas.{flush_counted, line_missing, memory_reported, refused_reported, unusable_reported}
+use Rattle.commands.proofs.AnswerLemmas.{refused_ended, unusable_ended}
 use Rattle.commands.proofs.request.Request.answer.Goals as goal
 
 pub returns-in-Ok-clause-done : goal.returns-in-Ok-clause-done
@@ -12,23 +12,8 @@ returns-in-Ok-clause-unusable g c = λ three. of_flush _ c.in-Ok.ensures.carried
 pub returns-in-Ok-clause-flushed : goal.returns-in-Ok-clause-flushed
 returns-in-Ok-clause-flushed g c = λ _ same. c.flush.ensures.flushed (same ∙ sym c.in-Ok.ensures.carried.unflushed)
 
-pub returns-then-status-eq-USAGE-clause-usage : goal.returns-then-status-eq-USAGE-clause-usage
-returns-then-status-eq-USAGE-clause-usage g c = λ two.
-    line_missing _ c.in-Err.ensures.carried c.report.ensures (sym c.status-status.ensures ∙ two)
+pub returns-in-Err-2-clause-refused : goal.returns-in-Err-2-clause-refused
+returns-in-Err-2-clause-refused g c = refused_ended c.in-Err.failure c.in-Err.ensures.carried c.end_failed.ensures.ends
 
-pub returns-else-status-eq-USAGE-clause-refused : goal.returns-else-status-eq-USAGE-clause-refused
-returns-else-status-eq-USAGE-clause-refused g c = λ is.
-    refused_reported _ c.in-Err.ensures.carried c.report.ensures c.flush_counted.ensures.bytes (sym c.status-status.ensures ∙ is)
-
-pub returns-else-status-eq-USAGE-clause-memory : goal.returns-else-status-eq-USAGE-clause-memory
-returns-else-status-eq-USAGE-clause-memory g c = λ is.
-    memory_reported _ c.in-Err.ensures.carried c.report.ensures c.flush_counted.ensures.bytes (sym c.status-status.ensures ∙ is)
-
-pub returns-else-status-eq-USAGE-clause-unusable : goal.returns-else-status-eq-USAGE-clause-unusable
-returns-else-status-eq-USAGE-clause-unusable g c = λ three.
-    unusable_reported _ _ c.in-Err.ensures.carried c.report.ensures c.flush_counted.ensures.bytes c.flush_counted.ensures.counts
-    (sym c.status-status.ensures ∙ three)
-
-pub returns-else-status-eq-USAGE-clause-flushed : goal.returns-else-status-eq-USAGE-clause-flushed
-returns-else-status-eq-USAGE-clause-flushed g c = λ _ same.
-    flush_counted c.flush_counted.result _ _ c.flush_counted.ensures.counts (same ∙ sym c.in-Err.ensures.carried.unflushed)
+pub returns-in-Err-2-clause-unusable : goal.returns-in-Err-2-clause-unusable
+returns-in-Err-2-clause-unusable g c = unusable_ended c.in-Err.failure c.in-Err.ensures.carried c.end_failed.ensures.ends
