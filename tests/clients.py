@@ -33,8 +33,8 @@ IDLE, REQUEST, REPLY, LINGER = 10, 30, 30, 5
 MEBIBYTE = 1 << 20
 # How much sooner or later than its limit a client may be cut off. A machine that does other things is late.
 SOONER, LATER = 0.5, 4
-# Of this many parts of 400 segments, the rows don't fit into the buffers of a connection.
-PARTS = 50
+# The county has parts of 400 segments, and a row has 231 bytes.
+PART, ROW = 400, 231
 WORDS = (TOP / "examples" / "programs" / "all.bpf").read_bytes()
 
 
@@ -42,8 +42,14 @@ class Server(NamedTuple):
     process: subprocess.Popen[str]
     port: int
 
-    def connect(self) -> socket.socket:
-        return socket.create_connection(("127.0.0.1", self.port), timeout=60)
+    def connect(self, buffer: int | None = None) -> socket.socket:
+        """Connects, with a buffer of this many bytes for what is received."""
+        client = socket.socket()
+        client.settimeout(60)
+        if buffer is not None:
+            client.setsockopt(socket.SOL_SOCKET, socket.SO_RCVBUF, buffer)
+        client.connect(("127.0.0.1", self.port))
+        return client
 
     def interrupt(self) -> None:
         """Stops and continues the server. A call that waits for a socket with a time limit then ends early, by EINTR."""
@@ -155,9 +161,9 @@ def a_slow_client(server: Server, _: int) -> None:
 
 def a_client_that_reads_nothing(server: Server, segments: int) -> None:
     """Each mebibyte of the reply adds a second."""
-    with server.connect() as first:
+    with server.connect(buffer=65536) as first:
         first.sendall(request("extract", WORDS))
-        expect_wait(server, time.monotonic(), REPLY + segments * len(f"0\t{'':228}\n") // MEBIBYTE)
+        expect_wait(server, time.monotonic(), REPLY + segments * ROW // MEBIBYTE)
 
 
 def a_client_that_goes_on_sending(server: Server, _: int) -> None:
@@ -193,10 +199,12 @@ def an_interrupted_read(server: Server, _: int) -> None:
 
 
 def an_interrupted_write(server: Server, segments: int) -> None:
-    with server.connect() as client:
+    """Interruptions end writes that have written a part, and at last one that has written nothing."""
+    with server.connect(buffer=65536) as client:
         client.sendall(request("extract", WORDS))
         time.sleep(2)
-        server.interrupt()
+        for _ in range(4):
+            server.interrupt()
         expect_rows(read_reply(client), segments)
 
 
@@ -213,8 +221,10 @@ ROWS: tuple[Callable[[Server, int], None], ...] = (
 
 
 def write_county(folder: Path) -> int:
-    """Writes a county without names, and returns the number of its segments."""
-    segments = [segment for part in range(PARTS) for chain in county(Dice(SEED + part)) for segment in chain]
+    """Writes a county whose rows don't fit into the buffer of a connection, and returns the number of its segments."""
+    largest = int(Path("/proc/sys/net/ipv4/tcp_wmem").read_text().split()[2])
+    parts = largest * 11 // 10 // (PART * ROW) + 1
+    segments = [segment for part in range(parts) for chain in county(Dice(SEED + part)) for segment in chain]
     write(folder, (segments,))
     return len(segments)
 
