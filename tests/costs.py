@@ -17,7 +17,8 @@ import re
 import subprocess
 import sys
 import tempfile
-from collections.abc import Callable, Iterable
+from collections.abc import Iterable
+from functools import cache
 from pathlib import Path
 from typing import NamedTuple
 
@@ -54,7 +55,8 @@ class Shortcut(NamedTuple):
 
 
 GROWTHS = (
-    # Lines of type 1 alone, which nothing selects: most of it is to read and to check them.
+    # Lines of type 1 alone, which nothing selects: most of it is to read and to check them. The limit is 12 % above, as a copy of a line that takes the
+    # long way adds a quarter.
     Growth("line", SEGMENTS, 760, f"run --program nothing.bpf --data bare.{{}} {CODE}"),
     Growth("line", SEGMENTS, 4_000, f"run --program all.bpf --data drawn.{{}} {CODE}"),
     Growth("line", SEGMENTS, 2_900, f"select --where CFCC='A41' --data drawn.{{}} {CODE}"),
@@ -84,21 +86,24 @@ SHORTCUTS = (
 # ---- Inputs
 
 
-def drawn(parts: int, change: Callable[[Chain, int], object] = lambda chain, number: None) -> list[Chain]:
-    """Draws the chains of so many times 400 segments, or one segment, and changes each chain, given its number."""
-    chains: list[Chain] = [] if parts else [county(Dice(SEED))[0][:1]]
+def drawn(parts: int) -> list[Chain]:
+    """Draws the chains of so many times 400 segments, or a chain of one segment."""
+    if not parts:
+        return [county(Dice(SEED))[0][:1]]
+    chains: list[Chain] = []
     for part in range(parts):
         for chain in county(Dice(SEED + part)):
             for segment in chain:
                 segment["TLID"] = str(int(segment["TLID"]) + 10_000 * part)
-            change(chain, len(chains))
             chains.append(chain)
     return chains
 
 
-def put_on_own_road(chain: Chain, number: int) -> None:
-    for segment in chain:
-        segment["FENAME"] = f"Road {number}"
+def put_on_own_roads(chains: list[Chain]) -> None:
+    """Gives each chain a name of its own."""
+    for number, chain in enumerate(chains):
+        for segment in chain:
+            segment["FENAME"] = f"Road {number}"
 
 
 def put_on_main(chains: list[Chain]) -> None:
@@ -135,7 +140,8 @@ def write_counties(size: str, parts: int) -> None:
     write_lines(Path(f"bare.{size}"), {"1": lines})
     write_lines(Path(f"left.{size}"), {"1": [to_the_left(line) for line in lines]})
     write_lines(Path(f"joined.{size}"), {"1": lines, "4": [record(other)], "5": [record(name)]})
-    roads, main = drawn(parts, put_on_own_road), drawn(parts)
+    roads, main = drawn(parts), drawn(parts)
+    put_on_own_roads(roads)
     put_on_main(main)
     for kind, chains in (("roads", roads), ("main", main)):
         write_lines(Path(f"{kind}.{size}"), {"1": [record(segment) for chain in chains for segment in chain]})
@@ -176,6 +182,7 @@ def write_inputs() -> None:
 # ---- Counts
 
 
+@cache
 def count(command: str) -> int:
     """Returns the instructions that a command takes, without the system's."""
     valgrind = ["valgrind", "--tool=callgrind", "--callgrind-out-file=/dev/null", "--log-file=counts"]
