@@ -30,10 +30,26 @@ try_full_device() {
     try_case 3 'refused 60 Write' 0 nothing "$run > /dev/full"
     try_case 3 'refused 60 Write' 0 nothing 'extractd geocode-batch --addresses batch.csv --data small 01001 > /dev/full'
     for command in "${few[@]}"; do try_case 3 "$full" 0 nothing "$command > /dev/full"; done
+    try_refused_outputs
     try_case 1 'refused 10 Empty' 0 nothing 'extractd dis --program nothing > /dev/full'
     try_case 1 '' 0 nothing 'extractd dis --program nothing 2> /dev/full'
     try_case 2 '' 0 nothing 'extractd dis 2> /dev/full'
     try_case 3 '' 0 nothing "$run > /dev/full 2> /dev/full"
+}
+
+# What a refused request has written before is lost too, so the refusal is reported first, and then the output.
+try_refused_outputs() {
+    local cut=$'refused 1 rt1 line 100 WrongLength'
+    mkdir cut
+    { head -n 99 small/TGR01001.RT1; echo x; } > cut/TGR01001.RT1
+    cp small/TGR01001.RT1 cut/TGR01003.RT1
+    echo x > cut/TGR01005.RT1
+    printf 'mov r0, 1\nldxb r0, [r0+0]\nexit\n' > bad.s
+    extractd asm --source bad.s > bad.bpf
+    try_case 1 "$cut" $((99 * 231)) small.rows 'extractd run --program all.bpf --data cut 01001'
+    try_case 3 "$cut"$'\n'"$full" 0 nothing 'extractd run --program all.bpf --data cut 01001 > /dev/full'
+    try_case 3 $'refused 1 rt1 line 1 WrongLength\ncounty 01005\n'"$full" 0 nothing "extractd select --where \"CFCC = 'A41'\" --data cut 01003 01005 > /dev/full"
+    try_case 3 "$(extractd explain --program bad.bpf 2>&1 > bad.listing)"$'\n'"$full" 0 nothing 'extractd explain --program bad.bpf > /dev/full'
 }
 
 # A file takes output up to the exact byte.
