@@ -29,12 +29,23 @@ mod subcommand;
 mod trace;
 mod verify;
 
+ghost use Rattle.std.specs.Prelude.{◌≡◌, ◌≢◌, IfErr, IfOk, MatchResult, []};
+ghost use Rattle.clap.specs.Faults.{fault_of};
+ghost use Rattle.clap.specs.Simple.{app_of};
+ghost use Rattle.clap.specs.Values.{kind_of};
+ghost use Rattle.clap.specs.Walk.{texts};
+ghost use Rattle.clap.specs.declared.error.kind.ErrorKind.TheVariants as usage_kind;
+ghost use Rattle.command_line.specs.Arguments.{Takes, arguments_of as rules_of, name_of, program};
+ghost use Rattle.command_line.specs.Request.{AreMatchesOf, IsNamedRequest, IsRequest, IsRequestOf, IsServeOf};
+ghost use Rattle.command_line.specs.Values.{ReadsUnlessMemory, rows_in};
+ghost use Rattle.command_line.specs.declared.fault.ArgumentsFault.TheVariants as ArgumentsFault;
+
 use crate::fault::ArgumentsFault;
+use crate::serve::Serve;
 use clap::error::ErrorKind;
 use clap::{ArgMatches, Command, Error};
 use commands::{DiagnosticLine, Request};
 use counted_io::Counting;
-pub use serve::Serve;
 use std::alloc::{AllocError, Global};
 pub use subcommand::Subcommand;
 
@@ -42,10 +53,12 @@ pub use subcommand::Subcommand;
 pub fn read_request<'a>(
     alloc: Global,
     arguments: &'a [&'a str],
-) -> Result<Request<'a>, ArgumentsFault<'a>> {
+) -> Result<Request<'a>, ArgumentsFault<'a>>
+    ensures { ReadsUnlessMemory (IsRequestOf (texts arguments.now)) result }
+{
     let matches = matched(alloc, arguments)?;
     match matches.subcommand() {
-        Some((name, matches)) => request(alloc, name, matches),
+        Some((name, matches)) => named_request(alloc, name, matches),
         None => Err(ArgumentsFault::Missing("COMMAND")),
     }
 }
@@ -54,7 +67,9 @@ pub fn read_request<'a>(
 pub fn read_serve<'a>(
     alloc: Global,
     arguments: &'a [&'a str],
-) -> Result<Serve<'a>, ArgumentsFault<'a>> {
+) -> Result<Serve<'a>, ArgumentsFault<'a>>
+    ensures { ReadsUnlessMemory (IsServeOf (texts arguments.now)) result }
+{
     let matches = matched(alloc, arguments)?;
     match matches.subcommand_matches(Subcommand::Serve.name()) {
         Some(matches) => serve::request(alloc, matches),
@@ -66,7 +81,10 @@ pub fn read_serve<'a>(
 fn matched<'a>(
     alloc: Global,
     arguments: &'a [&'a str],
-) -> Result<ArgMatches<'a>, ArgumentsFault<'a>> {
+) -> Result<ArgMatches<'a>, ArgumentsFault<'a>>
+    ensures { MatchResult result (AreMatchesOf (texts arguments.now))
+        (λ fault. fault ≢ ArgumentsFault.Memory → fault_of program (texts arguments.now) ≢ []) }
+{
     match program_command(alloc)?.try_get_matches_from(arguments) {
         Ok(matches) => Ok(matches),
         Err(error) => Err(ArgumentsFault::from(echoed(alloc, arguments, error)?)),
@@ -76,11 +94,10 @@ fn matched<'a>(
 /// Returns the error of arguments that are refused by `error`, with the control characters in its text escaped.
 ///
 /// clap puts arguments into its text as they are, so the escaped arguments are parsed once more.
-fn echoed<'a>(
-    alloc: Global,
-    arguments: &[&str],
-    error: Error,
-) -> Result<Error, ArgumentsFault<'a>> {
+fn echoed<'a>(alloc: Global, arguments: &[&str], error: Error) -> Result<Error, ArgumentsFault<'a>>
+    ensures same { kind_of error ≡ usage_kind.OutOfMemory → IfOk result (λ echoed. kind_of echoed ≡ usage_kind.OutOfMemory) }
+    ensures memory { IfErr result (λ fault. fault ≡ ArgumentsFault.Memory) }
+{
     if let ErrorKind::OutOfMemory = error.kind() {
         return Ok(error);
     }
@@ -95,7 +112,9 @@ fn echoed<'a>(
 }
 
 /// Returns an argument with its control characters escaped.
-fn escaped<'a>(alloc: Global, argument: &str) -> Result<String, ArgumentsFault<'a>> {
+fn escaped<'a>(alloc: Global, argument: &str) -> Result<String, ArgumentsFault<'a>>
+    ensures { IfErr result (λ fault. fault ≡ ArgumentsFault.Memory) }
+{
     let mut bytes = Counting::new(Vec::new(alloc));
     if DiagnosticLine::new(&mut bytes).echo(argument).is_err() {
         return Err(ArgumentsFault::Memory);
@@ -104,12 +123,28 @@ fn escaped<'a>(alloc: Global, argument: &str) -> Result<String, ArgumentsFault<'
 }
 
 /// Returns the request of the command with this name.
-fn request<'a>(
+fn named_request<'a>(
     alloc: Global,
     name: &str,
     matches: &ArgMatches<'a>,
-) -> Result<Request<'a>, ArgumentsFault<'a>> {
-    match Subcommand::named(name).ok_or(ArgumentsFault::Missing("COMMAND"))? {
+) -> Result<Request<'a>, ArgumentsFault<'a>>
+    ensures { ReadsUnlessMemory (IsNamedRequest name.now (rows_in matches.now)) result }
+{
+    match Subcommand::named(name) {
+        Some(subcommand) => request(alloc, subcommand, matches),
+        None => Err(ArgumentsFault::Missing("COMMAND")),
+    }
+}
+
+/// Returns the request that the arguments of a command make.
+fn request<'a>(
+    alloc: Global,
+    subcommand: Subcommand,
+    matches: &ArgMatches<'a>,
+) -> Result<Request<'a>, ArgumentsFault<'a>>
+    ensures { ReadsUnlessMemory (IsRequest subcommand (rows_in matches.now)) result }
+{
+    match subcommand {
         Subcommand::Select => Ok(Request::Select(select::request(alloc, matches)?)),
         Subcommand::Compile => Ok(Request::Compile(compile::request(alloc, matches)?)),
         Subcommand::Run => Ok(Request::Run(run::request(matches)?)),
@@ -131,7 +166,9 @@ fn request<'a>(
 }
 
 /// Returns the program and its commands for the argument parser.
-fn program_command<'a>(alloc: Global) -> Result<Command<'a>, AllocError> {
+fn program_command<'a>(alloc: Global) -> Result<Command<'a>, AllocError>
+    ensures { IfOk result (λ command. app_of command ≡ program) }
+{
     let mut program = Command::new(alloc, "extractd")
         .bin_name("extractd")?
         .about(
@@ -162,7 +199,9 @@ fn program_command<'a>(alloc: Global) -> Result<Command<'a>, AllocError> {
 }
 
 /// Returns the arguments of a command for the argument parser.
-fn arguments_of<'a>(alloc: Global, subcommand: Subcommand) -> Result<Command<'a>, AllocError> {
+fn arguments_of<'a>(alloc: Global, subcommand: Subcommand) -> Result<Command<'a>, AllocError>
+    ensures { IfOk result (Takes (name_of subcommand) (rules_of subcommand)) }
+{
     let name: &'a str = subcommand.name();
     match subcommand {
         Subcommand::Select => select::command(alloc, name),

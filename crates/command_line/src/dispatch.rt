@@ -1,10 +1,12 @@
 //! A command, from its arguments to its exit status.
 ghost use Rattle.std.specs.Prelude.{◌≡◌, ◌≢◌, ◌≤◌, ◌⊎◌};
 ghost use Rattle.counted_io.specs.ReaderWriter.{writer};
-ghost use Rattle.commands.specs.Command.{IsDone, IsOutOfMemory, IsRefusal, IsUnusable};
+ghost use Rattle.clap.specs.Walk.{texts};
+ghost use Rattle.commands.specs.Command.{IsDone, IsOutOfMemory, IsRefusal, IsUnusable, ReportsMissingLine};
 ghost use Rattle.commands.specs.Failure.{ReportsMemory};
 ghost use Rattle.named_files.specs.Files.{disk};
 ghost use Rattle.commands.specs.declared.request.Request.{Request};
+ghost use Rattle.command_line.specs.Request.{HasNoRequest, IsRequestOf};
 
 use crate::arguments::read_request;
 use counted_io::CountedWrite;
@@ -24,20 +26,23 @@ pub fn command<F: Files, W: CountedWrite, E: CountedWrite>(
     errors: &mut E,
 ) -> u8
     ensures at_most { result ≤ 4 }
-    ensures done { result ≡ 0 → (request : Request) × IsDone request (F.bytes files.old)
+    ensures done { result ≡ 0 → (request : Request) × IsRequestOf (texts arguments.now) request × IsDone request (F.bytes files.old)
         (writer W.contents W.counts out.old) (writer W.contents W.counts out.new) }
-    ensures refused { result ≡ 1 → (request : Request) × IsRefusal request (F.bytes files.old)
+    ensures refused { result ≡ 1 → (request : Request) × IsRequestOf (texts arguments.now) request × IsRefusal request (F.bytes files.old)
         (writer W.contents W.counts out.old) (writer W.contents W.counts out.new)
         (writer E.contents E.counts errors.old) (writer E.contents E.counts errors.new) }
-    ensures usage { result ≡ 2 → out.new ≡ out.old }
-    ensures unusable { result ≡ 3 → (request : Request) × IsUnusable request
+    ensures usage { result ≡ 2 → HasNoRequest (texts arguments.now)
+        ⊎ ((request : Request) × IsRequestOf (texts arguments.now) request × ReportsMissingLine request (F.bytes files.old)
+        (writer E.contents E.counts errors.old) (writer E.contents E.counts errors.new)) }
+    ensures untouched { result ≡ 2 → out.new ≡ out.old }
+    ensures unusable { result ≡ 3 → (request : Request) × IsRequestOf (texts arguments.now) request × IsUnusable request
         (disk F.bytes F.failed_opens F.failed_reads files.old) (disk F.bytes F.failed_opens F.failed_reads files.new)
         (writer W.contents W.counts out.old) (writer W.contents W.counts out.new)
         (writer E.contents E.counts errors.old) (writer E.contents E.counts errors.new) }
     // Nothing is written if reading the arguments runs out of memory.
     ensures memory { result ≡ 4
         → ((out.new ≡ out.old) × ReportsMemory (writer E.contents E.counts errors.old) (writer E.contents E.counts errors.new))
-        ⊎ ((request : Request) × IsOutOfMemory request (F.bytes files.old)
+        ⊎ ((request : Request) × IsRequestOf (texts arguments.now) request × IsOutOfMemory request (F.bytes files.old)
         (writer W.contents W.counts out.old) (writer W.contents W.counts out.new)
         (writer E.contents E.counts errors.old) (writer E.contents E.counts errors.new)) }
     // No failed open or read is ignored.

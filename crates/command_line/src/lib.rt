@@ -4,8 +4,11 @@
 mod arguments;
 mod dispatch;
 mod fault;
+pub mod laws;
 mod options;
+mod serve;
 
-pub use arguments::{Serve, Subcommand, read_request, read_serve};
+pub use arguments::{Subcommand, read_request, read_serve};
 pub use dispatch::command;
 pub use fault::ArgumentsFault;
+pub use serve::Serve;

@@ -1,16 +1,25 @@
 //! Options and other arguments shared by several commands.
-ghost use Rattle.std.specs.Prelude.{◌≤◌, IfOk, vec_len};
+ghost use Rattle.std.specs.Prelude.{◌≡◌, ◌≢◌, ◌≤◌, IfOk, MatchResult, None, Some, codes, false, map, vec_len};
+ghost use Rattle.decimal.specs.declared.numeral.TheConstants.{MAX_NUMBER_DIGITS};
+ghost use Rattle.clap.specs.Walk.{first_of, rule_of};
+ghost use Rattle.cql2_tokens.specs.Name.{column_named as column_of};
+ghost use Rattle.command_line.specs.Arguments.{counties as counties_rule, county, optional, required};
+ghost use Rattle.command_line.specs.Values.{code_in, code_of, codes_in, codes_of, file_of, number_of, numeric, port_of, rows_in, score_of};
+ghost use Rattle.command_line.specs.declared.fault.ArgumentsFault.TheVariants as ArgumentsFault;
 
 use crate::fault::{ArgumentsFault, CODE_LIMIT};
 use clap::{Arg, ArgAction, ArgMatches};
 use commands::FilterOptions;
 use cql2::{Column, NumericColumn};
 use cql2_text::column_named;
-use decimal::are_digits;
+use decimal::{are_digits, decimal_value};
 use std::alloc::Global;
 
 /// Returns the required option `--name VALUE`.
-pub fn option<'a>(alloc: Global, name: &'a str, value: &'a str, help: &'a str) -> Arg<'a> {
+pub fn option<'a>(alloc: Global, name: &'a str, value: &'a str, help: &'a str) -> Arg<'a>
+    ensures rule { rule_of result ≡ required name.entry.now }
+    ensures local { result.global ≡ false }
+{
     Arg::new(alloc, name)
         .long(name)
         .value_name(value)
@@ -20,10 +29,14 @@ pub fn option<'a>(alloc: Global, name: &'a str, value: &'a str, help: &'a str) -
 }
 
 /// Returns the value of a required argument.
+#[tactic(auto, using(crate::proofs::ValueLemmas::first_value_in))]
 pub fn value<'a>(
     matches: &ArgMatches<'a>,
     name: &'static str,
-) -> Result<&'a str, ArgumentsFault<'a>> {
+) -> Result<&'a str, ArgumentsFault<'a>>
+    ensures { MatchResult result (λ text. first_of name.now (rows_in matches.now) ≡ Some text.now)
+        (λ fault. (first_of name.now (rows_in matches.now) ≡ None) × (fault ≡ ArgumentsFault.Missing name.entry)) }
+{
     matches.get_str(name).ok_or(ArgumentsFault::Missing(name))
 }
 
@@ -31,10 +44,10 @@ pub fn value<'a>(
 const STANDARD_INPUT: &str = "/dev/stdin";
 
 /// Returns the value of a required file name. `-` is standard input.
-pub fn file<'a>(
-    matches: &ArgMatches<'a>,
-    name: &'static str,
-) -> Result<&'a str, ArgumentsFault<'a>> {
+pub fn file<'a>(matches: &ArgMatches<'a>, name: &'static str) -> Result<&'a str, ArgumentsFault<'a>>
+    ensures { MatchResult result (λ file. file_of name.now (rows_in matches.now) ≡ Some file.now)
+        (λ fault. (file_of name.now (rows_in matches.now) ≡ None) × (fault ≡ ArgumentsFault.Missing name.entry)) }
+{
     match value(matches, name)? {
         "-" => Ok(STANDARD_INPUT),
         name => Ok(name),
@@ -42,7 +55,10 @@ pub fn file<'a>(
 }
 
 /// Returns the required argument `CODE`, a county.
-pub fn county_option<'a>(alloc: Global) -> Arg<'a> {
+pub fn county_option<'a>(alloc: Global) -> Arg<'a>
+    ensures rule { rule_of result ≡ county }
+    ensures local { result.global ≡ false }
+{
     Arg::new(alloc, "code")
         .value_name("CODE")
         .help("The county, five digits")
@@ -51,12 +67,18 @@ pub fn county_option<'a>(alloc: Global) -> Arg<'a> {
 }
 
 /// Returns the county's code: five digits.
-pub fn code<'a>(matches: &ArgMatches<'a>) -> Result<&'a str, ArgumentsFault<'a>> {
+pub fn code<'a>(matches: &ArgMatches<'a>) -> Result<&'a str, ArgumentsFault<'a>>
+    ensures { MatchResult result (λ code. code_of (rows_in matches.now) ≡ Some code.now)
+        (λ fault. (code_of (rows_in matches.now) ≡ None) × (fault ≢ ArgumentsFault.Memory)) }
+{
     five_digits(value(matches, "code")?)
 }
 
 /// Returns the argument `CODE`, one or more counties.
-pub fn counties_option<'a>(alloc: Global) -> Arg<'a> {
+pub fn counties_option<'a>(alloc: Global) -> Arg<'a>
+    ensures rule { rule_of result ≡ counties_rule }
+    ensures local { result.global ≡ false }
+{
     Arg::new(alloc, "code")
         .value_name("CODE")
         .help("The counties, five digits each")
@@ -66,13 +88,27 @@ pub fn counties_option<'a>(alloc: Global) -> Arg<'a> {
 }
 
 /// Returns the counties' codes: at least one, five digits each.
+#[tactic(auto, using(crate::proofs::ValueLemmas::raw_values_in))]
 pub fn codes<'a>(
     alloc: Global,
     matches: &ArgMatches<'a>,
 ) -> Result<Vec<&'a str>, ArgumentsFault<'a>>
-    ensures { IfOk result (λ codes. vec_len codes ≤ CODE_LIMIT) }
+    ensures few { IfOk result (λ codes. vec_len codes ≤ CODE_LIMIT) }
+    ensures read { MatchResult result (λ codes. codes_of (rows_in matches.now) ≡ Some (map (λ code. code.now) codes.items))
+        (λ fault. fault ≢ ArgumentsFault.Memory → codes_of (rows_in matches.now) ≡ None) }
 {
-    let given = matches.get_strs("code").unwrap_or(&[]);
+    match matches.get_strs("code") {
+        Some(given) => counties(alloc, given),
+        None => Err(ArgumentsFault::Missing("CODE")),
+    }
+}
+
+/// Returns a copy of the codes if there is at least one, and each is five digits.
+fn counties<'a>(alloc: Global, given: &[&'a str]) -> Result<Vec<&'a str>, ArgumentsFault<'a>>
+    ensures few { IfOk result (λ codes. vec_len codes ≤ CODE_LIMIT) }
+    ensures read { MatchResult result (λ codes. codes_in (map (λ code. code.now) given.now) ≡ Some (map (λ code. code.now) codes.items))
+        (λ fault. fault ≢ ArgumentsFault.Memory → codes_in (map (λ code. code.now) given.now) ≡ None) }
+{
     if given.is_empty() {
         return Err(ArgumentsFault::Missing("CODE"));
     }
@@ -86,7 +122,10 @@ pub fn codes<'a>(
     Ok(codes)
 }
 
-fn five_digits<'a>(code: &'a str) -> Result<&'a str, ArgumentsFault<'a>> {
+fn five_digits<'a>(code: &'a str) -> Result<&'a str, ArgumentsFault<'a>>
+    ensures { MatchResult result (λ digits. (digits ≡ code.entry) × (code_in code.now ≡ Some code.now))
+        (λ fault. (code_in code.now ≡ None) × (fault ≡ ArgumentsFault.Code code.entry)) }
+{
     if code.len() != 5 || !are_digits(code.as_bytes()) {
         return Err(ArgumentsFault::Code(code));
     }
@@ -94,7 +133,10 @@ fn five_digits<'a>(code: &'a str) -> Result<&'a str, ArgumentsFault<'a>> {
 }
 
 /// Returns the option `--score COLUMN`.
-pub fn score_option<'a>(alloc: Global) -> Arg<'a> {
+pub fn score_option<'a>(alloc: Global) -> Arg<'a>
+    ensures rule { rule_of result ≡ optional (codes "score") }
+    ensures local { result.global ≡ false }
+{
     option(
         alloc,
         "score",
@@ -105,10 +147,14 @@ pub fn score_option<'a>(alloc: Global) -> Arg<'a> {
 }
 
 /// Returns the options for compiling a filter.
+#[tactic(auto, using(crate::proofs::ValueLemmas::first_value_in))]
 pub fn filter_options<'a>(
     alloc: Global,
     matches: &ArgMatches<'a>,
-) -> Result<FilterOptions, ArgumentsFault<'a>> {
+) -> Result<FilterOptions, ArgumentsFault<'a>>
+    ensures { MatchResult result (λ options. score_of (rows_in matches.now) ≡ Some options.score)
+        (λ fault. (score_of (rows_in matches.now) ≡ None) × (fault ≢ ArgumentsFault.Memory)) }
+{
     Ok(FilterOptions {
         score: match matches.get_str("score") {
             Some(name) => Some(numeric_column(name)?),
@@ -119,7 +165,10 @@ pub fn filter_options<'a>(
 }
 
 /// Returns the column of this name if it holds numbers or a coordinate.
-fn numeric_column<'a>(name: &'a str) -> Result<NumericColumn, ArgumentsFault<'a>> {
+fn numeric_column<'a>(name: &'a str) -> Result<NumericColumn, ArgumentsFault<'a>>
+    ensures { MatchResult result (λ column. numeric (column_of name.now) ≡ Some column)
+        (λ fault. (numeric (column_of name.now) ≡ None) × (fault ≡ ArgumentsFault.Score name.entry)) }
+{
     match column_named(name.as_bytes()) {
         Some(Column::Numeric(column)) => Ok(column),
         _ => Err(ArgumentsFault::Score(name)),
@@ -131,24 +180,30 @@ pub fn number<'a>(
     matches: &ArgMatches<'a>,
     name: &'static str,
     most_digits: usize,
-) -> Result<u64, ArgumentsFault<'a>> {
+) -> Result<u64, ArgumentsFault<'a>>
+    requires few { most_digits ≤ MAX_NUMBER_DIGITS }
+    ensures { MatchResult result (λ number. number_of most_digits name.now (rows_in matches.now) ≡ Some number)
+        (λ fault. (number_of most_digits name.now (rows_in matches.now) ≡ None) × (fault ≢ ArgumentsFault.Memory)) }
+{
     let text = value(matches, name)?;
-    let fault = ArgumentsFault::Number {
+    decimal_value(text.as_bytes(), most_digits).ok_or(ArgumentsFault::Number {
         name,
         most_digits,
         text,
-    };
-    if text.len() > most_digits || !are_digits(text.as_bytes()) {
-        return Err(fault);
-    }
-    text.parse().map_err(|_| fault)
+    })
 }
 
 /// Returns the port: 1 to 65535.
-pub fn port<'a>(matches: &ArgMatches<'a>) -> Result<u16, ArgumentsFault<'a>> {
+pub fn port<'a>(matches: &ArgMatches<'a>) -> Result<u16, ArgumentsFault<'a>>
+    ensures { MatchResult result (λ port. port_of (rows_in matches.now) ≡ Some port)
+        (λ fault. (port_of (rows_in matches.now) ≡ None) × (fault ≢ ArgumentsFault.Memory)) }
+{
     let text = value(matches, "port")?;
+    if !are_digits(text.as_bytes()) {
+        return Err(ArgumentsFault::Port(text));
+    }
     match text.parse() {
-        Ok(port) if port > 0 && are_digits(text.as_bytes()) => Ok(port),
+        Ok(port) if port > 0 => Ok(port),
         _ => Err(ArgumentsFault::Port(text)),
     }
 }

@@ -1,11 +1,20 @@
 //! The arguments of `compile`.
+ghost use Rattle.std.specs.Prelude.{IfOk};
+ghost use Rattle.command_line.specs.Arguments.{Takes, arguments_of};
+ghost use Rattle.command_line.specs.Request.{IsCompile};
+ghost use Rattle.command_line.specs.Values.{Reads, rows_in};
+ghost use Rattle.command_line.specs.declared.arguments.subcommand.Subcommand.TheVariants as Subcommand;
+
 use crate::fault::ArgumentsFault;
 use crate::options::{file, filter_options, option, score_option};
 use clap::{ArgMatches, Command};
 use commands::Compile;
 use std::alloc::{AllocError, Global};
 
-pub fn command<'a>(alloc: Global, name: &'a str) -> Result<Command<'a>, AllocError> {
+/// Returns the command for the argument parser.
+pub fn command<'a>(alloc: Global, name: &'a str) -> Result<Command<'a>, AllocError>
+    ensures { IfOk result (Takes name.entry.now (arguments_of Subcommand.Compile)) }
+{
     Command::new(alloc, name)
         .about("Writes the BPF program of a filter")
         .after_help(help_end!(
@@ -25,7 +34,9 @@ pub fn command<'a>(alloc: Global, name: &'a str) -> Result<Command<'a>, AllocErr
 pub fn request<'a>(
     alloc: Global,
     matches: &ArgMatches<'a>,
-) -> Result<Compile<'a>, ArgumentsFault<'a>> {
+) -> Result<Compile<'a>, ArgumentsFault<'a>>
+    ensures { Reads (IsCompile (rows_in matches.now)) result }
+{
     Ok(Compile {
         filter: file(matches, "filter")?,
         filter_options: filter_options(alloc, matches)?,

@@ -1,11 +1,20 @@
 //! The arguments of `geocode-batch`.
+ghost use Rattle.std.specs.Prelude.{IfOk};
+ghost use Rattle.command_line.specs.Arguments.{Takes, arguments_of};
+ghost use Rattle.command_line.specs.Request.{IsGeocodeBatch};
+ghost use Rattle.command_line.specs.Values.{ReadsUnlessMemory, rows_in};
+ghost use Rattle.command_line.specs.declared.arguments.subcommand.Subcommand.TheVariants as Subcommand;
+
 use crate::fault::ArgumentsFault;
 use crate::options::{codes, counties_option, file, option, value};
 use clap::{ArgMatches, Command};
 use commands::GeocodeBatch;
 use std::alloc::{AllocError, Global};
 
-pub fn command<'a>(alloc: Global, name: &'a str) -> Result<Command<'a>, AllocError> {
+/// Returns the command for the argument parser.
+pub fn command<'a>(alloc: Global, name: &'a str) -> Result<Command<'a>, AllocError>
+    ensures { IfOk result (Takes name.entry.now (arguments_of Subcommand.GeocodeBatch)) }
+{
     Command::new(alloc, name)
         .about("Finds each address of a file")
         .after_help(help_end!(
@@ -44,7 +53,9 @@ Example:
 pub fn request<'a>(
     alloc: Global,
     matches: &ArgMatches<'a>,
-) -> Result<GeocodeBatch<'a>, ArgumentsFault<'a>> {
+) -> Result<GeocodeBatch<'a>, ArgumentsFault<'a>>
+    ensures { ReadsUnlessMemory (IsGeocodeBatch (rows_in matches.now)) result }
+{
     Ok(GeocodeBatch {
         addresses: file(matches, "addresses")?,
         data: value(matches, "data")?,

@@ -1,4 +1,13 @@
 //! The arguments of `geocode`.
+ghost use Rattle.std.specs.Prelude.{◌≡◌, ◌≢◌, MatchResult, IfOk, IsErr, Ok};
+ghost use Rattle.std.specs.Option.{option_copied};
+ghost use Rattle.geocode.specs.Query.{parts_of, query_of};
+ghost use Rattle.command_line.specs.Arguments.{Takes, arguments_of};
+ghost use Rattle.command_line.specs.Request.{IsGeocode};
+ghost use Rattle.command_line.specs.Values.{ReadsUnlessMemory, rows_in};
+ghost use Rattle.command_line.specs.declared.arguments.subcommand.Subcommand.TheVariants as Subcommand;
+ghost use Rattle.command_line.specs.declared.fault.ArgumentsFault.TheVariants as ArgumentsFault;
+
 use crate::fault::ArgumentsFault;
 use crate::options::{codes, counties_option, option, value};
 use clap::{ArgMatches, Command};
@@ -6,7 +15,10 @@ use commands::Geocode;
 use geocode::{MAX_HOUSE_NUMBER_DIGITS, Query, QueryFault};
 use std::alloc::{AllocError, Global};
 
-pub fn command<'a>(alloc: Global, name: &'a str) -> Result<Command<'a>, AllocError> {
+/// Returns the command for the argument parser.
+pub fn command<'a>(alloc: Global, name: &'a str) -> Result<Command<'a>, AllocError>
+    ensures { IfOk result (Takes name.entry.now (arguments_of Subcommand.Geocode)) }
+{
     Command::new(alloc, name)
         .about("Finds a house number on the streets with a name")
         .after_help(help_end!(
@@ -34,10 +46,13 @@ Example:
 }
 
 /// Returns the request that the matched arguments make.
+#[tactic(auto, using(crate::proofs::ValueLemmas::first_value_in))]
 pub fn request<'a>(
     alloc: Global,
     matches: &ArgMatches<'a>,
-) -> Result<Geocode<'a>, ArgumentsFault<'a>> {
+) -> Result<Geocode<'a>, ArgumentsFault<'a>>
+    ensures { ReadsUnlessMemory (IsGeocode (rows_in matches.now)) result }
+{
     Ok(Geocode {
         data: value(matches, "data")?,
         query: query(
@@ -54,7 +69,11 @@ fn query<'a>(
     number: &'a str,
     name: &'a str,
     zip: Option<&'a str>,
-) -> Result<Query, ArgumentsFault<'a>> {
+) -> Result<Query, ArgumentsFault<'a>>
+    ensures { MatchResult result
+        (λ query. query_of number.now name.now (option_copied zip.entry) ≡ Ok (parts_of query))
+        (λ fault. IsErr (query_of number.now name.now (option_copied zip.entry)) × (fault ≢ ArgumentsFault.Memory)) }
+{
     match Query::of(number.as_bytes(), name, zip.map(|zip| zip.as_bytes())) {
         Ok(query) => Ok(query),
         Err(QueryFault::Number) => Err(no_number("number", number)),
@@ -64,7 +83,9 @@ fn query<'a>(
 }
 
 /// Returns the fault for an option whose value isn't 1 to 11 digits.
-fn no_number<'a>(name: &'static str, text: &'a str) -> ArgumentsFault<'a> {
+fn no_number<'a>(name: &'static str, text: &'a str) -> ArgumentsFault<'a>
+    ensures { result ≡ ArgumentsFault.Number name.entry MAX_HOUSE_NUMBER_DIGITS text.entry }
+{
     ArgumentsFault::Number {
         name,
         most_digits: MAX_HOUSE_NUMBER_DIGITS,

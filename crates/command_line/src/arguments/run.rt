@@ -1,11 +1,20 @@
 //! The arguments of `run`.
+ghost use Rattle.std.specs.Prelude.{IfOk};
+ghost use Rattle.command_line.specs.Arguments.{Takes, arguments_of};
+ghost use Rattle.command_line.specs.Request.{IsRun};
+ghost use Rattle.command_line.specs.Values.{Reads, rows_in};
+ghost use Rattle.command_line.specs.declared.arguments.subcommand.Subcommand.TheVariants as Subcommand;
+
 use crate::fault::ArgumentsFault;
 use crate::options::{code, county_option, option, value};
 use clap::{ArgMatches, Command};
 use commands::Run;
 use std::alloc::{AllocError, Global};
 
-pub fn command<'a>(alloc: Global, name: &'a str) -> Result<Command<'a>, AllocError> {
+/// Returns the command for the argument parser.
+pub fn command<'a>(alloc: Global, name: &'a str) -> Result<Command<'a>, AllocError>
+    ensures { IfOk result (Takes name.entry.now (arguments_of Subcommand.Run)) }
+{
     Command::new(alloc, name)
         .about("Writes the rows of the segments that a program selects")
         .after_help(help_end!(
@@ -27,7 +36,9 @@ pub fn command<'a>(alloc: Global, name: &'a str) -> Result<Command<'a>, AllocErr
 }
 
 /// Returns the request that the matched arguments make.
-pub fn request<'a>(matches: &ArgMatches<'a>) -> Result<Run<'a>, ArgumentsFault<'a>> {
+pub fn request<'a>(matches: &ArgMatches<'a>) -> Result<Run<'a>, ArgumentsFault<'a>>
+    ensures { Reads (IsRun (rows_in matches.now)) result }
+{
     Ok(Run {
         program: value(matches, "program")?,
         data: value(matches, "data")?,

@@ -1,11 +1,20 @@
 //! The arguments of `select`.
+ghost use Rattle.std.specs.Prelude.{IfOk};
+ghost use Rattle.command_line.specs.Arguments.{Takes, arguments_of};
+ghost use Rattle.command_line.specs.Request.{IsSelect};
+ghost use Rattle.command_line.specs.Values.{ReadsUnlessMemory, rows_in};
+ghost use Rattle.command_line.specs.declared.arguments.subcommand.Subcommand.TheVariants as Subcommand;
+
 use crate::fault::ArgumentsFault;
 use crate::options::{codes, counties_option, filter_options, option, score_option, value};
 use clap::{ArgMatches, Command};
 use commands::Select;
 use std::alloc::{AllocError, Global};
 
-pub fn command<'a>(alloc: Global, name: &'a str) -> Result<Command<'a>, AllocError> {
+/// Returns the command for the argument parser.
+pub fn command<'a>(alloc: Global, name: &'a str) -> Result<Command<'a>, AllocError>
+    ensures { IfOk result (Takes name.entry.now (arguments_of Subcommand.Select)) }
+{
     Command::new(alloc, name)
         .about("Writes the rows of the street segments for which a filter is true")
         .after_help(help_end!(
@@ -29,7 +38,9 @@ Example:
 pub fn request<'a>(
     alloc: Global,
     matches: &ArgMatches<'a>,
-) -> Result<Select<'a>, ArgumentsFault<'a>> {
+) -> Result<Select<'a>, ArgumentsFault<'a>>
+    ensures { ReadsUnlessMemory (IsSelect (rows_in matches.now)) result }
+{
     Ok(Select {
         filter: value(matches, "where")?,
         filter_options: filter_options(alloc, matches)?,

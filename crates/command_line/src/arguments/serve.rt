@@ -1,25 +1,20 @@
 //! The arguments of `serve`.
-ghost use Rattle.std.specs.Prelude.{◌≤◌, vec_len};
+ghost use Rattle.std.specs.Prelude.{IfOk};
+ghost use Rattle.command_line.specs.Arguments.{Takes, arguments_of};
+ghost use Rattle.command_line.specs.Request.{IsServe};
+ghost use Rattle.command_line.specs.Values.{ReadsUnlessMemory, rows_in};
+ghost use Rattle.command_line.specs.declared.arguments.subcommand.Subcommand.TheVariants as Subcommand;
 
 use crate::fault::ArgumentsFault;
 use crate::options::{codes, counties_option, option, port, value};
+use crate::serve::Serve;
 use clap::{ArgMatches, Command};
 use std::alloc::{AllocError, Global};
 
-/// The arguments of `serve`.
-#[derive(Drop)]
-pub struct Serve<'a> {
-    /// The folder of the county files.
-    pub data: &'a str,
-    /// The port, at least 1.
-    pub port: u16,
-    /// The counties' codes, five digits each: the state, then the county within it.
-    pub codes: Vec<&'a str>,
-    // The maximum number of counties that a server takes.
-    ghost few: { vec_len codes ≤ 100_000 },
-}
-
-pub fn command<'a>(alloc: Global, name: &'a str) -> Result<Command<'a>, AllocError> {
+/// Returns the command for the argument parser.
+pub fn command<'a>(alloc: Global, name: &'a str) -> Result<Command<'a>, AllocError>
+    ensures { IfOk result (Takes name.entry.now (arguments_of Subcommand.Serve)) }
+{
     Command::new(alloc, name)
         .about("Answers requests over HTTP on 127.0.0.1, one connection at a time")
         .after_help(help_end!(
@@ -42,10 +37,9 @@ Example:
 }
 
 /// Returns the request that the matched arguments make.
-pub fn request<'a>(
-    alloc: Global,
-    matches: &ArgMatches<'a>,
-) -> Result<Serve<'a>, ArgumentsFault<'a>> {
+pub fn request<'a>(alloc: Global, matches: &ArgMatches<'a>) -> Result<Serve<'a>, ArgumentsFault<'a>>
+    ensures { ReadsUnlessMemory (IsServe (rows_in matches.now)) result }
+{
     Ok(Serve {
         data: value(matches, "data")?,
         port: port(matches)?,

@@ -1,4 +1,6 @@
 //! The commands and their names.
+ghost use Rattle.std.specs.Prelude.{◌≡◌};
+ghost use Rattle.command_line.specs.Arguments.{name_of, named};
 
 /// A command.
 #[derive(Clone, Copy, PartialEq, Eq)]
@@ -33,7 +35,9 @@ impl Subcommand {
     ];
 
     /// Returns the word that names the command.
-    pub fn name(self) -> &'static str {
+    pub fn name(self) -> &'static str
+        ensures { result.now ≡ name_of self }
+    {
         match self {
             Subcommand::Select => "select",
             Subcommand::Compile => "compile",
@@ -50,9 +54,12 @@ impl Subcommand {
     }
 
     /// Returns the command that a word names.
-    pub fn named(word: &str) -> Option<Self> {
+    pub fn named(word: &str) -> Option<Self>
+        ensures { result ≡ named word.now }
+    {
         Subcommand::ALL
-            .into_iter()
+            .iter()
+            .copied()
             .find(|subcommand| subcommand.name() == word)
     }
 }

@@ -1,11 +1,20 @@
 //! The arguments of `trace`.
+ghost use Rattle.std.specs.Prelude.{IfOk};
+ghost use Rattle.command_line.specs.Arguments.{Takes, arguments_of};
+ghost use Rattle.command_line.specs.Request.{IsTrace};
+ghost use Rattle.command_line.specs.Values.{Reads, rows_in};
+ghost use Rattle.command_line.specs.declared.arguments.subcommand.Subcommand.TheVariants as Subcommand;
+
 use crate::fault::ArgumentsFault;
 use crate::options::{code, county_option, number, option, value};
 use clap::{ArgMatches, Command};
 use commands::Trace;
 use std::alloc::{AllocError, Global};
 
-pub fn command<'a>(alloc: Global, name: &'a str) -> Result<Command<'a>, AllocError> {
+/// Returns the command for the argument parser.
+pub fn command<'a>(alloc: Global, name: &'a str) -> Result<Command<'a>, AllocError>
+    ensures { IfOk result (Takes name.entry.now (arguments_of Subcommand.Trace)) }
+{
     Command::new(alloc, name)
         .about("Runs a program on one segment, step by step, even one that run would refuse")
         .after_help(help_end!(
@@ -43,7 +52,9 @@ Example:
 const MAX_ARGUMENT_DIGITS: usize = 19;
 
 /// Returns the request that the matched arguments make.
-pub fn request<'a>(matches: &ArgMatches<'a>) -> Result<Trace<'a>, ArgumentsFault<'a>> {
+pub fn request<'a>(matches: &ArgMatches<'a>) -> Result<Trace<'a>, ArgumentsFault<'a>>
+    ensures { Reads (IsTrace (rows_in matches.now)) result }
+{
     Ok(Trace {
         program: value(matches, "program")?,
         data: value(matches, "data")?,

@@ -1,0 +1,4 @@
+mod ArgumentLemmas
+mod PortLemmas
+mod RequestLemmas
+mod ValueLemmas

@@ -1,0 +1,32 @@
+use Rattle.std.proofs.Common.{refl, sym, ap, Some}
+use Rattle.clap.specs.Walk.{Text}
+use Rattle.clap.proofs.OnLiterals.{clap_on_literals}
+use Rattle.command_line.specs.Arguments.{program}
+use Rattle.command_line.proofs.laws.requests.Goals as goal
+
+pub returns-clause-run : goal.returns-clause-run
+unfolding clap_on_literals program
+returns-clause-run c = λ run file folder code. record {
+  taken = refl;
+  made = (
+    run,
+    refl,
+    record {
+      program = ap (λ (text : Text). Some text) (sym file);
+      folder = ap (λ (text : Text). Some text) (sym folder);
+      code = ap (λ (text : Text). Some text) (sym code);
+    },
+  );
+}
+
+pub returns-clause-twice : goal.returns-clause-twice
+unfolding clap_on_literals program
+returns-clause-twice c = λ request is. let bad = is.taken in cc
+
+pub returns-clause-missing : goal.returns-clause-missing
+unfolding clap_on_literals program
+returns-clause-missing c = λ request is. let bad = is.taken in cc
+
+pub returns-clause-help : goal.returns-clause-help
+unfolding clap_on_literals program
+returns-clause-help c = λ request is. let bad = is.taken in cc

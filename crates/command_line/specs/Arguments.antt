@@ -1,0 +1,97 @@
+-- The program's commands and their arguments.
+use Rattle.std.specs.Prelude.{◌≡◌, true, false, List, [], ◌∷◌, map, codes, Option, Some, find}
+use Rattle.std.specs.Str.{bytes_eq}
+use Rattle.clap.specs.Lexer.{usize_max}
+use Rattle.clap.specs.Walk.{Rule, Text, is_empty}
+use Rattle.clap.specs.Simple.{App, Shape, app_of, new_rule, new_shape}
+use Rattle.clap.specs.declared.builder.action.ArgAction.TheVariants.{Set, Append}
+use Rattle.clap.specs.declared.builder.command.Command.{Command}
+use Rattle.clap.specs.declared.builder.command.Command.TheViews.{out-Command as fields_of}
+use Rattle.command_line.specs.declared.arguments.subcommand.Subcommand.{Subcommand}
+use Rattle.command_line.specs.declared.arguments.subcommand.Subcommand.TheVariants.{Select, Compile, Run, Trace, Geocode, GeocodeBatch, Verify, Explain, Assemble, Disassemble, Serve}
+
+-- `--NAME VALUE`, once
+abbrev pub required : Text → Rule
+required name = record (new_rule name) { long = Some name; value_names = 1; required = true; action = Some Set }
+
+-- `--NAME VALUE`, at most once
+abbrev pub optional : Text → Rule
+optional name = record (required name) { required = false }
+
+-- `CODE`
+abbrev pub county : Rule
+county = record (new_rule (codes "code")) { value_names = 1; required = true; action = Some Set }
+
+-- `CODE..`, one or more
+abbrev pub counties : Rule
+counties = record (new_rule (codes "code")) {
+  value_names = 1;
+  required = true;
+  range = Some (record { start_inclusive = 1; end_inclusive = usize_max });
+  action = Some Append;
+}
+
+-- the word that names a command
+abbrev pub name_of : Subcommand → Text
+name_of Select = codes "select"
+name_of Compile = codes "compile"
+name_of Run = codes "run"
+name_of Trace = codes "trace"
+name_of Geocode = codes "geocode"
+name_of GeocodeBatch = codes "geocode-batch"
+name_of Verify = codes "verify"
+name_of Explain = codes "explain"
+name_of Assemble = codes "asm"
+name_of Disassemble = codes "dis"
+name_of Serve = codes "serve"
+
+-- the arguments of a command
+abbrev pub arguments_of : Subcommand → List Rule
+arguments_of Select = required (codes "where") ∷ optional (codes "score") ∷ required (codes "data") ∷ counties ∷ []
+arguments_of Compile = required (codes "filter") ∷ optional (codes "score") ∷ []
+arguments_of Run = required (codes "program") ∷ required (codes "data") ∷ county ∷ []
+arguments_of Trace = required (codes "program") ∷ required (codes "data") ∷ required (codes "line") ∷ required (codes "limit") ∷ county ∷ []
+arguments_of Geocode =
+    required (codes "data") ∷ required (codes "number") ∷ required (codes "name") ∷ optional (codes "zip") ∷ counties ∷ []
+arguments_of GeocodeBatch = required (codes "addresses") ∷ required (codes "data") ∷ counties ∷ []
+arguments_of Verify = required (codes "program") ∷ []
+arguments_of Explain = required (codes "program") ∷ optional (codes "lines") ∷ []
+arguments_of Assemble = required (codes "source") ∷ []
+arguments_of Disassemble = required (codes "program") ∷ []
+arguments_of Serve = required (codes "data") ∷ required (codes "port") ∷ counties ∷ []
+
+-- the commands in the order of the help
+abbrev pub every : List Subcommand
+every = Select ∷ Compile ∷ Run ∷ Trace ∷ Geocode ∷ GeocodeBatch ∷ Verify ∷ Explain ∷ Assemble ∷ Disassemble ∷ Serve ∷ []
+
+-- the command that a word names
+abbrev pub named : Text → Option Subcommand
+named word = find (λ command. bytes_eq (name_of command) word) every
+
+-- a command with this name and these arguments
+abbrev pub taking : Text → List Rule → Shape
+taking name rules = record (new_shape name) { rules = rules }
+
+-- `extractd COMMAND`, with `--help` and `--version`, but without a command `help`; the words don't begin with the program's name
+abbrev pub with_commands : List Shape → App
+with_commands commands = record {
+  top = record (new_shape (codes "extractd")) {
+    is_leaf = is_empty commands;
+    no_binary_name = true;
+    disable_help_subcommand = true;
+    has_version = true;
+    subcommand_required = true;
+  };
+  subs = commands;
+}
+
+abbrev pub offering : List Subcommand → App
+offering commands = with_commands (map (λ command. taking (name_of command) (arguments_of command)) commands)
+
+unfoldable pub program : App
+program = offering every
+
+-- the parser's command has this name and these arguments
+pub record Takes (name : Text) (rules : List Rule) (command : Command) : Type 0 where
+  pub app : app_of command ≡ record { top = taking name rules; subs = [] }
+  pub local : (fields_of command).has_globals ≡ false
