@@ -16,20 +16,21 @@ use Rattle.bpf_machine.specs.declared.bare.Bare.{Bare}
 use Rattle.bpf_meaning.proofs.RunLemmas.{continues, one_next, ends_there, IsReachable, comes_to}
 
 module _ (code : List Insn) (segment : SegmentParts) where
-  -- a run that exits is longer than every run that is still in progress
-  pub exits_first : (from : Configuration) (run others : List Configuration) {answer score : ℕ} {state : State}
-      → FollowSteps code segment from run → FollowSteps code segment from others → last_of from run ≡ Exited answer score
-      → last_of from others ≡ Running state → length run ≤ length others → ⊥
-  exits_first from [] others {answer} {score} {state} f g e h short =
-      let same = ends_there code segment answer score others (subst (λ (c : Configuration). FollowSteps code segment c others) e g) in
-      let there = subst (λ (c : Configuration). last_of c others ≡ Running state) e h in
-      cc
-  exits_first from (next ∷ run) [] f g e h short = absurd (omega arith)
-  exits_first from (next ∷ run) (there ∷ others) {state} f g e h short =
-      let same = one_next code segment from there next g.0 f.0 in
-      exits_first next run others f.1
-      (subst (λ (c : Configuration). FollowSteps code segment c others) same g.1) e
-      (subst (λ (c : Configuration). last_of c others ≡ Running state) same h) (omega arith)
+  module _ {answer score : ℕ} {state : State} where
+    -- a run that exits is longer than every run that is still in progress
+    pub exits_first : (from : Configuration) (run others : List Configuration)
+        → FollowSteps code segment from run → FollowSteps code segment from others → last_of from run ≡ Exited answer score
+        → last_of from others ≡ Running state → length run ≤ length others → ⊥
+    exits_first from [] others f g e h short =
+        let same = ends_there code segment answer score others (subst (λ (c : Configuration). FollowSteps code segment c others) e g) in
+        let there = subst (λ (c : Configuration). last_of c others ≡ Running state) e h in
+        cc
+    exits_first from (next ∷ run) [] f g e h short = absurd (omega arith)
+    exits_first from (next ∷ run) (there ∷ others) f g e h short =
+        let same = one_next code segment from there next g.0 f.0 in
+        exits_first next run others f.1
+        (subst (λ (c : Configuration). FollowSteps code segment c others) same g.1) e
+        (subst (λ (c : Configuration). last_of c others ≡ Running state) same h) (omega arith)
 
   -- what a run in progress leads to
 
