@@ -196,25 +196,25 @@ module _ (marks : List Bool) (bytes : List ℕ) (same : length marks ≡ length 
     all_written-marks is_unmarked test other =
         written-marks is_unmarked (mid_of at k marks) (mid_of at k bytes) test other (same_parts at k) ∙ sym (ap all_written part_of)
 
-  -- bytes written over those of a frame, with their marks
-  pub call_writes : {slots : List (Option Pointer)} {frame : FrameContents} (at k : ℕ) (written : List ℕ) {new_bytes : List ℕ}
-      {new_marks : List Bool}
-      → k ≡ length written → length (mid_of at k marks) ≡ length written → record { bytes = frame_bytes marks bytes; slots = slots } ≡ frame
-      → new_bytes ≡ write bytes at written → new_marks ≡ replicate (length (mid_of at k marks)) true
-      → (let new : FrameContents = record { bytes = frame_bytes (put_mid at k marks new_marks) new_bytes; slots = slots } in new)
-      ≡ record frame { bytes = write frame.bytes at (map Byte written) }
-  unfolding contents
-  call_writes {slots} at k written {new_bytes} {new_marks} is long view low all =
-      let all_are : new_marks ≡ replicate (length written) true = all ∙ ap (λ (n : ℕ). replicate n true) long in
-      let put : new_bytes ≡ put_mid at k bytes written = low ∙ sym (put_mid_is_write bytes written at k is) in
-      let many : k ≡ length (map Byte written) = is ∙ sym (length-map written Byte) in
-      ap (λ (l : List ℕ). contents (frame_bytes (put_mid at k marks new_marks) l) slots) put
-      ∙ ap (λ (l : List Bool). contents (frame_bytes (put_mid at k marks l) (put_mid at k bytes written)) slots) all_are
-      ∙ ap (λ (l : List FrameByte). contents l slots)
-      (frame_bytes-put_mid (replicate (length written) true) written at k (length-replicate (length written) true)
-      ∙ ap (put_mid at k (frame_bytes marks bytes)) (frame_bytes-replicate (length written) written refl)
-      ∙ put_mid_is_write (frame_bytes marks bytes) (map Byte written) at k many)
-      ∙ ap (λ (f : FrameContents). contents (write f.bytes at (map Byte written)) f.slots) view
+  module _ {slots : List (Option Pointer)} {frame : FrameContents} {new_bytes : List ℕ} {new_marks : List Bool} where
+    -- bytes written over those of a frame, with their marks
+    pub call_writes : (at k : ℕ) (written : List ℕ)
+        → k ≡ length written → length (mid_of at k marks) ≡ length written → record { bytes = frame_bytes marks bytes; slots = slots } ≡ frame
+        → new_bytes ≡ write bytes at written → new_marks ≡ replicate (length (mid_of at k marks)) true
+        → (let new : FrameContents = record { bytes = frame_bytes (put_mid at k marks new_marks) new_bytes; slots = slots } in new)
+        ≡ record frame { bytes = write frame.bytes at (map Byte written) }
+    unfolding contents
+    call_writes at k written is long view low all =
+        let all_are : new_marks ≡ replicate (length written) true = all ∙ ap (λ (n : ℕ). replicate n true) long in
+        let put : new_bytes ≡ put_mid at k bytes written = low ∙ sym (put_mid_is_write bytes written at k is) in
+        let many : k ≡ length (map Byte written) = is ∙ sym (length-map written Byte) in
+        ap (λ (l : List ℕ). contents (frame_bytes (put_mid at k marks new_marks) l) slots) put
+        ∙ ap (λ (l : List Bool). contents (frame_bytes (put_mid at k marks l) (put_mid at k bytes written)) slots) all_are
+        ∙ ap (λ (l : List FrameByte). contents l slots)
+        (frame_bytes-put_mid (replicate (length written) true) written at k (length-replicate (length written) true)
+        ∙ ap (put_mid at k (frame_bytes marks bytes)) (frame_bytes-replicate (length written) written refl)
+        ∙ put_mid_is_write (frame_bytes marks bytes) (map Byte written) at k many)
+        ∙ ap (λ (f : FrameContents). contents (write f.bytes at (map Byte written)) f.slots) view
 
   -- the low bytes of a number, with their marks
   module _ (at count k : ℕ) (is : k ≡ count) (long : length (mid_of at k marks) ≡ count) (short : count ≤ 8) where

@@ -45,20 +45,21 @@ module _ (code : List Insn) (segment : SegmentParts) where
   ends_there answer score [] follow = refl
   ends_there answer score (next ∷ run) follow = absurd follow.0
 
-  -- two sequences of steps that both exit have the same exit
-  pub same_exit : (from : Configuration) (run others : List Configuration) {answer score other other_score : ℕ}
-      → FollowSteps code segment from run → FollowSteps code segment from others → last_of from run ≡ Exited answer score
-      → last_of from others ≡ Exited other other_score → Exited answer score ≡ Exited other other_score
-  same_exit from [] others {answer} {score} {other} {other_score} f g e h =
-      sym (ends_there answer score others (subst (λ from. FollowSteps code segment from others) e g))
-      ∙ subst (λ from. last_of from others ≡ Exited other other_score) e h
-  same_exit from (next ∷ run) [] f g e h =
-      absurd (subst (λ from. Step code segment from next) h f.0)
-  same_exit from (next ∷ run) (there ∷ others) {other} {other_score} f g e h =
-      let same = one_next from there next g.0 f.0 in
-      same_exit next run others f.1
-      (subst (λ from. FollowSteps code segment from others) same g.1) e
-      (subst (λ from. last_of from others ≡ Exited other other_score) same h)
+  module _ {answer score other other_score : ℕ} where
+    -- two sequences of steps that both exit have the same exit
+    pub same_exit : (from : Configuration) (run others : List Configuration)
+        → FollowSteps code segment from run → FollowSteps code segment from others → last_of from run ≡ Exited answer score
+        → last_of from others ≡ Exited other other_score → Exited answer score ≡ Exited other other_score
+    same_exit from [] others f g e h =
+        sym (ends_there answer score others (subst (λ from. FollowSteps code segment from others) e g))
+        ∙ subst (λ from. last_of from others ≡ Exited other other_score) e h
+    same_exit from (next ∷ run) [] f g e h =
+        absurd (subst (λ from. Step code segment from next) h f.0)
+    same_exit from (next ∷ run) (there ∷ others) f g e h =
+        let same = one_next from there next g.0 f.0 in
+        same_exit next run others f.1
+        (subst (λ from. FollowSteps code segment from others) same g.1) e
+        (subst (λ from. last_of from others ≡ Exited other other_score) same h)
 
   pub one_answer_lem : (answer score other other_score : ℕ) → Answers code segment answer score → Answers code segment other other_score
       → (answer ≡ other) × (score ≡ other_score)
