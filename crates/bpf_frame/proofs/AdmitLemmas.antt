@@ -109,15 +109,16 @@ module _ {map : Contents} {before : FrameContents} (after : FrameContents) (prop
         (λ slot apart. still_admits slot (λ inside. slots_preserved slot inside apart));
   }
 
-  -- a byte of a slot that is marked because of the slot's kind is written
-  written_here : (k : Kind) {slot : ℕ} (at : ℕ) → slot < SLOTS → FRAME_LENGTH ≤ length after.bytes → k ≢ Nothing
-      → kind.Admits k (slot_value after slot) → at / SLOT_LENGTH ≡ slot → IsMarked (fit_marks k map.marks slot) at
-      → IsTrue (is_written after.bytes at)
-  written_here (Number x) {slot} at within whole known admits same marked = number_is_written x after slot at whole within admits same
-  written_here Nothing at within whole known admits same marked = absurd (known refl)
-  written_here pointer {slot} at within whole known admits same marked =
-      let fits = slot_in_frame map slot proper within in
-      absurd (both_ways _ (get_or-with_marks false map.marks (SLOT_LENGTH * slot) SLOT_LENGTH at fits (omega arith) (omega arith)) marked)
+  module _ {slot : ℕ} where
+    -- a byte of a slot that is marked because of the slot's kind is written
+    written_here : (k : Kind) (at : ℕ) → slot < SLOTS → FRAME_LENGTH ≤ length after.bytes → k ≢ Nothing
+        → kind.Admits k (slot_value after slot) → at / SLOT_LENGTH ≡ slot → IsMarked (fit_marks k map.marks slot) at
+        → IsTrue (is_written after.bytes at)
+    written_here (Number x) at within whole known admits same marked = number_is_written x after slot at whole within admits same
+    written_here Nothing at within whole known admits same marked = absurd (known refl)
+    written_here pointer at within whole known admits same marked =
+        let fits = slot_in_frame map slot proper within in
+        absurd (both_ways _ (get_or-with_marks false map.marks (SLOT_LENGTH * slot) SLOT_LENGTH at fits (omega arith) (omega arith)) marked)
 
   -- and after a slot is set to a kind, if it holds a value of the kind
   pub set_slot_admits : (slot : ℕ) (k : Kind) → slot < SLOTS → FRAME_LENGTH ≤ length after.bytes → k ≢ Nothing

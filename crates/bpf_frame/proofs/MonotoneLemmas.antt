@@ -36,16 +36,17 @@ module _ {x a : Contents} (proper-x : IsProper x) (proper-a : IsProper a) where
         | inr inside ↦ marked_inside x.marks from len at fits inside.0 (omega (arith, inside.1))
       ]
 
-  -- a byte of a slot that is marked if the slot is set to a kind is marked if the slot is set to a kind within it
-  fit_both : (k l : Kind) {slot : ℕ} (at : ℕ) → slot < SLOTS → l ≢ Nothing → kind.IsWithin k l → at / SLOT_LENGTH ≡ slot
-      → IsMarked (fit_marks l a.marks slot) at → IsMarked (fit_marks k x.marks slot) at
-  fit_both (Number n) (Number m) {slot} at inside known below same marked =
-      marked_inside x.marks (SLOT_LENGTH * slot) SLOT_LENGTH at (slot_in_frame x slot proper-x inside) (omega arith) (omega arith)
-  fit_both k (Number m) at inside known below same marked = absurd below
-  fit_both k Nothing at inside known below same marked = absurd (known refl)
-  fit_both k l {slot} at inside known below same marked =
-      let fits = slot_in_frame a slot proper-a inside in
-      absurd (both_ways _ (get_or-with_marks false a.marks (SLOT_LENGTH * slot) SLOT_LENGTH at fits (omega arith) (omega arith)) marked)
+  module _ {slot : ℕ} where
+    -- a byte of a slot that is marked if the slot is set to a kind is marked if the slot is set to a kind within it
+    fit_both : (k l : Kind) (at : ℕ) → slot < SLOTS → l ≢ Nothing → kind.IsWithin k l → at / SLOT_LENGTH ≡ slot
+        → IsMarked (fit_marks l a.marks slot) at → IsMarked (fit_marks k x.marks slot) at
+    fit_both (Number n) (Number m) at inside known below same marked =
+        marked_inside x.marks (SLOT_LENGTH * slot) SLOT_LENGTH at (slot_in_frame x slot proper-x inside) (omega arith) (omega arith)
+    fit_both k (Number m) at inside known below same marked = absurd below
+    fit_both k Nothing at inside known below same marked = absurd (known refl)
+    fit_both k l at inside known below same marked =
+        let fits = slot_in_frame a slot proper-a inside in
+        absurd (both_ways _ (get_or-with_marks false a.marks (SLOT_LENGTH * slot) SLOT_LENGTH at fits (omega arith) (omega arith)) marked)
 
   -- the lower one lies within the higher one after bytes of the higher one are touched
   module _ (low high : ℕ) (short : high < FRAME_LENGTH) (within : IsWithin x (touch a low high)) where
