@@ -43,13 +43,16 @@ module _ {X Y : Type 0} (Property : X → Y → Type 0) (none : X) (nothing : Y)
   abbrev pub EachTwo : List X → List Y → Type 0
   EachTwo xs ys = (n : ℕ) → Property (get_or xs n none) (get_or ys n nothing)
 
+  each_two : (x : X) (y : Y) (xs : List X) (ys : List Y) → Property x y → EachTwo xs ys → EachTwo (x ∷ xs) (y ∷ ys)
+  each_two x y xs ys first others zero = first
+  each_two x y xs ys first others (suc n) = others n
+
   -- a fact about two lists' elements, one by one, still holds after one of each is written, if it holds of those
   pub set_both : (xs : List X) (ys : List Y) (at : ℕ) (x : X) (y : Y) → length xs ≡ length ys → Property x y → EachTwo xs ys
       → EachTwo (slice_set xs at x) (slice_set ys at y)
-  set_both [] [] at x y same here all n = all n
-  set_both [] (b ∷ ys) at x y same here all n = absurd (omega arith)
-  set_both (a ∷ xs) [] at x y same here all n = absurd (omega arith)
-  set_both (a ∷ xs) (b ∷ ys) zero x y same here all zero = here
-  set_both (a ∷ xs) (b ∷ ys) zero x y same here all (suc n) = all (suc n)
-  set_both (a ∷ xs) (b ∷ ys) (suc at) x y same here all zero = all zero
-  set_both (a ∷ xs) (b ∷ ys) (suc at) x y same here all (suc n) = set_both xs ys at x y (omega arith) here (λ k. all (suc k)) n
+  set_both [] [] at x y same here all = all
+  set_both [] (b ∷ ys) at x y same here all = absurd (omega arith)
+  set_both (a ∷ xs) [] at x y same here all = absurd (omega arith)
+  set_both (a ∷ xs) (b ∷ ys) zero x y same here all = each_two x y xs ys here (λ n. all (suc n))
+  set_both (a ∷ xs) (b ∷ ys) (suc at) x y same here all =
+      each_two a b (slice_set xs at x) (slice_set ys at y) (all zero) (set_both xs ys at x y (omega arith) here (λ n. all (suc n)))
