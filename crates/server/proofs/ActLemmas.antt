@@ -3,9 +3,12 @@ use Rattle.std.proofs.Common.{ℕ, zero, suc, List, [], ◌∷◌, Option, Some,
 use Rattle.std.specs.Prelude.{Result, Ok, Err}
 use Rattle.jobs.specs.Table.{Table}
 use Rattle.jobs.specs.declared.event.Reply.{Reply as JobReply}
-use Rattle.server.specs.Rounds.{AreRounds, Serving}
-use Rattle.server.specs.Service.{HasServed, HasTurned}
+use Rattle.server.specs.Acceptor.{Accepts}
+use Rattle.server.specs.Repeats.{HasRepeated, Repeats}
+use Rattle.server.specs.Rounds.{IsRound, Rules, Server}
+use Rattle.server.specs.State.{HasServed, HasTurned}
 use Rattle.server.specs.Tally.{ServesTallied, Tallied, TurnsTallied}
+use Rattle.server.specs.declared.limits.Limits.{Limits}
 use Rattle.counted_io.specs.declared.writing.WriteFault.{WriteFault}
 use Rattle.wire.specs.Event.{Act, AreActs, Replied, Rested, Turned}
 use Rattle.wire.specs.Serving.{Connection, IsReplied, IsServed}
@@ -35,13 +38,21 @@ module _ (old now : Connection) (new : StateParts) (leads : LeadsTo now.state ne
   after_serving (Err Closed) is = subst (λ state. LeadsTo state new) is.0.state leads
   after_serving (Err Read) is = subst (λ state. LeadsTo state new) is.0.state leads
 
-pub rounds_are_acts : (count : ℕ) (old new : Serving (Tallied StateParts))
-    → AreRounds (ServesTallied HasServed) (TurnsTallied HasTurned) count old new
-    → (acts : List Act) × AreActs old.service.service acts new.service.service
-rounds_are_acts zero old new same = ([], ap (λ (serving : Serving (Tallied StateParts)). serving.service.service) same)
-rounds_are_acts (suc count) old new (now, round, rounds) =
-    let turn = round.makes_turn.makes_turn in
-    let served = round.serves_client.serves_client.serves_client in
-    after_serving _ _ new.service.service
-    (after_turn round.served.service now.service.service new.service.service turn.0 turn.1 (rounds_are_acts count now new rounds))
-    served.result served.is_served
+module _ {L C : Type 0} (accepts : Accepts L C) (limits : Limits) where
+  -- the rules of a server over the program's state
+  abbrev rules : Rules L C (Tallied StateParts)
+  rules = record { accepts = accepts; serves = ServesTallied HasServed; turns = TurnsTallied HasTurned; limits = limits }
+
+  all_are_acts : (count : ℕ) (old new : Server L (Tallied StateParts)) → Repeats (IsRound rules) count old new
+      → LeadsTo old.service.service new.service.service
+  all_are_acts zero old new same = ([], ap (λ (server : Server L (Tallied StateParts)). server.service.service) same)
+  all_are_acts (suc count) old new (now, round, rounds) =
+      let turn = round.makes_turn.makes_turn in
+      let served = round.serves_client.serves_client.serves_client in
+      after_serving _ _ new.service.service
+      (after_turn round.served.service now.service.service new.service.service turn.0 turn.1 (all_are_acts count now new rounds))
+      served.result served.is_served
+
+  pub rounds_are_acts : (old new : Server L (Tallied StateParts)) → HasRepeated (IsRound rules) old new
+      → (acts : List Act) × AreActs old.service.service acts new.service.service
+  rounds_are_acts old new rounds = all_are_acts rounds.count old new rounds.steps

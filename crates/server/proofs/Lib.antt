@@ -1,2 +1,5 @@
-mod RoundsLemmas
+mod RepeatsLemmas
+mod BytesLemmas
+mod AcceptorLemmas
+mod TimedLemmas
 mod ActLemmas

@@ -1,10 +1,12 @@
--- The effect of accepts on their counts.
-use Rattle.std.specs.Prelude.{◌≡◌, ℕ, ◌+◌, ◌-◌, ◌<◌, ◌^◌, Bool, true, false, Result, Ok, Err}
+-- Accepts of a listener, up to the next connection.
+use Rattle.std.specs.Prelude.{◌≡◌, ◌⊎◌, ◌+◌, ◌-◌, ◌<◌, ◌^◌, Bool, true, false, Result, Ok, Err}
 use Rattle.std.specs.IoError.{error_kind}
 use Rattle.std.specs.declared.io.Error.{Error}
 use Rattle.std.specs.declared.io.ErrorKind.{ErrorKind}
 use Rattle.std.specs.declared.io.ErrorKind.TheVariants.{ConnectionAborted, Interrupted}
-use Rattle.counted_io.specs.Counting.{next_count}
+use Rattle.server.specs.Repeats.{HasRepeated}
+use Rattle.server.specs.declared.acceptor.Acceptor.{Acceptor}
+use Rattle.server.specs.declared.acceptor.Connection.{Connection}
 
 -- an accept failed for a single connection, which its client aborted, or because of a signal: the next connection can be accepted
 abbrev pub is_transient : ErrorKind → Bool
@@ -12,19 +14,41 @@ is_transient ConnectionAborted = true
 is_transient Interrupted = true
 is_transient kind = false
 
--- the number of connections accepted, and the number of accepts that failed, modulo 2^64
-pub record Accepts : Type 0 where
-  pub accepted : ℕ
-  pub failed : ℕ
+-- what an accept does: the listener before it, its result, and the listener after it
+abbrev pub Accepts : Type 0 → Type 0 → Type 1
+Accepts L S = L → Result S Error → L → Type 0
 
--- a connection was accepted
-abbrev pub AcceptsOne : Accepts → Accepts → Type 0
-AcceptsOne old new = (old.accepted < 2 ^ 64 - 1) × (new ≡ record old { accepted = old.accepted + 1 })
+-- one accept was made and counted, with this result
+pub record MakesAccept {L S : Type 0} (accepts : Accepts L S) (result : Result S Error) (old new : Acceptor L) : Type 0 where
+  pub room : old.attempts < 2 ^ 64 - 1
+  pub counted : new.attempts ≡ old.attempts + 1
+  pub accept : accepts old.listener result new.listener
 
--- an accept failed for another reason than a single connection or a signal
-abbrev pub FailsOne : Error → Accepts → Accepts → Type 0
-FailsOne error old new = (is_transient (error_kind error) ≡ false) × (new ≡ record old { failed = next_count old.failed })
+-- one accept failed for a single connection or because of a signal
+pub record SkipsAccept {L S : Type 0} (accepts : Accepts L S) (old new : Acceptor L) : Type 0 where
+  pub error : Error
+  pub transient : is_transient (error_kind error) ≡ true
+  pub accept : MakesAccept accepts (Err error) old new
 
-abbrev pub CountsAccept : {T : Type 0} → Result T Error → Accepts → Accepts → Type 0
-CountsAccept (Ok stream) old new = AcceptsOne old new
-CountsAccept (Err error) old new = FailsOne error old new
+-- the listener's next connection was accepted, after accepts that were skipped, and has the number of its accept
+pub record AcceptsConnection {L S : Type 0} (accepts : Accepts L S) (connection : Connection S) (old new : Acceptor L) : Type 0 where
+  pub now : Acceptor L
+  pub skips : HasRepeated (SkipsAccept accepts) old now
+  pub accept : MakesAccept accepts (Ok connection.stream) now new
+  pub number : connection.number ≡ new.attempts
+
+-- the last accept failed for another reason than a single connection or a signal
+pub record FailsLast {L S : Type 0} (accepts : Accepts L S) (error : Error) (old new : Acceptor L) : Type 0 where
+  pub permanent : is_transient (error_kind error) ≡ false
+  pub accept : MakesAccept accepts (Err error) old new
+
+-- no accept can be counted any more
+pub record IsFull {L : Type 0} (old new : Acceptor L) : Type 0 where
+  pub full : old.attempts ≡ 2 ^ 64 - 1
+  pub same : new ≡ old
+
+-- no connection was accepted: the error is that of the last accept, which came after accepts that were skipped
+pub record FailsToAccept {L S : Type 0} (accepts : Accepts L S) (error : Error) (old new : Acceptor L) : Type 0 where
+  pub now : Acceptor L
+  pub skips : HasRepeated (SkipsAccept accepts) old now
+  pub fails : FailsLast accepts error now new ⊎ IsFull now new

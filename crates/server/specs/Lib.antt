@@ -1,5 +1,12 @@
+pub mod Repeats
 pub mod Limits
 pub mod Acceptor
+pub mod Socket
+pub mod Stopwatch
+pub mod Timed
+pub mod ClientStream
 pub mod Service
+pub mod State
 pub mod Tally
+pub mod Closing
 pub mod Rounds

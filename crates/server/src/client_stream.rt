@@ -1,85 +1,82 @@
 //! The reader and the writer of a client's connection. No call waits longer than the limits allow.
-ghost use Rattle.std.specs.Prelude.{◌≡◌, ◌+◌, ◌-◌, ◌^◌, min, IfOk, OnErr, OnOk, IsSome};
-ghost use Rattle.std.specs.Io.{WritesAtMost};
-ghost use Rattle.std.specs.Option.{option_map};
+ghost use Rattle.std.specs.Prelude.{◌≡◌, ◌+◌, ◌-◌, ◌^◌, None, min, IfOk, OnErr};
 ghost use Rattle.std.specs.Duration.{as_nanos, max_nanos};
-ghost use Rattle.server.specs.Limits.{reply_limit, wait};
+ghost use Rattle.std.specs.Io.{ReadsAtMost, WritesAtMost};
+ghost use Rattle.std.specs.Io.KnownBytes.{ReadConsumes, WriteAppends};
+ghost use Rattle.server.specs.Limits.{reply_limit};
+ghost use Rattle.server.specs.Timed.{Waits};
+ghost use Rattle.server.specs.ClientStream.{WritesInTime};
 
-use crate::limits::{Limits, wait_left};
-use crate::stopwatch::Stopwatch;
+use crate::limits::Limits;
+use crate::service::{ClientInput, ClientOutput};
+use crate::socket::Socket;
+use crate::stopwatch::Timer;
+use crate::timed::Timed;
+use counted_io::Counting;
 use std::io;
-use std::io::{ErrorKind, Read, Write};
-use std::net::TcpStream;
-use std::time::{Clock, Duration};
+use std::io::{Read, Write};
+use std::time::Duration;
 
 /// A reader of what a client sends. A read fails once its time is up; if the time was up before the read, the socket isn't touched.
 #[derive(Drop)]
-pub struct ClientReader<'a, C> {
-    stream: &'a TcpStream,
-    stopwatch: Stopwatch<'a, C>,
+pub struct ClientReader<H, T> {
+    timed: Timed<H, T>,
     idle: Duration,
     limit: Duration,
-    // The socket's read timeout, once it's set.
-    timeout: Option<Duration>,
 }
 
-impl<'a, C: Clock> ClientReader<'a, C> {
+impl<H: Socket, T: Timer> ClientReader<H, T> {
     /// Returns a reader that waits at most `idle` in one read, and at most `limit` in all reads, counted from the first.
-    pub fn new(stream: &'a TcpStream, clock: &'a C, idle: Duration, limit: Duration) -> Self {
+    pub fn new(socket: H, timer: T, idle: Duration, limit: Duration) -> Self
+        ensures { result ≡ record { timed = record { socket = socket; stopwatch = record { timer = timer; start = None } }; idle = idle; limit = limit } }
+    {
         ClientReader {
-            stream,
-            stopwatch: Stopwatch::new(clock),
+            timed: Timed::new(socket, timer),
             idle,
             limit,
-            timeout: None,
         }
     }
+}
 
-    // The timeout stays the same while more than `idle` is left, and each change costs a system call.
-    fn set_timeout(&mut self, elapsed: Duration) -> io::Result<()>
-        ensures waits { OnOk result (IsSome self.new.timeout) }
-        ensures rule { OnOk result (option_map as_nanos self.new.timeout ≡ wait (as_nanos self.old.idle) (as_nanos self.old.limit) (as_nanos elapsed)) }
+impl<H: Socket, T: Timer> Read for ClientReader<H, T> {
+    ghost remaining = { λ r. H.remaining r.timed.socket };
+
+    fn read(&mut self, buf: &mut [u8]) -> io::Result<usize>
+        ensures bound { ReadsAtMost result buf.new }
+        ensures bytes { ReadConsumes (H.remaining self.old.timed.socket) (H.remaining self.new.timed.socket) result buf.new }
+        ensures waits { Waits (record { shows = T.shows; calls = H.reads; idle = as_nanos self.old.idle; limit = as_nanos self.old.limit })
+            buf.new result self.old.timed self.new.timed }
         ensures idle { self.new.idle ≡ self.old.idle }
         ensures limit { self.new.limit ≡ self.old.limit }
     {
-        let wait = wait_left(self.idle, self.limit, elapsed).ok_or(timed_out())?;
-        if self.timeout != Some(wait) {
-            self.stream.set_read_timeout(Some(wait))?;
-            self.timeout = Some(wait);
-        }
-        Ok(())
+        self.timed.read(self.idle, self.limit, buf)
     }
 }
 
-impl<C: Clock> Read for ClientReader<'_, C> {
-    fn read(&mut self, buf: &mut [u8]) -> io::Result<usize> {
-        for _ in 0..u64::MAX {
-            let elapsed = self.stopwatch.elapsed()?;
-            self.set_timeout(elapsed)?;
-            match self.stream.read(buf) {
-                Err(error) if error.kind() == ErrorKind::Interrupted => {}
-                Err(error) if error.kind() == ErrorKind::WouldBlock => return Err(timed_out()),
-                result => return result,
-            }
-        }
-        Err(timed_out())
-    }
+impl<H: Socket, T: Timer> ClientInput for Counting<ClientReader<H, T>> {
+    ghost input_terms = { λ c. record {
+      connection = H.number c.inner.timed.socket;
+      idle = as_nanos c.inner.idle;
+      limit = as_nanos c.inner.limit;
+      start = c.inner.timed.stopwatch.start;
+    } };
 }
 
 /// A writer of what a client receives. A write fails once its time is up; if the time was up before the write, the socket isn't touched.
 #[derive(Drop)]
-pub struct ClientWriter<'a, C> {
-    stream: &'a TcpStream,
-    stopwatch: Stopwatch<'a, C>,
+pub struct ClientWriter<H, T> {
+    timed: Timed<H, T>,
     limits: Limits,
     written: u64,
 }
 
-impl<'a, C: Clock> ClientWriter<'a, C> {
-    pub fn new(stream: &'a TcpStream, clock: &'a C, limits: Limits) -> Self {
+impl<H: Socket, T: Timer> ClientWriter<H, T> {
+    /// Returns a writer within the limits of a reply, whose time is counted from the first write.
+    pub fn new(socket: H, timer: T, limits: Limits) -> Self
+        ensures { result ≡ record { timed = record { socket = socket; stopwatch = record { timer = timer; start = None } }; limits = limits; written = 0 } }
+    {
         ClientWriter {
-            stream,
-            stopwatch: Stopwatch::new(clock),
+            timed: Timed::new(socket, timer),
             limits,
             written: 0,
         }
@@ -92,42 +89,27 @@ impl<'a, C: Clock> ClientWriter<'a, C> {
         self.limits
             .reply_limit(self.written.saturating_add(unwritten as u64))
     }
+}
 
-    fn set_timeout(&mut self, unwritten: usize) -> io::Result<()>
-        ensures written { self.new.written ≡ self.old.written }
-        ensures limits { self.new.limits ≡ self.old.limits }
-    {
-        let limit = self.limit(unwritten);
-        let elapsed = self.stopwatch.elapsed()?;
-        let wait = wait_left(limit, limit, elapsed).ok_or(timed_out())?;
-        self.stream.set_write_timeout(Some(wait))
-    }
+impl<H: Socket, T: Timer> Write for ClientWriter<H, T> {
+    ghost contents = { λ w. H.contents w.timed.socket };
 
-    fn write_in_time(&mut self, buf: &[u8]) -> io::Result<usize>
+    fn write(&mut self, buf: &[u8]) -> io::Result<usize>
         ensures bound { WritesAtMost result buf.now }
+        ensures bytes { WriteAppends (H.contents self.old.timed.socket) (H.contents self.new.timed.socket) result buf.now }
+        ensures waits { WritesInTime T.shows H.writes buf.now result self.old self.new }
         ensures counted { IfOk result (λ count. self.new.written ≡ min (self.old.written + count) (2 ^ 64 - 1)) }
         ensures uncounted { OnErr result (self.new.written ≡ self.old.written) }
         ensures limits { self.new.limits ≡ self.old.limits }
     {
-        for _ in 0..u64::MAX {
-            self.set_timeout(buf.len())?;
-            match self.stream.write(buf) {
-                Ok(count) => {
-                    self.written = self.written.saturating_add(count as u64);
-                    return Ok(count);
-                }
-                Err(error) if error.kind() == ErrorKind::Interrupted => {}
-                Err(error) if error.kind() == ErrorKind::WouldBlock => return Err(timed_out()),
-                Err(error) => return Err(error),
+        let limit = self.limit(buf.len());
+        match self.timed.write(limit, buf) {
+            Ok(count) => {
+                self.written = self.written.saturating_add(count as u64);
+                Ok(count)
             }
+            Err(error) => Err(error),
         }
-        Err(timed_out())
-    }
-}
-
-impl<C: Clock> Write for ClientWriter<'_, C> {
-    fn write(&mut self, buf: &[u8]) -> io::Result<usize> {
-        self.write_in_time(buf)
     }
 
     /// Does nothing: a socket has no buffer to flush.
@@ -136,6 +118,11 @@ impl<C: Clock> Write for ClientWriter<'_, C> {
     }
 }
 
-fn timed_out() -> io::Error {
-    io::Error::from(ErrorKind::TimedOut)
+impl<H: Socket, T: Timer> ClientOutput for Counting<ClientWriter<H, T>> {
+    ghost output_terms = { λ c. record {
+      connection = H.number c.inner.timed.socket;
+      limit = as_nanos c.inner.limits.reply;
+      written = c.inner.written;
+      start = c.inner.timed.stopwatch.start;
+    } };
 }

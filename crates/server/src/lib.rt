@@ -2,17 +2,22 @@
 #![tactic(auto)]
 
 mod acceptor;
+mod client_socket;
 mod client_stream;
 pub mod laws;
 mod limits;
+mod listener;
 mod service;
 mod serving;
+mod socket;
 mod state;
 mod stopwatch;
 mod tally;
+mod timed;
 
-pub use acceptor::Acceptor;
+pub use acceptor::{Acceptor, Connection};
 pub use limits::{Limits, wait_left};
-pub use service::{Close, Service};
+pub use listener::Listener;
+pub use service::{ClientInput, ClientOutput, Close, Service};
 pub use serving::{serve_all, serve_next};
 pub use tally::Tally;

@@ -1,8 +1,8 @@
 //! Limits on how long a client may hold the server.
-ghost use Rattle.std.specs.Prelude.{◌≡◌, ◌*◌, min};
+ghost use Rattle.std.specs.Prelude.{◌≡◌, min};
 ghost use Rattle.std.specs.Option.{option_map};
 ghost use Rattle.std.specs.Duration.{as_nanos, max_nanos};
-ghost use Rattle.server.specs.Limits.{reply_limit, wait};
+ghost use Rattle.server.specs.Limits.{IsStandard, reply_limit, wait};
 
 use std::time::Duration;
 
@@ -24,10 +24,7 @@ const MEBIBYTE: u64 = 1_048_576;
 impl Limits {
     /// Returns the program's limits.
     pub fn standard() -> Limits
-        ensures idle { as_nanos result.idle ≡ 10 * 1_000_000_000 }
-        ensures request { as_nanos result.request ≡ 30 * 1_000_000_000 }
-        ensures reply { as_nanos result.reply ≡ 30 * 1_000_000_000 }
-        ensures linger { as_nanos result.linger ≡ 5 * 1_000_000_000 }
+        ensures { IsStandard result }
     {
         Limits {
             idle: Duration::from_secs(10),

@@ -1,7 +1,7 @@
 //! The service of each connection.
 ghost use Rattle.std.specs.Prelude.{⊤};
 ghost use Rattle.counted_io.specs.ReaderWriter.{reader, writer};
-ghost use Rattle.server.specs.Service.{ClientStreams};
+ghost use Rattle.server.specs.Service.{ClientStreams, InputTerms, OutputTerms};
 ghost use Rattle.server.specs.declared.service.Close.{Close};
 
 use counted_io::{CountedRead, CountedWrite};
@@ -15,6 +15,18 @@ pub enum Close {
     Lingering,
 }
 
+/// A reader of what a client sends.
+pub trait ClientInput: CountedRead {
+    // Whose connection it reads, and within which limits.
+    ghost input_terms: { Self → InputTerms };
+}
+
+/// A writer of what a client receives.
+pub trait ClientOutput: CountedWrite {
+    // Whose connection it writes, and within which limits.
+    ghost output_terms: { Self → OutputTerms };
+}
+
 /// The work for each connection, and the work after it.
 pub trait Service {
     // The effect of serving a client on the service and on the client's reader and writer, with the way to close the connection; and the effect of
@@ -24,10 +36,20 @@ pub trait Service {
     ghost turns: { Self → Self → Type 0 } = { λ _ _. ⊤ };
 
     /// Reads one request, and writes its reply. A fault concerns only this client, and isn't propagated.
-    fn serve<R: CountedRead, W: CountedWrite>(&mut self, input: &mut R, out: &mut W) -> Close
+    fn serve<R: ClientInput, W: ClientOutput>(&mut self, input: &mut R, out: &mut W) -> Close
         ensures { serves
-            self.old (record { reader = reader R.remaining R.failed_reads input.old; writer = writer W.contents W.counts out.old })
-            result self.new (record { reader = reader R.remaining R.failed_reads input.new; writer = writer W.contents W.counts out.new }) };
+            self.old (record {
+              reader = reader R.remaining R.failed_reads input.old;
+              writer = writer W.contents W.counts out.old;
+              input = R.input_terms input.old;
+              output = W.output_terms out.old;
+            })
+            result self.new (record {
+              reader = reader R.remaining R.failed_reads input.new;
+              writer = writer W.contents W.counts out.new;
+              input = R.input_terms input.new;
+              output = W.output_terms out.new;
+            }) };
 
     /// Does a piece of the work that isn't for a single client.
     fn turn(&mut self)

@@ -1,31 +1,37 @@
 //! Serving connections one by one, each from its accept to its close.
-ghost use Rattle.std.specs.Prelude.{◌≡◌, IfErr, OnOk};
-ghost use Rattle.server.specs.Rounds.{HasEnded, IsRound, ServesUntilFailure};
-ghost use Rattle.server.specs.Service.{ServesSome};
+ghost use Rattle.std.specs.Prelude.{◌≡◌, None, IfErr, OnOk};
+ghost use Rattle.std.specs.Duration.{as_nanos};
+ghost use Rattle.server.specs.Closing.{Closes, DropsUnread, Lingers};
+ghost use Rattle.server.specs.Rounds.{HasEnded, IsRound, ServesAndCloses, ServesUntilFailure};
 ghost use Rattle.server.specs.Tally.{ServesTallied, TurnsTallied};
 
 use crate::acceptor::Acceptor;
+use crate::client_socket::ClientSocket;
 use crate::client_stream::{ClientReader, ClientWriter};
 use crate::limits::Limits;
+use crate::listener::Listener;
 use crate::service::{Close, Service};
+use crate::socket::Socket;
+use crate::stopwatch::Timer;
 use crate::tally::Tally;
+use crate::timed::Timed;
 use counted_io::Counting;
 use std::io;
-use std::io::Read;
-use std::net::{OpenListener, Shutdown, TcpStream};
+use std::net::TcpStream;
 use std::time::{Clock, Duration};
 
 /// Serves connections one by one until an accept fails, and returns its error. The service serves each connection once, and makes one turn after
 /// it.
-pub fn serve_all<L: OpenListener<Stream = TcpStream>, C: Clock, S: Service>(
-    acceptor: &mut Acceptor<'_, L>,
+pub fn serve_all<L: Listener<Stream = TcpStream>, C: Clock, S: Service>(
+    acceptor: &mut Acceptor<L>,
     clock: &C,
     limits: &Limits,
     service: &mut Tally<S>,
 ) -> io::Error
-    ensures { ServesUntilFailure (ServesTallied S.serves) (TurnsTallied S.turns) result
-        (record { accepts = acceptor.old; service = service.old })
-        (record { accepts = acceptor.new; service = service.new }) }
+    ensures { ServesUntilFailure
+        (record { accepts = L.accepts; serves = ServesTallied S.serves; turns = TurnsTallied S.turns; limits = limits.now }) result
+        (record { acceptor = acceptor.old; service = service.old })
+        (record { acceptor = acceptor.new; service = service.new }) }
 {
     loop {
         if let Err(error) = serve_next(acceptor, clock, limits, service) {
@@ -36,57 +42,89 @@ pub fn serve_all<L: OpenListener<Stream = TcpStream>, C: Clock, S: Service>(
 
 /// Accepts one connection, lets the service serve it, closes it, and gives the service a turn. Only a failed accept is an error; failures of the
 /// connection itself are ignored.
-pub fn serve_next<L: OpenListener<Stream = TcpStream>, C: Clock, S: Service>(
-    acceptor: &mut Acceptor<'_, L>,
+pub fn serve_next<L: Listener<Stream = TcpStream>, C: Clock, S: Service>(
+    acceptor: &mut Acceptor<L>,
     clock: &C,
     limits: &Limits,
     service: &mut S,
 ) -> io::Result<()>
-    ensures round { OnOk result (IsRound S.serves S.turns (record { accepts = acceptor.old; service = service.old })
-        (record { accepts = acceptor.new; service = service.new })) }
-    ensures end { IfErr result (λ error. HasEnded error (record { accepts = acceptor.old; service = service.old })
-        (record { accepts = acceptor.new; service = service.new })) }
+    ensures round { OnOk result (IsRound (record { accepts = L.accepts; serves = S.serves; turns = S.turns; limits = limits.now })
+        (record { acceptor = acceptor.old; service = service.old })
+        (record { acceptor = acceptor.new; service = service.new })) }
+    ensures end { IfErr result (λ error. HasEnded
+        (record { accepts = L.accepts; serves = S.serves; turns = S.turns; limits = limits.now }) error
+        (record { acceptor = acceptor.old; service = service.old })
+        (record { acceptor = acceptor.new; service = service.new })) }
 {
-    let stream = acceptor.accept()?;
-    serve_client(stream, clock, limits, service);
+    let connection = acceptor.accept()?;
+    serve_client(&mut ClientSocket::new(&connection), clock, limits, service);
     service.turn();
     Ok(())
 }
 
 /// Lets the service serve a client, and closes the connection.
-fn serve_client<C: Clock, S: Service>(
-    stream: TcpStream,
-    clock: &C,
+fn serve_client<H: Socket + Copy, T: Timer + Copy, S: Service>(
+    socket: &mut H,
+    timer: T,
     limits: &Limits,
     service: &mut S,
 )
-    ensures { ServesSome S.serves service.old service.new }
+    ensures { ServesAndCloses S.serves
+        (record { reads = H.reads; looks = H.looks; ends_output = H.ends_output; shows = T.shows; timer = timer; limit = as_nanos limits.now.linger })
+        (record { connection = H.number socket.old; left = H.remaining socket.old; held = H.contents socket.old }) limits.now
+        (record { socket = socket.old; service = service.old }) (record { socket = socket.new; service = service.new }) }
 {
-    let reader = ClientReader::new(&stream, clock, limits.idle, limits.request);
-    let writer = ClientWriter::new(&stream, clock, *limits);
+    let reader = ClientReader::new(*socket, timer, limits.idle, limits.request);
+    let writer = ClientWriter::new(*socket, timer, *limits);
     let close = service.serve(&mut Counting::new(reader), &mut Counting::new(writer));
-    if close == Close::Lingering || has_unread(&stream) {
-        linger(&stream, clock, limits.linger);
+    close_client(socket, close, timer, limits.linger);
+}
+
+/// Lets the connection linger if the service wants that, or if the client has sent more than was read.
+fn close_client<H: Socket + Copy, T: Timer + Copy>(
+    socket: &mut H,
+    close: Close,
+    timer: T,
+    limit: Duration,
+)
+    ensures { Closes
+        (record { reads = H.reads; looks = H.looks; ends_output = H.ends_output; shows = T.shows; timer = timer; limit = as_nanos limit })
+        close socket.old socket.new }
+{
+    let lingers = match close {
+        Close::Lingering => true,
+        Close::AtOnce => socket.has_unread(),
+    };
+    if lingers {
+        linger(socket, timer, limit);
     }
 }
 
-/// Returns whether the client has sent more than was read. Closing a socket with unread bytes resets the connection, and the client can then lose
-/// the reply.
-fn has_unread(stream: &TcpStream) -> bool {
-    if stream.set_nonblocking(true).is_err() {
-        return false;
-    }
-    stream.peek(&mut [0]).is_ok_and(|count| count > 0)
+/// Ends the sending side, and drops what the client still sends, so that the client can read the reply before a reset arrives.
+fn linger<H: Socket + Copy, T: Timer + Copy>(socket: &mut H, timer: T, limit: Duration)
+    ensures { Lingers
+        (record { reads = H.reads; looks = H.looks; ends_output = H.ends_output; shows = T.shows; timer = timer; limit = as_nanos limit })
+        socket.old socket.new }
+{
+    socket.end_output();
+    drop_unread(&mut Timed::new(*socket, timer), limit);
 }
 
 // The greatest number of bytes that are read after a request.
-const LINGER_BYTES: u64 = 1_048_576;
+const LINGER_BYTES: usize = 1_048_576;
 
-/// Ends the sending side, and drops what the client still sends, so that the client can read the reply before a reset arrives.
-fn linger<C: Clock>(stream: &TcpStream, clock: &C, limit: Duration) {
-    let unread = ClientReader::new(stream, clock, limit, limit);
-    // Failures don't matter, since the connection is closed next.
-    let _ = stream.set_nonblocking(false);
-    let _ = stream.shutdown(Shutdown::Write);
-    let _ = io::copy(&mut unread.take(LINGER_BYTES), &mut io::sink());
+/// Reads until the end, a failure or the greatest number of bytes, and drops what it reads.
+fn drop_unread<H: Socket, T: Timer>(timed: &mut Timed<H, T>, limit: Duration)
+    ensures { DropsUnread (record { shows = T.shows; calls = H.reads; idle = as_nanos limit; limit = as_nanos limit }) timed.old timed.new }
+{
+    let mut room = LINGER_BYTES;
+    while room > 0 {
+        let mut buffer = [0; 8192];
+        let length = room.min(8192);
+        match timed.read(limit, limit, &mut buffer[..length]) {
+            Ok(0) => return,
+            Ok(count) => room -= count,
+            Err(_) => return,
+        }
+    }
 }

@@ -1,8 +1,8 @@
 //! Counting the work of a service.
 ghost use Rattle.std.specs.Prelude.{◌≡◌};
 
-use crate::service::{Close, Service};
-use counted_io::{CountedRead, CountedWrite, count_one};
+use crate::service::{ClientInput, ClientOutput, Close, Service};
+use counted_io::count_one;
 use std::marker::Model;
 
 /// Any service, with the number of connections that it served and the number of turns that it made.
@@ -60,7 +60,7 @@ impl<S: Service> Service for Tally<S> {
 
     ghost turns = { TurnsTallied S.turns };
 
-    fn serve<R: CountedRead, W: CountedWrite>(&mut self, input: &mut R, out: &mut W) -> Close {
+    fn serve<R: ClientInput, W: ClientOutput>(&mut self, input: &mut R, out: &mut W) -> Close {
         count_one(&mut self.served);
         self.service.serve(input, out)
     }

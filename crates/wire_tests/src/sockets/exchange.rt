@@ -1,7 +1,7 @@
 //! A service, a client and a clock.
 use counted_io::{CountedRead, CountedWrite};
 use fixtures::{TableFault, error_kind, size};
-use server::{Close, Limits, Service};
+use server::{ClientInput, ClientOutput, Close, Limits, Service};
 use std::cell::Cell;
 use std::io;
 use std::io::{ErrorKind, Read, Write};
@@ -116,7 +116,7 @@ impl<'a> Exchanges<'a> {
 }
 
 impl Service for Exchanges<'_> {
-    fn serve<R: CountedRead, W: CountedWrite>(&mut self, reader: &mut R, writer: &mut W) -> Close {
+    fn serve<R: ClientInput, W: ClientOutput>(&mut self, reader: &mut R, writer: &mut W) -> Close {
         self.served = self.served.wrapping_add(1);
         self.read = 0;
         self.written = 0;

@@ -1,12 +1,11 @@
-use Rattle.server.proofs.RoundsLemmas.{one_more, until_failure}
-use Rattle.server.specs.Tally.{ServesTallied, TurnsTallied}
+use Rattle.server.proofs.AcceptorLemmas.{fewer_left}
+use Rattle.server.proofs.RepeatsLemmas.{one_more}
+use Rattle.server.specs.Rounds.{IsRound}
 use Rattle.server.proofs.serving.serve_all.Goals as goal
 
-pub returns-in-Err : goal.returns-in-Err
-returns-in-Err g c =
-    until_failure (ServesTallied g.S.Service.serves) (TurnsTallied g.S.Service.turns) c.in-Err.error _ _ _ c.loop-error.invariant
-    c.in-Err.ensures.end
+pub loop-error-smaller : goal.loop-error-smaller
+loop-error-smaller g c =
+    fewer_left g.L.Listener.accepts c.in_default.ensures.round.connection _ _ c.in_default.ensures.round.accepts
 
 pub loop-error-preserved : goal.loop-error-preserved
-loop-error-preserved g c =
-    one_more (ServesTallied g.S.Service.serves) (TurnsTallied g.S.Service.turns) _ _ _ c.loop-error.invariant c.in_default.ensures.round
+loop-error-preserved g c = one_more (IsRound _) _ _ _ c.loop-error.invariant c.in_default.ensures.round
