@@ -8,4 +8,5 @@ mod exchange;
 mod faults;
 mod http;
 mod submissions;
+mod timeouts;
 mod waits;

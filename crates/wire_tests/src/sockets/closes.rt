@@ -82,18 +82,30 @@ fn closes(rt: HostRuntime) -> Result<(), Fail> {
     Ok(())
 }
 
-/// Checks that bytes that a client may still be sending are read until the limit, and not refused before. The system may wake up a little before
-/// its timeout.
-#[test]
-fn lingers(rt: HostRuntime) -> Result<(), Fail> {
+/// Returns whether the server waits for a client that may still be sending, up to a limit of 200 milliseconds. The system may wake up a little
+/// before its timeout.
+fn waits(rt: &HostRuntime, sent: usize, close: Close) -> io::Result<bool> {
     let closing = Closing {
-        sent: 5,
+        sent,
         request: 5,
-        close: Close::Lingering,
+        close,
         linger: Duration::from_millis(200),
     };
-    let start = Instant::now(&rt)?;
-    assert_eq!(rt; received(&rt, &rt, closing)?, Some(50));
-    assert!(rt; start.elapsed(&rt)? >= Duration::from_millis(150));
+    let start = Instant::now(rt)?;
+    let received = received(rt, rt, closing)?;
+    Ok(received == Some(50) && start.elapsed(rt)? >= Duration::from_millis(150))
+}
+
+/// Checks that bytes that a client may still be sending are read until the limit, and not refused before.
+#[test]
+fn lingers(rt: HostRuntime) -> Result<(), Fail> {
+    assert!(rt; waits(&rt, 5, Close::Lingering)?);
+    Ok(())
+}
+
+/// Checks the same after a look for unread bytes, which doesn't wait.
+#[test]
+fn lingers_after_unread_bytes(rt: HostRuntime) -> Result<(), Fail> {
+    assert!(rt; waits(&rt, 8, Close::AtOnce)?);
     Ok(())
 }
