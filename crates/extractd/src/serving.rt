@@ -2,89 +2,118 @@
 ghost use Rattle.std.specs.Prelude.{◌≡◌, IfErr, IfOk, map};
 ghost use Rattle.commands.specs.Counties.{AreCountiesOf, HaveRefusedCounty, IsLoadFailure};
 ghost use Rattle.named_files.specs.Files.{disk};
+ghost use Rattle.server.specs.State.{HasServed, HasTurned};
+ghost use Rattle.server.specs.Tally.{ServesTallied, TurnsTallied};
 ghost use Rattle.wire.specs.State.{counties_of, new_state};
+ghost use Rattle.extractd.specs.Serving.{ServesCounties, serve_status};
+
+mod listening;
 
 use command_line::Serve;
 use commands::{DiagnosticLine, Failure, UNUSABLE, load_counties};
 use counted_io::CountedWrite;
+use listening::{ListenFault, Network, serve_port};
 use named_files::{Files, SystemFiles};
-use server::{Acceptor, Limits, Tally, serve_all};
 use std::alloc::Global;
 use std::fmt::Write as WriteText;
 use std::io;
 use std::io::Write;
-use std::net::{Ipv4Addr, TcpListener};
+use std::time::Clock;
 use wire::State;
 
 /// Why a server doesn't start, or stops.
 #[derive(Drop)]
 enum ServeFault<'a> {
     Counties(Failure<'a>),
-    /// The server can't listen on the port.
-    Port { port: u16, error: io::Error },
-    Output(io::Error),
-    /// A connection can't be accepted.
-    Accept(io::Error),
+    Listen { port: u16, fault: ListenFault },
 }
 
 impl ServeFault<'_> {
-    fn status(&self) -> u8 {
+    fn status(&self) -> u8
+        ensures { result ≡ serve_status self.now }
+    {
         match self {
             ServeFault::Counties(failure) => failure.status(),
-            _ => UNUSABLE,
+            ServeFault::Listen { .. } => UNUSABLE,
         }
     }
 
     /// Reports the fault on one line.
     fn report<E: CountedWrite>(&self, errors: &mut E) {
-        let _ = match self {
-            ServeFault::Counties(failure) => {
-                failure.report(errors);
-                Ok(())
-            }
-            ServeFault::Output(error) => {
-                Failure::Output(*error).report(errors);
-                Ok(())
-            }
-            ServeFault::Port { port, error } => write!(
-                DiagnosticLine::new(errors),
-                "error: 127.0.0.1:{port}: {error}\n"
-            ),
-            ServeFault::Accept(error) => write!(
-                DiagnosticLine::new(errors),
-                "error: no connection can be taken: {error}\n"
-            ),
-        };
+        match self {
+            ServeFault::Counties(failure) => failure.report(errors),
+            ServeFault::Listen { port, fault } => report_fault(*port, fault, errors),
+        }
     }
+}
+
+/// Reports on one line why the server can't listen on the port, or stops.
+fn report_fault<E: CountedWrite>(port: u16, fault: &ListenFault, errors: &mut E) {
+    let _ = match fault {
+        ListenFault::Output(error) => {
+            Failure::Output(*error).report(errors);
+            Ok(())
+        }
+        ListenFault::Port(error) => write!(
+            DiagnosticLine::new(errors),
+            "error: 127.0.0.1:{port}: {error}\n"
+        ),
+        ListenFault::Accept(error) => write!(
+            DiagnosticLine::new(errors),
+            "error: no connection can be taken: {error}\n"
+        ),
+    };
 }
 
 /// Serves the requested counties until a fault occurs, and returns the exit status.
 pub fn serve<E: CountedWrite>(rt: &HostRuntime, options: &Serve<'_>, errors: &mut E) -> u8 {
-    let fault = serve_counties(rt, options);
+    let mut network = rt;
+    let fault = serve_counties(
+        rt.alloc(),
+        &mut SystemFiles::new(rt),
+        &mut network,
+        &mut io::writer(rt),
+        rt,
+        options,
+    );
     fault.report(errors);
     fault.status()
 }
 
-/// Loads the counties, listens, and serves until a fault.
-fn serve_counties<'a>(rt: &HostRuntime, options: &Serve<'a>) -> ServeFault<'a> {
-    let state = match load_state(rt.alloc(), &mut SystemFiles::new(rt), options) {
-        Ok(state) => state,
-        Err(failure) => return ServeFault::Counties(failure),
-    };
-    let port = options.port;
-    let listener = match TcpListener::bind(rt, (Ipv4Addr::LOCALHOST, port)) {
-        Ok(listener) => listener,
-        Err(error) => return ServeFault::Port { port, error },
-    };
-    if let Err(error) = announce(rt, port) {
-        return ServeFault::Output(error);
+/// Loads the counties, and serves them on the port until a fault.
+fn serve_counties<'a, F: Files, N: Network, W: Write, C: Clock>(
+    alloc: Global,
+    files: &mut F,
+    network: &mut N,
+    out: &mut W,
+    clock: &C,
+    options: &Serve<'a>,
+) -> ServeFault<'a>
+    ensures { ServesCounties
+        (record { binds = N.binds; accepts = N.Listener.accepts; serves = ServesTallied HasServed; turns = TurnsTallied HasTurned })
+        (record {
+          folder = options.now.«data».now;
+          codes = map (λ code. code.now) options.now.codes.items;
+          port = options.now.port;
+          known = F.bytes files.old;
+        })
+        result
+        (record {
+          disk = disk F.bytes F.failed_opens F.failed_reads files.old;
+          outside = record { network = network.old; held = W.contents out.old };
+        })
+        (record {
+          disk = disk F.bytes F.failed_opens F.failed_reads files.new;
+          outside = record { network = network.new; held = W.contents out.new };
+        }) }
+{
+    match load_state(alloc, files, options) {
+        Ok(state) => ServeFault::Listen {
+            port: options.port,
+            fault: serve_port(network, out, clock, options.port, state),
+        },
+        Err(failure) => ServeFault::Counties(failure),
     }
-    ServeFault::Accept(serve_all(
-        &mut Acceptor::new(&listener),
-        rt,
-        &Limits::standard(),
-        &mut Tally::new(state),
-    ))
 }
 
 /// Loads the counties of all codes, in order, into a state without jobs. Returns the failure of the first one that can't be loaded.
@@ -102,11 +131,4 @@ fn load_state<'a, F: Files>(
         Ok(counties) => Ok(State::new(alloc, alloc, counties)?),
         Err(failure) => Err(failure),
     }
-}
-
-/// Announces on standard output that the server is listening.
-fn announce(rt: &HostRuntime, port: u16) -> io::Result<()> {
-    let mut out = io::writer(rt);
-    write!(out, "listening 127.0.0.1:{port}\n")?;
-    out.flush()
 }

@@ -1,0 +1,42 @@
+-- Serving counties on a port.
+use Rattle.std.specs.Prelude.{◌≡◌, ℕ, List, Option}
+use Rattle.commands.specs.Counties.{AreCountiesOf, HaveRefusedCounty, IsLoadFailure}
+use Rattle.commands.specs.Failure.{status}
+use Rattle.extractd.specs.Listening.{Outside, PortRules, ServesPort}
+use Rattle.extractd.specs.declared.serving.ServeFault.{ServeFault}
+use Rattle.extractd.specs.declared.serving.ServeFault.TheVariants.{Counties, Listen}
+use Rattle.extractd.specs.declared.serving.listening.ListenFault.{ListenFault}
+use Rattle.named_files.specs.Files.{Disk}
+use Rattle.wire.specs.State.{StateParts, counties_of, new_state}
+
+-- the exit status: that of a county that can't be loaded, and 3 otherwise
+abbrev pub serve_status : ServeFault → ℕ
+serve_status (Counties failure) = status failure
+serve_status (Listen port fault) = 3
+
+-- what is served: a folder, the codes of its counties, and the port; and what is known of the bytes of files
+pub record Served : Type 0 where
+  pub folder : List ℕ
+  pub codes : List (List ℕ)
+  pub port : ℕ
+  pub known : List ℕ → Option (List ℕ)
+
+-- the files, the network and the output
+pub record Host (N : Type 0) : Type 0 where
+  pub disk : Disk
+  pub outside : Outside N
+
+-- the counties were loaded, one for each code, and served on the port in a state without jobs
+pub record ServesLoaded {N L C : Type 0} (rules : PortRules N L C StateParts) (served : Served) (port : ℕ) (fault : ListenFault)
+    (old new : Outside N) : Type 0 where
+  pub state : StateParts
+  pub without_jobs : state ≡ new_state (counties_of state)
+  pub loaded : AreCountiesOf served.known served.folder served.codes (counties_of state)
+  pub given_port : port ≡ served.port
+  pub serves_port : ServesPort rules served.port fault old state new
+
+-- how serving ends: a county can't be loaded, and then the port isn't bound; or the counties were served until a fault
+abbrev pub ServesCounties : {N L C : Type 0} → PortRules N L C StateParts → Served → ServeFault → Host N → Host N → Type 0
+ServesCounties rules served (Counties failure) old new =
+    IsLoadFailure (HaveRefusedCounty served.known served.folder served.codes) old.disk new.disk failure × (new.outside ≡ old.outside)
+ServesCounties rules served (Listen port fault) old new = ServesLoaded rules served port fault old.outside new.outside
