@@ -3,8 +3,15 @@
 use fixtures::Table;
 
 pub const CASES: Table = Table {
-    rows: 8,
+    rows: 11,
     text: r"
+extractd run --program p.bpf --data d 01001; 0\t{rt1}\n ! call 2 full; 3;
+  refused 2 rt1 line 2 WrongType\nerror: the output can't be written: no space left; p.bpf: {every};
+  d/TGR01001.RT1: {rt1}\n{rt1 RT=4}\n
+extractd select --where ZIPL_=_36067 --data d 01001 01003; 0\t{rt1}\n ! call 2 full; 3;
+  refused 1 rt1 line 1 WrongLength\ncounty 01003\nerror: the output can't be written: no space left;
+  d/TGR01001.RT1: {rt1}\n; d/TGR01003.RT1: {rt1 ..227}\n
+extractd verify --program p.bpf; ! call 1 pipe; 3; error: p.bpf: not found\nerror: the output can't be written: broken pipe
 extractd run --program p.bpf --data d 01001;; 3; error: p.bpf: not found; d/TGR01001.RT1: {rt1}\n
 extractd run --program p.bpf --data d 01001;; 3; error: p.bpf: is a directory; p.bpf: ! call 1 directory;
   d/TGR01001.RT1: {rt1}\n

@@ -1,4 +1,9 @@
 //! Files in memory.
+ghost use Rattle.std.specs.Prelude.{◌≡◌, ℕ, [], Err, IfErr, IfOk, MatchOption, Some};
+ghost use Rattle.std.specs.IoError.{error_kind};
+ghost use Rattle.named_files.specs.Files.{CountsOpen};
+ghost use Rattle.command_tests.specs.Memory.{bytes_named};
+
 use arrayvec::ArrayString;
 use counted_io::count_one;
 use fixtures::{FaultPlan, Reader, TableFault, error_kind, reader, size};
@@ -57,7 +62,8 @@ pub fn failing(text: &str) -> Result<FaultPlan, TableFault> {
     FaultPlan::new(text)
 }
 
-/// Files in memory with distinct names, one of which may be given another access. No other file exists.
+/// Files in memory with distinct names, one of which may be given another access. No other file exists. The bytes of each file are known, and a file
+/// that doesn't exist has none.
 #[derive(Drop)]
 pub struct MemoryFiles<'a> {
     pub files: &'a [MemoryFile<'a>],
@@ -69,29 +75,20 @@ pub struct MemoryFiles<'a> {
     pub opened: ArrayString<128>,
 }
 
-impl<'a> Files for MemoryFiles<'a> {
-    type Reader = Reader<'a>;
-
-    ghost failed_opens = { λ files. files.failed_opens };
-
-    ghost failed_reads = { λ files. files.failed_reads };
-
-    fn open(&mut self, name: &str) -> io::Result<Reader<'a>> {
-        match self.open_optional(name) {
-            Ok(Some(reader)) => Ok(reader),
-            Ok(None) => {
-                count_one(&mut self.failed_opens);
-                Err(io::Error::from(ErrorKind::NotFound))
-            }
-            Err(error) => Err(error),
-        }
-    }
-
-    fn open_optional(&mut self, name: &str) -> io::Result<Option<Reader<'a>>> {
+impl<'a> MemoryFiles<'a> {
+    /// Opens a file. The error is `NotFound` only if there is no such file. Counts nothing.
+    fn open_file(&mut self, name: &str) -> io::Result<Reader<'a>>
+        ensures known { IfOk result (λ reader. reader.inner.inner.inner.inner.now ≡ bytes_named self.old.files.now name.now) }
+        ensures unread { IfOk result (λ reader. reader.failed_reads ≡ 0) }
+        ensures missing { IfErr result (λ error. error_kind error ≡ ErrorKind.NotFound → bytes_named self.old.files.now name.now ≡ []) }
+        ensures files { self.new.files ≡ self.old.files }
+        ensures opens { self.new.failed_opens ≡ self.old.failed_opens }
+        ensures reads { self.new.failed_reads ≡ self.old.failed_reads }
+    {
         let _ = self.opened.try_push_str(name);
         let _ = self.opened.try_push_str(" ");
         let Some(file) = file_named(self.files, name) else {
-            return Ok(None);
+            return Err(io::Error::from(ErrorKind::NotFound));
         };
         let access = if name == self.name {
             self.access
@@ -99,13 +96,50 @@ impl<'a> Files for MemoryFiles<'a> {
             file.access
         };
         match access {
-            Access::Sound | Access::Partial(_) => Ok(Some(reader(&file.bytes, FaultPlan::sound()))),
-            Access::Failing(plan) => Ok(Some(reader(&file.bytes, plan))),
-            Access::Closed(kind) => {
-                if kind != ErrorKind::OutOfMemory {
-                    count_one(&mut self.failed_opens);
-                }
-                Err(io::Error::from(kind))
+            Access::Sound | Access::Partial(_) => Ok(reader(&file.bytes, FaultPlan::sound())),
+            Access::Failing(plan) => Ok(reader(&file.bytes, plan)),
+            Access::Closed(ErrorKind::NotFound) => Err(io::Error::from(ErrorKind::Other)),
+            Access::Closed(kind) => Err(io::Error::from(kind)),
+        }
+    }
+
+    fn count_open(&mut self, error: io::Error)
+        ensures opens { CountsOpen {R = ℕ} (Err error) self.old.failed_opens self.new.failed_opens }
+        ensures reads { self.new.failed_reads ≡ self.old.failed_reads }
+        ensures files { self.new.files ≡ self.old.files }
+    {
+        if error.kind() != ErrorKind::OutOfMemory {
+            count_one(&mut self.failed_opens);
+        }
+    }
+}
+
+impl<'a> Files for MemoryFiles<'a> {
+    type Reader = Reader<'a>;
+
+    ghost bytes = { λ files name. Some (bytes_named files.files.now name) };
+
+    ghost failed_opens = { λ files. files.failed_opens };
+
+    ghost failed_reads = { λ files. files.failed_reads };
+
+    fn open(&mut self, name: &str) -> io::Result<Reader<'a>> {
+        match self.open_file(name) {
+            Ok(reader) => Ok(reader),
+            Err(error) => {
+                self.count_open(error);
+                Err(error)
+            }
+        }
+    }
+
+    fn open_optional(&mut self, name: &str) -> io::Result<Option<Reader<'a>>> {
+        match self.open_file(name) {
+            Ok(reader) => Ok(Some(reader)),
+            Err(error) if error.kind() == ErrorKind::NotFound => Ok(None),
+            Err(error) => {
+                self.count_open(error);
+                Err(error)
             }
         }
     }
@@ -118,7 +152,9 @@ impl<'a> Files for MemoryFiles<'a> {
 }
 
 /// Returns the file with this name, if there is one.
-pub fn file_named<'a>(files: &'a [MemoryFile<'a>], name: &str) -> Option<&'a MemoryFile<'a>> {
+pub fn file_named<'a>(files: &'a [MemoryFile<'a>], name: &str) -> Option<&'a MemoryFile<'a>>
+    ensures { MatchOption result (bytes_named files.now name.now ≡ []) (λ file. bytes_named files.now name.now ≡ file.now.bytes.items) }
+{
     for file in files {
         if file.name == name {
             return Some(file);

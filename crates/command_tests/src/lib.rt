@@ -20,7 +20,6 @@ mod devices;
 mod echoes;
 #[cfg(test)]
 mod endings;
-#[cfg(test)]
 mod files;
 #[cfg(test)]
 mod filter_texts;
@@ -28,6 +27,7 @@ mod filter_texts;
 mod filters;
 #[cfg(test)]
 mod geocodes;
+mod known;
 #[cfg(test)]
 mod listings;
 #[cfg(test)]

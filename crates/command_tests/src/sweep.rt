@@ -118,7 +118,8 @@ read; blocked; 3; error: FILE: operation would block; 10
 read; late; 3; error: FILE: timed out; 10",
 };
 
-// The same for a write that fails after some bytes, for a flush that fails after all of them, and for standard error.
+// The same for a write that fails after some bytes, for a flush that fails after all of them, and for standard error. A failed flush is reported after
+// what the command reports without it.
 const OUTPUTS: Table = Table {
     rows: 21,
     text: "\
@@ -328,10 +329,7 @@ impl<'c> Trial<'_, '_, 'c> {
                 ending.is_with(status, written)
                     && Some(taken(&ending.errors)) == self.case.expected.get(..place)
             }
-            Call::Flush(_) if self.case.row.status == 0 => {
-                is_refused && ending.is_with(status, written)
-            }
-            Call::Flush(_) => self.case.is_ended(ending),
+            Call::Flush(_) => self.is_expected_after(ending) && ending.is_with(status, written),
         })
     }
 
@@ -376,6 +374,12 @@ impl<'c> Trial<'_, '_, 'c> {
         let expected = ending.expected();
         let is_county = self.is_select() && expected.strip_suffix("\ncounty 01001") == Some(text);
         expected == text || is_county
+    }
+
+    /// Returns whether standard error has the row's own text, and then that of the way.
+    fn is_expected_after(&self, ending: &Ending) -> bool {
+        let text = str::from_utf8(&self.case.expected).unwrap_or("");
+        ending.expected().strip_prefix(text) == Some(self.method.expected)
     }
 
     /// Returns whether the row's command is this one.

@@ -117,8 +117,8 @@ ldxb r2, [r1+55] | jne r2, 65, +0 *4000 | mov r0, 1 | exit; {rt1}\n; 0\t{rt1}\n
 ",
 };
 
-// The rows for the two commands. With a refused program, every read of the type 1 file and every write to the output fails, so the test shows
-// that none is made.
+// The rows for the two commands. With a refused program, every read of the type 1 file fails, and so does the first call on the output. The second
+// line shows that this call is the flush, so no read and no write is made.
 const ACCEPTED: Table = Table {
     rows: 2,
     text: r"
@@ -130,8 +130,9 @@ extractd run --program p.bpf --data d 01001; ROWS; 0;; p.bpf: {asm PROGRAM}; d/T
 const REFUSED: Table = Table {
     rows: 2,
     text: r"
-extractd verify --program p.bpf; ! call 1 full; 1; SAID; p.bpf: {asm PROGRAM}
-extractd run --program p.bpf --data d 01001; ! call 1 full; 1; SAID; p.bpf: {asm PROGRAM}; d/TGR01001.RT1: ! call 1 pipe
+extractd verify --program p.bpf; ! call 1 full; 3; SAID\nerror: the output can't be written: no space left; p.bpf: {asm PROGRAM}
+extractd run --program p.bpf --data d 01001; ! call 1 full; 3; SAID\nerror: the output can't be written: no space left;
+  p.bpf: {asm PROGRAM}; d/TGR01001.RT1: ! call 1 pipe
 ",
 };
 

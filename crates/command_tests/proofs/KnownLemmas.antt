@@ -1,0 +1,58 @@
+-- What a command writes for files whose bytes are known.
+use Rattle.std.proofs.Common.{◌≡◌, ℕ, List, ◌++◌, Option, Some, None, IfSome, subst, ◌∙◌}
+use Rattle.std.specs.Io.KnownBytes.{Appends, Keeps}
+use Rattle.bpf_meaning.specs.Extract.{IsExtract}
+use Rattle.bpf_program.specs.Program.{IsSafeProgram}
+use Rattle.counted_io.specs.ReaderWriter.{WriteCounts}
+use Rattle.commands.specs.Command.{IsDone}
+use Rattle.commands.specs.Verify.{acceptance}
+use Rattle.commands.specs.declared.request.Request.TheVariants as request
+use Rattle.commands.specs.declared.run.Run.{Run}
+use Rattle.commands.specs.declared.verify.Verify.{Verify}
+use Rattle.tl_records.specs.Lines.{AreLines}
+use Rattle.tl_segments.specs.Segment.{SegmentParts}
+use Rattle.command_tests.specs.Known.{AppendsAcceptance, AppendsExtract}
+
+-- a reader whose bytes are those of a file has the file's lines
+lines_left : (bytes : List ℕ) (left : Option (List ℕ)) (lines : List (List ℕ)) → Keeps (Some bytes) left
+    → IfSome left (λ bytes. AreLines bytes lines) → AreLines bytes lines
+lines_left bytes None lines unchanged are = absurd unchanged
+lines_left bytes (Some left) lines unchanged are = subst (λ (bytes : List ℕ). AreLines bytes lines) unchanged are
+
+-- a text was appended to known bytes, which then stayed
+appended : (old text : List ℕ) (between : Option (List ℕ)) (new : List ℕ) → Appends (Some old) between text → Keeps between (Some new)
+    → new ≡ old ++ text
+appended old text None new appends unchanged = absurd appends
+appended old text (Some between) new appends unchanged = unchanged ∙ appends
+
+module _ (bytes : List ℕ → List ℕ) {held held' : List ℕ} {counts counts' : WriteCounts} where
+  pub verify_known : (verify : Verify)
+      → IsDone (request.Verify verify) (λ name. Some (bytes name)) (record { held = Some held; counts = counts }) (record { held = Some held'; counts = counts' })
+      → AppendsAcceptance (bytes verify.program.now) held held'
+  verify_known verify is = record {
+    code = is.written.code;
+    safe = subst (λ (program : List ℕ). IsSafeProgram program is.written.code) is.written.is_program is.written.accepted;
+    written = appended held acceptance is.unflushed.held held' is.written.written.0 is.flushed.unchanged;
+  }
+
+  pub run_known : (run : Run)
+      → IsDone (request.Run run) (λ name. Some (bytes name)) (record { held = Some held; counts = counts }) (record { held = Some held'; counts = counts' })
+      → AppendsExtract bytes run held held'
+  run_known run is =
+      let of = is.written.1 in
+      let extracted = of.outcome.2 in
+      let loads = extracted.loads in
+      let county = of.hold.county in record {
+        code = of.outcome.0;
+        safe = subst (λ (program : List ℕ). IsSafeProgram program of.outcome.0) of.hold.is_program of.outcome.1;
+        lines = loads.lines;
+        rt1 = lines_left _ of.old.rt1.left loads.lines county.rt1.left loads.rt1.known;
+        joined = loads.joined;
+        rt4 = lines_left _ of.old.joined.rt4.left loads.joined.rt4 county.joined.rt4.left loads.reads_joined.rt4.known;
+        rt5 = lines_left _ of.old.joined.rt5.left loads.joined.rt5 county.joined.rt5.left loads.reads_joined.rt5.known;
+        rt6 = lines_left _ of.old.joined.rt6.left loads.joined.rt6 county.joined.rt6.left loads.reads_joined.rt6.known;
+        text = extracted.text;
+        rows = is.written.0;
+        is_extract = subst (λ (segments : List SegmentParts). IsExtract of.outcome.0 segments extracted.text is.written.0) loads.segments extracted.is_extract;
+        written = appended held extracted.text is.unflushed.held held' extracted.written is.flushed.unchanged;
+      }
