@@ -248,16 +248,17 @@ module _ (batch : GeocodeBatch) {disk later disk' : Disk} {out : Writer} (before
         (subst (λ codes. NamesFile (IsFileOfCounties batch.«data».now (texts codes)) failure) lent names)
 
 -- the counties are loaded
-abbrev pub inputs_of : (batch : GeocodeBatch) {known later : List ℕ → Option (List ℕ)} → ((name : List ℕ) → later name ≡ known name)
-    → (codes : List (Bor (List ℕ))) → codes ≡ batch.codes.items → (file : List ℕ) → Keeps (known batch.addresses.now) (Some file)
-    → (counties : List CountyParts) → AreCountiesOf later batch.«data».now (texts codes) counties → Inputs batch known
-inputs_of batch {later = later} same codes lent file is_file counties are = record {
-  file = file;
-  is_file = is_file;
-  counties = counties;
-  are_counties = subst (λ known. AreCountiesOf known batch.«data».now (codes_of batch) counties) (fun_ext same)
-      (subst (λ codes. AreCountiesOf later batch.«data».now (texts codes) counties) lent are);
-}
+module _ (batch : GeocodeBatch) {known later : List ℕ → Option (List ℕ)} (same : (name : List ℕ) → later name ≡ known name) where
+  abbrev pub inputs_of : (codes : List (Bor (List ℕ))) → codes ≡ batch.codes.items → (file : List ℕ)
+      → Keeps (known batch.addresses.now) (Some file) → (counties : List CountyParts)
+      → AreCountiesOf later batch.«data».now (texts codes) counties → Inputs batch known
+  inputs_of codes lent file is_file counties are = record {
+    file = file;
+    is_file = is_file;
+    counties = counties;
+    are_counties = subst (λ known. AreCountiesOf known batch.«data».now (codes_of batch) counties) (fun_ext same)
+        (subst (λ codes. AreCountiesOf later batch.«data».now (texts codes) counties) lent are);
+  }
 
 -- The file of addresses and the counties are loaded.
 module _ (batch : GeocodeBatch) {disk disk' : Disk} (inputs : Inputs batch disk.known) (counts : IsUnfailed disk disk') {out : Writer} where

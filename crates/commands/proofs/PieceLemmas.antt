@@ -69,6 +69,7 @@ module _ {A : Type 0} (f : A → List ℕ) (xs : List A) (i : ℕ) (d : A) (insi
   )
 
 -- all pieces are written
-pub pieces_done : {A : Type 0} (f : A → List ℕ) (xs : List A) (i : ℕ) (result : Result (Unit {0}) WriteFault) (a b : Writer) → length xs ≤ i
-    → WritesText (flat_map f (take i xs)) result a b → WritesText (flat_map f xs) result a b
-pieces_done {A} f xs i result a b past wrote = subst (λ (xs : List A). WritesText (flat_map f xs) result a b) (take_all i xs past) wrote
+module _ {A : Type 0} (f : A → List ℕ) (xs : List A) where
+  pub pieces_done : (i : ℕ) (result : Result (Unit {0}) WriteFault) (a b : Writer) → length xs ≤ i
+      → WritesText (flat_map f (take i xs)) result a b → WritesText (flat_map f xs) result a b
+  pieces_done i result a b past wrote = subst (λ (xs : List A). WritesText (flat_map f xs) result a b) (take_all i xs past) wrote

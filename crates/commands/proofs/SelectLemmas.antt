@@ -3,8 +3,12 @@ use Rattle.std.proofs.Common.{◌≡◌, ◌<◌, ◌+◌, ℕ, suc, List, lengt
 use Rattle.std.proofs.Common.{refl, sym, subst, ◌∙◌}
 use Rattle.std.proofs.Math.Path.{fun_ext}
 use Rattle.std.proofs.lemmas.List.{map_more}
+use Rattle.std.specs.Io.KnownBytes.{Appends}
 use Rattle.bpf_insn.specs.declared.instruction.Insn.{Insn}
 use Rattle.cql2.specs.declared.column.NumericColumn.{NumericColumn}
+use Rattle.cql2.specs.declared.filter.Filter.{Filter}
+use Rattle.cql2_code.proofs.Compiled.{extract_of_county}
+use Rattle.cql2_code.specs.Chosen.{Chooses}
 use Rattle.extract.specs.declared.fault.ExtractFault.TheVariants as extract
 use Rattle.counted_io.specs.ReaderWriter.{Writer}
 use Rattle.refusals.specs.Refusal.{RefusalParts}
@@ -14,7 +18,8 @@ use Rattle.commands.specs.Failure.{NamesFile, IsUnfailedUnlessUnusable}
 use Rattle.named_files.specs.Files.{Disk, IsUnfailed}
 use Rattle.commands.specs.Filter.{IsCodeOfText, IsFilterFailure, IsFilterRefusal}
 use Rattle.commands.specs.Select.{FailsAs, IsCountyOutcome, IsCountyRefusal, Selection, SelectsCounties, SelectsCounty, StopsAt}
-use Rattle.commands.specs.Select.{WritesCounties, WritesCounty, codes_of, more, none, selection}
+use Rattle.commands.specs.Select as select
+use Rattle.commands.specs.Select.{WritesAllRows, WritesCounties, WritesCounty, WritesRows, codes_of, more, none, selection}
 use Rattle.commands.specs.declared.request.Request.{Request}
 use Rattle.commands.specs.declared.request.Request.TheVariants as request
 use Rattle.commands.specs.declared.select.Select.{Select}
@@ -27,6 +32,28 @@ pub counties_counts : {over : Selection} {out : Writer} {codes : List (List ℕ)
     → out'.counts ≡ out.counts
 counties_counts none = refl
 counties_counts (more code before wrote) = wrote.1.outcome.counts ∙ counties_counts before
+
+-- what was written is the rows of the segments for which the filter is true
+module _ {A : Type 0} (filter : Filter A) (arguments : Select) (known : List ℕ → Option (List ℕ)) (program : List Insn)
+    (chooses : Chooses program filter arguments.filter_options.score) where
+  rows_written : {code : List ℕ} {out out' : Writer} → WritesCounty (selection known arguments.«data».now program) code out out'
+      → WritesRows filter arguments known code out out'
+  rows_written {out = out} {out' = out'} (rows, wrote) = let is = wrote.outcome in record {
+    old = wrote.old;
+    hold = wrote.hold;
+    new = wrote.new;
+    county = is.county;
+    loads = is.loads;
+    written = subst (λ (text : List ℕ). Appends out.held out'.held text)
+        (extract_of_county program filter arguments.filter_options.score chooses is.county wrote.old wrote.new is.loads is.text rows is.is_extract).text_is
+        is.written;
+    counts = is.counts;
+  }
+
+  pub all_rows_written : {out : Writer} {codes : List (List ℕ)} {out' : Writer}
+      → WritesCounties (selection known arguments.«data».now program) out codes out' → WritesAllRows filter arguments known out codes out'
+  all_rows_written none = select.none
+  all_rows_written (more code before wrote) = select.more code (all_rows_written before) (rows_written wrote)
 
 -- after the counties of the codes before it
 module _ (known later : List ℕ → Option (List ℕ)) (same : (name : List ℕ) → later name ≡ known name) {folder : List ℕ} {program : List Insn}
@@ -92,8 +119,16 @@ module _ {disk disk' : Disk} {out out' : Writer} (arguments : Select) {program :
       → IfErr result (λ failure. FailsAs failure disk disk')
       → IfErr result (NamesFile (IsFileOfCounties arguments.«data».now (codes_of arguments))) → IsUnfailedUnlessUnusable result disk disk'
       → out'.counts.flushes ≡ out.counts.flushes → CarriesOut (request.Select arguments) result disk disk' out out'
-  select_carried (Ok done) is fails names counts unflushed =
-      record { outcome = (program, is_program, is); names = names; counts = counts; unflushed = unflushed }
+  select_carried (Ok done) is fails names counts unflushed = record {
+    outcome = (
+      is_program.filter,
+      is_program.is_text,
+      all_rows_written is_program.filter arguments disk.known program is_program.chooses is,
+    );
+    names = names;
+    counts = counts;
+    unflushed = unflushed;
+  }
   select_carried (Err (Write fault)) is fails names counts unflushed =
       record { outcome = (program, is_program, is); names = names; counts = counts; unflushed = unflushed }
   select_carried (Err (County code refusal)) is fails names counts unflushed =
@@ -103,16 +138,16 @@ module _ {disk disk' : Disk} {out out' : Writer} (arguments : Select) {program :
   select_carried (Err failure) is fails names counts unflushed = absurd is
 
 -- the same for the call's arguments: the text and the codes are borrowed
-pub select_lent : {disk disk' : Disk} {out out' : Writer} (arguments : Select) {text : List ℕ} {program : List Insn} {codes : List (Bor (List ℕ))}
-    (result : Result (Unit {0}) Failure) → text ≡ arguments.filter.now → codes ≡ arguments.codes.items
-    → IsCodeOfText text arguments.filter_options.score program
-    → SelectsCounties (selection disk.known arguments.«data».now program) (texts codes) result out out'
-    → IfErr result (λ failure. FailsAs failure disk disk')
-    → IfErr result (NamesFile (IsFileOfCounties arguments.«data».now (texts codes))) → IsUnfailedUnlessUnusable result disk disk'
-    → out'.counts.flushes ≡ out.counts.flushes → CarriesOut (request.Select arguments) result disk disk' out out'
-select_lent {disk} {disk'} {out} {out'} arguments {program = program} {codes = codes} result same_text same_codes is selects fails names =
-    select_carried arguments (subst (λ (text : List ℕ). IsCodeOfText text arguments.filter_options.score program) same_text is) result
-    (subst (λ (codes : List (Bor (List ℕ))).
-    SelectsCounties (selection disk.known arguments.«data».now program) (texts codes) result out out') same_codes selects)
-    fails
-    (subst (λ (codes : List (Bor (List ℕ))). IfErr result (NamesFile (IsFileOfCounties arguments.«data».now (texts codes)))) same_codes names)
+module _ {disk disk' : Disk} {out out' : Writer} (arguments : Select) {text : List ℕ} {program : List Insn} {codes : List (Bor (List ℕ))} where
+  pub select_lent : (result : Result (Unit {0}) Failure) → text ≡ arguments.filter.now → codes ≡ arguments.codes.items
+      → IsCodeOfText text arguments.filter_options.score program
+      → SelectsCounties (selection disk.known arguments.«data».now program) (texts codes) result out out'
+      → IfErr result (λ failure. FailsAs failure disk disk')
+      → IfErr result (NamesFile (IsFileOfCounties arguments.«data».now (texts codes))) → IsUnfailedUnlessUnusable result disk disk'
+      → out'.counts.flushes ≡ out.counts.flushes → CarriesOut (request.Select arguments) result disk disk' out out'
+  select_lent result same_text same_codes is selects fails names =
+      select_carried arguments (subst (λ (text : List ℕ). IsCodeOfText text arguments.filter_options.score program) same_text is) result
+      (subst (λ (codes : List (Bor (List ℕ))).
+      SelectsCounties (selection disk.known arguments.«data».now program) (texts codes) result out out') same_codes selects)
+      fails
+      (subst (λ (codes : List (Bor (List ℕ))). IfErr result (NamesFile (IsFileOfCounties arguments.«data».now (texts codes)))) same_codes names)

@@ -1,4 +1,5 @@
 -- What `select` writes, and why it is refused.
+use Rattle.std.specs.Io.KnownBytes.{Appends}
 use Rattle.std.specs.Prelude.{◌≡◌, ◌⊎◌, ℕ, List, [], ◌∷◌, ◌++◌, map, Option, Result, Ok, Err, ◌≢◌, ⊤}
 use Rattle.extract.specs.ExtractFault as extract_fault
 use Rattle.bpf_insn.specs.declared.instruction.Insn.{Insn}
@@ -8,7 +9,11 @@ use Rattle.extract.specs.declared.fault.ExtractFault.TheVariants as extract
 use Rattle.refusals.specs.Refusal.{RefusalParts, memory}
 use Rattle.counted_io.specs.ReaderWriter.{Writer}
 use Rattle.counted_io.specs.declared.writing.WriteFault.{WriteFault}
-use Rattle.tl_segments.specs.County.{CountyReaders}
+use Rattle.std.specs.declared.alloc.Global.{Global}
+use Rattle.cql2.specs.declared.filter.Filter.{Filter}
+use Rattle.cql2_code.specs.Chosen.{rows_of}
+use Rattle.cql2_text.specs.Spelled.{IsFilterText}
+use Rattle.tl_segments.specs.County.{CountyParts, CountyReaders, LoadsCounty}
 use Rattle.named_files.specs.County.{HoldCounty}
 use Rattle.commands.specs.Failure.{refusal_status}
 use Rattle.named_files.specs.Files.{Disk}
@@ -36,6 +41,25 @@ pub record IsCountyOutcome (over : Selection) (code : List ℕ) (result : Result
   pub hold : HoldCounty over.known over.folder code old
   pub new : CountyReaders
   pub outcome : IsOutcomeOfCode over.program result old new out out'
+
+-- The files of the county of this code were all read to their ends. Exactly the rows of its segments for which the filter is true were appended, in
+-- order and with their scores. No write failed.
+pub record WritesRows {A : Type 0} (filter : Filter A) (select : Select) (known : List ℕ → Option (List ℕ)) (code : List ℕ) (out out' : Writer)
+    : Type 0 where
+  pub old : CountyReaders
+  pub hold : HoldCounty known select.«data».now code old
+  pub new : CountyReaders
+  pub county : CountyParts
+  pub loads : LoadsCounty county old new
+  pub written : Appends out.held out'.held (rows_of filter select.filter_options.score county.segments)
+  pub counts : out'.counts ≡ out.counts
+
+-- the rows of the counties of these codes were written, one county after the other
+pub data WritesAllRows {A : Type 0} (filter : Filter A) (select : Select) (known : List ℕ → Option (List ℕ)) (out : Writer)
+    : List (List ℕ) → Writer → Type 0 where
+  none : WritesAllRows filter select known out [] out
+  more : {codes : List (List ℕ)} {between out' : Writer} (code : List ℕ) → WritesAllRows filter select known out codes between
+      → WritesRows filter select known code between out' → WritesAllRows filter select known out (codes ++ code ∷ []) out'
 
 -- a county's extract was written
 abbrev pub WritesCounty : Selection → List ℕ → Writer → Writer → Type 0
@@ -94,9 +118,10 @@ abbrev pub SelectsSo : Select → (List ℕ → Option (List ℕ)) → (Selectio
 SelectsSo select known Selects = (program : List Insn) × IsCodeOfText select.filter.now select.filter_options.score program
     × Selects (selection known select.«data».now program)
 
--- the extracts of the counties were written in order, completely or until the output failed
+-- the rows of the counties were written in order, completely or until the output failed
 abbrev pub Writes : Select → (List ℕ → Option (List ℕ)) → Result (Unit {0}) WriteFault → Writer → Writer → Type 0
-Writes select known (Ok done) out out' = SelectsSo select known (λ over. WritesCounties over out (codes_of select) out')
+Writes select known (Ok done) out out' =
+    (filter : Filter Global) × IsFilterText select.filter.now filter × WritesAllRows filter select known out (codes_of select) out'
 Writes select known (Err fault) out out' = SelectsSo select known
     (λ over. StopsAt over (codes_of select) out (λ code between. IsCountyOutcome over code (Err (extract.Write fault)) between out'))
 
