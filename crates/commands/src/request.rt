@@ -10,6 +10,7 @@ use crate::compile::Compile;
 use crate::disassemble::Disassemble;
 use crate::explain::Explain;
 use crate::failure::{DONE, Failure, USAGE};
+use crate::flushing::FlushedWrite;
 use crate::geocode_batch::GeocodeBatch;
 use crate::geocoder::Geocode;
 use crate::run::Run;
@@ -41,7 +42,7 @@ impl<'a> Request<'a> {
     /// 0 means success, even if no row was selected; 1 refused; 2 a line that the file doesn't have; 3 a file or an output that can't be used, or
     /// a source that isn't UTF-8; 4 out of memory. Except for 2, `out` is flushed before anything is reported. If the flush of a command that failed
     /// otherwise fails too, both are reported and the status is 3. A failed write to `errors` changes nothing.
-    pub fn answer<A: Allocator + Copy, F: Files, W: CountedWrite, E: CountedWrite>(
+    pub fn answer<A: Allocator + Copy, F: Files, W: FlushedWrite, E: CountedWrite>(
         self,
         alloc: A,
         files: &mut F,
@@ -65,6 +66,8 @@ impl<'a> Request<'a> {
             (writer W.contents W.counts out.old) (writer W.contents W.counts out.new)
             (writer E.contents E.counts errors.old) (writer E.contents E.counts errors.new) }
         ensures flushed { result ≢ 2 → (W.counts out.new).flushes ≢ (W.counts out.old).flushes }
+        // Nothing was written after the flush.
+        ensures flushed_last { result ≢ 2 → result ≢ 3 → W.is_flushed out.new }
         // No failed open or read is ignored.
         ensures opens { result ≢ 3 → F.failed_opens files.new ≡ F.failed_opens files.old }
         ensures reads { result ≢ 3 → F.failed_reads files.new ≡ F.failed_reads files.old }
@@ -108,14 +111,15 @@ impl<'a> Request<'a> {
 }
 
 /// Flushes the output of a completed command and returns its exit status.
-fn flush<W: CountedWrite, E: CountedWrite>(out: &mut W, errors: &mut E) -> u8
+fn flush<W: FlushedWrite, E: CountedWrite>(out: &mut W, errors: &mut E) -> u8
     ensures status { (result ≡ 0) ⊎ (result ≡ 3) }
     ensures done { result ≡ 0 → IsFlushed (writer W.contents W.counts out.old) (writer W.contents W.counts out.new) }
     ensures failed { result ≡ 3 → FailsFlush (writer W.contents W.counts out.old) (writer W.contents W.counts out.new)
         (writer E.contents E.counts errors.old) (writer E.contents E.counts errors.new) }
     ensures flushed { (W.counts out.new).flushes ≢ (W.counts out.old).flushes }
+    ensures flushed_last { result ≡ 0 → W.is_flushed out.new }
 {
-    match out.flush_counted() {
+    match out.flush_last() {
         Ok(()) => DONE,
         Err(error) => {
             let failure = Failure::Output(error);
@@ -127,7 +131,7 @@ fn flush<W: CountedWrite, E: CountedWrite>(out: &mut W, errors: &mut E) -> u8
 
 /// Flushes the output of a command that failed, other than by a usage error, and then reports the failure. Reports a failed flush after it, unless a
 /// write has failed, which is reported already. Returns the exit status.
-fn end_failed<W: CountedWrite, E: CountedWrite>(
+fn end_failed<W: FlushedWrite, E: CountedWrite>(
     failure: &Failure<'_>,
     out: &mut W,
     errors: &mut E,
@@ -136,8 +140,9 @@ fn end_failed<W: CountedWrite, E: CountedWrite>(
     ensures ends { Ends failure.now result (writer W.contents W.counts out.old) (writer W.contents W.counts out.new)
         (writer E.contents E.counts errors.old) (writer E.contents E.counts errors.new) }
     ensures flushed { (W.counts out.new).flushes ≢ (W.counts out.old).flushes }
+    ensures flushed_last { result ≢ 3 → W.is_flushed out.new }
 {
-    let flushed = out.flush_counted();
+    let flushed = out.flush_last();
     failure.report(errors);
     match flushed {
         Ok(()) => failure.status(),
