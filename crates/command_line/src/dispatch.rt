@@ -9,6 +9,7 @@ ghost use Rattle.commands.specs.declared.request.Request.{Request};
 ghost use Rattle.command_line.specs.Request.{HasNoRequest, IsRequestOf};
 
 use crate::arguments::read_request;
+use commands::FlushedWrite;
 use counted_io::CountedWrite;
 use named_files::Files;
 use std::alloc::Global;
@@ -18,7 +19,7 @@ use std::alloc::Global;
 /// 0 means success, even if no row was selected; 1 refused; 2 usage, including a call for help and a line that the file doesn't have; 3 a file or
 /// an output that can't be used, or a source that isn't UTF-8; 4 out of memory. Except for 2, and for arguments that ran out of memory, a flush
 /// of `out` has been attempted. Diagnostics go to `errors`; a failed write to it changes nothing.
-pub fn command<F: Files, W: CountedWrite, E: CountedWrite>(
+pub fn command<F: Files, W: FlushedWrite, E: CountedWrite>(
     alloc: Global,
     arguments: &[&str],
     files: &mut F,
@@ -45,6 +46,8 @@ pub fn command<F: Files, W: CountedWrite, E: CountedWrite>(
         ⊎ ((request : Request) × IsRequestOf (texts arguments.now) request × IsOutOfMemory request (F.bytes files.old)
         (writer W.contents W.counts out.old) (writer W.contents W.counts out.new)
         (writer E.contents E.counts errors.old) (writer E.contents E.counts errors.new)) }
+    // Nothing was written after the flush.
+    ensures flushed_last { (result ≡ 0) ⊎ (result ≡ 1) → W.is_flushed out.new }
     // No failed open or read is ignored.
     ensures opens { result ≢ 3 → F.failed_opens files.new ≡ F.failed_opens files.old }
     ensures reads { result ≢ 3 → F.failed_reads files.new ≡ F.failed_reads files.old }
