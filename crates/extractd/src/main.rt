@@ -4,6 +4,12 @@
 mod progress;
 mod serving;
 
+ghost use Rattle.std.specs.Prelude.{◌≡◌, IfErr};
+ghost use Rattle.clap.specs.Walk.{texts};
+ghost use Rattle.counted_io.specs.ReaderWriter.{writer};
+ghost use Rattle.command_line.specs.declared.fault.ArgumentsFault.TheVariants.{Memory};
+ghost use Rattle.extractd.specs.Outcome.{Answers, ServesIfRequested};
+
 use command_line::{ArgumentsFault, Subcommand, command, read_serve};
 use counted_io::{CountedWrite, Counting};
 use named_files::SystemFiles;
@@ -42,7 +48,9 @@ fn start<E: CountedWrite>(rt: &HostRuntime, errors: &mut E) -> Result<u8, Argume
 }
 
 /// Reads the arguments of `serve`, serves until a fault occurs, and returns the exit status.
-fn start_server<E: CountedWrite>(rt: &HostRuntime, arguments: &[&str], errors: &mut E) -> u8 {
+fn start_server<E: CountedWrite>(rt: &HostRuntime, arguments: &[&str], errors: &mut E) -> u8
+    ensures { ServesIfRequested (texts arguments.now) result (writer E.contents E.counts errors.old) (writer E.contents E.counts errors.new) }
+{
     match read_serve(rt.alloc(), arguments) {
         Ok(options) => serve(rt, &options, errors),
         Err(fault) => {
@@ -58,7 +66,9 @@ fn run_command<E: CountedWrite>(
     subcommand: Option<Subcommand>,
     arguments: &[&str],
     errors: &mut E,
-) -> Result<u8, ArgumentsFault<'static>> {
+) -> Result<u8, ArgumentsFault<'static>>
+    ensures err { IfErr result (λ fault. (fault ≡ Memory) × (errors.new ≡ errors.old)) }
+{
     let out = BufWriter::with_capacity(rt.alloc(), OUTPUT_BUFFER, io::writer(rt)).map_err(
         |_error| ArgumentsFault::Memory,
     )?;
@@ -67,23 +77,31 @@ fn run_command<E: CountedWrite>(
         _ => None,
     };
     Ok(match start {
-        Some(start) => command_to(rt, arguments, Progress::new(rt, start, out), errors),
-        None => command_to(rt, arguments, out, errors),
+        Some(start) => {
+            let out = Progress::new(rt, start, out);
+            command_to(rt, arguments, &mut Counting::new(out), errors)
+        }
+        None => command_to(rt, arguments, &mut Counting::new(out), errors),
     })
 }
 
-/// Carries out a command over the system's files, with this output, and returns the exit status.
-fn command_to<W: Write + Drop, E: CountedWrite>(
+/// Carries out a command over the system's files, and returns the exit status.
+fn command_to<W: CountedWrite, E: CountedWrite>(
     rt: &HostRuntime,
     arguments: &[&str],
-    out: W,
+    out: &mut W,
     errors: &mut E,
-) -> u8 {
+) -> u8
+    ensures answers { Answers (texts arguments.now) result
+        (writer W.contents W.counts out.old) (writer W.contents W.counts out.new)
+        (writer E.contents E.counts errors.old) (writer E.contents E.counts errors.new) }
+    ensures untouched { result ≡ 2 → out.new ≡ out.old }
+{
     command(
         rt.alloc(),
         arguments,
         &mut SystemFiles::new(rt),
-        &mut Counting::new(out),
+        out,
         errors,
     )
 }

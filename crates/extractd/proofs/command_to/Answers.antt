@@ -1,0 +1,19 @@
+use Rattle.std.proofs.Common.{inl, inr, refl}
+use Rattle.extractd.proofs.command_to.Goals as goal
+
+pub returns-clause-answers : goal.returns-clause-answers
+returns-clause-answers g c = record {
+  files = _;
+  files' = _;
+  at_most = c.command.ensures.at_most;
+  done = c.command.ensures.done;
+  refused = c.command.ensures.refused;
+  usage = c.command.ensures.usage;
+  unusable = c.command.ensures.unusable;
+  memory = λ four. elim (c.command.ensures.memory four) [
+    | inl early ↦ inl (rw early.0 refl, early.1)
+    | inr late ↦ inr late
+  ];
+  opens = c.command.ensures.opens;
+  reads = c.command.ensures.reads;
+}
