@@ -2,7 +2,6 @@
 use crate::sockets::exchange::{Exchange, Exchanges, SteppingClock, Then, client_that, close_of};
 use fixtures::{Table, TableFault, cells, number, size};
 use server::{Acceptor, Limits, serve_next};
-use std::cell::Cell;
 use std::io;
 use std::net::{OpenListener, SocketAddr, TcpListener, TcpStream};
 use std::test::Fail;
@@ -21,20 +20,17 @@ const TIMEOUTS: Table = Table {
 7; 9; 8; 5; 10; lingering; 5; 8",
 };
 
-/// A listener that keeps a second handle of the last connection that it accepted.
+/// A listener that returns a further handle of one connection at each accept.
 #[derive(Drop)]
-struct Keeping {
-    listener: TcpListener,
-    last: Cell<Option<TcpStream>>,
+struct Accepted {
+    stream: TcpStream,
 }
 
-impl OpenListener for Keeping {
+impl OpenListener for Accepted {
     type Stream = TcpStream;
 
     fn accept(&self) -> io::Result<(TcpStream, SocketAddr)> {
-        let (stream, address) = self.listener.accept()?;
-        self.last.set(Some(stream.try_clone()?));
-        Ok((stream, address))
+        Ok((self.stream.try_clone()?, self.stream.peer_addr()?))
     }
 }
 
@@ -60,28 +56,29 @@ fn cells_of(row: &str) -> Result<(Limits, Exchange, Timeouts), TableFault> {
         per_write: 50,
         close: close_of(close)?,
     };
-    Ok((limits, exchange, (Some(seconds(read)?), Some(seconds(write)?))))
+    Ok((
+        limits,
+        exchange,
+        (Some(seconds(read)?), Some(seconds(write)?)),
+    ))
 }
 
 /// Serves a client that sends its request and ends its side. Returns the timeouts that its socket has then.
 fn timeouts_of(rt: &HostRuntime, limits: &Limits, exchange: Exchange) -> io::Result<Timeouts> {
-    let listener = Keeping {
-        listener: TcpListener::bind(rt, "127.0.0.1:0")?,
-        last: Cell::new(None),
-    };
-    let client = TcpStream::connect(rt, listener.listener.local_addr()?)?;
+    let listener = TcpListener::bind(rt, "127.0.0.1:0")?;
+    let client = TcpStream::connect(rt, listener.local_addr()?)?;
+    let (stream, _) = listener.accept()?;
+    let accepted = Accepted { stream };
     let _client = client_that(client, exchange.request, Then::Ends)?;
     let mut service = Exchanges::new(exchange, &[b'r'; 50]);
     serve_next(
-        &mut Acceptor::new(&listener),
+        &mut Acceptor::new(&accepted),
         &SteppingClock::new(1000),
         limits,
         &mut service,
     )?;
-    match listener.last.replace(None) {
-        Some(socket) => Ok((socket.read_timeout()?, socket.write_timeout()?)),
-        None => Ok((None, None)),
-    }
+    let socket = accepted.stream;
+    Ok((socket.read_timeout()?, socket.write_timeout()?))
 }
 
 /// Checks that no read and no write waits for longer than its limits allow.
