@@ -4,11 +4,11 @@
 mod progress;
 mod serving;
 
-ghost use Rattle.std.specs.Prelude.{◌≡◌, IfErr};
+ghost use Rattle.std.specs.Prelude.{◌≡◌, ◌⊎◌, IfErr, IfOk};
 ghost use Rattle.clap.specs.Walk.{texts};
 ghost use Rattle.counted_io.specs.ReaderWriter.{writer};
-ghost use Rattle.command_line.specs.declared.fault.ArgumentsFault.TheVariants.{Memory};
-ghost use Rattle.extractd.specs.Outcome.{Answers, ServesIfRequested};
+ghost use Rattle.command_line.specs.declared.fault.ArgumentsFault.TheVariants.{Memory, NotUtf8};
+ghost use Rattle.extractd.specs.Outcome.{Answers, AnswersToOutput, EndsSo, ServesIfRequested};
 
 use command_line::{ArgumentsFault, Subcommand, command, read_serve};
 use counted_io::{CountedWrite, Counting};
@@ -34,7 +34,11 @@ fn main(rt: HostRuntime) -> ExitCode {
 }
 
 /// Reads the arguments after the program's name, carries out what they request, and returns the exit status.
-fn start<E: CountedWrite>(rt: &HostRuntime, errors: &mut E) -> Result<u8, ArgumentsFault<'static>> {
+fn start<E: CountedWrite>(rt: &HostRuntime, errors: &mut E) -> Result<u8, ArgumentsFault<'static>>
+    ensures ok { IfOk result (λ status. EndsSo status
+        (writer E.contents E.counts errors.old) (writer E.contents E.counts errors.new)) }
+    ensures err { IfErr result (λ fault. ((fault ≡ Memory) ⊎ (fault ≡ NotUtf8)) × (errors.new ≡ errors.old)) }
+{
     let given: Vec<String> = env::args(rt)?.skip(1).collect(rt.alloc())?;
     let arguments: Vec<&str> = given
         .iter()
@@ -67,6 +71,8 @@ fn run_command<E: CountedWrite>(
     arguments: &[&str],
     errors: &mut E,
 ) -> Result<u8, ArgumentsFault<'static>>
+    ensures ok { IfOk result (λ status. AnswersToOutput (texts arguments.now) status
+        (writer E.contents E.counts errors.old) (writer E.contents E.counts errors.new)) }
     ensures err { IfErr result (λ fault. (fault ≡ Memory) × (errors.new ≡ errors.old)) }
 {
     let out = BufWriter::with_capacity(rt.alloc(), OUTPUT_BUFFER, io::writer(rt)).map_err(
