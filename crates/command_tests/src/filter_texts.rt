@@ -141,7 +141,6 @@ const COLUMNS: [&str; 18] = [
     "SIDE1", "SOURCE", "FEDIRP", "FENAME", "FETYPE", "CFCC", "COUSUBL", "COUSUBR",
 ];
 
-/// Returns the column's name.
 fn column_name(column: Column) -> &'static str {
     for name in COLUMNS {
         if column_named(name.as_bytes()).map(place_of) == Some(place_of(column)) {
@@ -186,7 +185,6 @@ fn push_pattern(text: &mut String, pattern: &Pattern<Global>) -> Result<(), Allo
     Ok(())
 }
 
-/// Returns the sign of a comparison.
 fn sign(comparison: Comparison) -> &'static str {
     match comparison {
         Comparison::Equal => "=",

@@ -550,7 +550,6 @@ fn each_write_of_arguments(rt: HostRuntime) -> Result<(), Fail> {
     Ok(())
 }
 
-/// Returns the rows of requests.
 fn requests(alloc: Global) -> Result<String, TableFault> {
     let rows = REQUESTS.joined(alloc)?;
     Ok(filled(alloc, &rows, &WORDS)?)

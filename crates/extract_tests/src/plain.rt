@@ -78,7 +78,6 @@ impl PlainTable {
         }
     }
 
-    /// Returns the id of the next job.
     pub fn next_id(&self) -> u64 {
         (self.jobs.len() as u64).wrapping_add(1)
     }

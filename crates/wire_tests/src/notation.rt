@@ -46,7 +46,6 @@ fn spelled_out(alloc: Global, text: &str) -> Result<String, TableFault> {
     Ok(spelled)
 }
 
-/// Returns the bytes of a text.
 pub fn bytes_of(alloc: Global, text: &str) -> Result<Vec<u8>, TableFault> {
     bytes(alloc, &spelled_out(alloc, text)?)
 }

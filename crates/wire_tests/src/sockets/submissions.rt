@@ -54,7 +54,6 @@ impl Step {
     }
 }
 
-/// Returns the requests of the script.
 fn script(alloc: Global) -> Result<Vec<Step>, TableFault> {
     let mut script = Vec::new(alloc);
     for row in SCRIPT.joined(alloc)?.lines() {
