@@ -1,20 +1,26 @@
--- Records: lines that are good for their record type (TIGER/Line 2006, record types 1, 4, 5 and 6), and the flaws of lines that aren't.
+-- Records: lines that are good for their record type (TIGER/Line 2006, record types 1, 2, 4, 5 and 6), and the flaws of lines that aren't.
 use Rattle.std.specs.Prelude.{◌≡◌, ℕ, ◌^◌, ◌<◌, ◌==◌, if◌then◌else◌, List, length, slice_index, Option, Some, None, is_some}
 use Rattle.tl_fields.specs.Number.{number_of}
 use Rattle.tl_records.specs.Layout.{field_at}
 use Rattle.tl_records.specs.Lines.{LineParts}
 use Rattle.tl_records.specs.declared.fault.LineFault.{LineFault}
 use Rattle.tl_records.specs.declared.fault.LineFaultKind.{LineFaultKind}
-use Rattle.tl_records.specs.declared.fault.LineFaultKind.TheVariants.{WrongLength, WrongType}
+use Rattle.tl_records.specs.declared.fault.LineFaultKind.TheVariants.{BadSequence, WrongLength, WrongType}
 use Rattle.tl_records.specs.declared.layout.Layout.{Layout}
+use Rattle.tl_records.specs.declared.layout.Places.{Places}
 
--- the first flaw of a line of this record type, if any: it has the wrong length, its first byte isn't the tag, or the field that must have a number
--- has none
+-- the flaw of a line whose sequence number must be in this field, if it has none
+abbrev pub sequence_fault : Option Places → List ℕ → Option LineFaultKind
+sequence_fault None line = None
+sequence_fault (Some places) line = if is_some (number_of (field_at places line)) then None else Some BadSequence
+
+-- the first flaw of a line of this record type, if any: it has the wrong length, its first byte isn't the tag, or a field that must have a number has
+-- none
 abbrev pub line_fault_kind : Layout → List ℕ → Option LineFaultKind
 line_fault_kind layout line =
     if length line == layout.length
     then (if slice_index line 0 == layout.tag
-    then (if is_some (number_of (field_at layout.number line)) then None else Some layout.without_number)
+    then (if is_some (number_of (field_at layout.number line)) then sequence_fault layout.sequence line else Some layout.without_number)
     else Some WrongType)
     else Some WrongLength
 

@@ -16,6 +16,8 @@ pub enum LineFaultKind {
     BadTlid,
     #[error("the FEAT has no number")]
     BadFeature,
+    #[error("the RTSQ has no number")]
+    BadSequence,
     #[error("the read failed")]
     Read,
     #[error("too many lines")]
@@ -32,6 +34,7 @@ impl LineFaultKind {
             LineFaultKind::WrongType => Refusal::refused(2, "WrongType"),
             LineFaultKind::BadTlid => Refusal::refused(3, "BadTlid"),
             LineFaultKind::BadFeature => Refusal::refused(4, "BadFeature"),
+            LineFaultKind::BadSequence => Refusal::refused(120, "BadSequence"),
             LineFaultKind::Read => Refusal::io(5, "Read"),
             LineFaultKind::TooManyLines => Refusal::refused(8, "TooManyLines"),
         }

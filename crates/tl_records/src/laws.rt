@@ -1,9 +1,9 @@
 //! Laws about the definitions, stated as contracts of functions that do nothing.
 ghost use Rattle.std.specs.Prelude.{◌≡◌, ℕ, List};
-ghost use Rattle.tl_records.specs.Layout.{places};
+ghost use Rattle.tl_records.specs.Layout.{latitude, longitude, places};
 ghost use Rattle.tl_records.specs.Lines.{AreLines};
 
-use crate::layout::{Type1, Type4, Type5, Type6};
+use crate::layout::{Type1, Type2, Type4, Type5, Type6};
 
 /// States that a file has at most one list of lines.
 #[tactic(auto, using(crate::proofs::LineLemmas::one_list_of_lines_lem))]
@@ -35,6 +35,18 @@ pub fn type1_fields()
         × (Type1.BLOCKR ≡ places 187 190) }
     ensures ends { (Type1.FRLONG ≡ places 191 200) × (Type1.FRLAT ≡ places 201 209) × (Type1.TOLONG ≡ places 210 219)
         × (Type1.TOLAT ≡ places 220 228) }
+{}
+
+/// States the columns of the fields of record type 2.
+pub fn type2_fields()
+    ensures start { (Type2.RT ≡ places 1 1) × (Type2.VERSION ≡ places 2 5) × (Type2.TLID ≡ places 6 15) × (Type2.RTSQ ≡ places 16 18) }
+    ensures points { Type2.POINTS ≡ 10 }
+    ensures longitudes { (longitude 1 ≡ places 19 28) × (longitude 2 ≡ places 38 47) × (longitude 3 ≡ places 57 66)
+        × (longitude 4 ≡ places 76 85) × (longitude 5 ≡ places 95 104) × (longitude 6 ≡ places 114 123) × (longitude 7 ≡ places 133 142)
+        × (longitude 8 ≡ places 152 161) × (longitude 9 ≡ places 171 180) × (longitude 10 ≡ places 190 199) }
+    ensures latitudes { (latitude 1 ≡ places 29 37) × (latitude 2 ≡ places 48 56) × (latitude 3 ≡ places 67 75)
+        × (latitude 4 ≡ places 86 94) × (latitude 5 ≡ places 105 113) × (latitude 6 ≡ places 124 132) × (latitude 7 ≡ places 143 151)
+        × (latitude 8 ≡ places 162 170) × (latitude 9 ≡ places 181 189) × (latitude 10 ≡ places 200 208) }
 {}
 
 /// States the columns of the fields of record type 4.

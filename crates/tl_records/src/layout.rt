@@ -1,8 +1,8 @@
 //! The table of record types (TIGER/Line 2006, record layouts): the layout of their lines, and the columns of their fields.
 ghost use Rattle.std.proofs.Common.{lit≤};
-ghost use Rattle.std.specs.Prelude.{◌≡◌, ◌+◌, ◌-◌, length, is_some};
+ghost use Rattle.std.specs.Prelude.{◌≡◌, ◌+◌, ◌-◌, ◌≤◌, length, is_some, IfSome};
 ghost use Rattle.tl_fields.specs.Number.{number_of};
-ghost use Rattle.tl_records.specs.Layout.{IsWithin, field_at, type1, type4, type5, type6};
+ghost use Rattle.tl_records.specs.Layout.{IsWithin, field_at, latitude, longitude, type1, type2, type4, type5, type6};
 
 use crate::fault::LineFaultKind;
 use tl_fields::{field, has_number};
@@ -43,6 +43,8 @@ pub struct Layout {
     pub number: Places,
     /// The flaw of a line in which that field has no number.
     pub without_number: LineFaultKind,
+    /// The field for the line's sequence number, if it must have a number too.
+    pub sequence: Option<Places>,
 }
 
 /// A record type.
@@ -52,6 +54,8 @@ pub trait RecordType {
     ghost LAYOUT: { Layout };
 
     ghost number_is_within: { IsWithin LAYOUT.number LAYOUT.length };
+
+    ghost sequence_is_within: { IfSome LAYOUT.sequence (λ places. IsWithin places LAYOUT.length) };
 
     /// The layout of its lines.
     const LAYOUT: Layout;
@@ -68,11 +72,14 @@ impl RecordType for Type1 {
 
     ghost number_is_within = { (lit≤ tt, lit≤ tt, lit≤ tt) };
 
+    ghost sequence_is_within = { tt };
+
     const LAYOUT: Layout = Layout {
         length: RECORD_LENGTH,
         tag: b'1',
         number: Type1::TLID,
         without_number: LineFaultKind::BadTlid,
+        sequence: None,
     };
 }
 
@@ -143,6 +150,60 @@ impl Type1 {
     pub const TOLAT: Places = Places(220, 228);
 }
 
+/// Record type 2: points of a segment's shape.
+pub struct Type2;
+
+impl RecordType for Type2 {
+    ghost LAYOUT = { type2 };
+
+    ghost number_is_within = { (lit≤ tt, lit≤ tt, lit≤ tt) };
+
+    ghost sequence_is_within = { (lit≤ tt, lit≤ tt, lit≤ tt) };
+
+    const LAYOUT: Layout = Layout {
+        length: 208,
+        tag: b'2',
+        number: Type2::TLID,
+        without_number: LineFaultKind::BadTlid,
+        sequence: Some(Type2::RTSQ),
+    };
+}
+
+impl Type2 {
+    /// The record type, always `2`.
+    pub const RT: Places = Places(1, 1);
+    /// The version number.
+    pub const VERSION: Places = Places(2, 5);
+    /// The TIGER/Line ID of the segment.
+    pub const TLID: Places = Places(6, 15);
+    /// The number of the record among those of the segment.
+    pub const RTSQ: Places = Places(16, 18);
+    /// How many points a line has room for.
+    pub const POINTS: usize = 10;
+
+    /// Returns the columns of the longitude of point `n`, counted from 1: LONG1 to LONG10.
+    #[inline]
+    pub fn longitude(n: usize) -> Places
+        requires first { 1 ≤ n }
+        requires last { n ≤ Type2.POINTS }
+        ensures value { result ≡ longitude n }
+        ensures within { IsWithin result type2.length }
+    {
+        Places(19 * n, 19 * n + 9)
+    }
+
+    /// Returns the columns of the latitude of point `n`, counted from 1: LAT1 to LAT10.
+    #[inline]
+    pub fn latitude(n: usize) -> Places
+        requires first { 1 ≤ n }
+        requires last { n ≤ Type2.POINTS }
+        ensures value { result ≡ latitude n }
+        ensures within { IsWithin result type2.length }
+    {
+        Places(19 * n + 10, 19 * n + 18)
+    }
+}
+
 /// Record type 4: the numbers of a segment's alternate names.
 pub struct Type4;
 
@@ -151,11 +212,14 @@ impl RecordType for Type4 {
 
     ghost number_is_within = { (lit≤ tt, lit≤ tt, lit≤ tt) };
 
+    ghost sequence_is_within = { tt };
+
     const LAYOUT: Layout = Layout {
         length: 58,
         tag: b'4',
         number: Type4::TLID,
         without_number: LineFaultKind::BadTlid,
+        sequence: None,
     };
 }
 
@@ -188,11 +252,14 @@ impl RecordType for Type5 {
 
     ghost number_is_within = { (lit≤ tt, lit≤ tt, lit≤ tt) };
 
+    ghost sequence_is_within = { tt };
+
     const LAYOUT: Layout = Layout {
         length: 56,
         tag: b'5',
         number: Type5::FEAT,
         without_number: LineFaultKind::BadFeature,
+        sequence: None,
     };
 }
 
@@ -221,11 +288,14 @@ impl RecordType for Type6 {
 
     ghost number_is_within = { (lit≤ tt, lit≤ tt, lit≤ tt) };
 
+    ghost sequence_is_within = { tt };
+
     const LAYOUT: Layout = Layout {
         length: 76,
         tag: b'6',
         number: Type6::TLID,
         without_number: LineFaultKind::BadTlid,
+        sequence: None,
     };
 }
 

@@ -1,11 +1,12 @@
 //! Records: lines that are good for their record type, the checks that establish it, and their fields.
-ghost use Rattle.std.specs.Prelude.{◌≡◌, ◌+◌, ◌-◌, ◌^◌, ◌<◌, Some, length, IfErr, IfOk, OnOk};
+ghost use Rattle.std.specs.Prelude.{◌≡◌, ◌+◌, ◌-◌, ◌^◌, ◌<◌, Some, length, is_some, IfErr, IfOk, IfSome, OnOk};
 ghost use Rattle.tl_fields.specs.Number.{number_of};
-ghost use Rattle.tl_records.specs.Layout.{IsWithin, field_at, type1, type4, type5, type6};
-ghost use Rattle.tl_records.specs.Records.{IsValidLine, IsLineFault, line_fault_kind};
+ghost use Rattle.tl_records.specs.Layout.{IsWithin, field_at, type1, type2, type4, type5, type6};
+ghost use Rattle.tl_records.specs.declared.layout.TheConstants.Type2.{RTSQ};
+ghost use Rattle.tl_records.specs.Records.{IsValidLine, IsLineFault, line_fault_kind, sequence_fault};
 
 use crate::fault::{LineFault, LineFaultKind};
-use crate::layout::{Layout, Places, RecordType, Type1, Type4, Type5, Type6};
+use crate::layout::{Layout, Places, RecordType, Type1, Type2, Type4, Type5, Type6};
 use crate::lines::Line;
 use std::marker::{Model, PhantomData};
 use tl_fields::number;
@@ -20,6 +21,9 @@ pub struct Record<'a, T: RecordType> {
 
 /// A line of record type 1: a street segment's own record.
 pub type Rt1<'a> = Record<'a, Type1>;
+
+/// A line of record type 2: points of a segment's shape.
+pub type Rt2<'a> = Record<'a, Type2>;
 
 /// A line of record type 4: the numbers of a segment's alternate names.
 pub type Rt4<'a> = Record<'a, Type4>;
@@ -41,7 +45,8 @@ impl<'a, T: RecordType> Model for Record<'a, T> {
 }
 
 impl<'a, T: RecordType> Record<'a, T> {
-    /// Returns a line as a record of its type, or its first flaw: `WrongLength`, `WrongType`, then `BadTlid` (`BadFeature` in type 5).
+    /// Returns a line as a record of its type, or its first flaw: `WrongLength`, `WrongType`, `BadTlid` (`BadFeature` in type 5), and
+    /// then, in type 2, `BadSequence`.
     #[inline]
     pub fn of(number: u32, line: &'a [u8]) -> Result<Self, LineFault>
         ensures ok { IfOk result (λ rt. (rt.bytes ≡ line.now) × IsValidLine T.LAYOUT line.now) }
@@ -106,10 +111,26 @@ impl<'a, T: RecordType> Record<'a, T> {
     }
 }
 
+impl Record<'_, Type2> {
+    /// Returns the number of RTSQ, of three digits at most.
+    #[inline]
+    #[tactic(auto, using(tl_fields::proofs::NumberLemmas::number_of_lt))]
+    pub fn sequence(&self) -> u16
+        ensures value { number_of (field_at RTSQ self.now.bytes) ≡ Some result }
+        ensures small { result < 1000 }
+    {
+        match number(Type2::RTSQ.of(self.line)) {
+            Some(sequence) => sequence as u16,
+            None => unreachable!(),
+        }
+    }
+}
+
 /// Returns the first flaw of a line of a record type, or `None` if it is good.
 #[inline]
 fn line_fault_kind(layout: Layout, line: &[u8]) -> Option<LineFaultKind>
-    requires { IsWithin layout.number layout.length }
+    requires number { IsWithin layout.number layout.length }
+    requires sequence { IfSome layout.sequence (λ places. IsWithin places layout.length) }
     ensures { result ≡ line_fault_kind layout line.now }
 {
     if line.len() != layout.length {
@@ -121,13 +142,26 @@ fn line_fault_kind(layout: Layout, line: &[u8]) -> Option<LineFaultKind>
     if !layout.number.has_number(line) {
         return Some(layout.without_number);
     }
-    None
+    sequence_fault(layout.sequence, line)
+}
+
+/// Returns the flaw of a line whose sequence number must be in this field, if it has none.
+#[inline]
+fn sequence_fault(sequence: Option<Places>, line: &[u8]) -> Option<LineFaultKind>
+    requires { IfSome sequence (λ places. IsWithin places (length line.now)) }
+    ensures { result ≡ sequence_fault sequence line.now }
+{
+    match sequence {
+        Some(places) if !places.has_number(line) => Some(LineFaultKind::BadSequence),
+        _ => None,
+    }
 }
 
 /// Returns the number that each line of a record type must have, or the line's first flaw.
 #[inline]
 fn checked_number(layout: Layout, line: &[u8]) -> Result<u64, LineFaultKind>
-    requires { IsWithin layout.number layout.length }
+    requires number { IsWithin layout.number layout.length }
+    requires sequence { IfSome layout.sequence (λ places. IsWithin places layout.length) }
     ensures number { IfOk result (λ n. number_of (field_at layout.number line.now) ≡ Some n) }
     ensures good { IfOk result (λ _. IsValidLine layout line.now) }
     ensures err { IfErr result (λ flaw. line_fault_kind layout line.now ≡ Some flaw) }
@@ -138,13 +172,27 @@ fn checked_number(layout: Layout, line: &[u8]) -> Result<u64, LineFaultKind>
     if line[0] != layout.tag {
         return Err(LineFaultKind::WrongType);
     }
-    number(layout.number.of(line)).ok_or(layout.without_number)
+    let Some(found) = number(layout.number.of(line)) else {
+        return Err(layout.without_number);
+    };
+    match sequence_fault(layout.sequence, line) {
+        None => Ok(found),
+        Some(flaw) => Err(flaw),
+    }
 }
 
 /// Returns a line as a record of type 1, or its first flaw: `WrongLength`, `WrongType`, `BadTlid`.
 pub fn rt1(line: &Line) -> Result<Rt1<'_>, LineFault>
     ensures ok { IfOk result (λ rt1. (rt1.bytes ≡ line.now.bytes) × IsValidLine type1 line.now.bytes) }
     ensures err { IfErr result (λ fault. IsLineFault type1 line.now fault) }
+{
+    Record::of(line.number(), line.bytes())
+}
+
+/// Returns a line as a record of type 2, or its first flaw: `WrongLength`, `WrongType`, `BadTlid`, `BadSequence`.
+pub fn rt2(line: &Line) -> Result<Rt2<'_>, LineFault>
+    ensures ok { IfOk result (λ rt2. (rt2.bytes ≡ line.now.bytes) × IsValidLine type2 line.now.bytes) }
+    ensures err { IfErr result (λ fault. IsLineFault type2 line.now fault) }
 {
     Record::of(line.number(), line.bytes())
 }
