@@ -1,6 +1,6 @@
 -- Lines joined by their numbers: what one more line adds.
 use Rattle.std.proofs.Common.{◌≡◌, ℕ, ◌+◌, ◌<◌, ◌≤◌, nat_eq, Bool, true, false, cond, if◌then◌else◌, List, [], ◌∷◌, ◌++◌, length, map}
-use Rattle.std.proofs.Common.{Option, Some, None, unwrap_or, option_map, Result, Ok, Err, IfOk, MatchBool, refl, sym, ap, ◌∙◌}
+use Rattle.std.proofs.Common.{Option, Some, None, unwrap_or, option_map, Result, Ok, Err, IfOk, refl, sym, ap, ◌∙◌}
 use Rattle.std.proofs.Common.{length-append, arith}
 use Rattle.std.specs.declared.alloc.AllocError.{AllocError}
 use Rattle.std.specs.List.{find}
@@ -13,11 +13,14 @@ use Rattle.std.proofs.lemmas.List.Folds.{find-append}
 use Rattle.tl_segments.specs.Joining.{JoinedLines, number_in, has_number, lines_with, segment_of, segments_of, IsWithinLineLimit}
 use Rattle.tl_segments.specs.Joining.{IsWithinLimits}
 use Rattle.tl_segments.specs.TableContents.{AddsAt, AddsNameAt, CountsAt, HoldsCounts, HoldsNames, count_at, feature_full_name, full_name_in}
-use Rattle.tl_segments.specs.TableContents.{list_at, name_at}
+use Rattle.tl_segments.specs.TableContents.{MatchAddition, list_at, name_at}
 use Rattle.tl_segments.specs.Adding.{IsAdded}
+use Rattle.tl_segments.specs.Shape.{HasDistinctSequences}
+use Rattle.tl_segments.specs.declared.county_file.Addition.{Addition}
+use Rattle.tl_segments.specs.declared.county_file.Addition.TheVariants.{Added, OverLimit, Repeated}
 use Rattle.tl_segments.specs.declared.validation_tables.LinesPerTlid.{LinesPerTlid}
 use Rattle.tl_segments.specs.declared.fault.CountyFile.{CountyFile}
-use Rattle.tl_segments.specs.declared.fault.CountyFile.TheVariants.{Rt4, Rt5, Rt6}
+use Rattle.tl_segments.specs.declared.fault.CountyFile.TheVariants.{Rt2, Rt4, Rt5, Rt6}
 use Rattle.tl_segments.specs.declared.feature_names.FeatureNames.{FeatureNames}
 use Rattle.tl_segments.specs.declared.multi_map.MultiMap.{MultiMap}
 use Rattle.tl_segments.specs.declared.limits.TheConstants.{MAX_LINES_PER_TLID}
@@ -108,14 +111,16 @@ pub counts-push : {T A : Type 0} (file : CountyFile) {old new : LinesPerTlid T A
 counts-push file lines line {number} is holds adds q =
     adds.counts q ∙ ap (λ n. n + cond (nat_eq number q) 1 0) (holds q) ∙ sym (length_with-push file lines line number q is)
 
--- a line with this number follows lines that are within the limits, in a file that has a limit
+-- a line with this number follows lines that are within the limits, in a file that has a limit and may repeat sequence numbers
 pub record Follows (file : CountyFile) (lines : List (List ℕ)) (line : List ℕ) (number : ℕ) : Type 0 where
   pub numbered : number_in file line ≡ Some number
   pub within : IsWithinLimits file lines
   pub limited : (lines : List (List ℕ)) → IsWithinLimits file lines → IsWithinLineLimit file lines
+  pub distinct : (lines : List (List ℕ)) → HasDistinctSequences file lines
 
 with_room : (file : CountyFile) (lines : List (List ℕ)) (line : List ℕ) (number : ℕ) → Follows file lines line number
     → length (lines_with file number lines) < MAX_LINES_PER_TLID → IsWithinLimits file (lines ++ line ∷ [])
+with_room Rt2 lines line number follows room = few-push Rt2 lines line number follows.numbered follows.within room
 with_room Rt4 lines line number follows room = few-push Rt4 lines line number follows.numbered follows.within room
 with_room Rt6 lines line number follows room = few-push Rt6 lines line number follows.numbered follows.within room
 with_room otherwise lines line number follows room = tt
@@ -123,25 +128,27 @@ with_room otherwise lines line number follows room = tt
 module _ {file : CountyFile} {lines : List (List ℕ)} {line : List ℕ} {number : ℕ} (follows : Follows file lines line number) where
   -- the line is added if its number has room; otherwise the lines with it exceed the limits
   added_by : {Adds : Type 0} (holds : List (List ℕ) → Type 0) (count : ℕ) → count ≡ length (lines_with file number lines)
-      → (Adds → (count < MAX_LINES_PER_TLID) × holds (lines ++ line ∷ [])) → (result : Result Bool AllocError)
-      → IfOk result (λ added. MatchBool added Adds (MAX_LINES_PER_TLID ≤ count)) → IfOk result (IsAdded file lines line holds)
-  added_by holds count is more (Ok true) adds =
-      let room = (more adds).0 in (with_room file lines line number follows (omega (arith, is, room)), (more adds).1)
-  added_by holds count is more (Ok false) full =
+      → (Adds → (count < MAX_LINES_PER_TLID) × holds (lines ++ line ∷ [])) → (result : Result Addition AllocError)
+      → IfOk result (λ addition. MatchAddition addition Adds (MAX_LINES_PER_TLID ≤ count) ⊥) → IfOk result (IsAdded file lines line holds)
+  added_by holds count is more (Ok Added) adds =
+      let room = (more adds).0 in
+      (with_room file lines line number follows (omega (arith, is, room)), follows.distinct (lines ++ line ∷ []), (more adds).1)
+  added_by holds count is more (Ok OverLimit) full =
       λ within. not_few-push file lines line number follows.numbered (omega (arith, is, full)) (follows.limited (lines ++ line ∷ []) within)
+  added_by holds count is more (Ok Repeated) none = absurd none
   added_by holds count is more (Err error) full = tt
 
   pub list_added : {V A : Type 0} (f : List ℕ → V) (old new : MultiMap V A) → ((q : ℕ) → list_at old q ≡ map f (lines_with file q lines))
-      → (result : Result Bool AllocError)
-      → IfOk result (λ added. MatchBool added (AddsAt old new number (f line)) (MAX_LINES_PER_TLID ≤ length (list_at old number)))
+      → (result : Result Addition AllocError)
+      → IfOk result (λ addition. MatchAddition addition (AddsAt old new number (f line)) (MAX_LINES_PER_TLID ≤ length (list_at old number)) ⊥)
       → IfOk result (IsAdded file lines line (λ lines. (q : ℕ) → list_at new q ≡ map f (lines_with file q lines)))
   list_added f old new holds =
       added_by (λ lines. (q : ℕ) → list_at new q ≡ map f (lines_with file q lines)) (length (list_at old number))
       (ap length (holds number) ∙ length-map (lines_with file number lines) f)
       (λ adds. (adds.room, holds-push file f lines line follows.numbered holds adds))
 
-  pub count_added : {T A : Type 0} (old new : LinesPerTlid T A) → HoldsCounts file old lines → (result : Result Bool AllocError)
-      → IfOk result (λ counted. MatchBool counted (CountsAt old new number) (MAX_LINES_PER_TLID ≤ count_at old number))
+  pub count_added : {T A : Type 0} (old new : LinesPerTlid T A) → HoldsCounts file old lines → (result : Result Addition AllocError)
+      → IfOk result (λ addition. MatchAddition addition (CountsAt old new number) (MAX_LINES_PER_TLID ≤ count_at old number) ⊥)
       → IfOk result (IsAdded file lines line (HoldsCounts file new))
   count_added old new holds =
       added_by (HoldsCounts file new) (count_at old number) (holds number)

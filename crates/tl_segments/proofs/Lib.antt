@@ -1,8 +1,11 @@
 pub mod FullNameLemmas
 pub mod IndexLemmas
 pub mod JoiningLemmas
+pub mod OrderLemmas
 pub mod ReadingLemmas
 pub mod SegmentLemmas
+pub mod ShapeLemmas
+pub mod ShapeTableLemmas
 pub mod SharedLemmas
 pub mod TableLemmas
 pub mod ValidLemmas

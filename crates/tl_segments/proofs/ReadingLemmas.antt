@@ -1,6 +1,6 @@
 -- Reading a county's file line by line, for readers with known and with unknown bytes.
 use Rattle.std.proofs.Common.{◌≡◌, ◌≢◌, ℕ, ◌+◌, ◌<◌, ◌≤◌, ◌^◌, Bool, true, false, ◌==◌, if◌then◌else◌, inl, inr, List, [], ◌∷◌, ◌++◌}
-use Rattle.std.proofs.Common.{length, slice_index, Option, Some, None, is_some, IfSome, Ok, Err, refl, sym, ap, ◌∙◌, subst, length-append}
+use Rattle.std.proofs.Common.{length, slice_index, Option, Some, None, is_some, IsSome, IfSome, Ok, Err, refl, sym, ap, ◌∙◌, subst, length-append}
 use Rattle.std.proofs.Common.{arith}
 use Rattle.std.proofs.lemmas.Bool.Decides.{nat_tests}
 use Rattle.std.proofs.lemmas.List.Elements.{All-nil, All-head, All-tail, All-push}
@@ -10,22 +10,24 @@ use Rattle.tl_fields.specs.Number.{number_of}
 use Rattle.tl_records.specs.Layout.{field_at}
 use Rattle.tl_records.specs.Lines.{LineParts, IsEnded, by_lf, by_cr_lf, missing, IsFirstLine, AreFirstLines, AreLines, IfKnown}
 use Rattle.tl_records.specs.Lines.{IsNextLine, BeginsTooLong, FailsWithin, max_bytes, HasOneMoreByte, IsLineRead, IsUnreadableLine}
-use Rattle.tl_records.specs.Records.{IsValidLine, IsLineFault, line_fault_kind}
+use Rattle.tl_records.specs.Records.{IsValidLine, IsLineFault, line_fault_kind, sequence_fault}
 use Rattle.tl_records.specs.declared.fault.LineFault.{LineFault}
 use Rattle.tl_records.specs.declared.fault.LineFaultKind.{LineFaultKind}
-use Rattle.tl_records.specs.declared.fault.LineFaultKind.TheVariants.{WrongLength, WrongType, Read, TooManyLines}
+use Rattle.tl_records.specs.declared.fault.LineFaultKind.TheVariants.{BadSequence, WrongLength, WrongType, Read, TooManyLines}
 use Rattle.tl_records.specs.declared.layout.Layout.{Layout}
+use Rattle.tl_records.specs.declared.layout.Places.{Places}
 use Rattle.tl_records.proofs.LineLemmas.{cr_lf, has_first_line}
 use Rattle.tl_segments.specs.CountyFile.{layout}
 use Rattle.tl_segments.specs.Indexing.{ReadsValidLine, IsNextFault}
 use Rattle.tl_segments.specs.Joining.{IsWithinLimits}
 use Rattle.tl_segments.specs.Loading.{ReadsFile, ReadsLines, HasMoreAfter, HasFaultAfter, FailsAfter, IsRecordFault, IsFaultAfter, IsFirstFault}
-use Rattle.tl_segments.specs.Loading.{IsOneTooMany, IsFileFault}
-use Rattle.tl_segments.specs.Adding.{ExceedsLimits, IsValidNext, IsLineAdded}
+use Rattle.tl_segments.specs.Loading.{IsFileFault, IsFirstRepeat, IsFirstToBreak, IsOneTooMany}
+use Rattle.tl_segments.specs.Adding.{ExceedsLimits, IsValidNext, IsLineAdded, RepeatsSequence}
+use Rattle.tl_segments.specs.Shape.{HasDistinctSequences}
 use Rattle.tl_segments.specs.declared.fault.CountyFile.{CountyFile}
-use Rattle.tl_segments.specs.declared.fault.CountyFile.TheVariants.{Rt1, Rt4, Rt6}
+use Rattle.tl_segments.specs.declared.fault.CountyFile.TheVariants.{Rt1, Rt2, Rt4, Rt6}
 use Rattle.tl_segments.specs.declared.fault.LoadFault.{LoadFault}
-use Rattle.tl_segments.specs.declared.fault.LoadFault.TheVariants.{Line, TooManyNames, TooManyRanges, Memory}
+use Rattle.tl_segments.specs.declared.fault.LoadFault.TheVariants.{Line, TooManyNames, TooManyRanges, RepeatedSequence, TooManyPoints, Memory}
 
 -- what two consecutive calls say about known bytes
 module _ (P Q : List ℕ → List ℕ → Type 0) where
@@ -81,26 +83,37 @@ wrong_length_of row line short long = grind (arith, nat_tests)
 pub wrong_length : (file : CountyFile) (line : List ℕ) → 230 ≤ length line → line_fault_kind (layout file) line ≡ Some WrongLength
 wrong_length file line long = wrong_length_of (layout file) line (layout_short file) long
 
-record_fault_by : (file : CountyFile) (flaw : LineFaultKind) (long typed numbered : Bool)
-    → (if long then (if typed then (if numbered then None else Some (layout file).without_number) else Some WrongType) else Some
-    WrongLength) ≡ Some flaw → IsRecordFault file flaw
-record_fault_by file flaw true true true e = cc
-record_fault_by file flaw true true false e = inr (inr (cc))
-record_fault_by file flaw true false numbered e = inr (inl (cc))
-record_fault_by file flaw false typed numbered e = inl (cc)
+sequence_fault_by : (flaw : LineFaultKind) (numbered : Bool) → (if numbered then None else Some BadSequence) ≡ Some flaw → flaw ≡ BadSequence
+sequence_fault_by flaw true e = absurd (cc)
+sequence_fault_by flaw false e = cc
+
+-- a line without a sequence number is one that must have it
+of_sequence : (sequence : Option Places) (line : List ℕ) (flaw : LineFaultKind) → sequence_fault sequence line ≡ Some flaw
+    → IsSome sequence × (flaw ≡ BadSequence)
+of_sequence None line flaw e = absurd (cc)
+of_sequence (Some places) line flaw e = (refl, sequence_fault_by flaw (is_some (number_of (field_at places line))) e)
+
+record_fault_by : (file : CountyFile) (line : List ℕ) (flaw : LineFaultKind) (long typed numbered : Bool)
+    → (if long then (if typed then (if numbered then sequence_fault (layout file).sequence line else Some (layout file).without_number)
+    else Some WrongType) else Some WrongLength) ≡ Some flaw → IsRecordFault file flaw
+record_fault_by file line flaw true true true e = inr (inr (inr (of_sequence (layout file).sequence line flaw e)))
+record_fault_by file line flaw true true false e = inr (inr (inl (cc)))
+record_fault_by file line flaw true false numbered e = inr (inl (cc))
+record_fault_by file line flaw false typed numbered e = inl (cc)
 
 -- the flaw of a line is one that its file's lines may have
 record_fault : (file : CountyFile) (line : List ℕ) (flaw : LineFaultKind) → line_fault_kind (layout file) line ≡ Some flaw → IsRecordFault file flaw
 record_fault file line flaw e =
-    record_fault_by file flaw (length line == (layout file).length) (slice_index line 0 == (layout file).tag)
+    record_fault_by file line flaw (length line == (layout file).length) (slice_index line 0 == (layout file).tag)
     (is_some (number_of (field_at (layout file).number line))) e
 
 -- such a flaw is neither a failed read nor a line that is too many
 of_its_own : (file : CountyFile) (flaw : LineFaultKind) → IsRecordFault file flaw → (flaw ≢ Read) × (flaw ≢ TooManyLines)
 of_its_own file flaw (inl e) = (λ read. cc, λ more. cc)
 of_its_own file flaw (inr (inl e)) = (λ read. cc, λ more. cc)
-of_its_own Rt1 flaw (inr (inr e)) = (λ read. cc, λ more. cc)
-of_its_own otherwise flaw (inr (inr e)) = (λ read. cc, λ more. cc)
+of_its_own Rt1 flaw (inr (inr (inl e))) = (λ read. cc, λ more. cc)
+of_its_own otherwise flaw (inr (inr (inl e))) = (λ read. cc, λ more. cc)
+of_its_own file flaw (inr (inr (inr e))) = (λ read. cc, λ more. cc)
 
 not_empty : (file taken rest : List ℕ) → file ≡ taken ++ rest → length taken ≡ 231 → file ≢ []
 not_empty file taken rest e long none = omega (arith, length-append taken rest, ap length (sym none ∙ e))
@@ -138,14 +151,20 @@ known_start (Some file) = refl
 
 -- an empty list of lines is within the limits
 none_exceeds : (file : CountyFile) → IsWithinLimits file []
+none_exceeds Rt2 = λ number. omega arith
 none_exceeds Rt4 = λ number. omega arith
 none_exceeds Rt6 = λ number. omega arith
 none_exceeds otherwise = tt
 
+-- and has no repeated sequence number
+none_repeats : (file : CountyFile) → HasDistinctSequences file []
+none_repeats Rt2 = λ tlid sequence. omega arith
+none_repeats otherwise = tt
+
 pub none_read : (file : CountyFile) (line : LineParts) (input : Reader) → line.number ≡ 0 → IsReadSoFar file [] line input input
 none_read file line input zeroth = record {
   reads = record {
-    good = record { good = All-nil (IsValidLine (layout file)); within = none_exceeds file };
+    good = record { good = All-nil (IsValidLine (layout file)); within = none_exceeds file; distinct = none_repeats file };
     known = known_start input.left;
     reads = refl;
   };
@@ -169,8 +188,8 @@ module _ {file : CountyFile} {lines : List (List ℕ)} {line : LineParts} {old n
     reads = record {
       good = record {
         good = All-push (IsValidLine (layout file)) lines new_line.bytes read.reads.good.good good.good;
-        within =
-            good.within;
+        within = good.within;
+        distinct = good.distinct;
       };
       known =
           known_after (IsNextLine new_line.bytes) (λ bytes rest. AreFirstLines bytes (lines ++ new_line.bytes ∷ []) rest)
@@ -228,15 +247,15 @@ module _ {file : CountyFile} {lines : List (List ℕ)} {line : LineParts} {old n
     follows = fault_follows fault.flaw fault.line next faulty.0 faulty.1;
   }
 
-  -- a line that puts the lines over the limits
-  pub at_excess : (number : ℕ) → IsLineRead line new_line now new (Ok (Some tt)) → number ≡ new_line.number
-      → ExceedsLimits file lines new_line → IsOneTooMany file number old new
-  at_excess number next at exceeds = record {
+  -- a line with which the lines break a rule
+  at_break : (Breaks : List (List ℕ) → Type 0) (number : ℕ) → IsLineRead line new_line now new (Ok (Some tt)) → number ≡ new_line.number
+      → IsValidLine (layout file) new_line.bytes → Breaks (lines ++ new_line.bytes ∷ []) → IsFirstToBreak file Breaks number old new
+  at_break Breaks number next at good breaks = record {
     lines = lines;
     line = new_line.bytes;
     good = read.reads.good;
-    line_good = exceeds.good;
-    exceeds = exceeds.exceeds;
+    line_good = good;
+    breaks = breaks;
     counted = omega (arith, at, next.2, read.counted);
     small = omega (arith, at, next.1, next.2);
     known =
@@ -245,12 +264,24 @@ module _ {file : CountyFile} {lines : List (List ℕ)} {line : LineParts} {old n
     reads = next.0 ∙ read.reads.reads;
   }
 
+  at_excess : (number : ℕ) → IsLineRead line new_line now new (Ok (Some tt)) → number ≡ new_line.number
+      → ExceedsLimits file lines new_line → IsOneTooMany file number old new
+  at_excess number next at exceeds = at_break (λ lines. ¬ IsWithinLimits file lines) number next at exceeds.good exceeds.exceeds
+
+  at_repeat : (number : ℕ) → IsLineRead line new_line now new (Ok (Some tt)) → number ≡ new_line.number
+      → RepeatsSequence file lines new_line → IsFirstRepeat file number old new
+  at_repeat number next at repeats =
+      at_break (λ lines. IsWithinLimits file lines × ¬ HasDistinctSequences file lines) number next at repeats.good
+      (repeats.within, repeats.repeats)
+
   -- a line that is refused
   pub not_added : (holds : List (List ℕ) → Type 0) (fault : LoadFault) → IsLineRead line new_line now new (Ok (Some tt))
       → IsLineAdded file lines new_line (Err fault) holds → IsFileFault file fault old new
   not_added holds (Line of_file fault) next taken = (taken.0, lines, at_record_fault fault next taken.1)
   not_added holds (TooManyNames number) next taken = (taken.0, at_excess number next taken.1 taken.2)
   not_added holds (TooManyRanges number) next taken = (taken.0, at_excess number next taken.1 taken.2)
+  not_added holds (RepeatedSequence number) next taken = (taken.0, at_repeat number next taken.1 taken.2)
+  not_added holds (TooManyPoints number) next taken = (taken.0, at_excess number next taken.1 taken.2)
   not_added holds Memory next taken = next.0 ∙ read.reads.reads
 
   -- a line that couldn't be read
@@ -287,7 +318,7 @@ module _ {lines : List (List ℕ)} {line : LineParts} {old now : Reader} (read :
     (new : Reader) where
   -- one more good line of type 1
   pub good_line_more : ReadsValidLine line new_line now new → IsReadSoFar Rt1 (lines ++ new_line.bytes ∷ []) new_line old new
-  good_line_more next = one_line_more read new_line new next.0 (record { good = next.1; within = tt })
+  good_line_more next = one_line_more read new_line new next.0 (record { good = next.1; within = tt; distinct = tt })
 
   -- the next line has a fault
   pub at_next_fault : (fault : LineFault) → IsNextFault fault line new_line now new → IsFirstFault Rt1 fault lines old new

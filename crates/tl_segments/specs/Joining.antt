@@ -12,7 +12,7 @@ use Rattle.tl_segments.specs.Affixes.{Affixes}
 use Rattle.tl_segments.specs.CountyFile.{layout}
 use Rattle.tl_segments.specs.Segment.{SegmentParts}
 use Rattle.tl_segments.specs.declared.fault.CountyFile.{CountyFile}
-use Rattle.tl_segments.specs.declared.fault.CountyFile.TheVariants.{Rt1, Rt4, Rt5, Rt6}
+use Rattle.tl_segments.specs.declared.fault.CountyFile.TheVariants.{Rt1, Rt2, Rt4, Rt5, Rt6}
 use Rattle.tl_segments.specs.declared.range.RangeFields.{RangeFields}
 use Rattle.tl_segments.specs.declared.limits.TheConstants.{MAX_LINES_PER_TLID}
 
@@ -93,8 +93,9 @@ segments_of lines rt1 = map (segment_of lines) rt1
 abbrev pub IsWithinLineLimit : CountyFile → List (List ℕ) → Type 0
 IsWithinLineLimit file lines = (number : ℕ) → length (lines_with file number lines) ≤ MAX_LINES_PER_TLID
 
--- the limits of a county: at most 1,000 type 4 lines and 1,000 type 6 lines per TLID, including TLIDs that no type 1 line has
+-- the limits of a county: at most 1,000 lines of type 2, of type 4, and of type 6 per TLID, including TLIDs that no type 1 line has
 abbrev pub IsWithinLimits : CountyFile → List (List ℕ) → Type 0
+IsWithinLimits Rt2 lines = IsWithinLineLimit Rt2 lines
 IsWithinLimits Rt4 lines = IsWithinLineLimit Rt4 lines
 IsWithinLimits Rt6 lines = IsWithinLineLimit Rt6 lines
 IsWithinLimits file lines = Unit {0}

@@ -12,6 +12,8 @@ pub mod Name
 pub mod LocalityHash
 pub mod Range
 pub mod Segment
+pub mod Shape
+pub mod Shapes
 pub mod SharedLists
 pub mod TableContents
 pub mod Adding

@@ -1,23 +1,25 @@
 -- The effect of loading a county's files on their readers, and the first fault of a file.
-use Rattle.std.specs.Prelude.{◌≡◌, ◌≢◌, ℕ, ◌+◌, ◌^◌, ◌<◌, ◌≤◌, ◌⊎◌, List, [], ◌∷◌, ◌++◌, length, All, Option, Some, IfSome}
+use Rattle.std.specs.Prelude.{◌≡◌, ◌≢◌, ℕ, ◌+◌, ◌^◌, ◌<◌, ◌≤◌, ◌⊎◌, List, [], ◌∷◌, ◌++◌, length, All, Option, Some, IfSome, IsSome}
 use Rattle.std.specs.Io.KnownBytes.{IsAtEnd}
 use Rattle.counted_io.specs.ReaderWriter.{Reader, reader}
 use Rattle.tl_records.specs.Lines.{IsFirstLine, AreFirstLines, AreLines, BeginsTooLong, FailsWithin, HasOneMoreByte, IfKnown, max_bytes}
 use Rattle.tl_records.specs.Records.{IsValidLine, line_fault_kind}
 use Rattle.tl_records.specs.declared.fault.LineFault.{LineFault}
 use Rattle.tl_records.specs.declared.fault.LineFaultKind.{LineFaultKind}
-use Rattle.tl_records.specs.declared.fault.LineFaultKind.TheVariants.{WrongLength, WrongType, Read, TooManyLines}
+use Rattle.tl_records.specs.declared.fault.LineFaultKind.TheVariants.{WrongLength, WrongType, BadSequence, Read, TooManyLines}
 use Rattle.tl_segments.specs.CountyFile.{layout}
 use Rattle.tl_segments.specs.Joining.{JoinedLines, IsWithinLimits}
+use Rattle.tl_segments.specs.Shape.{HasDistinctSequences}
 use Rattle.tl_segments.specs.declared.fault.CountyFile.{CountyFile}
-use Rattle.tl_segments.specs.declared.fault.CountyFile.TheVariants.{Rt4, Rt5, Rt6}
+use Rattle.tl_segments.specs.declared.fault.CountyFile.TheVariants.{Rt2, Rt4, Rt5, Rt6}
 use Rattle.tl_segments.specs.declared.fault.LoadFault.{LoadFault}
-use Rattle.tl_segments.specs.declared.fault.LoadFault.TheVariants.{Line, TooManyNames, TooManyRanges, Memory}
+use Rattle.tl_segments.specs.declared.fault.LoadFault.TheVariants.{Line, TooManyNames, TooManyRanges, RepeatedSequence, TooManyPoints, Memory}
 
--- lines of a file without a fault: each is good for its type, and together they are within the limits
+-- lines of a file without a fault: each is good for its type, together they are within the limits, and no sequence number is repeated
 pub record AreValidLines (file : CountyFile) (lines : List (List ℕ)) : Type 0 where
   pub good : All (IsValidLine (layout file)) lines
   pub within : IsWithinLimits file lines
+  pub distinct : HasDistinctSequences file lines
 
 -- lines of types 4, 5 and 6 without a fault
 pub record AreValidJoined (lines : JoinedLines) : Type 0 where
@@ -63,9 +65,10 @@ pub record HasFaultAfter (file : CountyFile) (flaw : LineFaultKind) (lines : Lis
 abbrev pub FailsAfter : List (List ℕ) → List ℕ → List ℕ → Type 0
 FailsAfter lines bytes rest = (after : List ℕ) × AreFirstLines bytes lines after × FailsWithin (max_bytes (length lines)) after rest
 
--- the flaws that a line of the file can have itself: in its length, its record type, or its required number
+-- the flaws that a line of the file can have itself: in its length, its record type, its required number, or its sequence number, if it must have one
 abbrev pub IsRecordFault : CountyFile → LineFaultKind → Type 0
 IsRecordFault file flaw = (flaw ≡ WrongLength) ⊎ (flaw ≡ WrongType) ⊎ (flaw ≡ (layout file).without_number)
+    ⊎ (IsSome (layout file).sequence × (flaw ≡ BadSequence))
 
 -- What holds if the line with this number, which follows these lines, has this flaw. Line numbers are below 2^32, except that a read can fail at line
 -- 2^32, and that a line too many has this number. If the reader's bytes are known, they contain the line, and nothing after the fault was read. A
@@ -84,24 +87,35 @@ pub record IsFirstFault (file : CountyFile) (fault : LineFault) (lines : List (L
   pub counted : fault.line ≡ length lines + 1
   pub follows : IsFaultAfter file fault.flaw fault.line lines old new
 
--- The first fault of a file is that the line with this number is one too many for its TLID. The lines before it have no fault, and it is good itself,
--- but with it the lines exceed the limits. If the reader's bytes are known, they begin with these lines, and the rest is left.
-pub record IsOneTooMany (file : CountyFile) (number : ℕ) (old new : Reader) : Type 0 where
+-- The first fault of a file is that with the line of this number the lines break a rule. The lines before it have no fault, and it is good itself. If
+-- the reader's bytes are known, they begin with these lines, and the rest is left.
+pub record IsFirstToBreak (file : CountyFile) (Breaks : List (List ℕ) → Type 0) (number : ℕ) (old new : Reader) : Type 0 where
   pub lines : List (List ℕ)
   pub line : List ℕ
   pub good : AreValidLines file lines
   pub line_good : IsValidLine (layout file) line
-  pub exceeds : ¬ IsWithinLimits file (lines ++ line ∷ [])
+  pub breaks : Breaks (lines ++ line ∷ [])
   pub counted : number ≡ length lines + 1
   pub small : number < 2 ^ 32
   pub known : IfKnown old.left new.left (λ bytes rest. AreFirstLines bytes (lines ++ line ∷ []) rest)
   pub reads : new.failed ≡ old.failed
+
+-- the line with this number is one too many for its TLID
+abbrev pub IsOneTooMany : CountyFile → ℕ → Reader → Reader → Type 0
+IsOneTooMany file number old new = IsFirstToBreak file (λ lines. ¬ IsWithinLimits file lines) number old new
+
+-- the line with this number isn't too many for its TLID, but an earlier one has its TLID and its sequence number
+abbrev pub IsFirstRepeat : CountyFile → ℕ → Reader → Reader → Type 0
+IsFirstRepeat file number old new =
+    IsFirstToBreak file (λ lines. IsWithinLimits file lines × ¬ HasDistinctSequences file lines) number old new
 
 -- why a file can't be loaded: this is its first fault, or memory ran out and no read failed
 abbrev pub IsFileFault : CountyFile → LoadFault → Reader → Reader → Type 0
 IsFileFault file (Line of_file fault) old new = (of_file ≡ file) × (lines : List (List ℕ)) × IsFirstFault file fault lines old new
 IsFileFault file (TooManyNames line) old new = (file ≡ Rt4) × IsOneTooMany file line old new
 IsFileFault file (TooManyRanges line) old new = (file ≡ Rt6) × IsOneTooMany file line old new
+IsFileFault file (RepeatedSequence line) old new = (file ≡ Rt2) × IsFirstRepeat file line old new
+IsFileFault file (TooManyPoints line) old new = (file ≡ Rt2) × IsOneTooMany file line old new
 IsFileFault file Memory old new = new.failed ≡ old.failed
 
 -- the readers of the files that are joined to the type 1 file

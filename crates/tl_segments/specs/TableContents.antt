@@ -1,7 +1,7 @@
 -- Tables of the contents of a county's lines, by number.
-use Rattle.std.specs.Prelude.{◌≡◌, ℕ, ◌+◌, ◌<◌, ◌≤◌, cond, if◌then◌else◌, ◌-◌, nat_eq, nat_le, List, [], ◌∷◌, ◌++◌, length, map, slice_get, Option, Some, None, unwrap_or, option_and_then}
+use Rattle.std.specs.Prelude.{◌≡◌, ℕ, ◌+◌, ◌<◌, ◌≤◌, cond, if◌then◌else◌, ◌-◌, nat_eq, nat_le, List, [], ◌∷◌, ◌++◌, length, map, slice_get, slice_index, Option, Some, None, unwrap_or, option_and_then}
 use Rattle.std.specs.HashMap.{get}
-use Rattle.std.specs.List.{filter_map, find}
+use Rattle.std.specs.List.{filter_map, find, insert}
 use Rattle.std.specs.Option.{option_map, option_map_or, option_or}
 use Rattle.tl_fields.specs.Number.{number_of}
 use Rattle.tl_records.specs.Layout.{field_at}
@@ -9,6 +9,9 @@ use Rattle.tl_records.specs.declared.layout.TheConstants.Type4.{FEAT1, FEAT2, FE
 use Rattle.tl_records.specs.declared.layout.TheConstants.Type5.{FEDIRP, FENAME, FETYPE, FEDIRS}
 use Rattle.tl_segments.specs.FullName.{FullNameFields}
 use Rattle.tl_segments.specs.Joining.{has_number, lines_with, further_range}
+use Rattle.tl_segments.specs.Shape.{ShapePartParts, shape_parts}
+use Rattle.tl_segments.specs.declared.county_file.Addition.{Addition}
+use Rattle.tl_segments.specs.declared.county_file.Addition.TheVariants.{Added, OverLimit, Repeated}
 use Rattle.tl_segments.specs.declared.validation_tables.LinesPerTlid.{LinesPerTlid}
 use Rattle.tl_segments.specs.declared.fault.CountyFile.{CountyFile}
 use Rattle.tl_segments.specs.declared.fault.CountyFile.TheVariants.{Rt4, Rt5, Rt6}
@@ -21,10 +24,38 @@ use Rattle.tl_segments.specs.declared.limits.TheConstants.{MAX_LINES_PER_TLID}
 abbrev pub list_at : {V A : Type 0} → MultiMap V A → ℕ → List V
 list_at multi_map number = option_map_or (λ list. list.items) (get nat_eq multi_map.lists number) []
 
+-- a fact for each outcome of an addition: it was made, a limit excluded it, or an earlier line did
+abbrev pub MatchAddition : Addition → Type 0 → Type 0 → Type 0 → Type 0
+MatchAddition Added Adds Full Repeats = Adds
+MatchAddition OverLimit Adds Full Repeats = Full
+MatchAddition Repeated Adds Full Repeats = Repeats
+
 -- a value was appended to those for a number, which had room
 pub record AddsAt {V A : Type 0} (old new : MultiMap V A) (number : ℕ) (value : V) : Type 0 where
   pub room : length (list_at old number) < MAX_LINES_PER_TLID
   pub lists : (q : ℕ) → list_at new q ≡ (if nat_eq number q then list_at old q ++ value ∷ [] else list_at old q)
+
+-- the sequence number of the part at an index
+abbrev pub sequence_at : List ShapePartParts → ℕ → ℕ
+sequence_at parts index = slice_index (map (λ part. part.sequence) parts) index
+
+-- parts in ascending order stay so if one with this sequence number is inserted at this index: the part before it has a smaller number, and all
+-- after it have greater ones
+pub record IsPlace (parts : List ShapePartParts) (sequence place : ℕ) : Type 0 where
+  pub within : place ≤ length parts
+  pub after : (k : ℕ) → k + 1 ≡ place → sequence_at parts k < sequence
+  pub before : (k : ℕ) → place ≤ k → k < length parts → sequence < sequence_at parts k
+
+-- one of the parts has this sequence number
+abbrev pub IsTaken : List ShapePartParts → ℕ → Type 0
+IsTaken parts sequence = (k : ℕ) × (k < length parts) × (sequence_at parts k ≡ sequence)
+
+-- a part was inserted in its place among those for a number, which had room
+pub record InsertsAt {A : Type 0} (old new : MultiMap ShapePartParts A) (number : ℕ) (part : ShapePartParts) : Type 0 where
+  pub room : length (list_at old number) < MAX_LINES_PER_TLID
+  pub place : ℕ
+  pub is_place : IsPlace (list_at old number) part.sequence place
+  pub lists : (q : ℕ) → list_at new q ≡ (if nat_eq number q then insert (list_at old q) place part else list_at old q)
 
 -- the full name of a FEAT in the list of FEATs that follow the first one
 abbrev pub following_name : {A : Type 0} → FeatureNames A → ℕ → Option FullNameFields
@@ -52,6 +83,10 @@ HoldsFeatures table lines = (tlid : ℕ) → list_at table tlid ≡ map feature_
 
 abbrev pub HoldsRanges : {A : Type 0} → MultiMap RangeFields A → List (List ℕ) → Type 0
 HoldsRanges table lines = (tlid : ℕ) → list_at table tlid ≡ map further_range (lines_with Rt6 tlid lines)
+
+-- each TLID has the parts of its shape
+abbrev pub HoldsShapes : {A : Type 0} → MultiMap ShapePartParts A → List (List ℕ) → Type 0
+HoldsShapes table rt2 = (tlid : ℕ) → list_at table tlid ≡ shape_parts rt2 tlid
 
 -- the full name in a type 5 line
 abbrev pub full_name_in : List ℕ → FullNameFields

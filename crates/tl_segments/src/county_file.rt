@@ -5,15 +5,16 @@ ghost use Rattle.tl_records.specs.Records.{IsValidLine, IsLineFault};
 ghost use Rattle.tl_records.specs.declared.fault.LineFault.{LineFault};
 ghost use Rattle.tl_segments.specs.CountyFile.{layout};
 ghost use Rattle.tl_segments.specs.Joining.{IsWithinLineLimit, IsWithinLimits};
-ghost use Rattle.tl_segments.specs.Loading.{IsFileFault};
-ghost use Rattle.tl_segments.specs.Adding.{IsAdded, IsLineAdded, HoldsFile};
-ghost use Rattle.tl_segments.specs.declared.fault.CountyFile.TheVariants.{Rt1, Rt4, Rt5, Rt6};
+ghost use Rattle.tl_segments.specs.Loading.{AreValidLines, IsFileFault};
+ghost use Rattle.tl_segments.specs.Shape.{HasDistinctSequences};
+ghost use Rattle.tl_segments.specs.Adding.{IsAdded, IsLineAdded, HoldsFile, too_many};
+ghost use Rattle.tl_segments.specs.declared.fault.CountyFile.TheVariants.{Rt1, Rt2, Rt4, Rt5, Rt6};
 ghost use Rattle.tl_segments.specs.declared.fault.LoadFault.TheVariants as load_fault;
 
 use crate::fault::{CountyFile, LoadFault};
 use counted_io::CountedRead;
 use std::alloc::AllocError;
-use tl_records::{Line, Record, RecordType, Type1, Type4, Type5, Type6, read_line};
+use tl_records::{Line, Record, RecordType, Type1, Type2, Type4, Type5, Type6, read_line};
 
 /// A record type together with the county file that has its lines.
 pub(crate) trait FileType: RecordType {
@@ -32,6 +33,14 @@ impl FileType for Type1 {
     ghost layout_is = { refl };
 
     const FILE: CountyFile = CountyFile::Rt1;
+}
+
+impl FileType for Type2 {
+    ghost FILE = { Rt2 };
+
+    ghost layout_is = { refl };
+
+    const FILE: CountyFile = CountyFile::Rt2;
 }
 
 impl FileType for Type4 {
@@ -58,17 +67,32 @@ impl FileType for Type6 {
     const FILE: CountyFile = CountyFile::Rt6;
 }
 
-/// The record type of a file with a limited number of lines per TLID.
+/// The record type of a file with a limited number of lines per TLID, whose sequence numbers may be repeated.
 pub(crate) trait Limited: FileType {
     ghost limited: { (lines : List (List ℕ)) → IsWithinLimits Self.FILE lines → IsWithinLineLimit Self.FILE lines };
+
+    ghost distinct: { (lines : List (List ℕ)) → HasDistinctSequences Self.FILE lines };
 }
 
 impl Limited for Type4 {
     ghost limited = { λ lines few. few };
+
+    ghost distinct = { λ lines. tt };
 }
 
 impl Limited for Type6 {
     ghost limited = { λ lines few. few };
+
+    ghost distinct = { λ lines. tt };
+}
+
+/// What became of a line that was to be added to a table.
+pub(crate) enum Addition {
+    Added,
+    /// Its TLID already has the maximum number of lines.
+    OverLimit,
+    /// An earlier line has its TLID and its sequence number.
+    Repeated,
 }
 
 /// A table for the lines of a county's file.
@@ -79,9 +103,9 @@ pub(crate) trait Table {
     // `holds table lines`: the table holds what these lines say.
     ghost holds: { Self → List (List ℕ) → Type 0 };
 
-    /// Adds one more line. Returns false if its TLID already has the maximum number of lines.
-    fn add(&mut self, rt: &Record<'_, Self::Lines>) -> Result<bool, AllocError>
-        ensures { (lines : List (List ℕ)) → holds self.old lines → IsWithinLimits Self.Lines.FILE lines
+    /// Adds one more line, unless a limit or an earlier line excludes it.
+    fn add(&mut self, rt: &Record<'_, Self::Lines>) -> Result<Addition, AllocError>
+        ensures { (lines : List (List ℕ)) → holds self.old lines → AreValidLines Self.Lines.FILE lines
             → IfOk result (IsAdded Self.Lines.FILE lines rt.now.bytes (holds self.new)) };
 }
 
@@ -108,18 +132,28 @@ pub(crate) fn read_file<T: Table, R: CountedRead>(
 
 /// Adds one more line to the table, or returns its fault.
 fn add_line<T: Table>(table: &mut T, line: &Line) -> Result<(), LoadFault>
-    ensures { (lines : List (List ℕ)) → T.holds table.old lines → IsWithinLimits T.Lines.FILE lines
+    ensures { (lines : List (List ℕ)) → T.holds table.old lines → AreValidLines T.Lines.FILE lines
         → IsLineAdded T.Lines.FILE lines line.now result (T.holds table.new) }
 {
     let record = record_in::<T::Lines>(line)?;
-    if table.add(&record)? {
-        return Ok(());
+    let number = u64::from(line.number());
+    match table.add(&record)? {
+        Addition::Added => Ok(()),
+        Addition::OverLimit => Err(too_many(T::Lines::FILE, number)),
+        Addition::Repeated => Err(LoadFault::RepeatedSequence { line: number }),
     }
-    let line = u64::from(line.number());
-    match T::Lines::FILE {
-        CountyFile::Rt4 => Err(LoadFault::TooManyNames { line }),
+}
+
+/// Returns the fault of a line that is one too many for its TLID.
+#[cold]
+fn too_many(file: CountyFile, line: u64) -> LoadFault
+    ensures { result ≡ too_many file line }
+{
+    match file {
+        CountyFile::Rt2 => LoadFault::TooManyPoints { line },
+        CountyFile::Rt4 => LoadFault::TooManyNames { line },
         // Type 6: no other file has a limit.
-        _ => Err(LoadFault::TooManyRanges { line }),
+        _ => LoadFault::TooManyRanges { line },
     }
 }
 

@@ -16,6 +16,7 @@ use tl_records::LineFault;
 #[derive(Clone, Copy, Debug, PartialEq, Eq)]
 pub enum CountyFile {
     Rt1,
+    Rt2,
     Rt4,
     Rt5,
     Rt6,
@@ -28,6 +29,7 @@ impl CountyFile {
     {
         match self {
             CountyFile::Rt1 => 1,
+            CountyFile::Rt2 => 2,
             CountyFile::Rt4 => 4,
             CountyFile::Rt5 => 5,
             CountyFile::Rt6 => 6,
@@ -46,6 +48,12 @@ pub enum LoadFault {
     /// This type 6 line is the first one over the limit for its TLID.
     #[error("Rt6: line {line}: too many ranges")]
     TooManyRanges { line: u64 },
+    /// An earlier type 2 line has this line's TLID and sequence number.
+    #[error("Rt2: line {line}: repeated sequence number")]
+    RepeatedSequence { line: u64 },
+    /// This type 2 line is the first one over the limit for its TLID.
+    #[error("Rt2: line {line}: too many points")]
+    TooManyPoints { line: u64 },
     #[error("out of memory")]
     Memory,
 }
@@ -96,6 +104,20 @@ impl Fault for LoadFault {
             }
             LoadFault::TooManyRanges { line } => {
                 in_file(Refusal::refused(7, "TooManyRanges"), CountyFile::Rt6, line)
+            }
+            LoadFault::RepeatedSequence { line } => {
+                in_file(
+                    Refusal::refused(121, "RepeatedSequence"),
+                    CountyFile::Rt2,
+                    line,
+                )
+            }
+            LoadFault::TooManyPoints { line } => {
+                in_file(
+                    Refusal::refused(122, "TooManyPoints"),
+                    CountyFile::Rt2,
+                    line,
+                )
             }
             LoadFault::Memory => Refusal::memory(),
         }

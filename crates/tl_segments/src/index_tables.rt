@@ -5,7 +5,7 @@ ghost use Rattle.tl_segments.specs.FullName.{HasNameLengths, full_name_of};
 ghost use Rattle.tl_segments.specs.Joining.{further_range};
 ghost use Rattle.tl_segments.specs.TableContents.{HoldsFeatures, HoldsNames, HoldsRanges, feature_numbers, full_name_in};
 
-use crate::county_file::Table;
+use crate::county_file::{Addition, Table};
 use crate::feature_names::FeatureNames;
 use crate::full_name::FullName;
 use crate::multi_map::MultiMap;
@@ -22,7 +22,7 @@ impl<A: Allocator + Copy> Table for MultiMap<Features, A> {
 
     ghost holds = { λ table lines. HoldsFeatures table lines };
 
-    fn add(&mut self, rt4: &Rt4<'_>) -> Result<bool, AllocError> {
+    fn add(&mut self, rt4: &Rt4<'_>) -> Result<Addition, AllocError> {
         self.push(rt4.number(), feature_numbers(rt4))
     }
 }
@@ -52,9 +52,9 @@ impl<A: Allocator + Copy> Table for FeatureNames<A> {
 
     ghost holds = { λ table lines. HoldsNames table lines };
 
-    fn add(&mut self, rt5: &Rt5<'_>) -> Result<bool, AllocError> {
+    fn add(&mut self, rt5: &Rt5<'_>) -> Result<Addition, AllocError> {
         self.set(rt5.number(), full_name(rt5))?;
-        Ok(true)
+        Ok(Addition::Added)
     }
 }
 
@@ -75,7 +75,7 @@ impl<A: Allocator + Copy> Table for MultiMap<RangeFields, A> {
 
     ghost holds = { λ table lines. HoldsRanges table lines };
 
-    fn add(&mut self, rt6: &Rt6<'_>) -> Result<bool, AllocError> {
+    fn add(&mut self, rt6: &Rt6<'_>) -> Result<Addition, AllocError> {
         self.push(rt6.number(), further_range(rt6))
     }
 }

@@ -1,9 +1,11 @@
 //! Lists of values by number.
-ghost use Rattle.std.specs.Prelude.{◌≡◌, ◌≤◌, ℕ, [], length, IfOk, IsTrue, MatchBool};
-ghost use Rattle.tl_segments.specs.TableContents.{AddsAt, list_at};
+ghost use Rattle.std.specs.Prelude.{◌≡◌, ◌<◌, ◌≤◌, ℕ, nat_le, [], length, IfOk, IsTrue, MatchOption};
+ghost use Rattle.tl_segments.specs.TableContents.{AddsAt, InsertsAt, IsPlace, IsTaken, MatchAddition, list_at};
 
+use crate::county_file::Addition;
 use crate::limits::MAX_LINES_PER_TLID;
 use crate::locality_hash::LocalityHasher;
+use crate::shape::ShapePart;
 use std::alloc::{AllocError, Allocator};
 use std::collections::HashMap;
 use std::hash::BuildHasherDefault;
@@ -23,22 +25,76 @@ impl<V: Drop, A: Allocator + Copy> MultiMap<V, A> {
         }
     }
 
-    /// Appends a value to those with this number. Returns false if there are already [`MAX_LINES_PER_TLID`] of them.
-    pub(crate) fn push(&mut self, number: u64, value: V) -> Result<bool, AllocError>
-        ensures { IfOk result (λ added.
-            MatchBool added (AddsAt self.old self.new number value) (MAX_LINES_PER_TLID ≤ length (list_at self.old number))) }
+    /// Appends a value to those with this number, unless there are already [`MAX_LINES_PER_TLID`] of them.
+    pub(crate) fn push(&mut self, number: u64, value: V) -> Result<Addition, AllocError>
+        ensures { IfOk result (λ addition.
+            MatchAddition addition (AddsAt self.old self.new number value) (MAX_LINES_PER_TLID ≤ length (list_at self.old number)) ⊥) }
     {
         let list = self.lists.entry(number)?.or_default();
-        if list.len() >= MAX_LINES_PER_TLID {
-            return Ok(false);
+        if is_full(list) {
+            return Ok(Addition::OverLimit);
         }
-        if list.is_empty() {
-            // Most lists have one value, so the first allocation has room for just that one.
-            list.reserve_exact(1)?;
-        }
+        reserve_first(list)?;
         list.push(value)?;
-        Ok(true)
+        Ok(Addition::Added)
     }
+}
+
+impl<A: Allocator + Copy> MultiMap<ShapePart, A> {
+    /// Inserts a part before those with this number that have a greater sequence number, unless there are already [`MAX_LINES_PER_TLID`] of them or
+    /// one has its sequence number. Parts that come in order take constant time each.
+    pub(crate) fn insert(&mut self, number: u64, part: ShapePart) -> Result<Addition, AllocError>
+        ensures { IfOk result (λ addition.
+            MatchAddition addition (InsertsAt self.old self.new number part) (MAX_LINES_PER_TLID ≤ length (list_at self.old number))
+            ((length (list_at self.old number) < MAX_LINES_PER_TLID) × IsTaken (list_at self.old number) part.sequence)) }
+    {
+        let list = self.lists.entry(number)?.or_default();
+        if is_full(list) {
+            return Ok(Addition::OverLimit);
+        }
+        let Some(place) = place_of(list.as_slice(), part.sequence()) else {
+            return Ok(Addition::Repeated);
+        };
+        reserve_first(list)?;
+        list.insert(place, part)?;
+        Ok(Addition::Added)
+    }
+}
+
+/// Returns whether a list has as many values as it may have.
+#[inline]
+fn is_full<V, A: Allocator>(list: &Vec<V, A>) -> bool
+    ensures { result ≡ nat_le MAX_LINES_PER_TLID (length list.now.items) }
+{
+    list.len() >= MAX_LINES_PER_TLID
+}
+
+/// Reserves room in an empty list for just one value, as most lists have only one.
+fn reserve_first<V, A: Allocator>(list: &mut Vec<V, A>) -> Result<(), AllocError>
+    ensures { list.new.items ≡ list.old.items }
+{
+    if list.is_empty() {
+        list.reserve_exact(1)?;
+    }
+    Ok(())
+}
+
+/// Returns the place of a new part among parts in the order of their sequence numbers, or `None` if one of them has its number.
+fn place_of(parts: &[ShapePart], sequence: u16) -> Option<usize>
+    ensures { MatchOption result (IsTaken parts.now sequence) (IsPlace parts.now sequence) }
+{
+    let mut place = parts.len();
+    while place > 0 {
+        let before = parts[place - 1].sequence();
+        if before < sequence {
+            return Some(place);
+        }
+        if before == sequence {
+            return None;
+        }
+        place -= 1;
+    }
+    Some(place)
 }
 
 impl<V, A: Allocator> MultiMap<V, A> {

@@ -1,8 +1,8 @@
 //! Tables for validating a file without storing it.
-ghost use Rattle.std.specs.Prelude.{◌≡◌, ◌≤◌, ℕ, IfOk, MatchBool};
-ghost use Rattle.tl_segments.specs.TableContents.{CountsAt, HoldsCounts, count_at};
+ghost use Rattle.std.specs.Prelude.{◌≡◌, ◌≤◌, ℕ, IfOk};
+ghost use Rattle.tl_segments.specs.TableContents.{CountsAt, HoldsCounts, MatchAddition, count_at};
 
-use crate::county_file::{Limited, Table};
+use crate::county_file::{Addition, Limited, Table};
 use crate::limits::MAX_LINES_PER_TLID;
 use crate::locality_hash::LocalityHasher;
 use std::alloc::{AllocError, Allocator};
@@ -28,17 +28,17 @@ impl<T, A: Allocator + Copy> LinesPerTlid<T, A> {
         }
     }
 
-    /// Counts one more line with this number. Returns false if the number already has [`MAX_LINES_PER_TLID`] lines.
-    fn count(&mut self, number: u64) -> Result<bool, AllocError>
-        ensures { IfOk result (λ counted.
-            MatchBool counted (CountsAt self.old self.new number) (MAX_LINES_PER_TLID ≤ count_at self.old number)) }
+    /// Counts one more line with this number, unless the number already has [`MAX_LINES_PER_TLID`] lines.
+    fn count(&mut self, number: u64) -> Result<Addition, AllocError>
+        ensures { IfOk result (λ addition.
+            MatchAddition addition (CountsAt self.old self.new number) (MAX_LINES_PER_TLID ≤ count_at self.old number) ⊥) }
     {
         let count = self.counts.entry(number)?.or_default();
         if usize::from(*count) >= MAX_LINES_PER_TLID {
-            return Ok(false);
+            return Ok(Addition::OverLimit);
         }
         *count += 1;
-        Ok(true)
+        Ok(Addition::Added)
     }
 }
 
@@ -47,7 +47,7 @@ impl<T: Limited, A: Allocator + Copy> Table for LinesPerTlid<T, A> {
 
     ghost holds = { λ table lines. HoldsCounts T.FILE table lines };
 
-    fn add(&mut self, rt: &Record<'_, T>) -> Result<bool, AllocError> {
+    fn add(&mut self, rt: &Record<'_, T>) -> Result<Addition, AllocError> {
         self.count(rt.number())
     }
 }
@@ -61,7 +61,7 @@ impl Table for IgnoreNames {
 
     ghost holds = { λ _ _. Unit {0} };
 
-    fn add(&mut self, _rt: &Record<'_, Type5>) -> Result<bool, AllocError> {
-        Ok(true)
+    fn add(&mut self, _rt: &Record<'_, Type5>) -> Result<Addition, AllocError> {
+        Ok(Addition::Added)
     }
 }

@@ -18,7 +18,7 @@ returns-clause-added_line g c = λ lines held.
     let numbered : AreTlids c.push-2.new.self.items c.push.new.self.items =
     rw (c.in_ok-push.ensures.items, c.in_ok-push-2.ensures.items)
     (tlids_push tlids segments c.number.result segment held.numbered tlid) in (
-      record { good = record_of.1; within = tt },
+      record { good = record_of.1; within = tt; distinct = tt },
       record {
         joined = λ joined of_joined.
             c.in_ok-push.ensures.items

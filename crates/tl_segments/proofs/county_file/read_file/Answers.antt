@@ -7,7 +7,7 @@ pub loop-table-preserved : goal.loop-table-preserved
 loop-table-preserved g c =
     let so_far = c.loop-table.invariant in
     let line = c.read_line.new.line in
-    let taken = c.in_ok-add_line-in-Ok-Some.ensures so_far.lines so_far.held so_far.read.reads.good.within in
+    let taken = c.in_ok-add_line-in-Ok-Some.ensures so_far.lines so_far.held so_far.read.reads.good in
     let next = rw c.in-Ok-Some.field-0-is at c.in-Ok-Some.ensures in
     record {
       lines = so_far.lines ++ line.bytes ∷ [];
@@ -21,7 +21,7 @@ returns-in_err-add_line-in-Ok-Some-clause-err g c =
     let returned = err_from_is_err_and c.from_residual.result c.from_residual.ensures.1 in
     let next = rw c.in-Ok-Some.field-0-is at c.in-Ok-Some.ensures in
     let fault = c.in_err-add_line-in-Ok-Some.field-0.0 in
-    let taken = c.in_err-add_line-in-Ok-Some.ensures so_far.lines so_far.held so_far.read.reads.good.within in
+    let taken = c.in_err-add_line-in-Ok-Some.ensures so_far.lines so_far.held so_far.read.reads.good in
     rw (returned.1, returned.2)
     (not_added so_far.read c.read_line.new.line _ (g.T.Table.holds c.add_line.new.table) fault next taken)
 
