@@ -1,5 +1,5 @@
 //! Laws, each of which is the contract of a function that does nothing.
-ghost use Rattle.std.specs.Prelude.{◌≡◌, ◌≢◌, ◌≤◌, ◌<◌, ◌+◌, ◌*◌, ◌/◌, ◌%◌, ◌^◌, ◌++◌, ℕ, ℤ, IsTrue, List, length, take, drop, Some, None, false};
+ghost use Rattle.std.specs.Prelude.{◌≡◌, ◌≢◌, ◌≤◌, ◌<◌, ◌+◌, ◌*◌, ◌/◌, ◌%◌, ◌^◌, ◌++◌, ℕ, ℤ, All, IsTrue, List, length, take, drop, Some, None, false};
 ghost use Rattle.bpf_insn.specs.Code.{instruction_at};
 ghost use Rattle.bpf_insn.specs.declared.instruction.Insn.{Insn};
 ghost use Rattle.bpf_insn.specs.declared.instruction.Insn.TheVariants.{Call};
@@ -7,13 +7,13 @@ ghost use Rattle.bpf_insn.specs.declared.value.Value.TheVariants.{Empty, Number,
 ghost use Rattle.bpf_insn.specs.declared.value.Pointer.{Pointer as PointerParts};
 ghost use Rattle.bpf_insn.specs.declared.memory.TheConstants.{SLOT_LENGTH, SLOTS};
 ghost use Rattle.tl_segments.specs.Segment.{SegmentParts, IsSegment};
-ghost use Rattle.bpf_meaning.specs.Extract.{IsExtract};
+ghost use Rattle.bpf_meaning.specs.Extract.{IsExtract, IsExtractIn, IsSelection, Selected, TextFormat, texts_of};
 ghost use Rattle.bpf_insn.specs.Frame.{FrameByte, FrameContents, IsApart, is_written, number_of, slot_pointer, slot_value};
 ghost use Rattle.bpf_meaning.specs.Memory.{set_slot_pointer, store, store_number, write_bytes};
 ghost use Rattle.bpf_meaning.specs.RecordAlone.{reads_record_alone};
 ghost use Rattle.bpf_meaning.specs.State.{HoldsBytes, IsWellFormed, SeparatesPointers, register_value};
 ghost use Rattle.bpf_meaning.specs.Step.{Configuration, Running, Exited, Stuck};
-ghost use Rattle.bpf_meaning.specs.Run.{Answers, HasNoNext, HasOneNext, IsRun, Step, end_of};
+ghost use Rattle.bpf_meaning.specs.Run.{Answers, HasNoNext, HasOneNext, IsRun, IsSafe, Step, end_of};
 ghost use Rattle.bpf_meaning.specs.declared.cause.Cause.{Cause};
 ghost use Rattle.bpf_meaning.specs.declared.state.State.{State};
 ghost use Rattle.bpf_meaning.specs.declared.state.TheConstants.{REGISTERS};
@@ -120,11 +120,28 @@ pub fn record_decides()
         → segment.bytes ≡ other.bytes → Answers code segment answer score → Answers code other answer score }
 {}
 
-/// The extract of two lists of segments, one after the other, is the extract of the first list followed by that of the second. A code has at most
-/// one extract of a list of segments.
+/// In any format, the extract of two lists of segments, one after the other, is the extract of the first list followed by that of the second. A code
+/// has at most one extract of a list of segments.
 pub fn extracts_join()
-    ensures join { (code : List Insn) (front back : List SegmentParts) (text more : List ℕ) (rows others : ℕ)
-        → IsExtract code front text rows → IsExtract code back more others → IsExtract code (front ++ back) (text ++ more) (rows + others) }
-    ensures one { (code : List Insn) (segments : List SegmentParts) (text other : List ℕ) (rows others : ℕ)
-        → IsExtract code segments text rows → IsExtract code segments other others → (text ≡ other) × (rows ≡ others) }
+    ensures join { (text_of : TextFormat) (code : List Insn) (front back : List SegmentParts) (text more : List ℕ) (count others : ℕ)
+        → IsExtractIn text_of code front text count → IsExtractIn text_of code back more others
+        → IsExtractIn text_of code (front ++ back) (text ++ more) (count + others) }
+    ensures one { (text_of : TextFormat) (code : List Insn) (segments : List SegmentParts) (text other : List ℕ) (count others : ℕ)
+        → IsExtractIn text_of code segments text count → IsExtractIn text_of code segments other others → (text ≡ other) × (count ≡ others) }
+{}
+
+/// In any format, the extract consists of the texts of the same selected segments with the same scores, in the same order. Therefore it has as many
+/// texts as there are rows. Safe code has exactly one selection from a list of segments.
+pub fn extracts_are_of_selections()
+    ensures texts { (text_of : TextFormat) (code : List Insn) (segments : List SegmentParts) (text : List ℕ) (count : ℕ)
+        → IsExtractIn text_of code segments text count
+        → (selected : List Selected) × IsSelection code segments selected × (text ≡ texts_of text_of selected) × (count ≡ length selected) }
+    ensures extract { (text_of : TextFormat) (code : List Insn) (segments : List SegmentParts) (selected : List Selected)
+        → IsSelection code segments selected → IsExtractIn text_of code segments (texts_of text_of selected) (length selected) }
+    ensures count { (text_of : TextFormat) (code : List Insn) (segments : List SegmentParts) (text rows_text : List ℕ) (count rows : ℕ)
+        → IsExtractIn text_of code segments text count → IsExtract code segments rows_text rows → count ≡ rows }
+    ensures some { (code : List Insn) (segments : List SegmentParts) → IsSafe code → All IsSegment segments
+        → (selected : List Selected) × IsSelection code segments selected }
+    ensures one { (code : List Insn) (segments : List SegmentParts) (selected other : List Selected)
+        → IsSelection code segments selected → IsSelection code segments other → selected ≡ other }
 {}

@@ -5,7 +5,7 @@ use Rattle.std.proofs.lemmas.Grind.{flat_map-append}
 use Rattle.std.proofs.lemmas.List.{append-nil, take_all, take_more}
 use Rattle.bpf_insn.specs.declared.instruction.Insn.{Insn}
 use Rattle.bpf_meaning.proofs.ExtractLemmas.{extract_append}
-use Rattle.bpf_meaning.specs.Extract.{IsExtract, chosen_count, row_if_chosen}
+use Rattle.bpf_meaning.specs.Extract.{IsExtract, chosen_count, row_if_chosen, row_of}
 use Rattle.extract.specs.Rows.{AppendsRow}
 use Rattle.jobs.specs.Segments.{AppendsExtract, segments_of}
 use Rattle.tl_segments.specs.County.{CountyParts}
@@ -20,7 +20,7 @@ both_appended : {code : List Insn} (front back : List SegmentParts) {rows now ne
 both_appended {code} front back {rows} first second = record {
   text = first.text ++ second.text;
   chosen = first.chosen + second.chosen;
-  is_extract = extract_append code front back first.text second.text first.chosen second.chosen first.is_extract second.is_extract;
+  is_extract = extract_append row_of code front back first.text second.text first.chosen second.chosen first.is_extract second.is_extract;
   appended = second.appended ∙ ap (λ rows. rows ++ second.text) first.appended ∙ append_assoc rows first.text second.text;
 }
 

@@ -9,7 +9,7 @@ use Rattle.bpf_insn.specs.Code.{IsCodeOf}
 use Rattle.bpf_insn.specs.declared.instruction.Insn.{Insn}
 use Rattle.bpf_insn.proofs.CodeLemmas.{one_code}
 use Rattle.bpf_meaning.proofs.ExtractLemmas.{one_extract_lem}
-use Rattle.bpf_meaning.specs.Extract.{IsExtract}
+use Rattle.bpf_meaning.specs.Extract.{IsExtract, row_of}
 use Rattle.bpf_program.specs.Program.{IsSafeProgram}
 use Rattle.tl_segments.specs.County.{CountyParts}
 use Rattle.jobs.specs.Run.{Exchange, IsOwn, IsRun, assigned_id, assigned_ids, program_of, programs_of, turn_count, turns_of}
@@ -266,7 +266,7 @@ own_alike {counties} {job} {other} programs turns own also =
     let done : job.done ≡ other.done = own.done ∙ ap (λ turns. min (length segments) (SEGMENTS_PER_TURN * turns)) turns ∙ sym also.done in
     let extract = subst (λ code. IsExtract code (take job.done segments) job.rows own.chosen) code (own.rows) in
     let extract' = subst (λ done. IsExtract other.code (take done segments) job.rows own.chosen) done extract in
-    let rows = (one_extract_lem other.code (take other.done segments) job.rows other.rows own.chosen also.chosen extract' also.rows).0 in
+    let rows = (one_extract_lem row_of other.code (take other.done segments) job.rows other.rows own.chosen also.chosen extract' also.rows).0 in
     ap (λ code. record { code = code; done = job.done; rows = job.rows }) code
     ∙ ap (λ done. record { code = other.code; done = done; rows = job.rows }) done
     ∙ ap (λ rows. record { code = other.code; done = other.done; rows = rows }) rows

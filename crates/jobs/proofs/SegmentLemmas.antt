@@ -8,7 +8,7 @@ use Rattle.std.proofs.lemmas.List.{take_all, take_at, take_min, take_more}
 use Rattle.std.proofs.lemmas.Grind.{flat_map-append}
 use Rattle.std.proofs.Math.Seq.{drop-append-add, take-add}
 use Rattle.bpf_insn.specs.declared.instruction.Insn.{Insn}
-use Rattle.bpf_meaning.specs.Extract.{IsExtract, row_if_chosen, chosen_count}
+use Rattle.bpf_meaning.specs.Extract.{IsExtract, chosen_count, row_if_chosen, row_of}
 use Rattle.tl_segments.specs.County.{CountyParts}
 use Rattle.tl_segments.specs.Segment.{SegmentParts}
 use Rattle.extract.specs.Rows.{AppendsRow, IsChosen}
@@ -200,7 +200,7 @@ module _ (code : List Insn) (counties : List CountyParts) (from now : Cursor) (c
     done = (let before = so_far.done in omega arith);
     text = so_far.text ++ row_if_chosen answer score segment;
     chosen = so_far.chosen + chosen_count answer;
-    is_extract = extract_push code so_far.seen segment so_far.text so_far.chosen answer score so_far.is_extract answers;
+    is_extract = extract_push row_of code so_far.seen segment so_far.text so_far.chosen answer score so_far.is_extract answers;
     appended = appended ∙ ap (λ rows. rows ++ row_if_chosen answer score segment) so_far.appended
         ∙ append_assoc rows so_far.text (row_if_chosen answer score segment);
   }
@@ -262,7 +262,7 @@ extract_turned {code} {segments} {done} {rows} chosen is advances =
     (subst (λ segments. IsExtract code segments (rows ++ advances.text) (chosen + advances.chosen))
     (sym (take-add done SEGMENTS_PER_TURN segments) ∙ sym (take_min' (done + SEGMENTS_PER_TURN) segments)
     ∙ ap (λ n. take n segments) (sym advances.moved))
-    (extract_append code (take done segments) (take SEGMENTS_PER_TURN (drop done segments)) rows advances.text chosen advances.chosen is
+    (extract_append row_of code (take done segments) (take SEGMENTS_PER_TURN (drop done segments)) rows advances.text chosen advances.chosen is
     advances.is_extract))
   where
     take_min' : (n : ℕ) (xs : List SegmentParts) → take (min (length xs) n) xs ≡ take n xs

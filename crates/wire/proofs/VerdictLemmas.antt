@@ -2,7 +2,7 @@
 use Rattle.std.proofs.Common.{◌≡◌, ◌≢◌, ℕ, List, inl, inr, sym, ap, subst, ◌∙◌}
 use Rattle.bpf_insn.specs.declared.instruction.Insn.{Insn}
 use Rattle.bpf_meaning.proofs.ExtractLemmas.{one_extract_lem}
-use Rattle.bpf_meaning.specs.Extract.{IsExtract}
+use Rattle.bpf_meaning.specs.Extract.{IsExtract, row_of}
 use Rattle.bpf_program.proofs.VerdictLemmas as verdict
 use Rattle.bpf_program.specs.ProgramFault as program_fault
 use Rattle.bpf_program.specs.declared.program.ProgramFault.{ProgramFault}
@@ -35,7 +35,7 @@ pub one_extract : (counties : List CountyParts) (program : List ℕ) (reply othe
 one_extract counties program reply other (inl is) (inl also) known given =
     let code = verdict.same_code program is.0 also.0 is.1.is_code also.1.is_code in
     let extract = subst (λ (c : List Insn). IsExtract c (segments_of counties) is.2 is.3) code is.4 in
-    is.5 ∙ ap octets (one_extract_lem also.0 (segments_of counties) is.2 also.2 is.3 also.3 extract also.4).0 ∙ sym also.5
+    is.5 ∙ ap octets (one_extract_lem row_of also.0 (segments_of counties) is.2 also.2 is.3 also.3 extract also.4).0 ∙ sym also.5
 one_extract counties program reply other (inl is) (inr also) known given =
     absurd (not_memory other also.0 given also.2 (verdict.no_fault program is.0 also.0 is.1 also.1))
 one_extract counties program reply other (inr is) (inl also) known given =
