@@ -19,37 +19,38 @@ use Rattle.tl_segments.specs.declared.fault.LoadFault.TheVariants as load_fault
 use Rattle.tl_segments.specs.declared.index.Index.{Index}
 use Rattle.tl_segments.proofs.JoiningLemmas.{segments_push}
 use Rattle.tl_segments.proofs.ReadingLemmas.{IsReadSoFar, none_read, good_line_more, all_read, at_next_fault}
-use Rattle.bpf_meaning.specs.Extract.{IsExtract, row_if_chosen}
+use Rattle.bpf_meaning.specs.Extract.{IsExtractIn, TextFormat, text_if_chosen}
 use Rattle.bpf_meaning.specs.RecordAlone.{reads_record_alone}
 use Rattle.bpf_meaning.proofs.ExtractLemmas.{extract_push}
 use Rattle.bpf_meaning.proofs.RecordLemmas.{answers_alike}
 use Rattle.extract.specs.ExtractFault.{of_load}
-use Rattle.extract.specs.Extracting.{AnswersAlike, HasWritten, AreUnfailed, ServesCode, before_rt1, in_rt1, IsOutcome, IsOutcomeOfCode}
+use Rattle.extract.specs.Formatting.{IsOfRecordAlone}
+use Rattle.extract.specs.Extracting.{AreUnfailed, ExtractsAlike, HasWrittenIn, IsOutcomeIn, IsOutcomeOfCodeIn, ServesExtract, before_rt1, in_rt1}
 use Rattle.bpf_program.specs.Program.{IsSafeProgram}
 use Rattle.tl_segments.specs.County.{CountyReaders}
-use Rattle.extract.specs.Rows.{WritesRow}
+use Rattle.extract.specs.Rows.{WritesIfChosen}
 use Rattle.bpf_program.specs.declared.program.ProgramFault.{ProgramFault}
 use Rattle.extract.specs.declared.fault.ExtractFault.{ExtractFault}
 use Rattle.extract.specs.declared.fault.ExtractFault.TheVariants.{Program, Load, Write, Memory}
-use Rattle.extract.proofs.RowLemmas.{chosen_count-le, extract_alike, row_alike}
+use Rattle.extract.proofs.RowLemmas.{chosen_count-le, extract_alike, text_alike}
 
 -- The lines read so far are all good, and segments were made of them with what the index has. The complete extract of these segments was written:
--- this number of rows, at most one per line. Nothing failed.
-pub record IsExtractedSoFar {A : Type 0} (index : Index A) (code : List Insn) (rows : ℕ) (line : LineParts) (rt1 rt1' : Reader)
-    (out out' : Writer) : Type 0 where
+-- this number of texts, at most one per line. Nothing failed.
+pub record IsExtractedSoFar {A : Type 0} (text_of : TextFormat) (index : Index A) (code : List Insn) (count : ℕ) (line : LineParts)
+    (rt1 rt1' : Reader) (out out' : Writer) : Type 0 where
   pub lines : List (List ℕ)
   pub read : IsReadSoFar Rt1 lines line rt1 rt1'
   pub segments : List SegmentParts
   pub made : (joined : JoinedLines) → IsIndexOf index joined → segments ≡ segments_of joined lines
   pub text : List ℕ
-  pub is_extract : IsExtract code segments text rows
-  pub few : rows ≤ line.number
+  pub is_extract : IsExtractIn text_of code segments text count
+  pub few : count ≤ line.number
   pub written : Appends out.held out'.held text
   pub counts : out'.counts ≡ out.counts
 
-pub nothing_so_far : {A : Type 0} (index : Index A) (code : List Insn) (rows : ℕ) (line : LineParts) (rt1 : Reader) (out : Writer)
-    → rows ≡ 0 → line.number ≡ 0 → IsExtractedSoFar index code rows line rt1 rt1 out out
-nothing_so_far index code rows line rt1 out none zeroth = record {
+pub nothing_so_far : {A : Type 0} (text_of : TextFormat) (index : Index A) (code : List Insn) (count : ℕ) (line : LineParts) (rt1 : Reader)
+    (out : Writer) → count ≡ 0 → line.number ≡ 0 → IsExtractedSoFar text_of index code count line rt1 rt1 out out
+nothing_so_far text_of index code count line rt1 out none zeroth = record {
   lines = [];
   read = none_read Rt1 line rt1 zeroth;
   segments = [];
@@ -61,10 +62,12 @@ nothing_so_far index code rows line rt1 out none zeroth = record {
   counts = refl;
 }
 
--- code that reads the record alone gives the same answers on the segments of any lines as on those of no lines
-pub alike_alone : (code : List Insn) (joined : JoinedLines) → IsTrue (reads_record_alone code) → AnswersAlike code no_lines joined
-alike_alone code joined alone = record {
+-- if code and format read the record alone, the answers and texts are the same on the segments of any lines as on those of no lines
+pub alike_alone : (text_of : TextFormat) (code : List Insn) (joined : JoinedLines) → IsTrue (reads_record_alone code) → IsOfRecordAlone text_of
+    → ExtractsAlike text_of code no_lines joined
+alike_alone text_of code joined alone of_record = record {
   same = λ line answer score. answers_alike code (segment_of no_lines line) (segment_of joined line) answer score alone refl;
+  text = λ line score. of_record score (segment_of no_lines line) (segment_of joined line) refl;
   more = λ line some. absurd (nothing_joined (number_in Rt1 line) some);
 }
   where
@@ -75,8 +78,9 @@ alike_alone code joined alone = record {
     nothing_joined (Some tlid) (inl some) = some refl
     nothing_joined (Some tlid) (inr some) = some refl
 
-pub alike_itself : (code : List Insn) (joined : JoinedLines) → AnswersAlike code joined joined
-alike_itself code joined = record { same = λ line answer score answers. answers; more = λ line some. some }
+pub alike_itself : (text_of : TextFormat) (code : List Insn) (joined : JoinedLines) → ExtractsAlike text_of code joined joined
+alike_itself text_of code joined =
+    record { same = λ line answer score answers. answers; text = λ line score. refl; more = λ line some. some }
 
 -- if memory runs out for what is joined to type 1 lines, no read failed
 joined_unfailed : (rt1 : Reader) (old new : Readers) → IsJoinedFault load_fault.Memory old new
@@ -89,26 +93,34 @@ joined_unfailed rt1 old new (in_rt6 rt4 rt5 wants) =
     record { rt1 = refl; rt4 = rt4.1.reads; rt5 = rt5.1.reads; rt6 = wants }
 
 -- a file that is joined to the type 1 file is refused
-pub joined_outcome : (code : List Insn) (fault : LoadFault) (rt1 : Reader) {old new : Readers} (out : Writer) → IsJoinedFault fault old new
-    → IsOutcomeOfCode code (Err (of_load fault)) (record { rt1 = rt1; joined = old }) (record { rt1 = rt1; joined = new }) out out
-joined_outcome code load_fault.Memory rt1 {old} {new} out is =
+pub joined_outcome : (text_of : TextFormat) (code : List Insn) (fault : LoadFault) (rt1 : Reader) {old new : Readers} (out : Writer)
+    → IsJoinedFault fault old new → IsOutcomeOfCodeIn text_of code (Err (of_load fault)) (record { rt1 = rt1; joined = old })
+    (record { rt1 = rt1; joined = new }) out out
+joined_outcome text_of code load_fault.Memory rt1 {old} {new} out is =
     record { written = inl (refl, refl); counts = refl; reads = joined_unfailed rt1 old new is }
-joined_outcome code fault rt1 out is = before_rt1 (λ e. cc) is refl refl
+joined_outcome text_of code fault rt1 out is = before_rt1 (λ e. cc) is refl refl
 
 -- the outcome of a program is that of its code
-pub program_outcome : {program : List ℕ} {code : List Insn} (result : Result ℕ ExtractFault) (old new : CountyReaders) (out out' : Writer)
-    → IsSafeProgram program code → IsOutcomeOfCode code result old new out out' → IsOutcome program result old new out out'
-program_outcome {code = code} (Ok rows) old new out out' safe is = (code, safe, is)
-program_outcome (Err (Program fault)) old new out out' safe is = absurd is
-program_outcome {code = code} (Err (Load fault)) old new out out' safe is = (code, safe, is)
-program_outcome {code = code} (Err (Write fault)) old new out out' safe is = (code, safe, is)
-program_outcome {code = code} (Err Memory) old new out out' safe is = inr (code, safe, is)
+pub program_outcome : (text_of : TextFormat) {program : List ℕ} {code : List Insn} (result : Result ℕ ExtractFault) (old new : CountyReaders)
+    (out out' : Writer) → IsSafeProgram program code → IsOutcomeOfCodeIn text_of code result old new out out'
+    → IsOutcomeIn text_of program result old new out out'
+program_outcome text_of {code = code} (Ok count) old new out out' safe is = (code, safe, is)
+program_outcome text_of (Err (Program fault)) old new out out' safe is = absurd is
+program_outcome text_of {code = code} (Err (Load fault)) old new out out' safe is = (code, safe, is)
+program_outcome text_of {code = code} (Err (Write fault)) old new out out' safe is = (code, safe, is)
+program_outcome text_of {code = code} (Err Memory) old new out out' safe is = inr (code, safe, is)
 
 -- accepted code isn't refused
-pub never_program : (code : List Insn) (result : Result ℕ ExtractFault) (old new : CountyReaders) (out out' : Writer) (fault : ProgramFault)
-    → IsOutcomeOfCode code result old new out out' → result ≢ Err (Program fault)
-never_program code result old new out out' fault is = λ same.
-    subst (λ (result : Result ℕ ExtractFault). IsOutcomeOfCode code result old new out out') same is
+pub never_program : (text_of : TextFormat) (code : List Insn) (result : Result ℕ ExtractFault) (old new : CountyReaders) (out out' : Writer)
+    (fault : ProgramFault) → IsOutcomeOfCodeIn text_of code result old new out out' → result ≢ Err (Program fault)
+never_program text_of code result old new out out' fault is = λ same.
+    subst (λ (result : Result ℕ ExtractFault). IsOutcomeOfCodeIn text_of code result old new out out') same is
+
+-- a format that stays the same writes the same text
+writes_as : (now_of text_of : TextFormat) (code : List Insn) (segment : SegmentParts) (result : Result ℕ WriteFault) (out out' : Writer)
+    → now_of ≡ text_of → WritesIfChosen now_of code segment result out out' → WritesIfChosen text_of code segment result out out'
+writes_as now_of text_of code segment result out out' =
+    subst (λ (text_of : TextFormat). WritesIfChosen text_of code segment result out out')
 
 -- the next segment of a type 1 file was read from a reader, with this result
 pub record ReadsNext {A : Type 0} (index : Index A) (line : LineParts) (now : Reader) (result : Result (Option (Unit {0})) LoadFault)
@@ -118,13 +130,13 @@ pub record ReadsNext {A : Type 0} (index : Index A) (line : LineParts) (now : Re
   pub after : Reader
   pub is : IsSegmentRead index line (record { number = number; segment = segment }) now after result
 
-module _ {A : Type 0} {index : Index A} {code : List Insn} {rows : ℕ} {line : LineParts} {rt1 now : Reader} {out between : Writer}
-    (so_far : IsExtractedSoFar index code rows line rt1 now out between) where
-  -- one more segment, and its row if it is selected
-  pub one_row_more : (next : ReadsNext index line now (Ok (Some tt))) (more : ℕ) (out' : Writer)
-      → WritesRow code next.segment (Ok more) between out'
-      → IsExtractedSoFar index code (rows + more) (line_of next.number next.segment) rt1 next.after out out'
-  one_row_more next more out' (answer, score, answers, counted, appended, counts) =
+module _ {A : Type 0} {text_of : TextFormat} {index : Index A} {code : List Insn} {count : ℕ} {line : LineParts} {rt1 now : Reader}
+    {out between : Writer} (so_far : IsExtractedSoFar text_of index code count line rt1 now out between) where
+  -- one more segment, and its text if it is selected
+  one_text_more : (next : ReadsNext index line now (Ok (Some tt))) (more : ℕ) (out' : Writer)
+      → WritesIfChosen text_of code next.segment (Ok more) between out'
+      → IsExtractedSoFar text_of index code (count + more) (line_of next.number next.segment) rt1 next.after out out'
+  one_text_more next more out' (answer, score, answers, counted, appended, counts) =
       let segment = next.segment in
       record {
         lines = so_far.lines ++ segment.bytes ∷ [];
@@ -134,32 +146,38 @@ module _ {A : Type 0} {index : Index A} {code : List Insn} {rows : ℕ} {line : 
             ap (λ segments. segments ++ segment ∷ []) (so_far.made joined of_joined)
             ∙ ap (λ segment. segments_of joined so_far.lines ++ segment ∷ []) (next.is.1 joined of_joined)
             ∙ sym (segments_push joined so_far.lines segment.bytes);
-        text = so_far.text ++ row_if_chosen answer score segment;
+        text = so_far.text ++ text_if_chosen text_of answer score segment;
         is_extract =
-            subst (λ (n : ℕ). IsExtract code (so_far.segments ++ segment ∷ []) (so_far.text ++ row_if_chosen answer score segment)
-            (rows + n)) (sym counted)
-            (extract_push code so_far.segments segment so_far.text rows answer score so_far.is_extract answers);
+            subst (λ (n : ℕ). IsExtractIn text_of code (so_far.segments ++ segment ∷ [])
+            (so_far.text ++ text_if_chosen text_of answer score segment) (count + n)) (sym counted)
+            (extract_push text_of code so_far.segments segment so_far.text count answer score so_far.is_extract answers);
         few = omega (arith, so_far.few, next.is.0.0.2, counted, chosen_count-le answer);
-        written = Appends-append out.held between.held out'.held so_far.text (row_if_chosen answer score segment) so_far.written appended;
+        written = Appends-append out.held between.held out'.held so_far.text (text_if_chosen text_of answer score segment) so_far.written appended;
         counts = counts ∙ so_far.counts;
       }
 
-  module _ {old new : Readers} (serves : ServesCode code index old new) where
-    has_written : HasWritten code serves.joined so_far.lines out between
+  pub one_segment_more : (next : ReadsNext index line now (Ok (Some tt))) (more : ℕ) (out' : Writer) (now_of : TextFormat)
+      → now_of ≡ text_of → WritesIfChosen now_of code next.segment (Ok more) between out'
+      → IsExtractedSoFar text_of index code (count + more) (line_of next.number next.segment) rt1 next.after out out'
+  one_segment_more next more out' now_of same written =
+      one_text_more next more out' (writes_as now_of text_of code next.segment (Ok more) between out' same written)
+
+  module _ {old new : Readers} (serves : ServesExtract text_of code index old new) where
+    has_written : HasWrittenIn text_of code serves.joined so_far.lines out between
     has_written = record {
       text = so_far.text;
-      rows = rows;
+      count = count;
       is_extract =
-          extract_alike code serves.own serves.joined so_far.lines so_far.text rows serves.alike
-          (subst (λ (segments : List SegmentParts). IsExtract code segments so_far.text rows) (so_far.made serves.own serves.index_of)
-          so_far.is_extract);
+          extract_alike text_of code serves.own serves.joined so_far.lines so_far.text count serves.alike
+          (subst (λ (segments : List SegmentParts). IsExtractIn text_of code segments so_far.text count)
+          (so_far.made serves.own serves.index_of) so_far.is_extract);
       written = so_far.written;
       counts = so_far.counts;
     }
 
     -- the file ended
     pub end_outcome : (next : ReadsNext index line now (Ok None))
-        → IsOutcomeOfCode code (Ok rows) (record { rt1 = rt1; joined = old }) (record { rt1 = next.after; joined = new }) out between
+        → IsOutcomeOfCodeIn text_of code (Ok count) (record { rt1 = rt1; joined = old }) (record { rt1 = next.after; joined = new }) out between
     unfolding has_written
     end_outcome next = record {
       county = record { segments = segments_of serves.joined so_far.lines };
@@ -178,13 +196,15 @@ module _ {A : Type 0} {index : Index A} {code : List Insn} {rows : ℕ} {line : 
 
     -- the next segment can't be made
     pub fault_outcome : (fault : LoadFault) (next : ReadsNext index line now (Err fault))
-        → IsOutcomeOfCode code (Err (of_load fault)) (record { rt1 = rt1; joined = old }) (record { rt1 = next.after; joined = new })
+        → IsOutcomeOfCodeIn text_of code (Err (of_load fault)) (record { rt1 = rt1; joined = old }) (record { rt1 = next.after; joined = new })
         out between
     fault_outcome (load_fault.Line file fault) next =
         in_rt1 serves.joined so_far.lines fault (ap (λ file. load_fault.Line file fault) next.is.0) serves.reads
         (at_next_fault so_far.read (record { number = next.number; bytes = next.is.1.0 }) next.after fault next.is.1.1) has_written
     fault_outcome (load_fault.TooManyNames number) next = absurd next.is
     fault_outcome (load_fault.TooManyRanges number) next = absurd next.is
+    fault_outcome (load_fault.RepeatedSequence number) next = absurd next.is
+    fault_outcome (load_fault.TooManyPoints number) next = absurd next.is
     fault_outcome load_fault.Memory next =
         let more = good_line_more so_far.read (line_of next.number next.segment) next.after next.is.0 in
         let joined = serves.reads in
@@ -203,11 +223,12 @@ module _ {A : Type 0} {index : Index A} {code : List Insn} {rows : ℕ} {line : 
         }
 
     -- a write fails
-    pub write_outcome : (next : ReadsNext index line now (Ok (Some tt))) (fault : WriteFault) (out' : Writer)
-        → WritesRow code next.segment (Err fault) between out'
-        → IsOutcomeOfCode code (Err (Write fault)) (record { rt1 = rt1; joined = old }) (record { rt1 = next.after; joined = new }) out out'
+    pub write_outcome : (next : ReadsNext index line now (Ok (Some tt))) (fault : WriteFault) (out' : Writer) (now_of : TextFormat)
+        → now_of ≡ text_of → WritesIfChosen now_of code next.segment (Err fault) between out'
+        → IsOutcomeOfCodeIn text_of code (Err (Write fault)) (record { rt1 = rt1; joined = old }) (record { rt1 = next.after; joined = new })
+        out out'
     unfolding has_written
-    write_outcome next fault out' row = record {
+    write_outcome next fault out' now_of same written = record {
       joined = serves.joined;
       reads_joined = serves.reads;
       lines = so_far.lines;
@@ -215,6 +236,7 @@ module _ {A : Type 0} {index : Index A} {code : List Insn} {rows : ℕ} {line : 
       reads = (good_line_more so_far.read (line_of next.number next.segment) next.after next.is.0).reads;
       between = between;
       before = has_written;
-      row = row_alike next.segment.bytes fault between out' serves.alike
-          (subst (λ (s : SegmentParts). WritesRow code s (Err fault) between out') (next.is.1 serves.own serves.index_of) row);
+      cut_short = text_alike next.segment.bytes fault between out' serves.alike
+          (subst (λ (s : SegmentParts). WritesIfChosen text_of code s (Err fault) between out') (next.is.1 serves.own serves.index_of)
+          (writes_as now_of text_of code next.segment (Err fault) between out' same written));
     }

@@ -1,3 +1,4 @@
 pub mod ExtractFault
 pub mod Extracting
+pub mod Formatting
 pub mod Rows

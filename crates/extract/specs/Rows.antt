@@ -1,4 +1,4 @@
--- Which segments code selects, and the effect of their rows on bytes and on a writer.
+-- Which segments code selects, and the effect of their texts on bytes and on a writer.
 use Rattle.std.specs.Prelude.{◌≡◌, ◌≢◌, ℕ, List, ◌++◌, Option, Some, None, Result, Ok, Err}
 use Rattle.std.specs.Io.KnownBytes.{Appends}
 use Rattle.counted_io.specs.Counting.{CountsFault}
@@ -8,7 +8,7 @@ use Rattle.counted_io.specs.declared.writing.WriteFault.{WriteFault}
 use Rattle.bpf_insn.specs.declared.instruction.Insn.{Insn}
 use Rattle.bpf_meaning.specs.Run.{Answers}
 use Rattle.tl_segments.specs.Segment.{SegmentParts}
-use Rattle.bpf_meaning.specs.Extract.{row_if_chosen, chosen_count}
+use Rattle.bpf_meaning.specs.Extract.{TextFormat, chosen_count, row_if_chosen, row_of, text_if_chosen}
 
 -- the code answers with a nonzero number and thus selects the segment with its score; or it answers 0 and doesn't
 abbrev pub Chooses : List Insn → SegmentParts → Option ℕ → Type 0
@@ -24,11 +24,15 @@ abbrev pub AppendsRow : List Insn → SegmentParts → List ℕ → List ℕ →
 AppendsRow code segment old new =
     (answer : ℕ) × (score : ℕ) × Answers code segment answer score × (new ≡ old ++ row_if_chosen answer score segment)
 
--- the row of a segment was written completely if the code selects it, or a beginning of the row before the fault
-abbrev pub WritesRow : List Insn → SegmentParts → Result ℕ WriteFault → Writer → Writer → Type 0
-WritesRow code segment (Ok rows) old new =
-    (answer : ℕ) × (score : ℕ) × Answers code segment answer score × (rows ≡ chosen_count answer)
-    × Appends old.held new.held (row_if_chosen answer score segment) × (new.counts ≡ old.counts)
-WritesRow code segment (Err fault) old new =
+-- the text of a segment was written completely if the code selects it, or a beginning of the text before the fault
+abbrev pub WritesIfChosen : TextFormat → List Insn → SegmentParts → Result ℕ WriteFault → Writer → Writer → Type 0
+WritesIfChosen text_of code segment (Ok count) old new =
+    (answer : ℕ) × (score : ℕ) × Answers code segment answer score × (count ≡ chosen_count answer)
+    × Appends old.held new.held (text_if_chosen text_of answer score segment) × (new.counts ≡ old.counts)
+WritesIfChosen text_of code segment (Err fault) old new =
     (answer : ℕ) × (score : ℕ) × Answers code segment answer score × (answer ≢ 0)
-    × AppendsBeginning old.held new.held (row_if_chosen answer score segment) × CountsFault fault old.counts new.counts
+    × AppendsBeginning old.held new.held (text_if_chosen text_of answer score segment) × CountsFault fault old.counts new.counts
+
+-- the same of its row
+abbrev pub WritesRow : List Insn → SegmentParts → Result ℕ WriteFault → Writer → Writer → Type 0
+WritesRow code segment result old new = WritesIfChosen row_of code segment result old new

@@ -3,12 +3,13 @@ ghost use Rattle.std.specs.Prelude.{◌≡◌, Err, IfErr, IfOk};
 ghost use Rattle.counted_io.specs.ReaderWriter.{reader, writer};
 ghost use Rattle.tl_segments.specs.CountyFiles.{county_readers};
 ghost use Rattle.tl_segments.specs.Loading.{IsJoinedFault, Readers, readers};
-ghost use Rattle.extract.specs.Extracting.{IsOutcome, IsOutcomeOfCode, ServesCode};
+ghost use Rattle.extract.specs.Extracting.{IsOutcome, IsOutcomeOfCode, IsOutcomeOfCodeIn, ServesExtract};
 ghost use Rattle.bpf_program.specs.declared.program.ProgramFault.{ProgramFault};
 
 use crate::fault::ExtractFault;
+use crate::formatting::Format;
 use crate::row_buffer::RowBuffer;
-use crate::rows::write_row_if_chosen;
+use crate::rows::write_if_chosen;
 use bpf_machine::Bare;
 use bpf_program::accept;
 use bpf_verify::Verified;
@@ -41,7 +42,9 @@ pub fn extract<A: Allocator + Copy, R: CountedRead, W: CountedWrite>(
         → (rt1.new ≡ rt1.old) × (rt4.new ≡ rt4.old) × (rt5.new ≡ rt5.old) × (rt6.new ≡ rt6.old) × (out.new ≡ out.old) }
 {
     let verified = accept(alloc, program)?;
-    extract_from(alloc, &verified, rt1, rt4, rt5, rt6, out)
+    let mut row = RowBuffer::new();
+    let index = load_index(alloc, &verified, &row, rt4, rt5, rt6)?;
+    write_selected(&verified, &index, rt1, &mut row, out)
 }
 
 /// Does what [`extract`] does after it has accepted the program. A caller with several counties accepts its program once.
@@ -55,51 +58,57 @@ pub fn extract_verified<A: Allocator + Copy, B: Allocator, R: CountedRead, W: Co
         (county_readers R.remaining R.failed_reads files.old) (county_readers R.remaining R.failed_reads files.new)
         (writer W.contents W.counts out.old) (writer W.contents W.counts out.new) }
 {
+    let mut row = RowBuffer::new();
+    extract_verified_in(alloc, verified, files, &mut row, out)
+}
+
+/// Does what [`extract_verified`] does, but writes the segments in this format.
+pub fn extract_verified_in<
+    A: Allocator + Copy,
+    B: Allocator,
+    R: CountedRead,
+    F: Format,
+    W: CountedWrite,
+>(
+    alloc: A,
+    verified: &Verified<B>,
+    files: &mut CountyFiles<R>,
+    format: &mut F,
+    out: &mut W,
+) -> Result<u64, ExtractFault>
+    ensures outcome { IsOutcomeOfCodeIn (F.text_of format.old) verified.now.code result
+        (county_readers R.remaining R.failed_reads files.old) (county_readers R.remaining R.failed_reads files.new)
+        (writer W.contents W.counts out.old) (writer W.contents W.counts out.new) }
+    // The format stays the same.
+    ensures same { F.text_of format.new ≡ F.text_of format.old }
+{
     let joined = &mut files.joined;
-    extract_from(
+    let index = load_index(
         alloc,
         verified,
-        &mut files.rt1,
+        format,
         &mut joined.rt4,
         &mut joined.rt5,
         &mut joined.rt6,
-        out,
-    )
+    )?;
+    write_selected(verified, &index, &mut files.rt1, format, out)
 }
 
-/// Writes the rows that an accepted program selects in a county's files.
-fn extract_from<A: Allocator + Copy, B: Allocator, R: CountedRead, W: CountedWrite>(
+/// Reads the files of types 4, 5 and 6 to their ends and keeps what the code and the format use: nothing if both read the record alone.
+fn load_index<A: Allocator + Copy, B: Allocator, F: Format, R: CountedRead>(
     alloc: A,
     verified: &Verified<B>,
-    rt1: &mut R,
-    rt4: &mut R,
-    rt5: &mut R,
-    rt6: &mut R,
-    out: &mut W,
-) -> Result<u64, ExtractFault>
-    ensures { IsOutcomeOfCode verified.now.code result
-        (record { rt1 = reader R.remaining R.failed_reads rt1.old; joined = readers R.remaining R.failed_reads rt4.old rt5.old rt6.old })
-        (record { rt1 = reader R.remaining R.failed_reads rt1.new; joined = readers R.remaining R.failed_reads rt4.new rt5.new rt6.new })
-        (writer W.contents W.counts out.old) (writer W.contents W.counts out.new) }
-{
-    let index = load_index(alloc, verified, rt4, rt5, rt6)?;
-    write_rows(verified, &index, rt1, out)
-}
-
-/// Reads the files of types 4, 5 and 6 to their ends and keeps what the code uses: nothing if it reads the record alone.
-fn load_index<A: Allocator + Copy, B: Allocator, R: CountedRead>(
-    alloc: A,
-    verified: &Verified<B>,
+    format: &F,
     rt4: &mut R,
     rt5: &mut R,
     rt6: &mut R,
 ) -> Result<Index<A>, LoadFault>
-    ensures ok { IfOk result (λ index. ServesCode verified.now.code index
+    ensures ok { IfOk result (λ index. ServesExtract (F.text_of format.now) verified.now.code index
         (readers R.remaining R.failed_reads rt4.old rt5.old rt6.old) (readers R.remaining R.failed_reads rt4.new rt5.new rt6.new)) }
     ensures err { IfErr result (λ fault. IsJoinedFault fault
         (readers R.remaining R.failed_reads rt4.old rt5.old rt6.old) (readers R.remaining R.failed_reads rt4.new rt5.new rt6.new)) }
 {
-    if verified.reads_record_alone() {
+    if verified.reads_record_alone() && format.reads_record_alone() {
         Index::check(alloc, rt4, rt5, rt6)?;
         return Ok(Index::new(alloc));
     }
@@ -107,26 +116,28 @@ fn load_index<A: Allocator + Copy, B: Allocator, R: CountedRead>(
     Ok(index)
 }
 
-/// Writes the rows of the selected lines of a type 1 file, each before the next line is read, and returns their number. The index may lack what the
-/// code doesn't use.
-fn write_rows<A: Allocator + Copy, B: Allocator, R: CountedRead, W: CountedWrite>(
+/// Writes the selected lines of a type 1 file in a format, each before the next line is read, and returns their number. The index may lack what
+/// the code and the format don't use.
+fn write_selected<A: Allocator + Copy, B: Allocator, R: CountedRead, F: Format, W: CountedWrite>(
     verified: &Verified<B>,
     index: &Index<A>,
     rt1: &mut R,
+    format: &mut F,
     out: &mut W,
 ) -> Result<u64, ExtractFault>
-    ensures { (old new : Readers) → ServesCode verified.now.code index.now old new → IsOutcomeOfCode verified.now.code result
+    ensures outcome { (old new : Readers) → ServesExtract (F.text_of format.old) verified.now.code index.now old new
+        → IsOutcomeOfCodeIn (F.text_of format.old) verified.now.code result
         (record { rt1 = reader R.remaining R.failed_reads rt1.old; joined = old })
         (record { rt1 = reader R.remaining R.failed_reads rt1.new; joined = new })
         (writer W.contents W.counts out.old) (writer W.contents W.counts out.new) }
+    ensures same { F.text_of format.new ≡ F.text_of format.old }
 {
     let mut number = 0;
     let mut segment = index.blank_segment();
     let mut bare = Bare::start();
-    let mut row = RowBuffer::new();
-    let mut rows = 0;
+    let mut count = 0;
     while let Some(()) = index.next_segment(rt1, &mut number, &mut segment)? {
-        rows += write_row_if_chosen(verified, &segment, &mut bare, &mut row, out)?;
+        count += write_if_chosen(verified, &segment, &mut bare, format, out)?;
     }
-    Ok(rows)
+    Ok(count)
 }

@@ -1,13 +1,15 @@
-//! Extracts: the rows of the street segments (TIGER/Line 2006) that a BPF program (RFC 9669) selects.
+//! Extracts: the street segments (TIGER/Line 2006) that a BPF program (RFC 9669) selects, as rows or in another format.
 #![tactic(auto)]
 
 mod extractor;
 mod fault;
+mod formatting;
 mod row_buffer;
 mod rows;
 
 pub use bpf_program::{ProgramFault, accept};
-pub use extractor::{extract, extract_verified};
+pub use extractor::{extract, extract_verified, extract_verified_in};
 pub use fault::ExtractFault;
-pub use row_buffer::MAX_ROW_LENGTH;
+pub use formatting::Format;
+pub use row_buffer::{MAX_ROW_LENGTH, RowBuffer};
 pub use rows::{push_row_if_chosen, row, row_text, score_if_chosen};

@@ -1,8 +1,10 @@
-//! A buffer for rows.
+//! Rows, written through a buffer.
 ghost use Rattle.std.specs.Prelude.{◌≡◌, ◌≤◌, [], ◌∷◌, ◌++◌, length};
 ghost use Rattle.bpf_meaning.specs.Extract.{row_of};
 
+use crate::formatting::Format;
 use arrayvec::ArrayVec;
+use counted_io::{CountedWrite, WriteFault, write_text};
 use itoa::Buffer;
 use std::alloc::Allocator;
 use tl_segments::Segment;
@@ -10,15 +12,16 @@ use tl_segments::Segment;
 /// The maximum length of a row in bytes: a score of 20 digits, a tab, the record, a line feed.
 pub const MAX_ROW_LENGTH: usize = 250;
 
-/// The row of a segment, which the next row overwrites. At first it is empty.
+/// The format of rows, with the row of a segment, which the next row overwrites. At first it is empty.
 #[derive(Drop)]
-pub(crate) struct RowBuffer {
+pub struct RowBuffer {
     text: ArrayVec<u8, MAX_ROW_LENGTH>,
 }
 
 impl RowBuffer {
-    pub(crate) fn new() -> Self
-        ensures { result.text.items ≡ [] }
+    /// Returns an empty buffer.
+    pub fn new() -> Self
+        ensures { ⟦<RowBuffer as Format>⟧.text_of result ≡ row_of }
     {
         RowBuffer {
             text: ArrayVec::new(),
@@ -81,5 +84,24 @@ impl RowBuffer {
         text.try_extend_from_slice(segment.bytes()).unwrap();
         text.push(b'\n');
         self.text = text;
+    }
+}
+
+impl Format for RowBuffer {
+    ghost text_of = { λ _. row_of };
+
+    fn reads_record_alone(&self) -> bool {
+        true
+    }
+
+    #[inline(always)]
+    fn write_segment<A: Allocator, W: CountedWrite>(
+        &mut self,
+        score: u64,
+        segment: &Segment<A>,
+        out: &mut W,
+    ) -> Result<(), WriteFault> {
+        self.set(score, segment);
+        write_text(out, self.as_bytes())
     }
 }

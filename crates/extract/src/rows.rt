@@ -1,10 +1,11 @@
-//! Rows, and how they are written.
+//! The rows and texts of selected segments, and how they are written.
 ghost use Rattle.std.specs.Prelude.{◌≡◌, OnErr, OnOk};
 ghost use Rattle.counted_io.specs.ReaderWriter.{writer};
 ghost use Rattle.counted_io.specs.Writing.{WritesText};
 ghost use Rattle.bpf_meaning.specs.Extract.{row_of};
-ghost use Rattle.extract.specs.Rows.{AppendsRow, Chooses, IsChosen, WritesRow};
+ghost use Rattle.extract.specs.Rows.{AppendsRow, Chooses, IsChosen, WritesIfChosen};
 
+use crate::formatting::Format;
 use crate::row_buffer::{MAX_ROW_LENGTH, RowBuffer};
 use arrayvec::ArrayVec;
 use bpf_machine::{Bare, run_in};
@@ -69,24 +70,23 @@ pub fn push_row_if_chosen<A: Allocator, B: Allocator, C: Allocator>(
     }
 }
 
-/// Writes the row of a segment if the code selects it, and returns the number of rows written. Reuses `bare` and `row`; their previous contents
-/// don't matter.
+/// Writes the text of a segment if the code selects it, and returns the number of texts written. Reuses `bare`; its previous contents don't matter.
 #[inline(always)]
-pub(crate) fn write_row_if_chosen<A: Allocator, B: Allocator, W: CountedWrite>(
+pub(crate) fn write_if_chosen<A: Allocator, B: Allocator, F: Format, W: CountedWrite>(
     verified: &Verified<A>,
     segment: &Segment<B>,
     bare: &mut Bare,
-    row: &mut RowBuffer,
+    format: &mut F,
     out: &mut W,
 ) -> Result<u64, WriteFault>
-    ensures { WritesRow verified.now.code segment.now result
+    ensures written { WritesIfChosen (F.text_of format.old) verified.now.code segment.now result
         (writer W.contents W.counts out.old) (writer W.contents W.counts out.new) }
+    ensures same { F.text_of format.new ≡ F.text_of format.old }
 {
     let Some(score) = score_if_chosen(verified, segment, bare) else {
         return Ok(0);
     };
-    row.set(score, segment);
-    match write_text(out, row.as_bytes()) {
+    match format.write_segment(score, segment, out) {
         Ok(()) => Ok(1),
         Err(fault) => Err(fault),
     }
