@@ -1,0 +1,15 @@
+mod ColumnLemmas
+mod DigitLemmas
+mod DocumentLemmas
+mod FeatureLemmas
+mod LineFeedLemmas
+mod NameLemmas
+mod NumberLemmas
+mod PlaceLemmas
+mod PointLemmas
+mod CellLemmas
+mod RowLemmas
+mod StringLemmas
+mod TableLemmas
+mod Utf8Lemmas
+mod WritingLemmas

@@ -1,0 +1,166 @@
+//! Tables in CSV.
+ghost use Rattle.std.specs.Prelude.{◌≡◌, ◌+◌, ◌≤◌, [], ◌∷◌, ◌++◌, length};
+ghost use Rattle.counted_io.specs.ReaderWriter.{writer};
+ghost use Rattle.counted_io.specs.Writing.{WritesText};
+ghost use Rattle.csv.specs.Writing.{default_writer, field_text};
+ghost use Rattle.features.specs.CsvTable.{cell_of, columns_text, csv_row, end_of_header, end_without_line, header_text, names_text};
+ghost use Rattle.features.specs.Value.{parts_of};
+
+use crate::cell::push_cell;
+use crate::columns::{Columns, MAX_COLUMNS};
+use crate::geometry::Geometry;
+use crate::line::{Notation, write_line};
+use crate::text::{MAX_PIECE_LENGTH, MAX_ROW_LENGTH, Piece, push};
+use crate::value::{Value, value_of};
+use counted_io::{CountedWrite, WriteFault, write_text};
+use cql2::Column;
+use cql2_tokens::column_name;
+use itoa::Buffer;
+use std::alloc::Allocator;
+use std::marker::Model;
+use tl_records::RECORD_LENGTH;
+use tl_segments::{Segment, ShapePart};
+
+/// A table in CSV (RFC 4180) with a header and a row for each segment: its score, its columns, and its line as Well-Known Text in the column `WKT`.
+/// Contracts see it as a record with the fields `columns` and `geometry`.
+#[derive(Drop)]
+pub struct CsvTable {
+    columns: Columns,
+    geometry: Geometry,
+    piece: Piece,
+}
+
+impl Model for CsvTable {
+    ghost use Rattle.features.specs.Layout.{LayoutParts};
+
+    ghost Value = { LayoutParts };
+
+    ghost view = { λ table. record { columns = table.columns; geometry = table.geometry } };
+}
+
+impl CsvTable {
+    /// Creates a table. It has 13 KB, as a row is collected in it, so write all rows through one.
+    pub fn new(columns: Columns, geometry: Geometry) -> CsvTable
+        ensures { result ≡ record { columns = columns; geometry = geometry } }
+    {
+        CsvTable {
+            columns,
+            geometry,
+            piece: Piece::new(),
+        }
+    }
+
+    /// Writes the header: the names of the columns. Nothing is retried, and nothing is flushed.
+    pub fn write_header<W: CountedWrite>(&mut self, out: &mut W) -> Result<(), WriteFault>
+        ensures text { WritesText (header_text self.old) result
+            (writer W.contents W.counts out.old) (writer W.contents W.counts out.new) }
+        ensures same { self.new ≡ self.old }
+    {
+        self.piece.clear();
+        push_names(self.columns.as_slice(), &mut self.piece);
+        push(end_of_header(self.geometry), &mut self.piece);
+        write_text(out, self.piece.as_slice())
+    }
+
+    /// Writes the row of a segment with a score and the parts of its shape. Nothing is retried, nothing is flushed, and nothing is allocated.
+    pub fn write_row<A: Allocator, W: CountedWrite>(
+        &mut self,
+        score: u64,
+        segment: &Segment<A>,
+        shape: &[ShapePart],
+        out: &mut W,
+    ) -> Result<(), WriteFault>
+        ensures text { WritesText (csv_row self.old score segment.now shape.now) result
+            (writer W.contents W.counts out.old) (writer W.contents W.counts out.new) }
+        ensures same { self.new ≡ self.old }
+    {
+        self.piece.clear();
+        push_columns(
+            score,
+            self.columns.as_slice(),
+            segment.bytes(),
+            &mut self.piece,
+        );
+        match self.geometry.ends(segment.bytes()) {
+            Some(ends) => {
+                write_line(
+                    Notation::WellKnownText,
+                    ends,
+                    self.geometry.between(shape),
+                    &mut self.piece,
+                    out,
+                )
+            }
+            None => {
+                push(end_without_line(self.geometry), &mut self.piece);
+                write_text(out, self.piece.as_slice())
+            }
+        }
+    }
+}
+
+/// Appends the names of the score and of the columns.
+#[tactic(auto, using(crate::proofs::NameLemmas::name_short), unfolding(csv::specs::Writing::fields_text))]
+fn push_names(columns: &[Column], piece: &mut Piece)
+    requires empty { piece.old.items ≡ [] }
+    requires few { length columns.now ≤ MAX_COLUMNS }
+    ensures text { piece.new.items ≡ names_text columns.now }
+    ensures short { length piece.new.items ≤ MAX_ROW_LENGTH }
+{
+    push(b"score", piece);
+    for column in columns {
+        push(b",", piece);
+        push(column_name(*column).as_bytes(), piece);
+    }
+}
+
+/// Returns the end of the header.
+fn end_of_header(geometry: Geometry) -> &'static [u8]
+    ensures text { result.now ≡ end_of_header geometry }
+    ensures short { length result.now ≤ 5 }
+{
+    match geometry {
+        Geometry::None => b"\n",
+        Geometry::Line | Geometry::Shape => b",WKT\n",
+    }
+}
+
+/// Appends the score and the values of columns.
+#[tactic(auto, unfolding(csv::specs::Writing::fields_text))]
+fn push_columns(score: u64, columns: &[Column], line: &[u8], piece: &mut Piece)
+    requires empty { piece.old.items ≡ [] }
+    requires few { length columns.now ≤ MAX_COLUMNS }
+    requires whole { length line.now ≡ RECORD_LENGTH }
+    ensures text { piece.new.items ≡ columns_text score columns.now line.now }
+    ensures short { length piece.new.items ≤ MAX_ROW_LENGTH }
+{
+    push_cell(Buffer::new().format(score).as_bytes(), piece);
+    for column in columns {
+        push(b",", piece);
+        push_value(value_of(*column, line), piece);
+    }
+}
+
+/// Appends a value; a missing one is an empty cell.
+fn push_value(value: Value, piece: &mut Piece)
+    requires { length piece.old.items + 122 ≤ MAX_PIECE_LENGTH }
+    ensures text { piece.new.items ≡ piece.old.items ++ field_text default_writer (cell_of (parts_of value)) }
+    ensures short { length piece.new.items ≤ length piece.old.items + 122 }
+{
+    match value {
+        Value::Missing => {}
+        Value::Text(bytes) => push_cell(bytes.as_slice(), piece),
+        Value::Number(bytes) => push_cell(bytes.as_slice(), piece),
+    }
+}
+
+/// Returns the end of a row that has no line.
+fn end_without_line(geometry: Geometry) -> &'static [u8]
+    ensures text { result.now ≡ end_without_line geometry }
+    ensures short { length result.now ≤ 2 }
+{
+    match geometry {
+        Geometry::None => b"\n",
+        Geometry::Line | Geometry::Shape => b",\n",
+    }
+}
