@@ -1,0 +1,4 @@
+pub mod Layer
+pub mod LayerParts
+pub mod ShapeTable
+pub mod Writing
