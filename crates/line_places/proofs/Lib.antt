@@ -1,0 +1,3 @@
+pub mod LengthLemmas
+pub mod PlaceLemmas
+pub mod ShareLemmas

@@ -1,0 +1,18 @@
+use Rattle.std.proofs.Common.{◌+◌, arith}
+use Rattle.line_places.proofs.LengthLemmas.{reached-next}
+use Rattle.line_places.proofs.PlaceLemmas.{at-distance, first-and-others}
+use Rattle.line_places.proofs.place.place_at.Goals as goal
+
+pub returns-then-left-piece : goal.returns-then-left-piece
+returns-then-left-piece c = at-distance _ _ _ _ _ _ _ _ _ _ _ (first-and-others c.args.points.now _ c.in-len1-up.len_at_least) c.loop-to-test.true
+    c.loop-to.invariant.0.1 c.piece_length-piece.ensures.value c.if-left-piece.true c.loop-to.invariant.0.2 c.place_between.ensures
+
+pub loop-to-preserved : goal.loop-to-preserved
+loop-to-preserved c = (
+  (
+    c.loop-to.invariant.0.0 + c.piece_length-piece.result,
+    reached-next _ _ _ _ _ _ _ c.loop-to-test.true c.loop-to.invariant.0.1 c.piece_length-piece.ensures.value,
+    omega (arith, c.loop-to.invariant.0.2, c.if-left-piece.false),
+  ),
+  λ some. omega (arith, c.if-left-piece.false),
+)
