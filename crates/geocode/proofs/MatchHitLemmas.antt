@@ -62,7 +62,7 @@ hits-under house matching =
     map-flat_map (λ (found : MatchParts). found.hit) (matches_on_range house matching) (hits_on_range house matching.segment.bytes)
     (ranges_of matching.segment) (λ (range : RangeFields).
     map-filter_map (λ (found : MatchParts). found.hit) (hit_on house matching.segment.bytes range)
-    (λ (side : Side) (hit : Hit). record { hit = hit; county = matching.county; name = matching.name; side = side_of range side })
+    (λ (side : Side) (hit : Hit). record { hit = hit; county = matching.county; name = matching.name; side = side_of range side; bytes = matching.segment.bytes })
     (Left ∷ Right ∷ []) (λ side hit. refl))
 
 -- the hits of a segment's matches

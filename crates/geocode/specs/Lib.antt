@@ -9,6 +9,7 @@ pub mod NameIndex
 pub mod NameText
 pub mod Measure
 pub mod Query
+pub mod ShapePlace
 pub mod Sides
 pub mod Span
 pub mod Street

@@ -17,12 +17,13 @@ use Rattle.geocode.specs.declared.house.House.{House}
 use Rattle.geocode.specs.declared.matching.Match.{Match}
 use Rattle.geocode.specs.declared.matching_segment.MatchingSegment.{MatchingSegment}
 
--- a hit, with the index of its county in the list, the name that matched and the fields of its side
+-- a hit, with the index of its county in the list, the name that matched, the fields of its side and the type 1 record of its segment
 pub record MatchParts : Type 0 where
   pub hit : Hit
   pub county : ℕ
   pub name : FullNameFields
   pub side : SideParts
+  pub bytes : List ℕ
 
 abbrev pub match_of : Match → MatchParts
 match_of found = record {
@@ -30,6 +31,7 @@ match_of found = record {
   county = found.county;
   name = full_name_of found.name;
   side = record { from = found.from.now; to = found.to.now; zip = found.zip.now };
+  bytes = found.bytes.now;
 }
 
 -- a segment whose name matched: the index of its county in the list, the segment and the name
@@ -44,7 +46,7 @@ matching_of matching = record { county = matching.county; segment = matching.seg
 -- the match on a side of a range, if the house is on it
 abbrev pub match_on : House → MatchingParts → RangeFields → Side → Option MatchParts
 match_on house matching range side =
-    option_map (λ hit. record { hit = hit; county = matching.county; name = matching.name; side = side_of range side })
+    option_map (λ hit. record { hit = hit; county = matching.county; name = matching.name; side = side_of range side; bytes = matching.segment.bytes })
     (hit_on house matching.segment.bytes range side)
 
 -- the matches on the sides of a range, left before right

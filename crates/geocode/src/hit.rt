@@ -4,6 +4,7 @@ ghost use Rattle.geocode.specs.HitLine.{hit_lines, letter, line, place_text};
 
 use arrayvec::ArrayString;
 use itoa::Buffer;
+use line_places::Place;
 use std::alloc::{AllocError, Allocator};
 
 /// The length of the longest line of a hit in bytes, including its terminator.
@@ -14,13 +15,6 @@ pub const LINE_LENGTH: usize = 65;
 pub enum Side {
     Left,
     Right,
-}
-
-/// A place, in millionths of a degree: positive to the east and to the north.
-#[derive(Clone, Copy, PartialEq, Eq)]
-pub struct Place {
-    pub longitude: i64,
-    pub latitude: i64,
 }
 
 /// A house number found on a side of a segment.

@@ -17,15 +17,17 @@ mod name_index;
 mod name_text;
 mod query;
 mod search;
+mod shape_place;
 mod sides;
 mod span;
 mod street;
 mod street_name;
 
 pub use gazetteer::Gazetteer;
-pub use hit::{Hit, LINE_LENGTH, Place, Side, hit_lines};
+pub use hit::{Hit, LINE_LENGTH, Side, hit_lines};
 pub use hits::find;
 pub use latin_1::push_utf8;
+pub use line_places::Place;
 pub use matching::Match;
 pub use name_text::NameText;
 pub use query::{MAX_HOUSE_NUMBER_DIGITS, Query, QueryFault};

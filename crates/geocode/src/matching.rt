@@ -1,8 +1,10 @@
 //! Hits, each with the street name that matched.
+ghost use Rattle.std.specs.Prelude.{◌≡◌, length};
+
 use crate::hit::Hit;
 use tl_segments::FullName;
 
-/// A hit, with the street name that matched and the fields of its side as they are in the records.
+/// A hit, with the street name that matched, the fields of its side as they are in the records, and the segment's record.
 #[derive(Clone, Copy)]
 pub struct Match<'a> {
     pub hit: Hit,
@@ -16,4 +18,7 @@ pub struct Match<'a> {
     pub to: &'a [u8],
     /// The ZIP code of the range's side.
     pub zip: &'a [u8],
+    /// The segment's type 1 record.
+    pub bytes: &'a [u8],
+    ghost is_record: { length bytes.now ≡ 228 },
 }

@@ -73,6 +73,7 @@ impl<'a, A: Allocator> MatchingSegment<'a, A> {
             from: fields.from,
             to: fields.to,
             zip: fields.zip,
+            bytes: self.segment.bytes(),
         })
     }
 }

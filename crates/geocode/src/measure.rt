@@ -5,8 +5,8 @@ ghost use Rattle.geocode.specs.Sides.{parts_of};
 ghost use Rattle.tl_records.specs.Layout.{IsWithin};
 ghost use Rattle.tl_segments.specs.Range.{lies_on};
 
-use crate::hit::Place;
 use crate::sides::SideFields;
+use line_places::{Place, interpolate};
 use tl_fields::{coordinate, number as number_of};
 use tl_records::{Places, Type1};
 use tl_segments::RECORD_LENGTH;
@@ -35,7 +35,7 @@ pub(crate) fn place_on(number: u64, bytes: &[u8], side: SideFields<'_>) -> Optio
 }
 
 /// Returns the place whose longitude and latitude are in these columns of a type 1 record.
-fn place_at(longitude: Places, latitude: Places, bytes: &[u8]) -> Option<Place>
+pub(crate) fn place_at(longitude: Places, latitude: Places, bytes: &[u8]) -> Option<Place>
     requires longitude { IsWithin longitude (length bytes.now) }
     requires latitude { IsWithin latitude (length bytes.now) }
     ensures value { result ≡ place_at longitude latitude bytes.now }
@@ -47,7 +47,7 @@ fn place_at(longitude: Places, latitude: Places, bytes: &[u8]) -> Option<Place>
     })
 }
 
-fn measure_on(number: u64, side: SideFields<'_>) -> Option<Measure>
+pub(crate) fn measure_on(number: u64, side: SideFields<'_>) -> Option<Measure>
     requires { IsTrue (lies_on number side.from.now side.to.now) }
     ensures value { result ≡ measure_on number (parts_of side.entry) }
     ensures between { IfSome result IsMeasure }
@@ -73,16 +73,4 @@ fn coordinate_along(from: i64, to: i64, measure: Measure) -> i64
     let offset = i128::from(measure.number) - i128::from(measure.from);
     let total = i128::from(measure.to) - i128::from(measure.from);
     from + interpolate(length, offset, total)
-}
-
-/// Returns `length * offset / total`, rounded toward zero.
-fn interpolate(length: i128, offset: i128, total: i128) -> i64
-    requires length { nat_abs length < 2 * 10 ^ 9 }
-    requires offset { nat_abs offset ≤ nat_abs total }
-    requires some { 0 < nat_abs total }
-    requires total { nat_abs total < 10 ^ 11 }
-    ensures value { result ≡ int_div (length *ℤ offset) total }
-    ensures near { nat_abs result < 2 * 10 ^ 9 }
-{
-    (length * offset / total) as i64
 }

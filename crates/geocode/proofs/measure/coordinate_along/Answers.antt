@@ -1,14 +1,15 @@
 use Rattle.std.proofs.Common.{◌≡◌, ◌≢◌, ◌<◌, ◌^◌, w64, pos, ◌+ℤ◌, ◌-ℤ◌, ◌*ℤ◌, int_div, FitsSigned, refl, ap, sym, ◌∙◌, arith}
 use Rattle.std.proofs.lemmas.Bool.Decides.{nat_tests}
-use Rattle.std.proofs.lemmas.Int.{fits_signed_from_abs, ints, to_z-of_z}
-use Rattle.geocode.proofs.MeasureLemmas.{coordinate_along-apart, difference_is}
+use Rattle.std.proofs.lemmas.Int.{fits_signed_from_abs, to_z-of_z}
+use Rattle.line_places.proofs.ShareLemmas.{difference_is, sum-fits}
+use Rattle.geocode.proofs.MeasureLemmas.{coordinate_along-apart}
 use Rattle.geocode.proofs.measure.coordinate_along.Goals as goal
 
 pub overflow_add-result : goal.overflow_add-result
 overflow_add-result c =
-    let share : FitsSigned w64 c.interpolate.result = fits_signed_from_abs w64 c.interpolate.result (omega (arith, c.interpolate.ensures.near)) in
+    let share : FitsSigned w64 c.interpolate.result = fits_signed_from_abs w64 c.interpolate.result (omega (arith, c.interpolate.ensures.small)) in
     rw (to_z-of_z w64 c.args.from c.ranges.from, to_z-of_z w64 c.interpolate.result share)
-    (grind (arith, ints, c.requires.from, c.interpolate.ensures.near))
+    (sum-fits c.args.from c.interpolate.result (omega (arith, c.requires.from)) c.interpolate.ensures.small)
 
 pub returns : goal.returns
 returns c =
@@ -31,7 +32,8 @@ returns c =
     c.requires.measure.to c.requires.measure.from in
     let share : c.interpolate.result ≡ int_div ((to -ℤ from) *ℤ (pos measure.number -ℤ pos measure.from))
     (pos measure.to -ℤ pos measure.from) = c.interpolate.ensures.value ∙ rw (length, offset, total) refl in
-    let fits : FitsSigned w64 c.interpolate.result = fits_signed_from_abs w64 c.interpolate.result (omega (arith, c.interpolate.ensures.near)) in
-    let sum : FitsSigned w64 (from +ℤ c.interpolate.result) = grind (arith, ints, c.requires.from, c.interpolate.ensures.near) in
+    let fits : FitsSigned w64 c.interpolate.result = fits_signed_from_abs w64 c.interpolate.result (omega (arith, c.interpolate.ensures.small)) in
+    let sum : FitsSigned w64 (from +ℤ c.interpolate.result) = sum-fits from c.interpolate.result
+    (omega (arith, c.requires.from)) c.interpolate.ensures.small in
     rw (to_z-of_z w64 from c.ranges.from, to_z-of_z w64 c.interpolate.result fits, to_z-of_z w64 (from +ℤ c.interpolate.result) sum)
     (ap (λ share. from +ℤ share) share ∙ sym (coordinate_along-apart from to measure apart))
