@@ -1,1 +1,2 @@
 mod CellLemmas
+mod ShapedLemmas

@@ -6,7 +6,7 @@ use Rattle.csv.specs.Writing.{default_writer, row_text}
 use Rattle.addresses.specs.Address.{AddressParts}
 use Rattle.addresses.specs.Columns.{trimmed}
 use Rattle.batch.specs.LookupResult.{LookupParts, Found, NotFound, lookup_of, status_of}
-use Rattle.batch.specs.Degrees.{degrees}
+use Rattle.degrees.specs.Degrees.{degrees}
 use Rattle.batch.specs.declared.reason.Reason.{Reason}
 use Rattle.batch.specs.declared.reason.Reason.TheVariants as reason
 use Rattle.batch.specs.declared.lookup.Status.{Status}
@@ -15,7 +15,7 @@ use Rattle.batch.specs.declared.row.Cells.{Cells}
 use Rattle.geocode.specs.HitLine.{letter}
 use Rattle.geocode.specs.Latin1.{utf8_of}
 use Rattle.geocode.specs.Matches.{MatchParts}
-use Rattle.geocode.specs.declared.hit.Place.{Place}
+use Rattle.line_places.specs.declared.place.Place.{Place}
 use Rattle.tl_segments.specs.County.{CountyParts}
 
 -- the names of the columns

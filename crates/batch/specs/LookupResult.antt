@@ -12,7 +12,7 @@ use Rattle.batch.specs.declared.lookup.Status.{Status}
 use Rattle.batch.specs.declared.lookup.Status.TheVariants.{Match, Tie, NoMatch}
 use Rattle.geocode.specs.Matches.{MatchParts, has_street, match_of, matches}
 use Rattle.geocode.specs.Street.{StreetParts}
-use Rattle.geocode.specs.declared.hit.Place.{Place}
+use Rattle.line_places.specs.declared.place.Place.{Place}
 use Rattle.tl_segments.specs.County.{CountyParts}
 
 -- the matches of an address, or why there are none

@@ -1,16 +1,17 @@
 //! Addresses looked up in counties.
-ghost use Rattle.std.specs.Prelude.{◌≡◌, map, IfOk, OnOk};
+ghost use Rattle.std.specs.Prelude.{◌≡◌, ℕ, List, map, IfOk, OnOk};
 
 use crate::address_query::AddressQuery;
 use crate::cells::push_lines;
 use crate::lines::Lines;
 use crate::lookup::LookupResult;
+use crate::shaped::placed_lookup;
 use addresses::Address;
 use geocode::Gazetteer;
 use itoa::Buffer;
 use std::alloc::{AllocError, Allocator, Global};
 use std::marker::Model;
-use tl_segments::County;
+use tl_segments::{County, Shapes};
 
 /// Counties to look for addresses in, with their codes and an index of their street names. Contracts see it as a record with the fields `counties`
 /// and `codes`.
@@ -37,7 +38,8 @@ impl<'a, A: Allocator + Copy> Batch<'a, A> {
     ghost use Rattle.addresses.specs.Address.{parts_of};
     ghost use Rattle.batch.specs.LookupResult.{lookup_of};
     ghost use Rattle.batch.specs.LookupResult as looked_up;
-    ghost use Rattle.batch.specs.Lines.{lines_of};
+    ghost use Rattle.batch.specs.Lines.{id_of, lines_of, lines_with};
+    ghost use Rattle.batch.specs.ShapedLookup.{AreShapedLines, AreShapesOf, IsShapedLookup};
 
     /// Indexes the street names of counties, to look for addresses in them. The codes are in the order of the counties.
     pub fn of(alloc: A, counties: &'a [County<A>], codes: &'a [&'a str]) -> Result<Self, AllocError>
@@ -61,13 +63,61 @@ impl<'a, A: Allocator + Copy> Batch<'a, A> {
         ensures { OnOk result (lines.new ≡ lines_of self.now.codes self.now.counties (parts_of address.now)) }
     {
         let lookup = self.lookup(alloc, address)?;
+        self.write_lookup(tables, address, &lookup, lines)
+    }
+
+    /// Does what [`write_lines`](Self::write_lines) does, but with each match in its place along the shape of its segment. The shapes are those of the
+    /// counties, in their order.
+    pub fn write_shaped_lines(
+        &self,
+        alloc: A,
+        tables: Global,
+        address: &Address<'_>,
+        shapes: &[Shapes<A>],
+        lines: &mut Lines,
+    ) -> Result<(), AllocError>
+        ensures { (rt2 : List (List (List ℕ))) → AreShapesOf shapes.now rt2
+            → OnOk result (AreShapedLines rt2 self.now.codes self.now.counties (parts_of address.now) lines.new) }
+    {
+        let lookup = self.shaped_lookup(alloc, address, shapes)?;
+        self.write_lookup(tables, address, &lookup, lines)
+    }
+
+    /// Writes the lines of the answer for an address in place of the lines that are there.
+    fn write_lookup(
+        &self,
+        tables: Global,
+        address: &Address<'_>,
+        lookup: &LookupResult<'a, A>,
+        lines: &mut Lines,
+    ) -> Result<(), AllocError>
+        ensures { OnOk result (lines.new ≡ lines_with (id_of (parts_of address.now)) self.now.codes (looked_up.parts_of lookup.now)) }
+    {
         let mut line = Buffer::new();
         let id = match address.id {
             Some(id) => id,
             None => line.format(address.line),
         };
         lines.clear();
-        push_lines(tables, id.as_bytes(), self.codes, &lookup, lines)
+        push_lines(tables, id.as_bytes(), self.codes, lookup, lines)
+    }
+
+    /// Looks for an address, and for the places of its matches along the shapes of their segments.
+    fn shaped_lookup(
+        &self,
+        alloc: A,
+        address: &Address<'_>,
+        shapes: &[Shapes<A>],
+    ) -> Result<LookupResult<'a, A>, AllocError>
+        ensures { (rt2 : List (List (List ℕ))) → AreShapesOf shapes.now rt2
+            → IfOk result (λ lookup. IsShapedLookup rt2 self.now.counties (parts_of address.now) (looked_up.parts_of lookup)) }
+    {
+        let address_query = match AddressQuery::of(address) {
+            Ok(address_query) => address_query,
+            Err(reason) => return Ok(LookupResult::NotFound(reason)),
+        };
+        let lookup = address_query.lookup(alloc, &self.gazetteer, self.counties)?;
+        placed_lookup(alloc, address_query.query.number, &lookup, shapes)
     }
 
     /// Looks for an address.

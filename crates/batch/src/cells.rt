@@ -5,12 +5,12 @@ ghost use Rattle.batch.specs.LookupResult as looked_up;
 ghost use Rattle.batch.specs.Lines.{header, latitude_cell, code_at, line, lines_with, longitude_cell, match_cells, none_cells, reason_text, status_text};
 ghost use Rattle.geocode.specs.Matches.{match_of};
 
-use crate::degrees::{DEGREES_LENGTH, degrees};
 use crate::lines::Lines;
 use crate::lookup::{LookupResult, Status, status_of};
 use crate::reason::Reason;
 use crate::row::Cells;
 use arrayvec::ArrayVec;
+use degrees::{DEGREES_LENGTH, degrees};
 use geocode::{Match, Place};
 use itoa::Buffer;
 use std::alloc::{AllocError, Allocator, Global};

@@ -4,11 +4,11 @@
 mod address_query;
 mod batch;
 mod cells;
-mod degrees;
 mod lines;
 mod lookup;
 mod reason;
 mod row;
+mod shaped;
 
 pub use batch::Batch;
 pub use cells::header;

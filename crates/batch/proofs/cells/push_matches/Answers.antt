@@ -16,8 +16,8 @@ loop-one-preserved c =
     let status = status_of (map match_of found) in
     let line_of : Match → List ℕ = λ one. line (match_cells c.args.id.now status codes (match_of one)) in
     let now = c.loop-one.lines in
-    rw c.status_of-status.ensures at c.in_ok-push_match.ensures
-    ∙ flat_map-next line_of c.args.lines.now now found c.loop-one.one-index _ c.loop-one-test.true c.loop-one.invariant
+    rw c.status_of-status.ensures at c.in_ok-push_match.ensures ∙ ap (λ one. now ++ line_of one) c.one-item.is
+    ∙ flat_map-next line_of c.args.lines.now now found c.loop-one.one-index c.one-item.result c.loop-one-test.true c.loop-one.invariant
 
 pub returns : goal.returns
 returns c =

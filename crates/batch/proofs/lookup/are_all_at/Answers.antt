@@ -1,4 +1,4 @@
-use Rattle.std.proofs.Common.{Bool, sym, ◌∙◌}
+use Rattle.std.proofs.Common.{Bool, ap, sym, ◌∙◌}
 use Rattle.std.proofs.lemmas.List.Folds.{list_all_at, list_all-map}
 use Rattle.batch.specs.LookupResult.{is_at}
 use Rattle.geocode.specs.Matches.{MatchParts, match_of}
@@ -10,5 +10,5 @@ returns-then-not-is_at c =
     let test : MatchParts → Bool = λ other. is_at c.args.place other.hit.place in
     let found = c.args.found.now in
     sym (list_all-map test match_of found
-    ∙ list_all_at (λ (other : Match). test (match_of other)) found c.loop-other.other-index _ c.loop-other-test.true
-    (sym c.is_at.ensures ∙ c.if-not-is_at.true))
+    ∙ list_all_at (λ (other : Match). test (match_of other)) found c.loop-other.other-index c.other-item.result c.loop-other-test.true
+    (ap (λ (other : Match). test (match_of other)) (sym c.other-item.is) ∙ sym c.is_at.ensures ∙ c.if-not-is_at.true))
