@@ -148,7 +148,7 @@ module _ {A : Type 0} (code : List Insn) (filter : Filter A) (score : Option Num
   only_extract : (segments : List SegmentParts) → All IsSegment segments → (text : List ℕ) (rows : ℕ) → IsExtract code segments text rows
       → IsExtractOf filter score segments text rows
   only_extract segments all text rows is =
-      let same = one_extract_lem code segments text (rows_of filter score segments) rows (count_of filter segments) is
+      let same = one_extract_lem row_of code segments text (rows_of filter score segments) rows (count_of filter segments) is
       (extracts code filter score chooses segments all) in
       record { text_is = same.0; rows_are = same.1 }
 

@@ -10,6 +10,6 @@ mod token;
 
 pub use characters::character;
 pub use lexer::Tokens;
-pub use name::column_named;
+pub use name::{column_name, column_named};
 pub use nearest::nearest_column;
 pub use token::{Keyword, Numeral, Token};
