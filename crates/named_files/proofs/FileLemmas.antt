@@ -1,9 +1,9 @@
 -- What opening, reading and closing files counts.
-use Rattle.std.proofs.Common.{◌≡◌, ◌≢◌, ℕ, List, Option, Result, Ok, Err, IfErr, MatchResult, inr, sym, ◌∙◌, arith}
+use Rattle.std.proofs.Common.{◌≡◌, ◌≢◌, ℕ, List, Option, Result, Ok, Err, IfErr, MatchResult, inl, inr, sym, ◌∙◌, arith}
 use Rattle.std.specs.Io.KnownBytes.{Keeps}
 use Rattle.std.specs.declared.io.Error.{Error}
 use Rattle.named_files.specs.Files.{CountsClose, CountsProgramFault, Disk, IsUnfailed}
-use Rattle.named_files.specs.Files.{CountsFileResult, CountsProgramUse, CountsUseResult, IsProgramUseFault, IsUseFault}
+use Rattle.named_files.specs.Files.{CountsFileFault, CountsFileResult, CountsProgramUse, CountsUseResult, IsOpenFault, IsProgramUseFault, IsUseFault}
 use Rattle.named_files.specs.declared.files.FileFault.{FileFault}
 use Rattle.named_files.specs.declared.files.FileFault.TheVariants.{Unusable, Memory}
 use Rattle.named_files.specs.declared.files.ProgramInputFault.{ProgramInputFault}
@@ -37,7 +37,13 @@ module _ (disk disk' : Disk) {before after between : ℕ} (opens : disk'.failed_
       → CountsClose after between disk'.failed_reads → CountsProgramUse result disk disk'
   used_program result reads closes = grind (arith, reads, closes)
 
--- the file of this name was opened; if it can't be used, a read failed
+-- the file can't be opened
+pub open_fault : {R : Type 0} (HasResult : Result R Error → Type 0) (disk disk' : Disk) (fault : FileFault) → IsOpenFault HasResult fault
+    → CountsFileFault fault disk.failed_opens disk'.failed_opens → IsUseFault HasResult disk disk' fault
+open_fault HasResult disk disk' (Unusable error) is counts = inl (is, counts)
+open_fault HasResult disk disk' Memory is counts = tt
+
+-- the file was opened; if it can't be used, a read failed
 module _ {R : Type 0} (HasResult : Result R Error → Type 0) (disk disk' : Disk) {before after between : ℕ} (unread : before ≡ 0)
     (same : between ≡ disk.failed_reads) (reader : R) (opened : HasResult (Ok reader)) where
   pub read_fault : {T : Type 0} (result : Result T FileFault) → CountsFileResult result before after

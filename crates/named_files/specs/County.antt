@@ -7,7 +7,7 @@ use Rattle.tl_segments.specs.Loading.{Readers}
 use Rattle.tl_segments.specs.declared.county_files.CountyFiles.{CountyFiles}
 use Rattle.tl_segments.specs.declared.county_files.JoinedFiles.{JoinedFiles}
 use Rattle.tl_segments.specs.declared.fault.CountyFile.{CountyFile}
-use Rattle.tl_segments.specs.declared.fault.CountyFile.TheVariants.{Rt1, Rt4, Rt5, Rt6}
+use Rattle.tl_segments.specs.declared.fault.CountyFile.TheVariants.{Rt1, Rt2, Rt4, Rt5, Rt6}
 use Rattle.named_files.specs.Files.{CountsClose, IsOpenFault, IsUnread, input_failed_reads, input_remaining}
 use Rattle.named_files.specs.declared.county.CountyFileFault.{CountyFileFault}
 use Rattle.named_files.specs.declared.files.Input.{Input}
@@ -16,6 +16,7 @@ use Rattle.named_files.specs.declared.files.Input.TheVariants as input
 -- the extension of a county's file
 abbrev pub name_end : CountyFile → List ℕ
 name_end Rt1 = codes ".RT1"
+name_end Rt2 = codes ".RT2"
 name_end Rt4 = codes ".RT4"
 name_end Rt5 = codes ".RT5"
 name_end Rt6 = codes ".RT6"
@@ -24,9 +25,14 @@ name_end Rt6 = codes ".RT6"
 abbrev pub file_name : List ℕ → List ℕ → CountyFile → List ℕ
 file_name folder code file = folder ++ codes "/TGR" ++ code ++ name_end file
 
--- this is the name of one of the county's files in the folder
+-- a county is loaded from this file: from all of its files but that of type 2
+abbrev pub IsLoaded : CountyFile → Type 0
+IsLoaded Rt2 = ⊥
+IsLoaded file = ⊤
+
+-- this is the name of one of the files in the folder that the county is loaded from
 abbrev pub IsFileOfCounty : List ℕ → List ℕ → List ℕ → Type 0
-IsFileOfCounty folder code name = (file : CountyFile) × (name ≡ file_name folder code file)
+IsFileOfCounty folder code name = (file : CountyFile) × IsLoaded file × (name ≡ file_name folder code file)
 
 -- The readers hold the files of types 4, 5 and 6 of a county in the folder; below, all files of the county.
 pub record HoldJoined (known : List ℕ → Option (List ℕ)) (folder code : List ℕ) (readers : Readers) : Type 0 where
@@ -60,6 +66,6 @@ pub record ClosesCounty (readers : CountyReaders) (failed failed' : ℕ) : Type 
   pub rt5 : CountsClose readers.joined.rt5.failed after_rt4 after_rt5
   pub rt6 : CountsClose readers.joined.rt6.failed after_rt5 failed'
 
--- why a county's file can't be opened: an open of it failed with this error, or memory ran out
+-- why a file that a county is loaded from can't be opened: an open of it failed with this error, or memory ran out
 abbrev pub IsCountyOpenFault : {R : Type 0} → (List ℕ → Result R Error → Type 0) → List ℕ → List ℕ → CountyFileFault → Type 0
-IsCountyOpenFault opens folder code fault = IsOpenFault (opens (file_name folder code fault.file)) fault.fault
+IsCountyOpenFault opens folder code fault = IsLoaded fault.file × IsOpenFault (opens (file_name folder code fault.file)) fault.fault

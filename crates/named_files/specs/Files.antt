@@ -146,15 +146,31 @@ CountsProgramUse (Ok program) disk disk' = IsUnfailed disk disk'
 CountsProgramUse (Err (File fault)) disk disk' = CountsUse fault disk disk'
 CountsProgramUse (Err (Code fault)) disk disk' = IsUnfailed disk disk'
 
+-- which results an open of the file of a name has, as far as is known
+abbrev pub OpenResults : Type 0 → Type 1
+OpenResults R = List ℕ → Result R Error → Type 0
+
+-- nothing is known of the results of opens
+abbrev pub unknown_opens : OpenResults ⊤
+unknown_opens name result = ⊤
+
+-- a file can't be opened: an open of it failed with this error
+abbrev pub FailsToOpen : {R : Type 0} → (Result R Error → Type 0) → Error → Disk → Disk → Type 0
+FailsToOpen HasResult error disk disk' = HasResult (Err error) × (disk'.failed_opens ≢ disk.failed_opens)
+
+-- a file can't be used: an open of it failed with this error; or it was opened, and then a read failed
+abbrev pub FailsToUse : {R : Type 0} → (Result R Error → Type 0) → Error → Disk → Disk → Type 0
+FailsToUse {R} HasResult error disk disk' =
+    FailsToOpen HasResult error disk disk' ⊎ ((reader : R) × HasResult (Ok reader) × (disk'.failed_reads ≢ disk.failed_reads))
+
 -- why a file can't be opened: an open of it failed with this error, or memory ran out
 abbrev pub IsOpenFault : {R : Type 0} → (Result R Error → Type 0) → FileFault → Type 0
 IsOpenFault HasResult (Unusable error) = HasResult (Err error)
 IsOpenFault HasResult Memory = ⊤
 
--- why a file can't be read: an open of it failed with this error; or it was opened, and then a read failed; or memory ran out
+-- why a file can't be read: it can't be used, with this error; or memory ran out
 abbrev pub IsUseFault : {R : Type 0} → (Result R Error → Type 0) → Disk → Disk → FileFault → Type 0
-IsUseFault {R} HasResult disk disk' (Unusable error) =
-    HasResult (Err error) ⊎ ((reader : R) × HasResult (Ok reader) × (disk'.failed_reads ≢ disk.failed_reads))
+IsUseFault HasResult disk disk' (Unusable error) = FailsToUse HasResult error disk disk'
 IsUseFault HasResult disk disk' Memory = ⊤
 
 -- the same for a program, unless it is refused for its length

@@ -1,6 +1,6 @@
 //! The files of a county (TIGER/Line 2006, record types 1, 4, 5 and 6), opened by name.
 ghost use Rattle.std.specs.Prelude.{◌≡◌, IfErr, IfOk, string_bytes};
-ghost use Rattle.named_files.specs.County.{ClosesCounty, HoldCounty, HoldJoined, IsCountyOpenFault, IsOpened, county_readers, file_name, joined_readers, name_end};
+ghost use Rattle.named_files.specs.County.{ClosesCounty, HoldCounty, HoldJoined, IsCountyOpenFault, IsLoaded, IsOpened, county_readers, file_name, joined_readers, name_end};
 ghost use Rattle.named_files.specs.Files.{Closes, IsUnread, Opens, disk, input_reader};
 ghost use Rattle.named_files.specs.declared.files.FileFault.TheVariants.{Memory};
 
@@ -88,6 +88,7 @@ fn open_file<A: Allocator + Copy, F: Files>(
     code: &str,
     file: CountyFile,
 ) -> Result<Input<F::Reader>, CountyFileFault>
+    requires { IsLoaded file }
     ensures known { IfOk result (λ input. IsUnread (F.bytes files.old (file_name folder.now code.now file))
         (input_reader F.Reader.remaining F.Reader.failed_reads input)) }
     ensures is_open { IfOk result (λ input. file ≡ CountyFile.Rt1 → IsOpened input) }
@@ -147,6 +148,7 @@ pub fn name_end(file: CountyFile) -> &'static str
 {
     match file {
         CountyFile::Rt1 => ".RT1",
+        CountyFile::Rt2 => ".RT2",
         CountyFile::Rt4 => ".RT4",
         CountyFile::Rt5 => ".RT5",
         CountyFile::Rt6 => ".RT6",
