@@ -9,7 +9,7 @@ use Rattle.commands.specs.Command.{CarriesOut, Ends, IsCarriedOut, IsFlushed, Is
 use Rattle.commands.specs.Command.{Writes, after_failed_flush, after_flush, after_write}
 use Rattle.named_files.specs.County.{file_name}
 use Rattle.commands.specs.Failure.{IsFailureBeforeFlush, Reports, refusal_status, status}
-use Rattle.named_files.specs.Files.{Disk}
+use Rattle.named_files.specs.Files.{Disk, OpenResults}
 use Rattle.commands.specs.Command.{IsUnusable, of_county, of_county_file, of_file, of_source, of_two, of_write}
 use Rattle.commands.proofs.ClassLemmas.{address_status, filter_status}
 use Rattle.commands.proofs.SelectLemmas.{counties_counts}
@@ -27,10 +27,10 @@ flush_counted flush counts counts' is same = grind (arith, is, same)
 write_counts : (request : Request) (known : List ℕ → Option (List ℕ)) (fault : WriteFault) (out out' : Writer)
     → Writes request known (Err fault) out out' → CountsFault fault out.counts out'.counts
 write_counts (Run arguments) known fault out out' is =
-    subst (λ (counts : WriteCounts). CountsFault fault counts out'.counts) is.outcome.2.before.counts is.outcome.2.row.5
+    subst (λ (counts : WriteCounts). CountsFault fault counts out'.counts) is.outcome.2.before.counts is.outcome.2.cut_short.5
 write_counts (Select arguments) known fault out out' is =
     subst (λ (counts : WriteCounts). CountsFault fault counts out'.counts)
-    (is.2.stops.outcome.before.counts ∙ counties_counts is.2.written) is.2.stops.outcome.row.5
+    (is.2.stops.outcome.before.counts ∙ counties_counts is.2.written) is.2.stops.outcome.cut_short.5
 write_counts request known fault out out' is = is.written.1
 
 -- a text's refusal is never an I/O failure
@@ -76,16 +76,17 @@ module _ {of : ℕ} {request : Request} (known : List ℕ → Option (List ℕ))
     reported = reported;
   }
 
-module _ {request : Request} {disk disk' : Disk} {out unflushed out' errors errors' : Writer} (flush : IsFlushed unflushed out') where
-  refused_flushed : (failure : Failure) → CarriesOut request (Err failure) disk disk' out unflushed → Reports failure errors errors'
+module _ {R : Type 0} {opens : OpenResults R} {request : Request} {disk disk' : Disk} {out unflushed out' errors errors' : Writer}
+    (flush : IsFlushed unflushed out') where
+  refused_flushed : (failure : Failure) → CarriesOut opens request (Err failure) disk disk' out unflushed → Reports failure errors errors'
       → status failure ≡ 1 → IsRefusal request disk.known out out' errors errors'
   refused_flushed (Refusal refusal) carried reported one = refusal_reported disk.known unflushed flush (Refusal refusal) carried.outcome.0 reported one
   refused_flushed (Noted refusal note) carried reported one = refusal_reported disk.known unflushed flush (Noted refusal note) carried.outcome reported one
   refused_flushed (County code refusal) carried reported one = refusal_reported disk.known unflushed flush (County code refusal) carried.outcome.0 reported one
   refused_flushed failure carried reported one = absurd (omega (arith, one))
 
-  unusable_flushed : (failure : Failure) → CarriesOut request (Err failure) disk disk' out unflushed → Reports failure errors errors'
-      → status failure ≡ 3 → IsUnusable request disk disk' out out' errors errors'
+  unusable_flushed : (failure : Failure) → CarriesOut opens request (Err failure) disk disk' out unflushed → Reports failure errors errors'
+      → status failure ≡ 3 → IsUnusable opens request disk disk' out out' errors errors'
   unusable_flushed (Refusal refusal) carried reported three =
       of_county (carried.outcome.1 three) (refusal_reported disk.known unflushed flush (Refusal refusal) carried.outcome.0 reported three)
   unusable_flushed (County code refusal) carried reported three =
@@ -95,16 +96,16 @@ module _ {request : Request} {disk disk' : Disk} {out unflushed out' errors erro
       of_write fault unflushed carried.outcome (write_counts request disk.known fault out unflushed carried.outcome) reported
       flush.unchanged (Ok tt) (flush.failed, flush.empty, flush.flushes)
   unusable_flushed (File name error) carried reported three =
-      of_file name.now carried.names carried.outcome.1 (flushed_as carried.outcome.0 flush) reported
+      of_file name.now error carried.names carried.outcome.1 (flushed_as carried.outcome.0 flush) reported
   unusable_flushed (CountyFile folder code file error) carried reported three =
-      of_county_file (file_name folder.now code.now file) carried.names carried.outcome.1 unflushed carried.outcome.0 flush reported
+      of_county_file (file_name folder.now code.now file) error carried.names carried.outcome.1 unflushed carried.outcome.0 flush reported
   unusable_flushed (NotUtf8 name) carried reported three =
       of_source name.now carried.outcome.1 (flushed_as carried.outcome.0 flush) reported
   unusable_flushed (Output error) carried reported three = absurd carried.outcome
   unusable_flushed failure carried reported three = absurd (omega (arith, three))
 
-module _ {of : ℕ} {request : Request} {disk disk' : Disk} {out unflushed out' errors errors' : Writer} (failure : Failure)
-    (carried : CarriesOut request (Err failure) disk disk' out unflushed) (ends : Ends failure of unflushed out' errors errors') where
+module _ {of : ℕ} {R : Type 0} {opens : OpenResults R} {request : Request} {disk disk' : Disk} {out unflushed out' errors errors' : Writer} (failure : Failure)
+    (carried : CarriesOut opens request (Err failure) disk disk' out unflushed) (ends : Ends failure of unflushed out' errors errors') where
   -- a library refused the request
   pub refused_ended : of ≡ 1 → IsRefusal request disk.known out out' errors errors'
   refused_ended one =
@@ -113,13 +114,13 @@ module _ {of : ℕ} {request : Request} {disk disk' : Disk} {out unflushed out' 
       refused_flushed is.0 failure carried is.1 (sym (ends_status failure other ends) ∙ one)
 
 -- a file or the output can't be used
-module _ {of : ℕ} {request : Request} {disk disk' : Disk} {out unflushed out' errors errors' : Writer} where
-  pub unusable_ended : (failure : Failure) → CarriesOut request (Err failure) disk disk' out unflushed
-      → Ends failure of unflushed out' errors errors' → of ≡ 3 → IsUnusable request disk disk' out out' errors errors'
+module _ {of : ℕ} {R : Type 0} {opens : OpenResults R} {request : Request} {disk disk' : Disk} {out unflushed out' errors errors' : Writer} where
+  pub unusable_ended : (failure : Failure) → CarriesOut opens request (Err failure) disk disk' out unflushed
+      → Ends failure of unflushed out' errors errors' → of ≡ 3 → IsUnusable opens request disk disk' out out' errors errors'
   unusable_ended failure carried (after_flush is flush reported) three = unusable_flushed flush failure carried reported (sym is ∙ three)
   unusable_ended failure carried (after_write fault is unusable unchanged reported flush counts) three =
       let outcome : Writes request disk.known (Err fault) out unflushed =
-      subst (λ (failure : Failure). IsCarriedOut request (Err failure) disk disk' out unflushed) is carried.outcome in
+      subst (λ (failure : Failure). IsCarriedOut opens request (Err failure) disk disk' out unflushed) is carried.outcome in
       of_write fault unflushed outcome (write_counts request disk.known fault out unflushed outcome)
       (subst (λ (failure : Failure). Reports failure errors errors') is reported) unchanged flush counts
   unusable_ended failure carried (after_failed_flush before unusable between reported flush) three = of_two (record {

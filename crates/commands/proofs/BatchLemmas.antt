@@ -22,7 +22,7 @@ use Rattle.tl_segments.specs.County.{CountyParts}
 use Rattle.commands.specs.Command.{CarriesOut}
 use Rattle.commands.specs.Counties.{AreCountiesOf, HaveRefusedCounty, IsFileOfCounties, IsLoadFailure}
 use Rattle.commands.specs.Failure.{IsOfAddresses, NamesFile, IsUnfailedUnlessUnusable, WritesAs, refusal_status, status}
-use Rattle.named_files.specs.Files.{Disk, IsUnfailed}
+use Rattle.named_files.specs.Files.{Disk, IsUnfailed, OpenResults}
 use Rattle.commands.specs.GeocodeBatch.{AreAddressesOf, Inputs, IsFaultOf, IsAddressesFault, WritesBatch, WritesUnlessMemory, codes_of, fault_of}
 use Rattle.commands.specs.GeocodeBatch.{of_county, of_memory, output}
 use Rattle.commands.specs.declared.failure.Failure.{Failure}
@@ -210,11 +210,11 @@ addresses_fault file NoHeader is_failure other = is_failure
 addresses_fault file (At line flaw) is_failure other = is_failure
 
 -- The file of addresses was read, and what is known of the files stays the same. Then a county can't be loaded.
-module _ (batch : GeocodeBatch) {disk later disk' : Disk} {out : Writer} (before : IsUnfailed disk later)
+module _ {R : Type 0} (opens : OpenResults R) (batch : GeocodeBatch) {disk later disk' : Disk} {out : Writer} (before : IsUnfailed disk later)
     (same : (name : List ℕ) → later.known name ≡ disk.known name) where
-  county_failed : (failure : Failure) → IsLoadFailure (HaveRefusedCounty later.known batch.«data».now (codes_of batch)) later disk' failure
+  county_failed : (failure : Failure) → IsLoadFailure opens (HaveRefusedCounty later.known batch.«data».now (codes_of batch)) later disk' failure
       → NamesFile (IsFileOfCounties batch.«data».now (codes_of batch)) failure → IsUnfailedUnlessUnusable {T = ℕ} (Err failure) later disk'
-      → CarriesOut (request.GeocodeBatch batch) (Err failure) disk disk' out out
+      → CarriesOut opens (request.GeocodeBatch batch) (Err failure) disk disk' out out
   county_failed (failure.Refusal refusal) is_failure names counts = record {
     outcome = (
       of_county (subst (λ known. HaveRefusedCounty known batch.«data».now (codes_of batch) refusal) (fun_ext same) is_failure.0) refl,
@@ -225,7 +225,7 @@ module _ (batch : GeocodeBatch) {disk later disk' : Disk} {out : Writer} (before
     unflushed = refl;
   }
   county_failed (failure.CountyFile folder code file error) is_failure names counts = record {
-    outcome = (refl, λ as_before. is_failure (as_before ∙ sym before.opens));
+    outcome = (refl, (is_failure.0, λ as_before. is_failure.1 (as_before ∙ sym before.opens)));
     names = inr names;
     counts = λ other. unfailed_both before (counts other);
     unflushed = refl;
@@ -239,12 +239,12 @@ module _ (batch : GeocodeBatch) {disk later disk' : Disk} {out : Writer} (before
   county_failed failure is_failure names counts = absurd is_failure
 
   module _ (codes : List (Bor (List ℕ))) (lent : codes ≡ batch.codes.items) where
-    pub counties_failed : (failure : Failure) → IsLoadFailure (HaveRefusedCounty later.known batch.«data».now (texts codes)) later disk' failure
+    pub counties_failed : (failure : Failure) → IsLoadFailure opens (HaveRefusedCounty later.known batch.«data».now (texts codes)) later disk' failure
         → NamesFile (IsFileOfCounties batch.«data».now (texts codes)) failure → IsUnfailedUnlessUnusable {T = ℕ} (Err failure) later disk'
-        → CarriesOut (request.GeocodeBatch batch) (Err failure) disk disk' out out
+        → CarriesOut opens (request.GeocodeBatch batch) (Err failure) disk disk' out out
     counties_failed failure is_failure names =
         county_failed failure
-        (subst (λ codes. IsLoadFailure (HaveRefusedCounty later.known batch.«data».now (texts codes)) later disk' failure) lent is_failure)
+        (subst (λ codes. IsLoadFailure opens (HaveRefusedCounty later.known batch.«data».now (texts codes)) later disk' failure) lent is_failure)
         (subst (λ codes. NamesFile (IsFileOfCounties batch.«data».now (texts codes)) failure) lent names)
 
 -- the counties are loaded
@@ -261,10 +261,11 @@ module _ (batch : GeocodeBatch) {known later : List ℕ → Option (List ℕ)} (
   }
 
 -- The file of addresses and the counties are loaded.
-module _ (batch : GeocodeBatch) {disk disk' : Disk} (inputs : Inputs batch disk.known) (counts : IsUnfailed disk disk') {out : Writer} where
+module _ {R : Type 0} {opens : OpenResults R} (batch : GeocodeBatch) {disk disk' : Disk} (inputs : Inputs batch disk.known)
+    (counts : IsUnfailed disk disk') {out : Writer} where
   -- not all of the file's addresses are read
   pub addresses_failed : (fault : AddressFault) (failed : Failure) → IsAddressesFault inputs.file fault → IsOfAddresses fault failed
-      → CarriesOut (request.GeocodeBatch batch) (Err failed) disk disk' out out
+      → CarriesOut opens (request.GeocodeBatch batch) (Err failed) disk disk' out out
   addresses_failed fault (failure.Noted refusal note) is_failure is = record {
     outcome = (record { inputs = inputs; fault = fault; is_fault = addresses_fault inputs.file fault is_failure is.0; refused = is.1 }, refl);
     names = tt;
@@ -278,7 +279,7 @@ module _ (batch : GeocodeBatch) {disk disk' : Disk} (inputs : Inputs batch disk.
   -- all are read, and then the output is written
   pub batch_carried : {out' : Writer} (addresses : List AddressParts) (result : Result (Unit {0}) Failure)
       → AreAddressesOf inputs.file addresses → WritesBatch (output inputs) addresses result out out'
-      → CarriesOut (request.GeocodeBatch batch) result disk disk' out out'
+      → CarriesOut opens (request.GeocodeBatch batch) result disk disk' out out'
   batch_carried addresses (Ok done) are wrote = record {
     outcome = record { inputs = inputs; addresses = addresses; are_addresses = are; written = wrote };
     names = tt;
@@ -302,7 +303,7 @@ module _ (batch : GeocodeBatch) {disk disk' : Disk} (inputs : Inputs batch disk.
   pub batch_lent : {out' : Writer} (result : Result (Unit {0}) Failure) (made : BatchParts)
       → made ≡ record { counties = inputs.counties; codes = codes_of batch } → (addresses : List AddressParts)
       → AreAddressesOf inputs.file addresses → WritesBatch (lines_of_all made.codes made.counties) addresses result out out'
-      → CarriesOut (request.GeocodeBatch batch) result disk disk' out out'
+      → CarriesOut opens (request.GeocodeBatch batch) result disk disk' out out'
   batch_lent {out'} result made is addresses are wrote =
       batch_carried addresses result are
       (subst (λ (made : BatchParts). WritesBatch (lines_of_all made.codes made.counties) addresses result out out') is wrote)

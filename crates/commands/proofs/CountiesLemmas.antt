@@ -8,14 +8,14 @@ use Rattle.std.proofs.lemmas.Slice.Zip.{all_zipped_more}
 use Rattle.tl_segments.specs.County.{CountyParts}
 use Rattle.refusals.specs.Refusal.{RefusalParts}
 use Rattle.commands.specs.Counties.{AreCountiesOf, HaveRefusedCounty, IsCountyOf, IsFileOfCounties, IsRefusedCounty, IsLoadFailure}
-use Rattle.named_files.specs.County.{IsFileOfCounty, file_name}
+use Rattle.named_files.specs.County.{IsFileOfCounty, IsLoaded, file_name}
 use Rattle.commands.specs.Failure.{NamesFile, of_county_file, status}
-use Rattle.named_files.specs.Files.{CountsFileFault, Disk, IsUnfailed}
+use Rattle.named_files.specs.Files.{CountsFileFault, Disk, IsOpenFault, IsUnfailed, OpenResults}
 use Rattle.tl_segments.specs.declared.fault.CountyFile as county_file
 use Rattle.named_files.specs.declared.files.FileFault.{FileFault}
 use Rattle.named_files.specs.declared.files.FileFault.TheVariants as fault
 use Rattle.commands.specs.declared.failure.Failure.{Failure}
-use Rattle.commands.specs.declared.failure.Failure.TheVariants.{Memory, File, CountyFile}
+use Rattle.commands.specs.declared.failure.Failure.TheVariants.{Refusal, Memory, File, CountyFile}
 use Rattle.commands.proofs.CarriedLemmas.{refusal_not_usage}
 
 abbrev pub texts : List (Bor (List ℕ)) → List (List ℕ)
@@ -72,33 +72,39 @@ module _ (folder : List ℕ) (codes : List (Bor (List ℕ))) (i : ℕ) (d : Bor 
   named_after failure is = tt
 
 -- the same failure, counted from an earlier point since which no open and no read failed
-pub earlier_load_failure : {IsRefusedNow IsRefusedSo : RefusalParts → Type 0} (disk later disk' : Disk) (failure : Failure) → IsUnfailed disk later
-    → ((refusal : RefusalParts) → IsRefusedNow refusal → IsRefusedSo refusal) → IsLoadFailure IsRefusedNow later disk' failure
-    → IsLoadFailure IsRefusedSo disk disk' failure
-earlier_load_failure disk later disk' failure unfailed so is_failure = grind (arith, is_failure)
+pub earlier_load_failure : {R : Type 0} (opens : OpenResults R) {IsRefusedNow IsRefusedSo : RefusalParts → Type 0} (disk later disk' : Disk)
+    (failure : Failure) → IsUnfailed disk later → ((refusal : RefusalParts) → IsRefusedNow refusal → IsRefusedSo refusal)
+    → IsLoadFailure opens IsRefusedNow later disk' failure → IsLoadFailure opens IsRefusedSo disk disk' failure
+earlier_load_failure opens disk later disk' (Refusal refusal) unfailed so is =
+    (so refusal is.0, λ three as_before. is.1 three (as_before ∙ sym unfailed.reads))
+earlier_load_failure opens disk later disk' (CountyFile folder code file error) unfailed so is =
+    (is.0, λ as_before. is.1 (as_before ∙ sym unfailed.opens))
+earlier_load_failure opens disk later disk' Memory unfailed so is = tt
+earlier_load_failure opens disk later disk' failure unfailed so is = absurd is
 
 -- a county's file can't be opened
-pub open_failure : (IsRefusedSo : RefusalParts → Type 0) (disk disk' : Disk) (folder code : Bor (List ℕ)) (file : county_file.CountyFile)
-    (of : FileFault) → CountsFileFault of disk.failed_opens disk'.failed_opens
-    → IsLoadFailure IsRefusedSo disk disk' (of_county_file folder code file of)
-open_failure IsRefusedSo disk disk' folder code file of opens = grind (arith, opens)
+pub open_failure : {R : Type 0} (opens : OpenResults R) (IsRefusedSo : RefusalParts → Type 0) (disk disk' : Disk) (folder code : Bor (List ℕ))
+    (file : county_file.CountyFile) (of : FileFault) → IsOpenFault (opens (file_name folder.now code.now file)) of
+    → CountsFileFault of disk.failed_opens disk'.failed_opens → IsLoadFailure opens IsRefusedSo disk disk' (of_county_file folder code file of)
+open_failure opens IsRefusedSo disk disk' folder code file (fault.Unusable error) is counts = (is, counts)
+open_failure opens IsRefusedSo disk disk' folder code file fault.Memory is counts = tt
 
 pub open_counts : {disk disk' : Disk} (folder code : Bor (List ℕ)) (file : county_file.CountyFile) (of : FileFault)
     → CountsFileFault of disk.failed_opens disk'.failed_opens → disk'.failed_reads ≡ disk.failed_reads
     → status (of_county_file folder code file of) ≢ 3 → IsUnfailed disk disk'
 open_counts folder code file of opens reads other = grind (arith, opens)
 
-pub open_named : (folder code : Bor (List ℕ)) (file : county_file.CountyFile) (of : FileFault)
+pub open_named : (folder code : Bor (List ℕ)) (file : county_file.CountyFile) (of : FileFault) → IsLoaded file
     → NamesFile (IsFileOfCounty folder.now code.now) (of_county_file folder code file of)
-open_named folder code file (fault.Unusable error) = (file, refl)
-open_named folder code file fault.Memory = tt
+open_named folder code file (fault.Unusable error) loaded = (file, loaded, refl)
+open_named folder code file fault.Memory loaded = tt
 
 -- none of these is a usage error
-pub load_usage : (IsRefusedSo : RefusalParts → Type 0) (disk disk' : Disk) (failure : Failure) → IsLoadFailure IsRefusedSo disk disk' failure
-    → status failure ≢ 2
-load_usage IsRefusedSo disk disk' failure is_failure two = grind (arith, refusal_not_usage, is_failure, two)
+pub load_usage : {R : Type 0} (opens : OpenResults R) (IsRefusedSo : RefusalParts → Type 0) (disk disk' : Disk) (failure : Failure)
+    → IsLoadFailure opens IsRefusedSo disk disk' failure → status failure ≢ 2
+load_usage opens IsRefusedSo disk disk' failure is_failure two = grind (arith, refusal_not_usage, is_failure, two)
 
 -- running out of memory implies nothing about the counties
-pub memory_failure : {T : Type 0} (result : Result T Failure) (IsRefusedSo : RefusalParts → Type 0) (disk disk' : Disk)
-    → IsErrAnd result (λ failure. failure ≡ Memory) → IfErr result (IsLoadFailure IsRefusedSo disk disk')
-memory_failure result IsRefusedSo disk disk' is = grind (arith, is)
+pub memory_failure : {T R : Type 0} (opens : OpenResults R) (result : Result T Failure) (IsRefusedSo : RefusalParts → Type 0) (disk disk' : Disk)
+    → IsErrAnd result (λ failure. failure ≡ Memory) → IfErr result (IsLoadFailure opens IsRefusedSo disk disk')
+memory_failure opens result IsRefusedSo disk disk' is = grind (arith, is)

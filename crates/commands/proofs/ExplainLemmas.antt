@@ -19,7 +19,7 @@ use Rattle.counted_io.specs.Writing.{WritesText}
 use Rattle.commands.specs.Command.{CarriesOut}
 use Rattle.commands.specs.Explain.{HoldsLines, Inputs, IsFlowFault, WritesExplained, of_lines, of_memory, of_program, of_verdict}
 use Rattle.commands.specs.Failure.{refusal_status}
-use Rattle.named_files.specs.Files.{Disk, IsUnfailed}
+use Rattle.named_files.specs.Files.{Disk, IsUnfailed, OpenResults}
 use Rattle.commands.specs.declared.explain.Explain.{Explain}
 use Rattle.commands.specs.declared.failure.Failure.{Failure}
 use Rattle.commands.specs.declared.failure.Failure.TheVariants as failure
@@ -47,11 +47,12 @@ verdict_status : (place : ℕ) (cause : Cause) (refusal : RefusalParts) → refu
     → refusal_status refusal ≡ 3 → ⊥
 verdict_status place cause refusal is three = grind (arith, is, three)
 
-module _ (explain : Explain) {disk later disk' : Disk} {out : Writer} (before : IsUnfailed disk later) (after : IsUnfailed later disk')
+module _ {R : Type 0} {opens : OpenResults R} (explain : Explain) {disk later disk' : Disk} {out : Writer} (before : IsUnfailed disk later)
+    (after : IsUnfailed later disk')
     (same : (name : List ℕ) → later.known name ≡ disk.known name) where
   -- the program's bytes or its jumps are refused
   pub flow_refused : (bytes : List ℕ) (fault : ProgramFault) → Keeps (disk.known explain.program.now) (Some bytes) → IsFlowFault bytes fault
-      → CarriesOut (request.Explain explain) (Err (failure.Refusal (program_fault.refusal fault))) disk disk' out out
+      → CarriesOut opens (request.Explain explain) (Err (failure.Refusal (program_fault.refusal fault))) disk disk' out out
   flow_refused bytes fault holds is = record {
     outcome = (of_program bytes holds fault is refl refl, λ three. absurd (flow_status bytes fault is three));
     names = tt;
@@ -61,7 +62,7 @@ module _ (explain : Explain) {disk later disk' : Disk} {out : Writer} (before : 
 
   -- the source lines are refused
   pub lines_refused : (file : List ℕ) (fault : LinesFault) → HoldsLines later.known explain.lines file → lines_in file ≡ Err fault
-      → CarriesOut (request.Explain explain) (Err (failure.Refusal (lines_fault.refusal fault))) disk disk' out out
+      → CarriesOut opens (request.Explain explain) (Err (failure.Refusal (lines_fault.refusal fault))) disk disk' out out
   lines_refused file fault holds is = record {
     outcome = (of_lines file (holds_before explain.lines file same holds) fault is refl refl, λ three. absurd (lines_status fault three));
     names = tt;
@@ -71,7 +72,7 @@ module _ (explain : Explain) {disk later disk' : Disk} {out : Writer} (before : 
 
   -- the explanation is written, or memory runs out first
   pub explained_carried : {written : Writer} (inputs : Inputs explain disk.known) (result : Result (Unit {0}) Failure)
-      → WritesExplained inputs.code inputs.lines result out written → CarriesOut (request.Explain explain) result disk disk' out written
+      → WritesExplained inputs.code inputs.lines result out written → CarriesOut opens (request.Explain explain) result disk disk' out written
   explained_carried inputs (Ok done) wrote = record {
     outcome = record {
       inputs = inputs;

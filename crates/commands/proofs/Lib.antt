@@ -10,4 +10,5 @@ mod RunLemmas
 mod TraceLemmas
 mod SelectLemmas
 mod AnswerLemmas
+pub mod OpenLemmas
 mod BatchLemmas

@@ -16,7 +16,7 @@ use Rattle.tl_segments.specs.declared.fault.LoadFault.{LoadFault}
 use Rattle.commands.specs.Command.{CarriesOut}
 use Rattle.named_files.specs.County.{ClosesCounty}
 use Rattle.commands.specs.Failure.{of_extract}
-use Rattle.named_files.specs.Files.{Closes, Disk, IsUnfailed}
+use Rattle.named_files.specs.Files.{Closes, Disk, IsUnfailed, OpenResults}
 use Rattle.commands.specs.Inputs.{HoldInputs, HoldTooLong}
 use Rattle.commands.specs.Run.{IsOutcomeOf, IsRefused}
 use Rattle.commands.specs.declared.request.Request.TheVariants as request
@@ -74,8 +74,8 @@ module _ {run : Run} {disk between disk' : Disk} {out out' : Writer} {program by
     outcome = subst (λ (bytes : List ℕ). IsOutcome bytes (Err fault) old new out out') same is;
   }
 
-  pub run_stopped : (fault : ExtractFault) → IsOutcome bytes (Err fault) old new out out'
-      → CarriesOut (request.Run run) (Err (of_extract fault)) disk disk' out out'
+  pub run_stopped : {R : Type 0} {opens : OpenResults R} (fault : ExtractFault) → IsOutcome bytes (Err fault) old new out out'
+      → CarriesOut opens (request.Run run) (Err (of_extract fault)) disk disk' out out'
   run_stopped (extract.Program fault) is =
       refused_carried (program_fault.refusal fault) (extract.Program fault, refl, outcome_of (extract.Program fault) is)
       (closes.opens ∙ before.opens) (sound (program_status fault) (unread_closed hold.county (closes_from before closes) is.unread))
@@ -89,7 +89,7 @@ module _ {run : Run} {disk between disk' : Disk} {out out' : Writer} {program by
     outcome = outcome_of (extract.Write fault) is;
     names = tt;
     counts = λ other. absurd (other refl);
-    unflushed = fault_unflushed fault is.2.between.counts out'.counts is.2.row.5 ∙ flushes_as is.2.before.counts;
+    unflushed = fault_unflushed fault is.2.between.counts out'.counts is.2.cut_short.5 ∙ flushes_as is.2.before.counts;
   }
   run_stopped extract.Memory is =
       refused_carried (extract_fault.refusal extract.Memory) (extract.Memory, refl, outcome_of extract.Memory is)

@@ -15,7 +15,7 @@ use Rattle.refusals.specs.Refusal.{RefusalParts}
 use Rattle.commands.specs.Command.{CarriesOut, IsTextRefused}
 use Rattle.commands.specs.Counties.{IsFileOfCounties}
 use Rattle.commands.specs.Failure.{NamesFile, IsUnfailedUnlessUnusable}
-use Rattle.named_files.specs.Files.{Disk, IsUnfailed}
+use Rattle.named_files.specs.Files.{Disk, IsUnfailed, OpenResults}
 use Rattle.commands.specs.Filter.{IsCodeOfText, IsFilterFailure, IsFilterRefusal}
 use Rattle.commands.specs.Select.{FailsAs, IsCountyOutcome, IsCountyRefusal, Selection, SelectsCounties, SelectsCounty, StopsAt}
 use Rattle.commands.specs.Select as select
@@ -94,17 +94,17 @@ module _ (known later : List ℕ → Option (List ℕ)) (same : (name : List ℕ
   counties_stopped out' failure is = absurd is
 
 -- the same failure, counted from an earlier point since which no open and no read failed
-pub fails_after : (failure : Failure) (disk later disk' : Disk) → IsUnfailed disk later → FailsAs failure later disk'
-    → FailsAs failure disk disk'
-fails_after (County code refusal) disk later disk' unfailed is = λ three as_before. is three (as_before ∙ sym unfailed.reads)
-fails_after (CountyFile folder code file error) disk later disk' unfailed is = λ as_before. is (as_before ∙ sym unfailed.opens)
-fails_after failure disk later disk' unfailed is = tt
+pub fails_after : {R : Type 0} (opens : OpenResults R) (failure : Failure) (disk later disk' : Disk) → IsUnfailed disk later
+    → FailsAs opens failure later disk' → FailsAs opens failure disk disk'
+fails_after opens (County code refusal) disk later disk' unfailed is = λ three as_before. is three (as_before ∙ sym unfailed.reads)
+fails_after opens (CountyFile folder code file error) disk later disk' unfailed is = (is.0, λ as_before. is.1 (as_before ∙ sym unfailed.opens))
+fails_after opens failure disk later disk' unfailed is = tt
 
 -- a filter is refused
-pub filter_carried : {request : Request} {disk disk' : Disk} {out : Writer} (text : List ℕ) (score : Option NumericColumn)
-    (failure : Failure) → IsFilterFailure text score failure
+pub filter_carried : {R : Type 0} {opens : OpenResults R} {request : Request} {disk disk' : Disk} {out : Writer} (text : List ℕ)
+    (score : Option NumericColumn) (failure : Failure) → IsFilterFailure text score failure
     → ((refusal : RefusalParts) → IsFilterRefusal text score refusal → IsTextRefused request disk.known refusal)
-    → IsUnfailed disk disk' → CarriesOut request (Err failure) disk disk' out out
+    → IsUnfailed disk disk' → CarriesOut opens request (Err failure) disk disk' out out
 filter_carried text score (Noted refusal note) is each counts =
     record { outcome = (each refusal is, refl); names = tt; counts = λ other. counts; unflushed = refl }
 filter_carried text score Memory is each counts =
@@ -112,13 +112,13 @@ filter_carried text score Memory is each counts =
 filter_carried text score failure is each counts = absurd is
 
 -- the extracts of its program
-module _ {disk disk' : Disk} {out out' : Writer} (arguments : Select) {program : List Insn}
+module _ {R : Type 0} {opens : OpenResults R} {disk disk' : Disk} {out out' : Writer} (arguments : Select) {program : List Insn}
     (is_program : IsCodeOfText arguments.filter.now arguments.filter_options.score program) where
   pub select_carried : (result : Result (Unit {0}) Failure)
       → SelectsCounties (selection disk.known arguments.«data».now program) (codes_of arguments) result out out'
-      → IfErr result (λ failure. FailsAs failure disk disk')
+      → IfErr result (λ failure. FailsAs opens failure disk disk')
       → IfErr result (NamesFile (IsFileOfCounties arguments.«data».now (codes_of arguments))) → IsUnfailedUnlessUnusable result disk disk'
-      → out'.counts.flushes ≡ out.counts.flushes → CarriesOut (request.Select arguments) result disk disk' out out'
+      → out'.counts.flushes ≡ out.counts.flushes → CarriesOut opens (request.Select arguments) result disk disk' out out'
   select_carried (Ok done) is fails names counts unflushed = record {
     outcome = (
       is_program.filter,
@@ -138,13 +138,14 @@ module _ {disk disk' : Disk} {out out' : Writer} (arguments : Select) {program :
   select_carried (Err failure) is fails names counts unflushed = absurd is
 
 -- the same for the call's arguments: the text and the codes are borrowed
-module _ {disk disk' : Disk} {out out' : Writer} (arguments : Select) {text : List ℕ} {program : List Insn} {codes : List (Bor (List ℕ))} where
+module _ {R : Type 0} {opens : OpenResults R} {disk disk' : Disk} {out out' : Writer} (arguments : Select) {text : List ℕ} {program : List Insn}
+    {codes : List (Bor (List ℕ))} where
   pub select_lent : (result : Result (Unit {0}) Failure) → text ≡ arguments.filter.now → codes ≡ arguments.codes.items
       → IsCodeOfText text arguments.filter_options.score program
       → SelectsCounties (selection disk.known arguments.«data».now program) (texts codes) result out out'
-      → IfErr result (λ failure. FailsAs failure disk disk')
+      → IfErr result (λ failure. FailsAs opens failure disk disk')
       → IfErr result (NamesFile (IsFileOfCounties arguments.«data».now (texts codes))) → IsUnfailedUnlessUnusable result disk disk'
-      → out'.counts.flushes ≡ out.counts.flushes → CarriesOut (request.Select arguments) result disk disk' out out'
+      → out'.counts.flushes ≡ out.counts.flushes → CarriesOut opens (request.Select arguments) result disk disk' out out'
   select_lent result same_text same_codes is selects fails names =
       select_carried arguments (subst (λ (text : List ℕ). IsCodeOfText text arguments.filter_options.score program) same_text is) result
       (subst (λ (codes : List (Bor (List ℕ))).

@@ -7,7 +7,7 @@ use Rattle.tl_segments.specs.County.{CountyReaders}
 use Rattle.commands.specs.Command.{CarriesOut}
 use Rattle.named_files.specs.County.{ClosesCounty, HoldCounty}
 use Rattle.commands.specs.Failure.{WritesAs, refusal_status}
-use Rattle.named_files.specs.Files.{Closes, Disk, IsUnfailed}
+use Rattle.named_files.specs.Files.{Closes, Disk, IsUnfailed, OpenResults}
 use Rattle.commands.specs.Inputs.{HoldTooLong}
 use Rattle.commands.specs.Trace.{IsTraceResult, HoldRequested, IsOutcomeOn, IsRefused, IsTraceFault, of_code, of_county, outcome_line}
 use Rattle.commands.specs.declared.failure.Failure.{Failure}
@@ -39,13 +39,13 @@ fault_closed hold closes refusal (of_code fault first is same) =
 fault_closed {failed = failed} {failed' = failed'} hold closes refusal (of_county code has fault loads is) =
     subst (λ (refusal : RefusalParts). ReadsAs (refusal_status refusal) failed failed') (sym is) (county_closed hold closes fault loads)
 
-module _ {trace : Trace} {disk between disk' : Disk} {program bytes : List ℕ} {old new : CountyReaders}
+module _ {R : Type 0} {opens : OpenResults R} {trace : Trace} {disk between disk' : Disk} {program bytes : List ℕ} {old new : CountyReaders}
     (hold : HoldRequested trace disk.known program old) (before : IsUnfailed disk between) (closes : Closes (ClosesCounty new) between disk')
     (same : bytes ≡ program) where
   -- the outcome was passed to the output
   pub outcome_written : {outcome : Outcome} (result : Result (Unit {0}) Failure) {out out' : Writer}
       → IsOutcomeOn trace bytes old new outcome → WritesAs (outcome_line outcome) result out out'
-      → CarriesOut (request.Trace trace) result disk disk' out out'
+      → CarriesOut opens (request.Trace trace) result disk disk' out out'
   outcome_written {outcome} result is wrote =
       written_carried (outcome_line outcome) result wrote
       (record { opens = closes.opens ∙ before.opens; reads = loads_closed hold.county (closes_from before closes) is.county is.loads })
@@ -61,7 +61,7 @@ module _ {trace : Trace} {disk between disk' : Disk} {program bytes : List ℕ} 
 
   -- there is no outcome
   stopped : (failure : Failure) {out : Writer} → IsTraceResult trace program old new (Err failure)
-      → CarriesOut (request.Trace trace) (Err failure) disk disk' out out
+      → CarriesOut opens (request.Trace trace) (Err failure) disk disk' out out
   stopped (Refusal refusal) is =
       refused_carried refusal (record { program = program; old = old; hold = hold; new = new; fault = is; unwritten = refl })
       (closes.opens ∙ before.opens) (fault_closed hold.county (closes_from before closes) refusal is) refl
@@ -77,5 +77,5 @@ module _ {trace : Trace} {disk between disk' : Disk} {program bytes : List ℕ} 
   stopped failure is = absurd is
 
   pub no_outcome : (failure : Failure) {out : Writer} → IsTraceResult trace bytes old new (Err failure)
-      → CarriesOut (request.Trace trace) (Err failure) disk disk' out out
+      → CarriesOut opens (request.Trace trace) (Err failure) disk disk' out out
   no_outcome failure is = stopped failure (subst (λ (bytes : List ℕ). IsTraceResult trace bytes old new (Err failure)) same is)

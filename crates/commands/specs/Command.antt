@@ -14,7 +14,8 @@ use Rattle.commands.specs.Disassemble as disassemble
 use Rattle.commands.specs.Explain as explain
 use Rattle.commands.specs.Failure.{IsFailureBeforeFlush, NamesFile, Reports, ReportsFile, ReportsLine, ReportsMemory, ReportsNotUtf8, ReportsOutput, ReportsText, IsUnfailedUnlessUnusable, refusal_status}
 use Rattle.commands.specs.Failure.{status as status_of}
-use Rattle.named_files.specs.Files.{Disk, IsFailed}
+use Rattle.named_files.specs.County.{file_name}
+use Rattle.named_files.specs.Files.{Disk, FailsToOpen, FailsToUse, OpenResults}
 use Rattle.commands.specs.Filter.{IsFilterRefusal}
 use Rattle.commands.specs.Geocode as geocode
 use Rattle.commands.specs.GeocodeBatch as geocode_batch
@@ -113,27 +114,29 @@ IsFileOf (Compile arguments) name = name ≡ arguments.filter.now
 IsFileOf (Select arguments) name = IsFileOfCounties arguments.«data».now (select.codes_of arguments) name
 
 -- The outcome of a request. Its output was written, completely or until the output failed. Or a library refuses it; if the status is 3, a read
--- failed. Or a file can't be used. Or memory ran out or the requested line doesn't exist, and nothing was written. The output isn't flushed.
-abbrev pub IsCarriedOut : Request → Result (Unit {0}) Failure → Disk → Disk → Writer → Writer → Type 0
-IsCarriedOut request (Ok done) disk disk' out out' = Writes request disk.known (Ok done) out out'
-IsCarriedOut request (Err (Write fault)) disk disk' out out' = Writes request disk.known (Err fault) out out'
-IsCarriedOut request (Err (Refusal refusal)) disk disk' out out' =
+-- failed. Or an open of the file that the failure names failed, or the file was opened and then a read failed. Or memory ran out or the requested
+-- line doesn't exist, and nothing was written. The output isn't flushed.
+abbrev pub IsCarriedOut : {R : Type 0} → OpenResults R → Request → Result (Unit {0}) Failure → Disk → Disk → Writer → Writer → Type 0
+IsCarriedOut opens request (Ok done) disk disk' out out' = Writes request disk.known (Ok done) out out'
+IsCarriedOut opens request (Err (Write fault)) disk disk' out out' = Writes request disk.known (Err fault) out out'
+IsCarriedOut opens request (Err (Refusal refusal)) disk disk' out out' =
     IsRefused request disk.known refusal out out' × (refusal_status refusal ≡ 3 → disk'.failed_reads ≢ disk.failed_reads)
-IsCarriedOut request (Err (Noted refusal note)) disk disk' out out' = IsTextRefused request disk.known refusal × (out' ≡ out)
-IsCarriedOut request (Err (County code refusal)) disk disk' out out' =
+IsCarriedOut opens request (Err (Noted refusal note)) disk disk' out out' = IsTextRefused request disk.known refusal × (out' ≡ out)
+IsCarriedOut opens request (Err (County code refusal)) disk disk' out out' =
     IsCountyRefused request disk.known code.now refusal out out' × (refusal_status refusal ≡ 3 → disk'.failed_reads ≢ disk.failed_reads)
-IsCarriedOut request (Err (File name error)) disk disk' out out' = (out' ≡ out) × IsFailed disk disk'
-IsCarriedOut request (Err (CountyFile folder code file error)) disk disk' out out' =
-    WritesBefore request disk.known out out' × (disk'.failed_opens ≢ disk.failed_opens)
-IsCarriedOut request (Err (NotUtf8 name)) disk disk' out out' = (out' ≡ out) × IsNotUtf8 request disk.known name.now
-IsCarriedOut request (Err (NoLine number)) disk disk' out out' = (out' ≡ out) × IsMissingLine request disk.known number
-IsCarriedOut request (Err Memory) disk disk' out out' = out' ≡ out
-IsCarriedOut request (Err (Output error)) disk disk' out out' = ⊥
+IsCarriedOut opens request (Err (File name error)) disk disk' out out' = (out' ≡ out) × FailsToUse (opens name.now) error disk disk'
+IsCarriedOut opens request (Err (CountyFile folder code file error)) disk disk' out out' =
+    WritesBefore request disk.known out out' × FailsToOpen (opens (file_name folder.now code.now file)) error disk disk'
+IsCarriedOut opens request (Err (NotUtf8 name)) disk disk' out out' = (out' ≡ out) × IsNotUtf8 request disk.known name.now
+IsCarriedOut opens request (Err (NoLine number)) disk disk' out out' = (out' ≡ out) × IsMissingLine request disk.known number
+IsCarriedOut opens request (Err Memory) disk disk' out out' = out' ≡ out
+IsCarriedOut opens request (Err (Output error)) disk disk' out out' = ⊥
 
 -- the same; also, a file named in the failure is one of the request's, no open and no read failed unless the status is 3, and the output wasn't
 -- flushed
-pub record CarriesOut (request : Request) (result : Result (Unit {0}) Failure) (disk disk' : Disk) (out out' : Writer) : Type 0 where
-  pub outcome : IsCarriedOut request result disk disk' out out'
+pub record CarriesOut {R : Type 0} (opens : OpenResults R) (request : Request) (result : Result (Unit {0}) Failure) (disk disk' : Disk)
+    (out out' : Writer) : Type 0 where
+  pub outcome : IsCarriedOut opens request result disk disk' out out'
   pub names : IfErr result (NamesFile (IsFileOf request))
   pub counts : IsUnfailedUnlessUnusable result disk disk'
   pub unflushed : out'.counts.flushes ≡ out.counts.flushes
@@ -183,11 +186,12 @@ pub data IsOutOfMemory (request : Request) (known : List ℕ → Option (List �
   of_other : IsFlushed out out' → ReportsMemory errors errors' → IsOutOfMemory request known out out' errors errors'
 
 -- The request failed, but no write did, and then the flush of what was written failed. The failure was reported, and the failed flush after it.
-pub record FailsTwice (request : Request) (disk disk' : Disk) (out out' errors errors' : Writer) : Type 0 where
+pub record FailsTwice {R : Type 0} (opens : OpenResults R) (request : Request) (disk disk' : Disk) (out out' errors errors' : Writer)
+    : Type 0 where
   pub failure : Failure
   pub is_other : IsFailureBeforeFlush failure
   pub unflushed : Writer
-  pub carried : CarriesOut request (Err failure) disk disk' out unflushed
+  pub carried : CarriesOut opens request (Err failure) disk disk' out unflushed
   pub between : Writer
   pub reported : Reports failure errors between
   pub flush : FailsFlush unflushed out' between errors'
@@ -201,25 +205,26 @@ pub data Ends (failure : Failure) (status : ℕ) (out out' errors errors' : Writ
   after_failed_flush : IsFailureBeforeFlush failure → status ≡ 3 → (between : Writer) → Reports failure errors between
       → FailsFlush out out' between errors' → Ends failure status out out' errors errors'
 
--- Why a request fails with status 3. An open or a read failed, so one of the request's files can't be used, and nothing was written. Or a
--- county's file can't be opened, and only the extracts of the counties before it were written. Or a read of a county's file failed, and a library
--- refused the request. Or a source isn't UTF-8, and nothing was written. In all of these the output was flushed. Or a write failed or wrote 0 bytes:
--- a prefix was written, and a flush was attempted. Or everything was written, but the flush failed. Each of these was reported. Or the request
--- failed otherwise, and so did the flush, and both were reported.
-pub data IsUnusable (request : Request) (disk disk' : Disk) (out out' errors errors' : Writer) : Type 0 where
-  of_file : (name : List ℕ) → IsFileOf request name → IsFailed disk disk' → IsFlushed out out' → ReportsFile name errors errors'
-      → IsUnusable request disk disk' out out' errors errors'
-  of_county_file : (name : List ℕ) → IsFileOf request name → disk'.failed_opens ≢ disk.failed_opens → (unflushed : Writer)
-      → WritesBefore request disk.known out unflushed → IsFlushed unflushed out' → ReportsFile name errors errors'
-      → IsUnusable request disk disk' out out' errors errors'
+-- Why a request fails with status 3. An open of one of the request's files failed, or the file was opened and then a read failed, and nothing was
+-- written. Or an open of a county's file failed, and only the extracts of the counties before it were written. Or a read of a county's file failed,
+-- and a library refused the request. Or a source isn't UTF-8, and nothing was written. In all of these the output was flushed. Or a write failed or
+-- wrote 0 bytes: a prefix was written, and a flush was attempted. Or everything was written, but the flush failed. Each of these was reported. Or
+-- the request failed otherwise, and so did the flush, and both were reported.
+pub data IsUnusable {R : Type 0} (opens : OpenResults R) (request : Request) (disk disk' : Disk) (out out' errors errors' : Writer)
+    : Type 0 where
+  of_file : (name : List ℕ) (error : Error) → IsFileOf request name → FailsToUse (opens name) error disk disk' → IsFlushed out out'
+      → ReportsFile name error errors errors' → IsUnusable opens request disk disk' out out' errors errors'
+  of_county_file : (name : List ℕ) (error : Error) → IsFileOf request name → FailsToOpen (opens name) error disk disk' → (unflushed : Writer)
+      → WritesBefore request disk.known out unflushed → IsFlushed unflushed out' → ReportsFile name error errors errors'
+      → IsUnusable opens request disk disk' out out' errors errors'
   of_county : disk'.failed_reads ≢ disk.failed_reads → IsRefusalOf 3 request disk.known out out' errors errors'
-      → IsUnusable request disk disk' out out' errors errors'
+      → IsUnusable opens request disk disk' out out' errors errors'
   of_source : (name : List ℕ) → IsNotUtf8 request disk.known name → IsFlushed out out' → ReportsNotUtf8 name errors errors'
-      → IsUnusable request disk disk' out out' errors errors'
+      → IsUnusable opens request disk disk' out out' errors errors'
   of_write : (fault : WriteFault) (unflushed : Writer) → Writes request disk.known (Err fault) out unflushed
       → CountsFault fault out.counts unflushed.counts → ReportsLine (line (write_fault.refusal fault)) errors errors'
       → Keeps unflushed.held out'.held → (flush : Result (Unit {0}) Error) → CountsFlush flush unflushed.counts out'.counts
-      → IsUnusable request disk disk' out out' errors errors'
+      → IsUnusable opens request disk disk' out out' errors errors'
   of_flush : (unflushed : Writer) → IsWritten request disk.known out unflushed → FailsFlush unflushed out' errors errors'
-      → IsUnusable request disk disk' out out' errors errors'
-  of_two : FailsTwice request disk disk' out out' errors errors' → IsUnusable request disk disk' out out' errors errors'
+      → IsUnusable opens request disk disk' out out' errors errors'
+  of_two : FailsTwice opens request disk disk' out out' errors errors' → IsUnusable opens request disk disk' out out' errors errors'

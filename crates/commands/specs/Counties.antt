@@ -5,9 +5,9 @@ use Rattle.tl_segments.specs.County.{CountyParts, CountyReaders, IsCountyFault, 
 use Rattle.refusals.specs.Refusal.{RefusalParts}
 use Rattle.tl_segments.specs.LoadFault as load_fault
 use Rattle.tl_segments.specs.declared.fault.LoadFault.{LoadFault}
-use Rattle.named_files.specs.County.{HoldCounty, IsFileOfCounty}
+use Rattle.named_files.specs.County.{HoldCounty, IsFileOfCounty, file_name}
 use Rattle.commands.specs.Failure.{refusal_status}
-use Rattle.named_files.specs.Files.{Disk}
+use Rattle.named_files.specs.Files.{Disk, FailsToOpen, OpenResults}
 use Rattle.commands.specs.declared.failure.Failure.{Failure}
 use Rattle.commands.specs.declared.failure.Failure.TheVariants.{Refusal, Memory, CountyFile}
 
@@ -52,9 +52,10 @@ pub record IsFileOfCounties (folder : List ℕ) (codes : List (List ℕ)) (name 
 
 -- Why counties can't be loaded: one is refused with this refusal, and a read failed if the status is 3; or one of their files can't be opened; or
 -- an allocation fails.
-abbrev pub IsLoadFailure : (RefusalParts → Type 0) → Disk → Disk → Failure → Type 0
-IsLoadFailure IsRefusedSo disk disk' (Refusal refusal) =
+abbrev pub IsLoadFailure : {R : Type 0} → OpenResults R → (RefusalParts → Type 0) → Disk → Disk → Failure → Type 0
+IsLoadFailure opens IsRefusedSo disk disk' (Refusal refusal) =
     IsRefusedSo refusal × (refusal_status refusal ≡ 3 → disk'.failed_reads ≢ disk.failed_reads)
-IsLoadFailure IsRefusedSo disk disk' (CountyFile folder code file error) = disk'.failed_opens ≢ disk.failed_opens
-IsLoadFailure IsRefusedSo disk disk' Memory = ⊤
-IsLoadFailure IsRefusedSo disk disk' failure = ⊥
+IsLoadFailure opens IsRefusedSo disk disk' (CountyFile folder code file error) =
+    FailsToOpen (opens (file_name folder.now code.now file)) error disk disk'
+IsLoadFailure opens IsRefusedSo disk disk' Memory = ⊤
+IsLoadFailure opens IsRefusedSo disk disk' failure = ⊥

@@ -23,7 +23,7 @@ use Rattle.refusals.specs.Refusal.{RefusalParts, memory}
 use Rattle.counted_io.specs.ReaderWriter.{Writer}
 use Rattle.counted_io.specs.Writing.{WritesText}
 use Rattle.counted_io.specs.declared.writing.WriteFault.{WriteFault}
-use Rattle.named_files.specs.Files.{Disk, IsFailed}
+use Rattle.named_files.specs.Files.{Disk, FailsToUse, OpenResults}
 use Rattle.commands.specs.declared.explain.Explain.{Explain}
 use Rattle.commands.specs.declared.failure.Failure.{Failure}
 use Rattle.commands.specs.declared.failure.Failure.TheVariants as failure
@@ -39,10 +39,10 @@ IsLinesFile None name = ⊥
 IsLinesFile (Some lines) name = name ≡ lines.now
 
 -- why the file of source lines can't be read: it can't be used, or an allocation fails
-abbrev pub IsLinesFailure : Option (Bor (List ℕ)) → Disk → Disk → Failure → Type 0
-IsLinesFailure lines disk disk' (failure.File name error) = IsLinesFile lines name.now × IsFailed disk disk'
-IsLinesFailure lines disk disk' failure.Memory = ⊤
-IsLinesFailure lines disk disk' failure = ⊥
+abbrev pub IsLinesFailure : {R : Type 0} → OpenResults R → Option (Bor (List ℕ)) → Disk → Disk → Failure → Type 0
+IsLinesFailure opens lines disk disk' (failure.File name error) = IsLinesFile lines name.now × FailsToUse (opens name.now) error disk disk'
+IsLinesFailure opens lines disk disk' failure.Memory = ⊤
+IsLinesFailure opens lines disk disk' failure = ⊥
 
 -- the first fault of a program's bytes, or if they have none, of its jumps and its end
 abbrev pub IsFlowFault : List ℕ → ProgramFault → Type 0

@@ -1,6 +1,9 @@
 -- Why a command fails: its exit status, and what it reports.
 use Rattle.std.specs.Prelude.{◌≡◌, ◌≢◌, ℕ, List, [], ◌∷◌, ◌++◌, codes, decimal, ⊤, Result, Ok, Err}
 use Rattle.std.specs.Borrow.{Bor}
+use Rattle.std.specs.IoError.{error_kind}
+use Rattle.std.specs.declared.io.Error.{Error}
+use Rattle.std.specs.declared.io.ErrorKind.TheVariants.{BrokenPipe, IsADirectory, NotADirectory, NotFound, PermissionDenied, StorageFull}
 use Rattle.addresses.specs.AddressFault as address_fault
 use Rattle.addresses.specs.declared.fault.AddressFault.{AddressFault}
 use Rattle.addresses.specs.declared.fault.AddressFault.TheVariants as address
@@ -132,10 +135,22 @@ reported (Echo text) = escaped text.now
 abbrev pub ReportsMemory : Writer → Writer → Type 0
 ReportsMemory errors errors' = ReportsLine (line memory) errors errors'
 
--- the reason why the file of this name can't be used was reported, with the control characters of the name escaped
-abbrev pub ReportsFile : List ℕ → Writer → Writer → Type 0
-ReportsFile name errors errors' =
-    (reason : List ℕ) × ReportsText (codes "error: " ++ escaped name ++ codes ": " ++ reason ++ 10 ∷ []) errors errors'
+-- the reason that is reported for a system error: a phrase for a common one, and any text for the others
+pub record IsReason (error : Error) (reason : List ℕ) : Type 0 where
+  pub not_found : error_kind error ≡ NotFound → reason ≡ codes "not found"
+  pub permission_denied : error_kind error ≡ PermissionDenied → reason ≡ codes "permission denied"
+  pub is_a_directory : error_kind error ≡ IsADirectory → reason ≡ codes "is a directory"
+  pub not_a_directory : error_kind error ≡ NotADirectory → reason ≡ codes "not a directory"
+  pub storage_full : error_kind error ≡ StorageFull → reason ≡ codes "no space left"
+  pub broken_pipe : error_kind error ≡ BrokenPipe → reason ≡ codes "broken pipe"
+
+-- the line that says why the file of this name can't be used, with the control characters of the name escaped
+abbrev pub file_line : List ℕ → List ℕ → List ℕ
+file_line name reason = codes "error: " ++ escaped name ++ codes ": " ++ reason ++ 10 ∷ []
+
+-- it was reported that the file of this name can't be used, with the reason for this error
+abbrev pub ReportsFile : List ℕ → Error → Writer → Writer → Type 0
+ReportsFile name error errors errors' = (reason : List ℕ) × IsReason error reason × ReportsText (file_line name reason) errors errors'
 
 -- it was reported that the source of this name isn't UTF-8
 abbrev pub ReportsNotUtf8 : List ℕ → Writer → Writer → Type 0
@@ -153,8 +168,8 @@ Reports (Noted refusal note) errors errors' = ReportsText (line refusal ++ 10 �
 Reports (County code refusal) errors errors' = ReportsText (line refusal ++ 10 ∷ codes "county " ++ escaped code.now ++ 10 ∷ []) errors errors'
 Reports Memory errors errors' = ReportsMemory errors errors'
 Reports (Write fault) errors errors' = ReportsLine (line (write_fault.refusal fault)) errors errors'
-Reports (File name error) errors errors' = ReportsFile name.now errors errors'
-Reports (CountyFile folder code file error) errors errors' = ReportsFile (file_name folder.now code.now file) errors errors'
+Reports (File name error) errors errors' = ReportsFile name.now error errors errors'
+Reports (CountyFile folder code file error) errors errors' = ReportsFile (file_name folder.now code.now file) error errors errors'
 Reports (NotUtf8 name) errors errors' = ReportsNotUtf8 name.now errors errors'
 Reports (NoLine number) errors errors' = ReportsText (codes "error: the type 1 file has no line " ++ decimal number ++ 10 ∷ []) errors errors'
 Reports (Output error) errors errors' = ReportsOutput errors errors'

@@ -1,12 +1,12 @@
 -- What `run` and `trace` read, and why they fail to.
-use Rattle.std.specs.Prelude.{◌≡◌, ◌≢◌, ◌⊎◌, ℕ, List, Option, Some, ⊤}
+use Rattle.std.specs.Prelude.{◌≡◌, ◌⊎◌, ℕ, List, Option, Some, ⊤}
 use Rattle.std.specs.Io.KnownBytes.{Keeps}
 use Rattle.bpf_insn.specs.CodeFault as code_fault
 use Rattle.bpf_insn.specs.declared.fault.CodeFault.{CodeFault}
 use Rattle.refusals.specs.Refusal.{RefusalParts}
 use Rattle.tl_segments.specs.County.{CountyReaders}
-use Rattle.named_files.specs.County.{HoldCounty, IsFileOfCounty}
-use Rattle.named_files.specs.Files.{Disk, IsFailed, IsTooLong}
+use Rattle.named_files.specs.County.{HoldCounty, IsFileOfCounty, file_name}
+use Rattle.named_files.specs.Files.{Disk, FailsToOpen, FailsToUse, IsTooLong, OpenResults}
 use Rattle.commands.specs.declared.failure.Failure.{Failure}
 use Rattle.commands.specs.declared.failure.Failure.TheVariants.{Refusal, Memory, File, CountyFile}
 
@@ -28,9 +28,10 @@ pub record HoldTooLong (name folder code : List ℕ) (known : List ℕ → Optio
   pub hold : HoldCounty known folder code readers
 
 -- why a program and a county can't be read: the program is too long, a file can't be used, or an allocation fails
-abbrev pub IsInputsFailure : List ℕ → List ℕ → List ℕ → Disk → Disk → Failure → Type 0
-IsInputsFailure name folder code disk disk' (Refusal refusal) = HoldTooLong name folder code disk.known refusal
-IsInputsFailure name folder code disk disk' (File of error) = IsFailed disk disk'
-IsInputsFailure name folder code disk disk' (CountyFile of_folder of_code file error) = disk'.failed_opens ≢ disk.failed_opens
-IsInputsFailure name folder code disk disk' Memory = ⊤
-IsInputsFailure name folder code disk disk' failure = ⊥
+abbrev pub IsInputsFailure : {R : Type 0} → OpenResults R → List ℕ → List ℕ → List ℕ → Disk → Disk → Failure → Type 0
+IsInputsFailure opens name folder code disk disk' (Refusal refusal) = HoldTooLong name folder code disk.known refusal
+IsInputsFailure opens name folder code disk disk' (File of error) = FailsToUse (opens of.now) error disk disk'
+IsInputsFailure opens name folder code disk disk' (CountyFile of_folder of_code file error) =
+    FailsToOpen (opens (file_name of_folder.now of_code.now file)) error disk disk'
+IsInputsFailure opens name folder code disk disk' Memory = ⊤
+IsInputsFailure opens name folder code disk disk' failure = ⊥

@@ -14,9 +14,9 @@ use Rattle.cql2.specs.declared.filter.Filter.{Filter}
 use Rattle.cql2_code.specs.Chosen.{rows_of}
 use Rattle.cql2_text.specs.Spelled.{IsFilterText}
 use Rattle.tl_segments.specs.County.{CountyParts, CountyReaders, LoadsCounty}
-use Rattle.named_files.specs.County.{HoldCounty}
+use Rattle.named_files.specs.County.{HoldCounty, file_name}
 use Rattle.commands.specs.Failure.{refusal_status}
-use Rattle.named_files.specs.Files.{Disk}
+use Rattle.named_files.specs.Files.{Disk, FailsToOpen, OpenResults}
 use Rattle.commands.specs.Filter.{IsCodeOfText}
 use Rattle.commands.specs.declared.select.Select.{Select}
 use Rattle.commands.specs.declared.failure.Failure.{Failure}
@@ -107,11 +107,11 @@ SelectsCounties over codes (Err (CountyFile of_folder of_code file error)) out o
     StopsAt over codes out (λ code between. out' ≡ between)
 SelectsCounties over codes (Err failure) out out' = ⊥
 
--- a refusal for a failed read means that a read failed, and a file that can't be opened means that an open failed
-abbrev pub FailsAs : Failure → Disk → Disk → Type 0
-FailsAs (County code refusal) disk disk' = refusal_status refusal ≡ 3 → disk'.failed_reads ≢ disk.failed_reads
-FailsAs (CountyFile folder code file error) disk disk' = disk'.failed_opens ≢ disk.failed_opens
-FailsAs failure disk disk' = ⊤
+-- a refusal for a failed read means that a read failed, and a file that can't be opened means that an open of it failed
+abbrev pub FailsAs : {R : Type 0} → OpenResults R → Failure → Disk → Disk → Type 0
+FailsAs opens (County code refusal) disk disk' = refusal_status refusal ≡ 3 → disk'.failed_reads ≢ disk.failed_reads
+FailsAs opens (CountyFile folder code file error) disk disk' = FailsToOpen (opens (file_name folder.now code.now file)) error disk disk'
+FailsAs opens failure disk disk' = ⊤
 
 -- the filter has a program, and its run over the requested counties is as `Selects` describes
 abbrev pub SelectsSo : Select → (List ℕ → Option (List ℕ)) → (Selection → Type 0) → Type 0

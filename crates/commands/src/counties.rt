@@ -20,7 +20,7 @@ pub fn load_counties<'a, A: Allocator + Copy, F: Files>(
 ) -> Result<Vec<County<A>, A>, Failure<'a>>
     ensures ok { IfOk result (λ counties.
         AreCountiesOf (F.bytes files.old) folder.now (map (λ code. code.now) codes.now) counties.items) }
-    ensures err { IfErr result (IsLoadFailure (HaveRefusedCounty (F.bytes files.old) folder.now (map (λ code. code.now) codes.now))
+    ensures err { IfErr result (IsLoadFailure F.opens (HaveRefusedCounty (F.bytes files.old) folder.now (map (λ code. code.now) codes.now))
         (disk F.bytes F.failed_opens F.failed_reads files.old) (disk F.bytes F.failed_opens F.failed_reads files.new)) }
     ensures names { IfErr result (NamesFile (IsFileOfCounties folder.now (map (λ code. code.now) codes.now))) }
     ensures usage { IfErr result (λ failure. status failure ≢ 2) }
@@ -45,7 +45,7 @@ fn load_county<'a, A: Allocator + Copy, F: Files>(
     code: &'a str,
 ) -> Result<County<A>, Failure<'a>>
     ensures ok { IfOk result (IsCountyOf (F.bytes files.old) folder.now code.now) }
-    ensures err { IfErr result (IsLoadFailure (IsRefusedCounty (F.bytes files.old) folder.now code.now)
+    ensures err { IfErr result (IsLoadFailure F.opens (IsRefusedCounty (F.bytes files.old) folder.now code.now)
         (disk F.bytes F.failed_opens F.failed_reads files.old) (disk F.bytes F.failed_opens F.failed_reads files.new)) }
     ensures names { IfErr result (NamesFile (IsFileOfCounty folder.now code.now)) }
     ensures stay { (other : List ℕ) → F.bytes files.new other ≡ F.bytes files.old other }

@@ -38,7 +38,7 @@ impl<'a> Explain<'a> {
         files: &mut F,
         out: &mut W,
     ) -> Result<(), Failure<'a>>
-        ensures carried { CarriesOut (Request.Explain self.entry) result
+        ensures carried { CarriesOut F.opens (Request.Explain self.entry) result
             (disk F.bytes F.failed_opens F.failed_reads files.old) (disk F.bytes F.failed_opens F.failed_reads files.new)
             (writer W.contents W.counts out.old) (writer W.contents W.counts out.new) }
         ensures usage { IfErr result (λ failure. status failure ≢ 2) }
@@ -70,7 +70,7 @@ fn read_lines_file<'a, A: Allocator, F: Files>(
     name: Option<&'a str>,
 ) -> Result<Vec<u8, A>, Failure<'a>>
     ensures hold { IfOk result (λ file. HoldsLines (F.bytes files.old) name.entry file.items) }
-    ensures err { IfErr result (IsLinesFailure name.entry (disk F.bytes F.failed_opens F.failed_reads files.old)
+    ensures err { IfErr result (IsLinesFailure F.opens name.entry (disk F.bytes F.failed_opens F.failed_reads files.old)
         (disk F.bytes F.failed_opens F.failed_reads files.new)) }
     ensures counts { IsUnfailedUnlessUnusable result (disk F.bytes F.failed_opens F.failed_reads files.old)
         (disk F.bytes F.failed_opens F.failed_reads files.new) }

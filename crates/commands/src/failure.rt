@@ -1,10 +1,10 @@
 //! Why a command fails: what it reports, and its exit status.
-ghost use Rattle.std.specs.Prelude.{◌≡◌, [], ◌∷◌, ◌++◌, codes};
+ghost use Rattle.std.specs.Prelude.{◌≡◌, ◌≤◌, [], ◌∷◌, ◌++◌, codes, length};
 ghost use Rattle.std.specs.List.{flat_map};
 ghost use Rattle.counted_io.specs.ReaderWriter.{writer};
 ghost use Rattle.counted_io.specs.Writing.{WritesText};
 ghost use Rattle.commands.specs.Escape.{escaped};
-ghost use Rattle.commands.specs.Failure.{IsOfAddresses, IsOfCompile, IsOfFilter, Reports, ReportsFile, ReportsLine, ReportsText, WritesAs, class_status, of_county_extract, of_county_file, of_extract, of_file, of_opening, of_program, of_source, reported, status};
+ghost use Rattle.commands.specs.Failure.{IsOfAddresses, IsOfCompile, IsOfFilter, IsReason, Reports, ReportsLine, ReportsText, WritesAs, class_status, file_line, of_county_extract, of_county_file, of_extract, of_file, of_opening, of_program, of_source, reported, status};
 ghost use Rattle.commands.specs.declared.failure.Failure.TheVariants.{Memory};
 
 use crate::escape::write_escaped;
@@ -372,7 +372,7 @@ fn report_county<'p, E: CountedWrite>(errors: &mut E, refusal: &'p str, code: &'
 
 /// Reports why the file of this name can't be used.
 fn report_file<'p, E: CountedWrite>(errors: &mut E, name: &'p str, reason: &'p str)
-    ensures { ReportsFile name.now (writer E.contents E.counts errors.old) (writer E.contents E.counts errors.new) }
+    ensures { ReportsText (file_line name.now reason.now) (writer E.contents E.counts errors.old) (writer E.contents E.counts errors.new) }
 {
     write_pieces(
         errors,
@@ -394,7 +394,7 @@ fn report_county_file<'p, E: CountedWrite>(
     end: &'p str,
     reason: &'p str,
 )
-    ensures { ReportsFile («data».now ++ codes "/TGR" ++ code.now ++ end.now)
+    ensures { ReportsText (file_line («data».now ++ codes "/TGR" ++ code.now ++ end.now) reason.now)
         (writer E.contents E.counts errors.old) (writer E.contents E.counts errors.new) }
 {
     write_pieces(
@@ -442,20 +442,29 @@ fn compile_note(fault: CompileFault) -> ArrayString<128> {
 }
 
 /// Returns a short phrase for a common system error, and the system's text for any other.
-fn reason(error: io::Error) -> ArrayString<320> {
-    let mut text = ArrayString::new();
-    let name = match error.kind() {
-        ErrorKind::NotFound => "not found",
-        ErrorKind::PermissionDenied => "permission denied",
-        ErrorKind::IsADirectory => "is a directory",
-        ErrorKind::NotADirectory => "not a directory",
-        ErrorKind::StorageFull => "no space left",
-        ErrorKind::BrokenPipe => "broken pipe",
+fn reason(error: io::Error) -> ArrayString<320>
+    ensures { IsReason error result.bytes }
+{
+    match error.kind() {
+        ErrorKind::NotFound => phrase("not found"),
+        ErrorKind::PermissionDenied => phrase("permission denied"),
+        ErrorKind::IsADirectory => phrase("is a directory"),
+        ErrorKind::NotADirectory => phrase("not a directory"),
+        ErrorKind::StorageFull => phrase("no space left"),
+        ErrorKind::BrokenPipe => phrase("broken pipe"),
         _ => {
+            let mut text = ArrayString::new();
             let _ = write!(text, "{error}");
-            return text;
+            text
         }
-    };
-    let _ = text.try_push_str(name);
+    }
+}
+
+fn phrase(words: &str) -> ArrayString<320>
+    requires { length words.now ≤ 320 }
+    ensures { result.bytes ≡ words.now }
+{
+    let mut text = ArrayString::new();
+    text.push_str(words);
     text
 }

@@ -41,7 +41,7 @@ impl<'a> GeocodeBatch<'a> {
         files: &mut F,
         out: &mut W,
     ) -> Result<(), Failure<'a>>
-        ensures carried { CarriesOut (Request.GeocodeBatch self.entry) result
+        ensures carried { CarriesOut F.opens (Request.GeocodeBatch self.entry) result
             (disk F.bytes F.failed_opens F.failed_reads files.old) (disk F.bytes F.failed_opens F.failed_reads files.new)
             (writer W.contents W.counts out.old) (writer W.contents W.counts out.new) }
         ensures usage { IfErr result (λ failure. status failure ≢ 2) }

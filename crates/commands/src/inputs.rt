@@ -26,7 +26,7 @@ pub fn open_inputs<'a, A: Allocator + Copy, F: Files>(
     ensures hold { IfOk result (λ inputs. HoldInputs (F.bytes files.old) name.now folder.now code.now inputs.program.items
         (county_readers F.Reader.remaining F.Reader.failed_reads inputs.county)) }
     ensures is_open { IfOk result (λ inputs. IsOpened inputs.county.rt1) }
-    ensures err { IfErr result (IsInputsFailure name.now folder.now code.now
+    ensures err { IfErr result (IsInputsFailure F.opens name.now folder.now code.now
         (disk F.bytes F.failed_opens F.failed_reads files.old) (disk F.bytes F.failed_opens F.failed_reads files.new)) }
     ensures names { IfErr result (NamesFile (IsInput name.now folder.now code.now)) }
     ensures counts { IsUnfailedUnlessUnusable result (disk F.bytes F.failed_opens F.failed_reads files.old)

@@ -58,7 +58,7 @@ impl<'a> Request<'a> {
         ensures usage { result ≡ 2 → ReportsMissingLine self.entry (F.bytes files.old)
             (writer E.contents E.counts errors.old) (writer E.contents E.counts errors.new) }
         ensures untouched { result ≡ 2 → out.new ≡ out.old }
-        ensures unusable { result ≡ 3 → IsUnusable self.entry
+        ensures unusable { result ≡ 3 → IsUnusable F.opens self.entry
             (disk F.bytes F.failed_opens F.failed_reads files.old) (disk F.bytes F.failed_opens F.failed_reads files.new)
             (writer W.contents W.counts out.old) (writer W.contents W.counts out.new)
             (writer E.contents E.counts errors.old) (writer E.contents E.counts errors.new) }
@@ -90,7 +90,7 @@ impl<'a> Request<'a> {
         files: &mut F,
         out: &mut W,
     ) -> Result<(), Failure<'a>>
-        ensures carried { CarriesOut self.entry result
+        ensures carried { CarriesOut F.opens self.entry result
             (disk F.bytes F.failed_opens F.failed_reads files.old) (disk F.bytes F.failed_opens F.failed_reads files.new)
             (writer W.contents W.counts out.old) (writer W.contents W.counts out.new) }
         ensures usage { IsUnchangedOnUsage result out.old out.new }

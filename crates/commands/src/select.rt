@@ -37,7 +37,7 @@ impl<'a> Select<'a> {
         files: &mut F,
         out: &mut W,
     ) -> Result<(), Failure<'a>>
-        ensures carried { CarriesOut (Request.Select self.entry) result
+        ensures carried { CarriesOut F.opens (Request.Select self.entry) result
             (disk F.bytes F.failed_opens F.failed_reads files.old) (disk F.bytes F.failed_opens F.failed_reads files.new)
             (writer W.contents W.counts out.old) (writer W.contents W.counts out.new) }
         ensures usage { IfErr result (λ failure. status failure ≢ 2) }
@@ -68,7 +68,7 @@ fn select_counties<'a, A: Allocator + Copy, F: Files, W: CountedWrite>(
 ) -> Result<(), Failure<'a>>
     ensures outcome { SelectsCounties (selection (F.bytes files.old) folder.now program.now.code) (map (λ code. code.now) codes.now) result
         (writer W.contents W.counts out.old) (writer W.contents W.counts out.new) }
-    ensures fails { IfErr result (λ failure. FailsAs failure
+    ensures fails { IfErr result (λ failure. FailsAs F.opens failure
         (disk F.bytes F.failed_opens F.failed_reads files.old) (disk F.bytes F.failed_opens F.failed_reads files.new)) }
     ensures names { IfErr result (NamesFile (IsFileOfCounties folder.now (map (λ code. code.now) codes.now))) }
     ensures counts { IsUnfailedUnlessUnusable result (disk F.bytes F.failed_opens F.failed_reads files.old)
@@ -95,7 +95,7 @@ fn select_county<'a, A: Allocator + Copy, F: Files, W: CountedWrite>(
 ) -> Result<(), Failure<'a>>
     ensures outcome { SelectsCounty (selection (F.bytes files.old) folder.now program.now.code) code.now result
         (writer W.contents W.counts out.old) (writer W.contents W.counts out.new) }
-    ensures fails { IfErr result (λ failure. FailsAs failure
+    ensures fails { IfErr result (λ failure. FailsAs F.opens failure
         (disk F.bytes F.failed_opens F.failed_reads files.old) (disk F.bytes F.failed_opens F.failed_reads files.new)) }
     ensures names { IfErr result (NamesFile (IsFileOfCounty folder.now code.now)) }
     ensures stay { (other : List ℕ) → F.bytes files.new other ≡ F.bytes files.old other }

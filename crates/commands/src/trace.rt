@@ -43,7 +43,7 @@ impl<'a> Trace<'a> {
         files: &mut F,
         out: &mut W,
     ) -> Result<(), Failure<'a>>
-        ensures carried { CarriesOut (Request.Trace self.entry) result
+        ensures carried { CarriesOut F.opens (Request.Trace self.entry) result
             (disk F.bytes F.failed_opens F.failed_reads files.old) (disk F.bytes F.failed_opens F.failed_reads files.new)
             (writer W.contents W.counts out.old) (writer W.contents W.counts out.new) }
         ensures usage { IsUnchangedOnUsage result out.old out.new }

@@ -31,7 +31,7 @@ impl<'a> Verify<'a> {
         files: &mut F,
         out: &mut W,
     ) -> Result<(), Failure<'a>>
-        ensures carried { CarriesOut (Request.Verify self.entry) result
+        ensures carried { CarriesOut F.opens (Request.Verify self.entry) result
             (disk F.bytes F.failed_opens F.failed_reads files.old) (disk F.bytes F.failed_opens F.failed_reads files.new)
             (writer W.contents W.counts out.old) (writer W.contents W.counts out.new) }
         ensures usage { IfErr result (λ failure. status failure ≢ 2) }

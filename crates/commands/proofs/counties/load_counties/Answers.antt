@@ -8,7 +8,7 @@ use Rattle.commands.proofs.counties.load_counties.Goals as goal
 pub returns-in-Err-clause-err : goal.returns-in-Err-clause-err
 returns-in-Err-clause-err g c =
     let so_far = c.loop-code.invariant in
-    earlier_load_failure (disk g.F.Files.bytes g.F.Files.failed_opens g.F.Files.failed_reads c.args.files.now)
+    earlier_load_failure g.F.Files.opens (disk g.F.Files.bytes g.F.Files.failed_opens g.F.Files.failed_reads c.args.files.now)
     (disk g.F.Files.bytes g.F.Files.failed_opens g.F.Files.failed_reads c.loop-code.files)
     (disk g.F.Files.bytes g.F.Files.failed_opens g.F.Files.failed_reads c.load_county.new.files) c.in-Err.failure so_far.counts
     (λ _. refused_after so_far.stay c.args.codes.now c.loop-code.code-index _ c.loop-code.counties.items c.loop-code-test.true
@@ -17,7 +17,7 @@ returns-in-Err-clause-err g c =
 
 pub returns-in-Err-clause-usage : goal.returns-in-Err-clause-usage
 returns-in-Err-clause-usage g c =
-    load_usage _ (disk g.F.Files.bytes g.F.Files.failed_opens g.F.Files.failed_reads c.loop-code.files)
+    load_usage g.F.Files.opens _ (disk g.F.Files.bytes g.F.Files.failed_opens g.F.Files.failed_reads c.loop-code.files)
     (disk g.F.Files.bytes g.F.Files.failed_opens g.F.Files.failed_reads c.load_county.new.files) c.in-Err.failure c.in-Err.ensures.err
 
 pub returns-in-Err-clause-names : goal.returns-in-Err-clause-names
@@ -29,7 +29,7 @@ returns-in-Err-clause-counts g c = λ other. unfailed_both c.loop-code.invariant
 
 pub returns-in_err-push-in-Ok-clause-err : goal.returns-in_err-push-in-Ok-clause-err
 returns-in_err-push-in-Ok-clause-err g c =
-    memory_failure c.from_residual.result _ (disk g.F.Files.bytes g.F.Files.failed_opens g.F.Files.failed_reads c.args.files.now)
+    memory_failure g.F.Files.opens c.from_residual.result _ (disk g.F.Files.bytes g.F.Files.failed_opens g.F.Files.failed_reads c.args.files.now)
     (disk g.F.Files.bytes g.F.Files.failed_opens g.F.Files.failed_reads c.load_county.new.files) c.from_residual.ensures.1
 
 pub loop-code-preserved : goal.loop-code-preserved

@@ -4,6 +4,6 @@ use Rattle.commands.proofs.failure.report_county_file.Goals as goal
 
 pub returns : goal.returns
 returns g c = (
-  c.args.reason.now,
-  (c.write_pieces.ensures.0, rw (escaped_name c.args.«data».now c.args.code.now c.args.«end».now) (simp append_assoc c.write_pieces.ensures.1)),
+  c.write_pieces.ensures.0,
+  rw (escaped_name c.args.«data».now c.args.code.now c.args.«end».now) (simp append_assoc c.write_pieces.ensures.1),
 )

@@ -4,24 +4,24 @@ use Rattle.std.proofs.Math.Path.{fun_ext}
 use Rattle.tl_segments.specs.County.{CountyReaders}
 use Rattle.named_files.specs.County.{HoldCounty, county_readers}
 use Rattle.commands.specs.Failure.{NamesFile, of_program}
-use Rattle.named_files.specs.Files.{Disk, IsProgramInputFault, CountsProgramUse, disk}
+use Rattle.named_files.specs.Files.{Disk, IsProgramInputFault, IsProgramUseFault, OpenResults, disk}
 use Rattle.commands.specs.Inputs.{IsInput, IsInputsFailure}
 use Rattle.named_files.specs.declared.files.FileFault.TheVariants as fault
 use Rattle.named_files.specs.declared.files.ProgramInputFault.{ProgramInputFault}
 use Rattle.named_files.specs.declared.files.ProgramInputFault.TheVariants as input
-use Rattle.named_files.proofs.FileLemmas.{used_program}
+use Rattle.named_files.proofs.FileLemmas.{read_program_fault}
 use Rattle.named_files.proofs.ProgramLemmas.{too_long_as}
 use Rattle.commands.proofs.ReadLemmas.{fresh_closed}
 use Rattle.commands.proofs.inputs.open_inputs.Goals as goal
 
 -- the program's file can't be read, or the program is too long
-module _ (disk disk' : Disk) (name folder code : Bor (List ℕ)) (left : Option (List ℕ)) {readers : CountyReaders} where
+module _ {R : Type 0} (opens : OpenResults R) (disk disk' : Disk) (name folder code : Bor (List ℕ)) (left : Option (List ℕ)) {readers : CountyReaders} where
   program_failure : (of : ProgramInputFault) → Keeps (disk.known name.now) left → IsProgramInputFault left of
-      → CountsProgramUse {T = ℕ} (Err of) disk disk' → HoldCounty disk.known folder.now code.now readers
-      → IsInputsFailure name.now folder.now code.now disk disk' (of_program name of)
-  program_failure (input.File (fault.Unusable error)) unchanged is_failure uses hold = uses
-  program_failure (input.File fault.Memory) unchanged is_failure uses hold = tt
-  program_failure (input.Code of) unchanged is_failure uses hold = record {
+      → IsProgramUseFault (opens name.now) disk disk' of → HoldCounty disk.known folder.now code.now readers
+      → IsInputsFailure opens name.now folder.now code.now disk disk' (of_program name of)
+  program_failure (input.File (fault.Unusable error)) unchanged is_failure fails hold = fails
+  program_failure (input.File fault.Memory) unchanged is_failure fails hold = tt
+  program_failure (input.Code of) unchanged is_failure fails hold = record {
     fault = of;
     long = too_long_as (disk.known name.now) left of unchanged is_failure;
     is_refusal = refl;
@@ -41,11 +41,12 @@ returns-in-Err-read-clause-err g c =
     let opened = c.in-Ok.ensures in
     let county = c.in-Ok-open_county.ensures in
     let closed = c.close_county.ensures in
-    rw c.of_program.ensures (program_failure (disk g.F.Files.bytes g.F.Files.failed_opens g.F.Files.failed_reads c.args.files.now)
+    rw c.of_program.ensures (program_failure g.F.Files.opens (disk g.F.Files.bytes g.F.Files.failed_opens g.F.Files.failed_reads c.args.files.now)
     (disk g.F.Files.bytes g.F.Files.failed_opens g.F.Files.failed_reads c.close_county.new.files) c.args.name c.args.folder c.args.code _
     c.in-Err-read.fault opened.known.left c.in-Err-read.ensures.refused
-    (used_program _ _ (closed.opens ∙ c.close-2.ensures.opens ∙ county.opens.opens ∙ opened.opens.opens) opened.known.failed
-    (county.opens.reads ∙ opened.opens.reads) {T = ℕ} (Err c.in-Err-read.fault) c.in-Err-read.ensures.reads
+    (read_program_fault (g.F.Files.opens c.args.name.now) (disk g.F.Files.bytes g.F.Files.failed_opens g.F.Files.failed_reads c.args.files.now)
+    (disk g.F.Files.bytes g.F.Files.failed_opens g.F.Files.failed_reads c.close_county.new.files) opened.known.failed
+    (county.opens.reads ∙ opened.opens.reads) c.in-Ok.reader opened.opened {T = ℕ} (Err c.in-Err-read.fault) c.in-Err-read.ensures.reads
     (rw (fresh_closed county.hold closed.reads) c.close-2.ensures.reads))
     (subst (λ (known : List ℕ → Option (List ℕ)). HoldCounty known c.args.folder.now c.args.code.now
     (county_readers g.F.Reader.Read.remaining g.F.Reader.CountedRead.failed_reads c.in-Ok-open_county.county))

@@ -18,7 +18,7 @@ returns-in-Err-clause-outcome g c = let so_far = c.loop-code.invariant in
 
 pub returns-in-Err-clause-fails : goal.returns-in-Err-clause-fails
 returns-in-Err-clause-fails g c =
-    fails_after c.in-Err.failure (disk g.F.Files.bytes g.F.Files.failed_opens g.F.Files.failed_reads c.args.files.now)
+    fails_after g.F.Files.opens c.in-Err.failure (disk g.F.Files.bytes g.F.Files.failed_opens g.F.Files.failed_reads c.args.files.now)
     (disk g.F.Files.bytes g.F.Files.failed_opens g.F.Files.failed_reads c.loop-code.files)
     (disk g.F.Files.bytes g.F.Files.failed_opens g.F.Files.failed_reads c.select_county.new.files) c.loop-code.invariant.counts
     c.in-Err.ensures.fails

@@ -8,7 +8,7 @@ use Rattle.bpf_assembler.specs.declared.fault.TextFault.TheVariants as text
 use Rattle.counted_io.specs.ReaderWriter.{Writer}
 use Rattle.commands.specs.Command.{CarriesOut}
 use Rattle.commands.specs.Failure.{of_source}
-use Rattle.named_files.specs.Files.{Disk, IsUnfailed}
+use Rattle.named_files.specs.Files.{Disk, IsUnfailed, OpenResults}
 use Rattle.commands.specs.declared.assemble.Assemble.{Assemble}
 use Rattle.commands.specs.declared.request.Request.TheVariants as request
 use Rattle.commands.proofs.CarriedLemmas.{refused_carried}
@@ -16,9 +16,9 @@ use Rattle.commands.proofs.ClassLemmas.{text_status}
 use Rattle.commands.proofs.ReadLemmas.{sound}
 use Rattle.commands.proofs.assemble.Assemble.carry_out.Goals as goal
 
-source_refused : {disk disk' : Disk} {out : Writer} (arguments : Assemble) (bytes : List ℕ) (fault : SourceFault) → IsUnfailed disk disk'
-    → Keeps (disk.known arguments.source.now) (Some bytes) → IsSourceFault bytes fault
-    → CarriesOut (request.Assemble arguments) (Err (of_source arguments.source fault)) disk disk' out out
+source_refused : {R : Type 0} {opens : OpenResults R} {disk disk' : Disk} {out : Writer} (arguments : Assemble) (bytes : List ℕ) (fault : SourceFault)
+    → IsUnfailed disk disk' → Keeps (disk.known arguments.source.now) (Some bytes) → IsSourceFault bytes fault
+    → CarriesOut opens (request.Assemble arguments) (Err (of_source arguments.source fault)) disk disk' out out
 source_refused arguments bytes source.NotUtf8 counts is no_text = record {
   outcome = (refl, record { is_source = refl; source = bytes; holds = is; no_text = no_text });
   names = tt;

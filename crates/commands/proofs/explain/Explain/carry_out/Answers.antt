@@ -8,7 +8,8 @@ use Rattle.commands.proofs.explain.Explain.carry_out.Goals as goal
 
 pub returns-in-Err-clause-carried : goal.returns-in-Err-clause-carried
 returns-in-Err-clause-carried g c =
-    rw c.of_program.ensures (program_carried c.args.self.program _ c.in-Err.fault (inl refl) c.in-Err.ensures.refused c.in-Err.ensures.uses
+    rw c.of_program.ensures (program_carried g.F.Files.opens c.args.self.program _ c.in-Err.fault (inl refl) c.in-Err.ensures.refused
+    c.in-Err.ensures.fault c.in-Err.ensures.uses
     (λ fault is. of_program is.program is.is_program (program.Code fault) (is.first, is.has_number) refl refl))
 
 pub returns-in-Err-flow_of-clause-carried : goal.returns-in-Err-flow_of-clause-carried

@@ -7,7 +7,7 @@ use Rattle.commands.proofs.geocode_batch.GeocodeBatch.carry_out.Goals as goal
 
 pub returns-in-Err-load_counties-clause-carried : goal.returns-in-Err-load_counties-clause-carried
 returns-in-Err-load_counties-clause-carried g c =
-    counties_failed c.args.self c.in-Ok.ensures.uses c.in-Ok.ensures.stay c.as_slice.result.now c.as_slice.ensures.value
+    counties_failed g.F.Files.opens c.args.self c.in-Ok.ensures.uses c.in-Ok.ensures.stay c.as_slice.result.now c.as_slice.ensures.value
     c.in-Err-load_counties.failure c.in-Err-load_counties.ensures.err c.in-Err-load_counties.ensures.names
     c.in-Err-load_counties.ensures.counts
 

@@ -5,7 +5,8 @@ use Rattle.commands.proofs.verify.Verify.carry_out.Goals as goal
 
 pub returns-in-Err-clause-carried : goal.returns-in-Err-clause-carried
 returns-in-Err-clause-carried g c =
-    rw c.of_program.ensures (program_carried c.args.self.program _ c.in-Err.fault refl c.in-Err.ensures.refused c.in-Err.ensures.uses
+    rw c.of_program.ensures (program_carried g.F.Files.opens c.args.self.program _ c.in-Err.fault refl c.in-Err.ensures.refused
+    c.in-Err.ensures.fault c.in-Err.ensures.uses
     (λ fault is. record {
       program = is.program;
       is_program = is.is_program;
