@@ -1,3 +1,4 @@
 pub mod Arguments
+pub mod Fault
 pub mod Values
 pub mod Request

@@ -36,7 +36,7 @@ pub fn command<F: Files, W: FlushedWrite, E: CountedWrite>(
         ⊎ ((request : Request) × IsRequestOf (texts arguments.now) request × ReportsMissingLine request (F.bytes files.old)
         (writer E.contents E.counts errors.old) (writer E.contents E.counts errors.new)) }
     ensures untouched { result ≡ 2 → out.new ≡ out.old }
-    ensures unusable { result ≡ 3 → (request : Request) × IsRequestOf (texts arguments.now) request × IsUnusable request
+    ensures unusable { result ≡ 3 → (request : Request) × IsRequestOf (texts arguments.now) request × IsUnusable F.opens request
         (disk F.bytes F.failed_opens F.failed_reads files.old) (disk F.bytes F.failed_opens F.failed_reads files.new)
         (writer W.contents W.counts out.old) (writer W.contents W.counts out.new)
         (writer E.contents E.counts errors.old) (writer E.contents E.counts errors.new) }

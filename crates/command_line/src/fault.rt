@@ -6,11 +6,12 @@ ghost use Rattle.counted_io.specs.ReaderWriter.{writer};
 ghost use Rattle.commands.specs.Failure.{ReportsMemory};
 ghost use Rattle.clap.specs.Values.{kind_of};
 ghost use Rattle.clap.specs.declared.error.kind.ErrorKind.TheVariants as usage_kind;
+ghost use Rattle.command_line.specs.Fault.{ReportsNotUtf8};
 ghost use Rattle.command_line.specs.declared.fault.ArgumentsFault.TheVariants.{Memory, NotUtf8, Usage};
 
 use clap::error::ErrorKind as UsageKind;
 use commands::{DiagnosticLine, Failure, OUT_OF_MEMORY, USAGE};
-use counted_io::CountedWrite;
+use counted_io::{CountedWrite, write_text};
 use std::alloc::{AllocError, AllocFailed};
 use std::fmt::Write;
 use std::io::ErrorKind;
@@ -67,18 +68,23 @@ impl ArgumentsFault<'_> {
     pub fn report<E: CountedWrite>(&self, errors: &mut E)
         ensures memory { self.now ≡ ArgumentsFault.Memory
             → ReportsMemory (writer E.contents E.counts errors.old) (writer E.contents E.counts errors.new) }
+        ensures not_utf8 { self.now ≡ ArgumentsFault.NotUtf8
+            → ReportsNotUtf8 (writer E.contents E.counts errors.old) (writer E.contents E.counts errors.new) }
     {
-        if let ArgumentsFault::Memory = self {
-            Failure::Memory.report(errors);
-            return;
+        match self {
+            ArgumentsFault::Memory => Failure::Memory.report(errors),
+            ArgumentsFault::NotUtf8 => {
+                let _ = write_text(errors, b"error: an argument isn't UTF-8\n");
+            }
+            _ => {
+                let _ = self.write_report(&mut DiagnosticLine::new(errors));
+            }
         }
-        let _ = self.write_report(&mut DiagnosticLine::new(errors));
     }
 
-    /// Writes the report, except for `Memory`.
+    /// Writes the report, except for `Memory` and `NotUtf8`.
     fn write_report<E: CountedWrite>(&self, line: &mut DiagnosticLine<'_, E>) -> fmt::Result {
         match self {
-            ArgumentsFault::NotUtf8 => write!(line, "error: an argument isn't UTF-8\n"),
             ArgumentsFault::Usage(error) => write!(line, "{error}"),
             ArgumentsFault::Missing(name) => write!(line, "error: {name} is missing\n"),
             ArgumentsFault::Code(code) => {
@@ -112,7 +118,7 @@ impl ArgumentsFault<'_> {
                 end_with_value(line, text)
             }
             ArgumentsFault::Serve => write!(line, "error: serve needs a socket\n"),
-            ArgumentsFault::Memory => Ok(()),
+            ArgumentsFault::Memory | ArgumentsFault::NotUtf8 => Ok(()),
         }
     }
 }
