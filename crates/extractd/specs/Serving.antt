@@ -1,18 +1,38 @@
 -- Serving counties on a port.
-use Rattle.std.specs.Prelude.{◌≡◌, ℕ, List, Option}
+use Rattle.std.specs.Prelude.{◌≡◌, ◌≢◌, ℕ, List, Option, ⊤}
+use Rattle.counted_io.specs.ReaderWriter.{Writer}
 use Rattle.commands.specs.Counties.{AreCountiesOf, HaveRefusedCounty, IsLoadFailure}
-use Rattle.commands.specs.Failure.{status}
+use Rattle.commands.specs.Failure.{Reports, ReportsOutput}
+use Rattle.commands.specs.Failure.{status as status_of}
 use Rattle.extractd.specs.Listening.{Outside, PortRules, ServesPort}
 use Rattle.extractd.specs.declared.serving.ServeFault.{ServeFault}
 use Rattle.extractd.specs.declared.serving.ServeFault.TheVariants.{Counties, Listen}
 use Rattle.extractd.specs.declared.serving.listening.ListenFault.{ListenFault}
-use Rattle.named_files.specs.Files.{Disk}
+use Rattle.extractd.specs.declared.serving.listening.ListenFault.TheVariants.{Output}
+use Rattle.named_files.specs.Files.{Disk, OpenResults}
 use Rattle.wire.specs.State.{StateParts, counties_of, new_state}
 
 -- the exit status: that of a county that can't be loaded, and 3 otherwise
 abbrev pub serve_status : ServeFault → ℕ
-serve_status (Counties failure) = status failure
+serve_status (Counties failure) = status_of failure
 serve_status (Listen port fault) = 3
+
+-- the report of a fault, as far as it is known: that a county can't be loaded, or that the output can't be written
+abbrev pub ReportsListenFault : ListenFault → Writer → Writer → Type 0
+ReportsListenFault (Output error) errors errors' = ReportsOutput errors errors'
+ReportsListenFault fault errors errors' = ⊤
+
+abbrev pub ReportsServeFault : ServeFault → Writer → Writer → Type 0
+ReportsServeFault (Counties failure) errors errors' = Reports failure errors errors'
+ReportsServeFault (Listen port fault) errors errors' = ReportsListenFault fault errors errors'
+
+-- A server ends with the status of its fault, which was reported. It is neither success nor a usage error.
+pub record EndsServer (status : ℕ) (errors errors' : Writer) : Type 0 where
+  pub fault : ServeFault
+  pub is_status : status ≡ serve_status fault
+  pub no_success : status ≢ 0
+  pub no_usage : status ≢ 2
+  pub reported : ReportsServeFault fault errors errors'
 
 -- what is served: a folder, the codes of its counties, and the port; and what is known of the bytes of files
 pub record Served : Type 0 where
@@ -36,7 +56,7 @@ pub record ServesLoaded {N L C : Type 0} (rules : PortRules N L C StateParts) (s
   pub serves_port : ServesPort rules served.port fault old state new
 
 -- how serving ends: a county can't be loaded, and then the port isn't bound; or the counties were served until a fault
-abbrev pub ServesCounties : {N L C : Type 0} → PortRules N L C StateParts → Served → ServeFault → Host N → Host N → Type 0
-ServesCounties rules served (Counties failure) old new =
-    IsLoadFailure (HaveRefusedCounty served.known served.folder served.codes) old.disk new.disk failure × (new.outside ≡ old.outside)
-ServesCounties rules served (Listen port fault) old new = ServesLoaded rules served port fault old.outside new.outside
+abbrev pub ServesCounties : {R N L C : Type 0} → OpenResults R → PortRules N L C StateParts → Served → ServeFault → Host N → Host N → Type 0
+ServesCounties opens rules served (Counties failure) old new =
+    IsLoadFailure opens (HaveRefusedCounty served.known served.folder served.codes) old.disk new.disk failure × (new.outside ≡ old.outside)
+ServesCounties opens rules served (Listen port fault) old new = ServesLoaded rules served port fault old.outside new.outside

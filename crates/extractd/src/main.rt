@@ -5,10 +5,11 @@ mod progress;
 mod serving;
 
 ghost use Rattle.std.specs.Prelude.{◌≡◌, ◌⊎◌, IfErr, IfOk};
+ghost use Rattle.std.specs.Process.{exit_status};
 ghost use Rattle.clap.specs.Walk.{texts};
 ghost use Rattle.counted_io.specs.ReaderWriter.{writer};
 ghost use Rattle.command_line.specs.declared.fault.ArgumentsFault.TheVariants.{Memory, NotUtf8};
-ghost use Rattle.extractd.specs.Outcome.{Answers, AnswersToOutput, EndsSo, ServesIfRequested};
+ghost use Rattle.extractd.specs.Outcome.{Answers, AnswersToOutput, EndsProcess, EndsSo, ServesIfRequested};
 
 use command_line::{ArgumentsFault, Subcommand, command, read_serve};
 use counted_io::{CountedWrite, Counting};
@@ -22,9 +23,17 @@ use std::{env, io};
 // The size of the pieces in which rows are written to the system.
 const OUTPUT_BUFFER: usize = 65536;
 
+// The prover takes no contract of `main`: that of `run` is the program's.
 fn main(rt: HostRuntime) -> ExitCode {
+    run(&rt)
+}
+
+/// Carries out what the arguments after the program's name request, reports any failure on standard error, and returns the exit status.
+fn run(rt: &HostRuntime) -> ExitCode
+    ensures { EndsProcess (exit_status result) }
+{
     let mut errors = Counting::new(rt.stderr());
-    match start(&rt, &mut errors) {
+    match start(rt, &mut errors) {
         Ok(status) => ExitCode::from(status),
         Err(fault) => {
             fault.report(&mut errors);

@@ -1,11 +1,13 @@
 //! `serve`: serves counties over HTTP.
-ghost use Rattle.std.specs.Prelude.{◌≡◌, IfErr, IfOk, map};
+ghost use Rattle.std.specs.Prelude.{◌≡◌, ◌≢◌, IfErr, IfOk, map};
 ghost use Rattle.commands.specs.Counties.{AreCountiesOf, HaveRefusedCounty, IsLoadFailure};
+ghost use Rattle.commands.specs.Failure.{status};
 ghost use Rattle.named_files.specs.Files.{disk};
 ghost use Rattle.server.specs.State.{HasServed, HasTurned};
 ghost use Rattle.server.specs.Tally.{ServesTallied, TurnsTallied};
 ghost use Rattle.wire.specs.State.{counties_of, new_state};
-ghost use Rattle.extractd.specs.Serving.{ServesCounties, serve_status};
+ghost use Rattle.counted_io.specs.ReaderWriter.{writer};
+ghost use Rattle.extractd.specs.Serving.{EndsServer, ReportsListenFault, ReportsServeFault, ServesCounties, serve_status};
 
 mod listening;
 
@@ -39,7 +41,9 @@ impl ServeFault<'_> {
     }
 
     /// Reports the fault on one line.
-    fn report<E: CountedWrite>(&self, errors: &mut E) {
+    fn report<E: CountedWrite>(&self, errors: &mut E)
+        ensures { ReportsServeFault self.now (writer E.contents E.counts errors.old) (writer E.contents E.counts errors.new) }
+    {
         match self {
             ServeFault::Counties(failure) => failure.report(errors),
             ServeFault::Listen { port, fault } => report_fault(*port, fault, errors),
@@ -48,25 +52,26 @@ impl ServeFault<'_> {
 }
 
 /// Reports on one line why the server can't listen on the port, or stops.
-fn report_fault<E: CountedWrite>(port: u16, fault: &ListenFault, errors: &mut E) {
-    let _ = match fault {
-        ListenFault::Output(error) => {
-            Failure::Output(*error).report(errors);
-            Ok(())
+fn report_fault<E: CountedWrite>(port: u16, fault: &ListenFault, errors: &mut E)
+    ensures { ReportsListenFault fault.now (writer E.contents E.counts errors.old) (writer E.contents E.counts errors.new) }
+{
+    match fault {
+        ListenFault::Output(error) => Failure::Output(*error).report(errors),
+        ListenFault::Port(error) => {
+            let mut line = DiagnosticLine::new(errors);
+            let _ = write!(line, "error: 127.0.0.1:{port}: {error}\n");
         }
-        ListenFault::Port(error) => write!(
-            DiagnosticLine::new(errors),
-            "error: 127.0.0.1:{port}: {error}\n"
-        ),
-        ListenFault::Accept(error) => write!(
-            DiagnosticLine::new(errors),
-            "error: no connection can be taken: {error}\n"
-        ),
-    };
+        ListenFault::Accept(error) => {
+            let mut line = DiagnosticLine::new(errors);
+            let _ = write!(line, "error: no connection can be taken: {error}\n");
+        }
+    }
 }
 
 /// Serves the requested counties until a fault occurs, and returns the exit status.
-pub fn serve<E: CountedWrite>(rt: &HostRuntime, options: &Serve<'_>, errors: &mut E) -> u8 {
+pub fn serve<E: CountedWrite>(rt: &HostRuntime, options: &Serve<'_>, errors: &mut E) -> u8
+    ensures { EndsServer result (writer E.contents E.counts errors.old) (writer E.contents E.counts errors.new) }
+{
     let mut network = rt;
     let fault = serve_counties(
         rt.alloc(),
@@ -89,7 +94,7 @@ fn serve_counties<'a, F: Files, N: Network, W: Write, C: Clock>(
     clock: &C,
     options: &Serve<'a>,
 ) -> ServeFault<'a>
-    ensures { ServesCounties
+    ensures serves { ServesCounties F.opens
         (record { binds = N.binds; accepts = N.Listener.accepts; serves = ServesTallied HasServed; turns = TurnsTallied HasTurned })
         (record {
           folder = options.now.«data».now;
@@ -106,6 +111,7 @@ fn serve_counties<'a, F: Files, N: Network, W: Write, C: Clock>(
           disk = disk F.bytes F.failed_opens F.failed_reads files.new;
           outside = record { network = network.new; held = W.contents out.new };
         }) }
+    ensures status { (serve_status result ≢ 0) × (serve_status result ≢ 2) }
 {
     match load_state(alloc, files, options) {
         Ok(state) => ServeFault::Listen {
@@ -124,8 +130,10 @@ fn load_state<'a, F: Files>(
 ) -> Result<State<Global>, Failure<'a>>
     ensures ok { IfOk result (λ state. (state ≡ new_state (counties_of state)) × AreCountiesOf (F.bytes files.old)
         options.now.«data».now (map (λ code. code.now) options.now.codes.items) (counties_of state)) }
-    ensures err { IfErr result (IsLoadFailure (HaveRefusedCounty (F.bytes files.old) options.now.«data».now (map (λ code. code.now) options.now.codes.items))
+    ensures err { IfErr result (IsLoadFailure F.opens
+        (HaveRefusedCounty (F.bytes files.old) options.now.«data».now (map (λ code. code.now) options.now.codes.items))
         (disk F.bytes F.failed_opens F.failed_reads files.old) (disk F.bytes F.failed_opens F.failed_reads files.new)) }
+    ensures usage { IfErr result (λ failure. status failure ≢ 2) }
 {
     match load_counties(alloc, files, options.data, options.codes.as_slice()) {
         Ok(counties) => Ok(State::new(alloc, alloc, counties)?),

@@ -1,4 +1,5 @@
 use Rattle.std.proofs.Common.{inl, inr, refl}
+use Rattle.commands.proofs.OpenLemmas.{unusable_forgotten}
 use Rattle.extractd.proofs.command_to.Goals as goal
 
 pub returns-clause-answers : goal.returns-clause-answers
@@ -9,7 +10,7 @@ returns-clause-answers g c = record {
   done = c.command.ensures.done;
   refused = c.command.ensures.refused;
   usage = c.command.ensures.usage;
-  unusable = c.command.ensures.unusable;
+  unusable = λ three. let is = c.command.ensures.unusable three in (is.0, is.1, unusable_forgotten is.2);
   memory = λ four. elim (c.command.ensures.memory four) [
     | inl early ↦ inl (rw early.0 refl, early.1)
     | inr late ↦ inr late
