@@ -9,7 +9,11 @@ mod calls;
 #[cfg(test)]
 mod extracts;
 #[cfg(test)]
+mod formats;
+#[cfg(test)]
 mod generated;
+#[cfg(test)]
+mod layers;
 #[cfg(test)]
 mod order;
 #[cfg(test)]

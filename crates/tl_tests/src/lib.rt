@@ -21,6 +21,10 @@ mod readers;
 #[cfg(test)]
 mod seen;
 #[cfg(test)]
+mod shape_places;
+#[cfg(test)]
+mod shapes;
+#[cfg(test)]
 mod sweep;
 #[cfg(test)]
 mod tables;

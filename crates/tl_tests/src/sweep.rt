@@ -2,6 +2,8 @@
 use crate::counties::{ALONE, Loading, Method, NOTHING, REFUSALS, SEGMENTS};
 use crate::hits::{HITS, Search};
 use crate::matching::{MATCHES, StreetSearch};
+use crate::shape_places::{PLACES, Placing};
+use crate::shapes::{SHAPE_REFUSALS, SHAPES, ShapeLoading};
 use fixtures::{Refusing, Table, TableFault, cells};
 use std::alloc::Global;
 use std::process::Abort;
@@ -13,6 +15,8 @@ enum Call<'a> {
     Hits(Search),
     Matches(StreetSearch<'a>),
     Load(Option<Method>, Loading<'a>),
+    Shapes(ShapeLoading<'a>),
+    Place(Global, Placing<'a>),
 }
 
 impl<'a> Call<'a> {
@@ -21,6 +25,9 @@ impl<'a> Call<'a> {
         match name {
             "hits" => Ok(Call::Hits(Search::new(alloc, row)?)),
             "matches" => Ok(Call::Matches(StreetSearch::new(alloc, row)?)),
+            "shapes" => Ok(Call::Shapes(ShapeLoading::of_parts(alloc, row)?)),
+            "place" => Ok(Call::Place(alloc, Placing::new(alloc, row)?)),
+            "refused_shapes" => Ok(Call::Shapes(ShapeLoading::of_refusal(alloc, row)?)),
             method => {
                 let method = Method::or_plain(method)?;
                 let (rt1, rt4, rt5, rt6, expected) = cells(row)?.five()?;
@@ -36,6 +43,8 @@ impl<'a> Call<'a> {
             Call::Hits(search) => search.is_right(heap),
             Call::Matches(search) => search.is_right(heap),
             Call::Load(method, loading) => loading.is_right(heap, *method),
+            Call::Shapes(loading) => loading.is_right(heap),
+            Call::Place(tables, placing) => placing.is_right(heap, *tables),
         };
         match answer {
             Ok(is_right) => is_right && !heap.was_refused(),
@@ -98,4 +107,15 @@ fn hits(rt: HostRuntime) {
 #[test]
 fn matches_of_streets(rt: HostRuntime) {
     assert!(rt; growths(&rt, rt.alloc(), MATCHES, "matches") > 0);
+}
+
+#[test]
+fn shapes(rt: HostRuntime) {
+    assert!(rt; growths(&rt, rt.alloc(), SHAPES, "shapes") > 0);
+    assert!(rt; growths(&rt, rt.alloc(), SHAPE_REFUSALS, "refused_shapes") > 0);
+}
+
+#[test]
+fn places(rt: HostRuntime) {
+    assert!(rt; growths(&rt, rt.alloc(), PLACES, "place") > 0);
 }

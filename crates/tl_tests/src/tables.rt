@@ -14,7 +14,7 @@ number|7z
 number|18446744073709551616
 bytes|{rt1
 bytes|rt1}
-bytes|{rt2}
+bytes|{rt3}
 bytes|{rt1 FENAM=Oak}
 bytes|{rt5 TLID=5}
 bytes|{rt1 TLID=12345678901}

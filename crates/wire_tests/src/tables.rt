@@ -135,7 +135,7 @@ row|GET /jobs/1{end} => 404 not found
 row|GET /jobs/1{end} => 200
 row|GET /jobs/1{end} => 200 txt 1 1
 row|GET /jobs/1{end} => 200 text1 1
-row|GET /jobs/1{end} => 200 text {rt2}
+row|GET /jobs/1{end} => 200 text {rt3}
 row|GET /jobs/1{end} => =404 Not Found; text/plain; not found\n
 row|GET /jobs/1{end} => =404 Not Found; text/plain; x; not found\n
 row|GET /jobs/1{end} => =404 Not Found; text/plain; ; not found\n
