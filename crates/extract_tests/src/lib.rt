@@ -13,7 +13,7 @@ mod formats;
 #[cfg(test)]
 mod generated;
 #[cfg(test)]
-mod layers;
+mod layer_texts;
 #[cfg(test)]
 mod order;
 #[cfg(test)]
