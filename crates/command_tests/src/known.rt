@@ -12,6 +12,7 @@ use commands::{Request, Run, Verify};
 use counted_io::Counting;
 #[cfg(test)]
 use fixtures::bytes;
+use layers::Layer;
 use std::alloc::Global;
 #[cfg(test)]
 use std::test::Fail;
@@ -71,6 +72,7 @@ fn answers(rt: HostRuntime) -> Result<(), Fail> {
             program: "p.bpf",
             data: "d",
             code: "01001",
+            layer: Layer::Rows,
         },
     );
     let mut out = Counting::new(Vec::new(rt.alloc()));

@@ -13,11 +13,12 @@ use crate::inputs::{Inputs, open_inputs};
 use bpf_program::accept;
 use counted_io::{CountedRead, CountedWrite};
 use extract::{ExtractFault, extract_verified};
+use layers::Layer;
 use named_files::{CountyInputs, Files, close_county};
 use std::alloc::Allocator;
 
 /// The arguments of `run`.
-#[derive(Clone, Copy)]
+#[derive(Drop)]
 pub struct Run<'a> {
     /// The program's file.
     pub program: &'a str,
@@ -25,6 +26,7 @@ pub struct Run<'a> {
     pub data: &'a str,
     /// The county's code, five digits: the state, then the county within it.
     pub code: &'a str,
+    pub layer: Layer,
 }
 
 impl<'a> Run<'a> {

@@ -14,6 +14,7 @@ use crate::filter::FilterOptions;
 use bpf_verify::Verified;
 use counted_io::CountedWrite;
 use extract::extract_verified;
+use layers::Layer;
 use named_files::{Files, close_county, open_county};
 use std::alloc::{Allocator, Global};
 
@@ -27,6 +28,7 @@ pub struct Select<'a> {
     pub data: &'a str,
     /// The counties' codes, five digits each: the state, then the county within it.
     pub codes: Vec<&'a str>,
+    pub layer: Layer,
 }
 
 impl<'a> Select<'a> {

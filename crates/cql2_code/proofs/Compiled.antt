@@ -1,5 +1,5 @@
 -- A compiled filter.
-use Rattle.std.proofs.Common.{◌≡◌, ℕ, ◌+◌, ◌-◌, Bool, true, false, List, [], ◌∷◌, ◌++◌, Option, if◌then◌else◌, refl, sym, ap, ◌∙◌, subst}
+use Rattle.std.proofs.Common.{◌≡◌, ℕ, ◌+◌, ◌-◌, Bool, true, false, List, [], ◌∷◌, ◌++◌, length, Option, if◌then◌else◌, refl, sym, ap, ◌∙◌, subst}
 use Rattle.std.proofs.Common.{arith, append_assoc}
 use Rattle.std.specs.Prelude.{All, IfOk, Result}
 use Rattle.std.proofs.lemmas.Result.{IfOk-weaker}
@@ -9,8 +9,8 @@ use Rattle.bpf_helpers.specs.Meaning as number
 use Rattle.bpf_insn.proofs.PlaceLemmas.{word_count-append}
 use Rattle.bpf_insn.specs.Code.{word_count}
 use Rattle.bpf_insn.specs.declared.instruction.Insn.{Insn}
-use Rattle.bpf_meaning.proofs.ExtractLemmas.{one_extract_lem}
-use Rattle.bpf_meaning.specs.Extract.{IsExtract, chosen_count, row_if_chosen, row_of}
+use Rattle.bpf_meaning.proofs.ExtractLemmas.{one_extract_lem, selection_extract}
+use Rattle.bpf_meaning.specs.Extract.{IsExtractIn, IsSelection, Selected, TextFormat, selected_if_chosen, texts_of}
 use Rattle.bpf_meaning.specs.Run.{Answers}
 use Rattle.bpf_verify.specs.Annotation.{HasGoodAnnotation}
 use Rattle.cql2.specs.Truth.{selects}
@@ -22,7 +22,7 @@ use Rattle.tl_segments.specs.Joining.{JoinedLines, segments_of}
 use Rattle.tl_segments.specs.Loading.{AreValidJoined, AreValidLines}
 use Rattle.tl_segments.specs.Segment.{SegmentParts, IsSegment}
 use Rattle.tl_segments.specs.declared.fault.CountyFile.TheVariants.{Rt1}
-use Rattle.cql2_code.specs.Chosen.{Chooses, IsExtractOf, count_of, rows_of, score_of}
+use Rattle.cql2_code.specs.Chosen.{Chooses, IsExtractOf, score_of, selection_of}
 use Rattle.cql2_code.specs.declared.fault.CompileFault.{CompileFault}
 use Rattle.cql2_code.specs.Layout.{IsTooLong, MayBeRefused, Refuses, Writes, answer_code, chosen_code, copy, program, question_code, from_argument_1, score_code, into_record}
 use Rattle.cql2_code.specs.Lowering.{asks_whether}
@@ -117,48 +117,49 @@ asks_as {A} {exits = exits} {old = old} {new = new} asked same written =
 
 -- Extracts
 
-row_is : (chosen : Bool) (score : ℕ) (segment : SegmentParts)
-    → (if chosen then row_of score segment else []) ≡ row_if_chosen (number.truth chosen) (if chosen then score else 0) segment
-row_is true score segment = refl
-row_is false score segment = refl
-
-count_is : (chosen : Bool) → (if chosen then 1 else 0) ≡ chosen_count (number.truth chosen)
-count_is true = refl
-count_is false = refl
-
--- the extract of a filter's program has the rows of the segments for which the filter is true
-pub extracts : {A : Type 0} (code : List Insn) (filter : Filter A) (score : Option NumericColumn) → Chooses code filter score
-    → (segments : List SegmentParts) → All IsSegment segments
-    → IsExtract code segments (rows_of filter score segments) (count_of filter segments)
-extracts code filter score chooses [] all = (refl, refl)
-extracts code filter score chooses (segment ∷ segments) all =
-    let chosen = selects filter segment in (
-      number.truth chosen,
-      (if chosen then score_of score segment else 0),
-      rows_of filter score segments,
-      count_of filter segments,
-      chooses segment (All-head IsSegment segment segments all),
-      ap (λ (rows : List ℕ). rows ++ rows_of filter score segments) (row_is chosen (score_of score segment) segment),
-      ap (λ (n : ℕ). n + count_of filter segments) (count_is chosen),
-      extracts code filter score chooses segments (All-tail IsSegment segment segments all),
-    )
+selected_is : (chosen : Bool) (score : ℕ) (segment : SegmentParts)
+    → (if chosen then record { score = score; segment = segment } ∷ [] else [])
+    ≡ selected_if_chosen (number.truth chosen) (if chosen then score else 0) segment
+selected_is true score segment = refl
+selected_is false score segment = refl
 
 module _ {A : Type 0} (code : List Insn) (filter : Filter A) (score : Option NumericColumn) (chooses : Chooses code filter score) where
-  -- any extract of the program has exactly those rows
-  only_extract : (segments : List SegmentParts) → All IsSegment segments → (text : List ℕ) (rows : ℕ) → IsExtract code segments text rows
-      → IsExtractOf filter score segments text rows
-  only_extract segments all text rows is =
-      let same = one_extract_lem row_of code segments text (rows_of filter score segments) rows (count_of filter segments) is
-      (extracts code filter score chooses segments all) in
-      record { text_is = same.0; rows_are = same.1 }
+  -- a filter's program selects the segments for which the filter is true
+  pub selects_true : (segments : List SegmentParts) → All IsSegment segments → IsSelection code segments (selection_of filter score segments)
+  selects_true [] all = refl
+  selects_true (segment ∷ segments) all =
+      let chosen = selects filter segment in (
+        number.truth chosen,
+        (if chosen then score_of score segment else 0),
+        selection_of filter score segments,
+        chooses segment (All-head IsSegment segment segments all),
+        ap (λ (selected : List Selected). selected ++ selection_of filter score segments) (selected_is chosen (score_of score segment) segment),
+        selects_true segments (All-tail IsSegment segment segments all),
+      )
+
+module _ {A : Type 0} (text_of : TextFormat) (code : List Insn) (filter : Filter A) (score : Option NumericColumn)
+    (chooses : Chooses code filter score) where
+  -- their texts are its extract
+  pub extracts : (segments : List SegmentParts) → All IsSegment segments → IsExtractIn text_of code segments
+      (texts_of text_of (selection_of filter score segments)) (length (selection_of filter score segments))
+  extracts segments all =
+      selection_extract text_of code segments (selection_of filter score segments) (selects_true code filter score chooses segments all)
+
+  -- any extract of the program has exactly those texts
+  only_extract : (segments : List SegmentParts) → All IsSegment segments → (text : List ℕ) (count : ℕ)
+      → IsExtractIn text_of code segments text count → IsExtractOf text_of filter score segments text count
+  only_extract segments all text count is =
+      let same = one_extract_lem text_of code segments text (texts_of text_of (selection_of filter score segments)) count
+      (length (selection_of filter score segments)) is (extracts segments all) in
+      record { text_is = same.0; count_is = same.1 }
 
   -- the segments may be those of lines without a fault
   pub extract_of_lines : (joined : JoinedLines) (lines : List (List ℕ)) → AreValidJoined joined → AreValidLines Rt1 lines
-      → (text : List ℕ) (rows : ℕ) → IsExtract code (segments_of joined lines) text rows
-      → IsExtractOf filter score (segments_of joined lines) text rows
+      → (text : List ℕ) (count : ℕ) → IsExtractIn text_of code (segments_of joined lines) text count
+      → IsExtractOf text_of filter score (segments_of joined lines) text count
   extract_of_lines joined lines valid are = only_extract (segments_of joined lines) (are_segments joined valid lines are)
 
   -- or those of a county that was loaded
-  pub extract_of_county : (county : CountyParts) (old new : CountyReaders) → LoadsCounty county old new → (text : List ℕ) (rows : ℕ)
-      → IsExtract code county.segments text rows → IsExtractOf filter score county.segments text rows
+  pub extract_of_county : (county : CountyParts) (old new : CountyReaders) → LoadsCounty county old new → (text : List ℕ) (count : ℕ)
+      → IsExtractIn text_of code county.segments text count → IsExtractOf text_of filter score county.segments text count
   extract_of_county county old new loads = only_extract county.segments (county_segments county old new loads)

@@ -1,9 +1,9 @@
 -- What a filter's program does: it selects the segments on which the filter is true.
-use Rattle.std.specs.Prelude.{◌≡◌, ℕ, ◌+◌, List, [], ◌∷◌, ◌++◌, Option, Some, None, if◌then◌else◌}
+use Rattle.std.specs.Prelude.{◌≡◌, ℕ, List, [], ◌∷◌, ◌++◌, length, Option, Some, None, if◌then◌else◌}
 use Rattle.bpf_helpers.specs.Meaning as number
 use Rattle.bpf_helpers.specs.Meaning.{coordinate, field_number, or_zero}
 use Rattle.bpf_insn.specs.declared.instruction.Insn.{Insn}
-use Rattle.bpf_meaning.specs.Extract.{row_of}
+use Rattle.bpf_meaning.specs.Extract.{Selected, TextFormat, texts_of}
 use Rattle.bpf_meaning.specs.Run.{Answers}
 use Rattle.cql2.specs.Truth.{selects}
 use Rattle.cql2.specs.declared.column.NumericColumn.{NumericColumn}
@@ -23,18 +23,15 @@ abbrev pub Chooses : {A : Type 0} → List Insn → Filter A → Option NumericC
 Chooses code filter score = (segment : SegmentParts) → IsSegment segment
     → Answers code segment (number.truth (selects filter segment)) (if selects filter segment then score_of score segment else 0)
 
--- the rows of the segments for which a filter is true, in order, with their scores, and the number of those segments
-abbrev pub rows_of : {A : Type 0} → Filter A → Option NumericColumn → List SegmentParts → List ℕ
-rows_of filter score [] = []
-rows_of filter score (segment ∷ segments) =
-    (if selects filter segment then row_of (score_of score segment) segment else []) ++ rows_of filter score segments
+-- the segments for which a filter is true, in order, with their scores
+abbrev pub selection_of : {A : Type 0} → Filter A → Option NumericColumn → List SegmentParts → List Selected
+selection_of filter score [] = []
+selection_of filter score (segment ∷ segments) =
+    (if selects filter segment then record { score = score_of score segment; segment = segment } ∷ [] else [])
+    ++ selection_of filter score segments
 
-abbrev pub count_of : {A : Type 0} → Filter A → List SegmentParts → ℕ
-count_of filter [] = 0
-count_of filter (segment ∷ segments) = (if selects filter segment then 1 else 0) + count_of filter segments
-
--- the text is the rows of the segments for which a filter is true, and `rows` is their number
-pub record IsExtractOf {A : Type 0} (filter : Filter A) (score : Option NumericColumn) (segments : List SegmentParts) (text : List ℕ) (rows : ℕ)
-    : Type 0 where
-  pub text_is : text ≡ rows_of filter score segments
-  pub rows_are : rows ≡ count_of filter segments
+-- the text is the texts of the segments for which a filter is true, and `count` is their number
+pub record IsExtractOf {A : Type 0} (text_of : TextFormat) (filter : Filter A) (score : Option NumericColumn) (segments : List SegmentParts)
+    (text : List ℕ) (count : ℕ) : Type 0 where
+  pub text_is : text ≡ texts_of text_of (selection_of filter score segments)
+  pub count_is : count ≡ length (selection_of filter score segments)

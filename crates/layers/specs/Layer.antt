@@ -1,5 +1,8 @@
 -- Layers: what is written before all segments, and of each selected one.
-use Rattle.std.specs.Prelude.{ℕ, Bool, true, false, List, [], Option, Some, None}
+use Rattle.std.specs.Prelude.{◌≡◌, ℕ, Bool, true, false, List, [], Option, Some, None, Result, Ok}
+use Rattle.counted_io.specs.ReaderWriter.{Writer}
+use Rattle.counted_io.specs.Writing.{WritesText}
+use Rattle.counted_io.specs.declared.writing.WriteFault.{WriteFault}
 use Rattle.bpf_meaning.specs.Extract.{TextFormat, row_of}
 use Rattle.features.specs.Layout.{LayoutParts}
 use Rattle.features.specs.CsvTable as csv
@@ -29,11 +32,11 @@ has_shapes Rows = false
 has_shapes (Table layout) = is_shape layout.geometry
 has_shapes (Features layout) = is_shape layout.geometry
 
--- what is written before all segments
-abbrev pub header_text : LayerParts → List ℕ
-header_text Rows = []
-header_text (Table layout) = csv.header_text layout
-header_text (Features layout) = []
+-- what comes before all segments was written: the header of a table, and otherwise nothing
+abbrev pub WritesHeader : LayerParts → Result (Unit {0}) WriteFault → Writer → Writer → Type 0
+WritesHeader Rows result out out' = (result ≡ Ok tt) × (out' ≡ out)
+WritesHeader (Table layout) result out out' = WritesText (csv.header_text layout) result out out'
+WritesHeader (Features layout) result out out' = (result ≡ Ok tt) × (out' ≡ out)
 
 -- what is written of a segment with a score and the parts of its shape
 abbrev pub layer_text : LayerParts → ℕ → SegmentParts → List ShapePartParts → List ℕ

@@ -1,11 +1,13 @@
 -- The effect of writing the layer of a county on the readers of its files and on the writer.
-use Rattle.std.specs.Prelude.{◌≡◌, ◌⊎◌, ℕ, List, Option, option_map, Result, Err}
+use Rattle.std.specs.Prelude.{◌≡◌, ◌⊎◌, ℕ, List, Option, option_map, Result, Ok, Err}
 use Rattle.counted_io.specs.ReaderWriter.{Reader, Writer, reader}
+use Rattle.counted_io.specs.declared.writing.WriteFault.{WriteFault}
 use Rattle.bpf_insn.specs.declared.instruction.Insn.{Insn}
 use Rattle.extract.specs.ExtractFault.{of_load}
 use Rattle.extract.specs.Extracting.{IsOutcomeOfCodeIn}
 use Rattle.extract.specs.declared.fault.ExtractFault.{ExtractFault}
-use Rattle.layers.specs.Layer.{LayerParts, layer_format}
+use Rattle.extract.specs.declared.fault.ExtractFault.TheVariants.{Write}
+use Rattle.layers.specs.Layer.{LayerParts, WritesHeader, layer_format}
 use Rattle.layers.specs.ShapeTable.{IsShapesFault, ReadsShapes}
 use Rattle.layers.specs.declared.writing.LayerFiles.{LayerFiles}
 use Rattle.tl_segments.specs.County.{CountyReaders}
@@ -43,3 +45,12 @@ pub record IsWrittenWithShapes (layer : LayerParts) (code : List Insn) (result :
 abbrev pub IsLayerOutcome : LayerParts → List Insn → Result ℕ ExtractFault → LayerReaders → LayerReaders → Writer → Writer → Type 0
 IsLayerOutcome layer code result old new out out' =
     IsRefusedForShapes result old new out out' ⊎ IsWrittenWithShapes layer code result old new out out'
+
+-- The effect of writing the header of a layer and then one county: a write of the header failed, and nothing was read; or the header was written, and
+-- then the layer of the county.
+pub data IsHeadedOutcome (layer : LayerParts) (code : List Insn) (result : Result ℕ ExtractFault) (old new : LayerReaders) (out out' : Writer)
+    : Type 0 where
+  in_header : (fault : WriteFault) → result ≡ Err (Write fault) → WritesHeader layer (Err fault) out out' → new ≡ old
+      → IsHeadedOutcome layer code result old new out out'
+  after_header : (headed : Writer) → WritesHeader layer (Ok tt) out headed → IsLayerOutcome layer code result old new headed out'
+      → IsHeadedOutcome layer code result old new out out'

@@ -29,7 +29,7 @@ pub enum Layer {
 }
 
 impl Layer {
-    ghost use Rattle.layers.specs.Layer.{has_shapes, header_text};
+    ghost use Rattle.layers.specs.Layer.{WritesHeader, has_shapes};
     ghost use Rattle.layers.specs.LayerParts.{parts_of};
 
     /// Returns whether the points of segments' shapes are written.
@@ -44,7 +44,7 @@ impl Layer {
 
     /// Writes what comes before all segments: the header of a table. Nothing is retried, and nothing is flushed.
     pub fn write_header<W: CountedWrite>(&self, out: &mut W) -> Result<(), WriteFault>
-        ensures { WritesText (header_text (parts_of self.now)) result
+        ensures { WritesHeader (parts_of self.now) result
             (writer W.contents W.counts out.old) (writer W.contents W.counts out.new) }
     {
         match self {

@@ -1,6 +1,5 @@
 -- The files of a county in a folder, by name, and the bytes that their readers hold.
-use Rattle.std.specs.Prelude.{◌≡◌, ℕ, List, ◌++◌, codes, Option, ⊤, Result}
-use Rattle.std.specs.declared.io.Error.{Error}
+use Rattle.std.specs.Prelude.{◌≡◌, ℕ, List, ◌++◌, codes, Option, ⊤}
 use Rattle.tl_segments.specs.County.{CountyReaders}
 use Rattle.tl_segments.specs.CountyFiles as county_files
 use Rattle.tl_segments.specs.Loading.{Readers}
@@ -8,7 +7,7 @@ use Rattle.tl_segments.specs.declared.county_files.CountyFiles.{CountyFiles}
 use Rattle.tl_segments.specs.declared.county_files.JoinedFiles.{JoinedFiles}
 use Rattle.tl_segments.specs.declared.fault.CountyFile.{CountyFile}
 use Rattle.tl_segments.specs.declared.fault.CountyFile.TheVariants.{Rt1, Rt2, Rt4, Rt5, Rt6}
-use Rattle.named_files.specs.Files.{CountsClose, IsOpenFault, IsUnread, input_failed_reads, input_remaining}
+use Rattle.named_files.specs.Files.{CountsClose, IsOpenFault, IsUnread, OpenResults, input_failed_reads, input_remaining}
 use Rattle.named_files.specs.declared.county.CountyFileFault.{CountyFileFault}
 use Rattle.named_files.specs.declared.files.Input.{Input}
 use Rattle.named_files.specs.declared.files.Input.TheVariants as input
@@ -29,6 +28,12 @@ file_name folder code file = folder ++ codes "/TGR" ++ code ++ name_end file
 abbrev pub IsLoaded : CountyFile → Type 0
 IsLoaded Rt2 = ⊥
 IsLoaded file = ⊤
+
+-- the file isn't taken for an empty one if it doesn't exist
+abbrev pub MustExist : CountyFile → Type 0
+MustExist Rt1 = ⊤
+MustExist Rt2 = ⊤
+MustExist file = ⊥
 
 -- this is the name of one of the files in the folder that the county is loaded from
 abbrev pub IsFileOfCounty : List ℕ → List ℕ → List ℕ → Type 0
@@ -66,6 +71,12 @@ pub record ClosesCounty (readers : CountyReaders) (failed failed' : ℕ) : Type 
   pub rt5 : CountsClose readers.joined.rt5.failed after_rt4 after_rt5
   pub rt6 : CountsClose readers.joined.rt6.failed after_rt5 failed'
 
--- why a file that a county is loaded from can't be opened: an open of it failed with this error, or memory ran out
-abbrev pub IsCountyOpenFault : {R : Type 0} → (List ℕ → Result R Error → Type 0) → List ℕ → List ℕ → CountyFileFault → Type 0
-IsCountyOpenFault opens folder code fault = IsLoaded fault.file × IsOpenFault (opens (file_name folder code fault.file)) fault.fault
+-- why this file of a county can't be opened: an open of it failed with this error, or memory ran out
+pub record IsFileOpenFault {R : Type 0} (opens : OpenResults R) (folder code : List ℕ) (file : CountyFile) (fault : CountyFileFault)
+    : Type 0 where
+  pub of_file : fault.file ≡ file
+  pub is_fault : IsOpenFault (opens (file_name folder code file)) fault.fault
+
+-- why one of the files that a county is loaded from can't be opened
+abbrev pub IsCountyOpenFault : {R : Type 0} → OpenResults R → List ℕ → List ℕ → CountyFileFault → Type 0
+IsCountyOpenFault opens folder code fault = IsLoaded fault.file × IsFileOpenFault opens folder code fault.file fault

@@ -1,6 +1,6 @@
-//! The files of a county (TIGER/Line 2006, record types 1, 4, 5 and 6), opened by name.
+//! The files of a county (TIGER/Line 2006, record types 1, 2, 4, 5 and 6), opened by name.
 ghost use Rattle.std.specs.Prelude.{◌≡◌, IfErr, IfOk, string_bytes};
-ghost use Rattle.named_files.specs.County.{ClosesCounty, HoldCounty, HoldJoined, IsCountyOpenFault, IsLoaded, IsOpened, county_readers, file_name, joined_readers, name_end};
+ghost use Rattle.named_files.specs.County.{ClosesCounty, HoldCounty, HoldJoined, IsCountyOpenFault, IsFileOpenFault, IsOpened, MustExist, county_readers, file_name, joined_readers, name_end};
 ghost use Rattle.named_files.specs.Files.{Closes, IsUnread, Opens, disk, input_reader};
 ghost use Rattle.named_files.specs.declared.files.FileFault.TheVariants.{Memory};
 
@@ -46,6 +46,23 @@ pub fn open_county<A: Allocator + Copy, F: Files>(
     }
 }
 
+/// Opens the file of type 2 of a county in the data folder, which has the shapes of its segments. It must exist.
+pub fn open_shapes<A: Allocator + Copy, F: Files>(
+    alloc: A,
+    files: &mut F,
+    folder: &str,
+    code: &str,
+) -> Result<Input<F::Reader>, CountyFileFault>
+    ensures hold { IfOk result (λ input. IsUnread (F.bytes files.old (file_name folder.now code.now CountyFile.Rt2))
+        (input_reader F.Reader.remaining F.Reader.failed_reads input)) }
+    ensures is_open { IfOk result IsOpened }
+    ensures fault { IfErr result (IsFileOpenFault F.opens folder.now code.now CountyFile.Rt2) }
+    ensures opens { Opens result (λ fault. fault.fault) (disk F.bytes F.failed_opens F.failed_reads files.old)
+        (disk F.bytes F.failed_opens F.failed_reads files.new) }
+{
+    open_file(alloc, files, folder, code, CountyFile::Rt2)
+}
+
 /// Opens the files whose lines are joined to those of type 1. If one of them can't be opened, closes those that are open.
 fn open_joined<A: Allocator + Copy, F: Files>(
     alloc: A,
@@ -80,7 +97,7 @@ fn open_joined<A: Allocator + Copy, F: Files>(
     }
 }
 
-/// Opens a county's file. The type 1 file must exist. Another file is an empty input if it doesn't exist.
+/// Opens a county's file. Those of types 1 and 2 must exist. Another file is an empty input if it doesn't exist.
 fn open_file<A: Allocator + Copy, F: Files>(
     alloc: A,
     files: &mut F,
@@ -88,12 +105,10 @@ fn open_file<A: Allocator + Copy, F: Files>(
     code: &str,
     file: CountyFile,
 ) -> Result<Input<F::Reader>, CountyFileFault>
-    requires { IsLoaded file }
     ensures known { IfOk result (λ input. IsUnread (F.bytes files.old (file_name folder.now code.now file))
         (input_reader F.Reader.remaining F.Reader.failed_reads input)) }
-    ensures is_open { IfOk result (λ input. file ≡ CountyFile.Rt1 → IsOpened input) }
-    ensures fault { IfErr result (IsCountyOpenFault F.opens folder.now code.now) }
-    ensures of_file { IfErr result (λ fault. fault.file ≡ file) }
+    ensures is_open { IfOk result (λ input. MustExist file → IsOpened input) }
+    ensures fault { IfErr result (IsFileOpenFault F.opens folder.now code.now file) }
     ensures opens { Opens result (λ fault. fault.fault) (disk F.bytes F.failed_opens F.failed_reads files.old)
         (disk F.bytes F.failed_opens F.failed_reads files.new) }
 {
@@ -102,11 +117,14 @@ fn open_file<A: Allocator + Copy, F: Files>(
         return Err(CountyFileFault { file, fault });
     };
     match file {
-        CountyFile::Rt1 => match open(files, name.as_str()) {
+        CountyFile::Rt1 | CountyFile::Rt2 => match open(files, name.as_str()) {
             Ok(reader) => Ok(Input::Opened(reader)),
             Err(fault) => Err(CountyFileFault { file, fault }),
         },
-        _ => match open_optional(files, name.as_str()) {
+        CountyFile::Rt4 | CountyFile::Rt5 | CountyFile::Rt6 => match open_optional(
+            files,
+            name.as_str(),
+        ) {
             Ok(input) => Ok(input),
             Err(fault) => Err(CountyFileFault { file, fault }),
         },

@@ -9,6 +9,7 @@ use crate::fault::ArgumentsFault;
 use crate::options::{code, county_option, option, value};
 use clap::{ArgMatches, Command};
 use commands::Run;
+use layers::Layer;
 use std::alloc::{AllocError, Global};
 
 /// Returns the command for the argument parser.
@@ -43,5 +44,6 @@ pub fn request<'a>(matches: &ArgMatches<'a>) -> Result<Run<'a>, ArgumentsFault<'
         program: value(matches, "program")?,
         data: value(matches, "data")?,
         code: code(matches)?,
+        layer: Layer::Rows,
     })
 }

@@ -9,6 +9,7 @@ use crate::fault::ArgumentsFault;
 use crate::options::{codes, counties_option, filter_options, option, score_option, value};
 use clap::{ArgMatches, Command};
 use commands::Select;
+use layers::Layer;
 use std::alloc::{AllocError, Global};
 
 /// Returns the command for the argument parser.
@@ -46,5 +47,6 @@ pub fn request<'a>(
         filter_options: filter_options(alloc, matches)?,
         data: value(matches, "data")?,
         codes: codes(alloc, matches)?,
+        layer: Layer::Rows,
     })
 }
