@@ -8,6 +8,7 @@ use Rattle.named_files.specs.County.{ClosesCounty, HoldCounty, IsFileOpenFault, 
 use Rattle.named_files.specs.Files.{CountsClose, IsUnread, OpenResults, input_failed_reads, input_remaining}
 use Rattle.named_files.specs.declared.county.CountyFileFault.{CountyFileFault}
 use Rattle.named_files.specs.declared.files.Input.{Input}
+use Rattle.tl_segments.specs.County.{CountyReaders}
 use Rattle.tl_segments.specs.declared.fault.CountyFile.{CountyFile}
 use Rattle.tl_segments.specs.declared.fault.CountyFile.TheVariants.{Rt2}
 
@@ -56,5 +57,8 @@ pub record ClosesLayer (readers : LayerReaders) (failed failed' : ℕ) : Type 0 
   pub rt2 : ClosesShapes readers.rt2 between failed'
 
 -- no read of the county's readers has failed
-abbrev pub AreUnread : {R : Type 0} → (R → Option (List ℕ)) → (R → ℕ) → R → Type 0
-AreUnread remaining failed_reads inputs = ⊤
+pub record AreUnread (readers : CountyReaders) : Type 0 where
+  pub rt1 : readers.rt1.failed ≡ 0
+  pub rt4 : readers.joined.rt4.failed ≡ 0
+  pub rt5 : readers.joined.rt5.failed ≡ 0
+  pub rt6 : readers.joined.rt6.failed ≡ 0

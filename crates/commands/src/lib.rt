@@ -14,6 +14,7 @@ mod flushing;
 mod geocode_batch;
 mod geocoder;
 mod inputs;
+mod layer_inputs;
 mod request;
 mod run;
 mod select;
