@@ -6,6 +6,7 @@ use super::counties::{COUNTIES, OPENINGS};
 use super::devices::{CASES, LONG};
 use super::echoes::ECHOES;
 use super::filters::FILTERS;
+use super::formats::FORMATS;
 use super::geocodes::GEOCODES;
 use super::listings::LISTINGS;
 use super::runs::FILES;
@@ -23,8 +24,8 @@ pub fn is_right(alloc: Global, row: &str) -> Result<bool, TableFault> {
 #[test]
 fn endings(rt: HostRuntime) -> Result<(), Fail> {
     for table in [
-        SOURCES, DOCUMENTED, PROGRAMS, COUNTIES, OPENINGS, FILES, GEOCODES, FILTERS, CASES,
-        LISTINGS, ECHOES,
+        SOURCES, DOCUMENTED, PROGRAMS, COUNTIES, OPENINGS, FILES, GEOCODES, FILTERS, FORMATS,
+        CASES, LISTINGS, ECHOES,
     ] {
         for row in table.joined(rt.alloc())?.lines() {
             assert_eq!(rt; is_right(rt.alloc(), row), Ok(true), "{row}");

@@ -26,6 +26,8 @@ mod filter_texts;
 #[cfg(test)]
 mod filters;
 #[cfg(test)]
+mod formats;
+#[cfg(test)]
 mod geocodes;
 mod known;
 #[cfg(test)]

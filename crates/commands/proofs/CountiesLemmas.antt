@@ -7,7 +7,7 @@ use Rattle.std.proofs.lemmas.List.{map-append, map_more, take-append-drop}
 use Rattle.std.proofs.lemmas.Slice.Zip.{all_zipped_more}
 use Rattle.tl_segments.specs.County.{CountyParts}
 use Rattle.refusals.specs.Refusal.{RefusalParts}
-use Rattle.commands.specs.Counties.{AreCountiesOf, HaveRefusedCounty, IsCountyOf, IsFileOfCounties, IsRefusedCounty, IsLoadFailure}
+use Rattle.commands.specs.Counties.{AreCountiesOf, HaveRefusedCounty, IsCountyOf, IsFileOfOne, IsRefusedCounty, IsLoadFailure}
 use Rattle.named_files.specs.County.{IsFileOfCounty, IsLoaded, file_name}
 use Rattle.commands.specs.Failure.{NamesFile, of_county_file, status}
 use Rattle.named_files.specs.Files.{CountsFileFault, Disk, IsOpenFault, IsUnfailed, OpenResults}
@@ -54,9 +54,9 @@ module _ {known later : List ℕ → Option (List ℕ)} (same : (name : List ℕ
     refused = subst (λ (known : List ℕ → Option (List ℕ)). IsRefusedCounty known folder (get_or codes i d).now refusal) (fun_ext same) is;
   }
 
--- a file named in the failure of one county
-module _ (folder : List ℕ) (codes : List (Bor (List ℕ))) (i : ℕ) (d : Bor (List ℕ)) (inside : i < length codes) where
-  file_after : (name : List ℕ) → IsFileOfCounty folder (get_or codes i d).now name → IsFileOfCounties folder (texts codes) name
+-- a file named in the failure of one code
+module _ (IsFile : List ℕ → List ℕ → Type 0) (codes : List (Bor (List ℕ))) (i : ℕ) (d : Bor (List ℕ)) (inside : i < length codes) where
+  file_after : (name : List ℕ) → IsFile (get_or codes i d).now name → IsFileOfOne IsFile (texts codes) name
   file_after name is = record {
     before = texts (take i codes);
     code = (get_or codes i d).now;
@@ -65,8 +65,8 @@ module _ (folder : List ℕ) (codes : List (Bor (List ℕ))) (i : ℕ) (d : Bor 
     is_file = is;
   }
 
-  pub named_after : (failure : Failure) → NamesFile (IsFileOfCounty folder (get_or codes i d).now) failure
-      → NamesFile (IsFileOfCounties folder (texts codes)) failure
+  pub named_after : (failure : Failure) → NamesFile (IsFile (get_or codes i d).now) failure
+      → NamesFile (IsFileOfOne IsFile (texts codes)) failure
   named_after (File name error) is = file_after name.now is
   named_after (CountyFile of_folder of_code file error) is = file_after (file_name of_folder.now of_code.now file) is
   named_after failure is = tt

@@ -6,6 +6,7 @@ mod CarriedLemmas
 mod PieceLemmas
 mod EscapeLemmas
 mod CountiesLemmas
+mod LayerLemmas
 mod RunLemmas
 mod TraceLemmas
 mod SelectLemmas

@@ -1,6 +1,7 @@
 -- Which refusals are for a failed read, and what closing a county's readers then counts.
 use Rattle.std.proofs.Common.{◌≡◌, ◌≢◌, ℕ, List, Option, refl, ap, sym, subst, ◌∙◌, arith}
 use Rattle.bpf_insn.specs.declared.instruction.Insn.{Insn}
+use Rattle.bpf_meaning.specs.Extract.{TextFormat}
 use Rattle.counted_io.specs.ReaderWriter.{Reader, Writer}
 use Rattle.tl_records.specs.LineFaultKind as line_fault_kind
 use Rattle.tl_records.specs.declared.fault.LineFaultKind.{LineFaultKind}
@@ -10,7 +11,7 @@ use Rattle.tl_segments.specs.Loading.{IsFaultAfter, IsFileFault, IsJoinedFault, 
 use Rattle.tl_segments.specs.declared.fault.CountyFile as county_file
 use Rattle.tl_segments.specs.declared.fault.CountyFile.TheVariants.{Rt1, Rt4, Rt5, Rt6}
 use Rattle.tl_segments.specs.declared.fault.LoadFault.{LoadFault}
-use Rattle.extract.specs.Extracting.{AreUnfailed, IsLoadRefusal}
+use Rattle.extract.specs.Extracting.{AreUnfailed, IsLoadRefusalIn}
 use Rattle.extract.specs.Extracting as extracting
 use Rattle.named_files.specs.County.{ClosesCounty, HoldCounty}
 use Rattle.commands.specs.Failure.{refusal_status}
@@ -29,19 +30,19 @@ fault_reads : (file : county_file.CountyFile) (of : LineFaultKind) (number : ℕ
     → IsFaultAfter file of number lines old new → ReadsAs (refusal_status (line_fault_kind.refusal of)) old.failed new.failed
 fault_reads file of number lines old new after = grind (arith, after)
 
-file_reads : (file : county_file.CountyFile) (of : LoadFault) (old new : Reader) → IsFileFault file of old new
+pub file_reads : (file : county_file.CountyFile) (of : LoadFault) (old new : Reader) → IsFileFault file of old new
     → ReadsAs (refusal_status (load_fault.refusal of)) old.failed new.failed
 file_reads file of old new is = grind (arith, fault_reads, is)
 
 -- a count after one reader is closed, together with others none of whose reads failed
 module _ {status a b c : ℕ} where
-  reads_then : ReadsAs status a b → c ≡ b → ReadsAs status a c
+  pub reads_then : ReadsAs status a b → c ≡ b → ReadsAs status a c
   reads_then is same = record { fails = λ three as_before. is.fails three (sym same ∙ as_before); stays = λ other. same ∙ is.stays other }
 
-  then_reads : b ≡ a → ReadsAs status b c → ReadsAs status a c
+  pub then_reads : b ≡ a → ReadsAs status b c → ReadsAs status a c
   then_reads same is = record { fails = λ three as_before. is.fails three (as_before ∙ sym same); stays = λ other. is.stays other ∙ same }
 
-reads_close : {status before after failed failed' : ℕ} → before ≡ 0 → CountsClose after failed failed' → ReadsAs status before after
+pub reads_close : {status before after failed failed' : ℕ} → before ≡ 0 → CountsClose after failed failed' → ReadsAs status before after
     → ReadsAs status failed failed'
 reads_close unread closes is = record {
   fails = λ three. broken_close unread closes (is.fails three);
@@ -106,8 +107,8 @@ module _ {known : List ℕ → Option (List ℕ)} {folder code : List ℕ} {old 
       ∙ sound_close was_rt4.failed closes.rt4 joined.rt4.reads)
 
 -- an extract refused for a county's file is refused for the county's fault
-pub load_refusal : (of : LoadFault) (code : List Insn) (old new : CountyReaders) (out out' : Writer)
-    → IsLoadRefusal code of old new out out' → IsCountyFault of old new
-load_refusal of code old new out out' (extracting.before_rt1 has joined rt1 unwritten) = before_rt1 joined rt1
-load_refusal of code old new out out' (extracting.in_rt1 joined lines line is reads first written) =
+pub load_refusal : (text_of : TextFormat) (of : LoadFault) (code : List Insn) (old new : CountyReaders) (out out' : Writer)
+    → IsLoadRefusalIn text_of code of old new out out' → IsCountyFault of old new
+load_refusal text_of of code old new out out' (extracting.before_rt1 has joined rt1 unwritten) = before_rt1 joined rt1
+load_refusal text_of of code old new out out' (extracting.in_rt1 joined lines line is reads first written) =
     in_rt1 joined reads (subst (λ (of : LoadFault). IsFileFault Rt1 of old.rt1 new.rt1) (sym is) (refl, lines, first))

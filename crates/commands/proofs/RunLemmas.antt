@@ -1,98 +1,155 @@
--- How `run` is carried out, by the outcome of its extract.
-use Rattle.std.proofs.Common.{◌≡◌, ℕ, List, Option, Err, inl, inr, refl, ap, sym, subst, arith, ◌∙◌}
-use Rattle.bpf_insn.specs.declared.instruction.Insn.{Insn}
+-- How `run` is carried out, by its outcome.
+use Rattle.std.proofs.Common.{◌≡◌, ℕ, Bool, true, false, List, Option, Some, None, Bor, Result, Ok, Err, inl, inr, refl, ap, sym, subst, arith, ◌∙◌}
 use Rattle.extract.specs.ExtractFault as extract_fault
-use Rattle.extract.specs.Extracting as extracting
-use Rattle.extract.specs.Extracting.{AreUnfailed, IsLoadRefusal, IsOutcome}
-use Rattle.bpf_program.specs.ProgramFault as program_fault
 use Rattle.extract.specs.declared.fault.ExtractFault.{ExtractFault}
 use Rattle.extract.specs.declared.fault.ExtractFault.TheVariants as extract
+use Rattle.bpf_program.specs.ProgramFault as program_fault
 use Rattle.bpf_program.specs.declared.program.ProgramFault.TheVariants as program
 use Rattle.refusals.specs.Refusal.{RefusalParts}
-use Rattle.counted_io.specs.ReaderWriter.{WriteCounts, Writer}
-use Rattle.tl_segments.specs.County.{CountyReaders}
+use Rattle.counted_io.specs.ReaderWriter.{Reader, Writer}
+use Rattle.layers.specs.LayerParts.{parts_of}
+use Rattle.layers.specs.Writing.{LayerReaders}
 use Rattle.tl_segments.specs.LoadFault as load_fault
-use Rattle.tl_segments.specs.declared.fault.LoadFault.{LoadFault}
+use Rattle.tl_segments.specs.declared.fault.CountyFile.{CountyFile}
+use Rattle.tl_segments.specs.declared.fault.CountyFile.TheVariants.{Rt2}
 use Rattle.commands.specs.Command.{CarriesOut}
-use Rattle.named_files.specs.County.{ClosesCounty}
-use Rattle.commands.specs.Failure.{of_extract}
-use Rattle.named_files.specs.Files.{Closes, Disk, IsUnfailed, OpenResults}
-use Rattle.commands.specs.Inputs.{HoldInputs, HoldTooLong}
-use Rattle.commands.specs.Run.{IsOutcomeOf, IsRefused}
+use Rattle.commands.specs.Failure.{NamesFile, of_county_file, of_extract}
+use Rattle.commands.specs.Inputs.{HoldInputs, HoldTooLong, IsInput}
+use Rattle.commands.specs.LayerInputs.{ClosesLayer, ClosesShapes, HoldLayer, HoldsShapes, IsFileOfLayer, IsShapesOpenFault}
+use Rattle.commands.specs.Run.{IsFileOf, IsOutcomeOf, IsProgramOutcome, IsRefused, wants_shapes}
+use Rattle.commands.specs.declared.failure.Failure.{Failure}
+use Rattle.commands.specs.declared.failure.Failure.TheVariants.{File, CountyFile}
 use Rattle.commands.specs.declared.request.Request.TheVariants as request
 use Rattle.commands.specs.declared.run.Run.{Run}
-use Rattle.commands.proofs.CarriedLemmas.{fault_unflushed, refused_carried}
+use Rattle.named_files.specs.County.{IsFileOfCounty, file_name}
+use Rattle.named_files.specs.Files.{Closes, CountsFileFault, Disk, IsUnfailed, IsUnread, OpenResults, Opens}
+use Rattle.named_files.specs.declared.county.CountyFileFault.{CountyFileFault}
+use Rattle.commands.proofs.CarriedLemmas.{refused_carried, unopened_carried}
 use Rattle.commands.proofs.ClassLemmas.{program_status}
-use Rattle.commands.proofs.ReadLemmas.{closes_from, county_closed, load_refusal, sound, sound_closed, unread_closed}
+use Rattle.commands.proofs.LayerLemmas.{ClosesAs, headed_closes, headed_unflushed, shapes_file, unread_layer, unread_parts, unwritten_flushes}
+use Rattle.commands.proofs.ReadLemmas.{sound}
+
+-- a reader of unread bytes, if shapes are wanted
+some_reader : (known : Option (List ℕ)) → (reader : Reader) × IsUnread known reader
+some_reader (Some bytes) = (record { left = Some bytes; failed = 0 }, record { left = refl; failed = refl })
+some_reader None = (record { left = None; failed = 0 }, record { left = tt; failed = refl })
+
+some_shapes : (shapes : Bool) (known : Option (List ℕ)) → (rt2 : Option Reader) × HoldsShapes shapes known rt2
+some_shapes true known = let one = some_reader known in (Some one.0, one.1)
+some_shapes false known = (None, tt)
 
 -- a program that is too long is refused before the county is read
 pub run_too_long : (run : Run) (known : List ℕ → Option (List ℕ)) (out : Writer) (refusal : RefusalParts)
     → HoldTooLong run.program.now run.«data».now run.code.now known refusal → IsRefused run known refusal out out
-run_too_long run known out refusal is = (
-  extract.Program (program.Code is.fault),
-  is.is_refusal,
-  record {
-    program = is.long.program;
-    old = is.readers;
-    hold = record { is_program = is.long.is_program; county = is.hold };
-    new = is.readers;
-    outcome = record { first = (is.long.first, is.long.has_number); has_number = λ e. cc; unread = refl; unwritten = refl };
-  },
-)
+run_too_long run known out refusal is =
+    let rt2 = some_shapes (wants_shapes run) (known (file_name run.«data».now run.code.now Rt2)) in (
+      extract.Program (program.Code is.fault),
+      is.is_refusal,
+      record {
+        program = is.long.program;
+        old = record { county = is.readers; rt2 = rt2.0 };
+        hold = record { is_program = is.long.is_program; county = is.hold };
+        shapes = rt2.1;
+        new = record { county = is.readers; rt2 = rt2.0 };
+        outcome = (
+          record { first = (is.long.first, is.long.has_number); has_number = λ e. cc; unread = refl; unwritten = refl },
+          refl,
+        );
+      },
+    )
 
-flushes_as : {counts counts' : WriteCounts} → counts' ≡ counts → counts'.flushes ≡ counts.flushes
-flushes_as = ap (λ (counts : WriteCounts). counts.flushes)
+-- what the county is loaded from is among the files that its layer is made from
+layer_file : (shapes : Bool) (folder code name : List ℕ) → IsFileOfCounty folder code name → IsFileOfLayer shapes folder code name
+layer_file true folder code name is = (is.0, tt, is.2)
+layer_file false folder code name is = is
 
--- an extract refused for a county's file counts no flush
-load_unflushed : (of : LoadFault) (code : List Insn) (old new : CountyReaders) (out out' : Writer)
-    → IsLoadRefusal code of old new out out' → out'.counts.flushes ≡ out.counts.flushes
-load_unflushed of code old new out out' (extracting.before_rt1 has joined rt1 unwritten) =
-    ap (λ (writer : Writer). writer.counts.flushes) unwritten
-load_unflushed of code old new out out' (extracting.in_rt1 joined lines line is reads first written) = flushes_as written.counts
+input_file : (run : Run) (name : List ℕ) → IsInput run.program.now run.«data».now run.code.now name → IsFileOf run name
+input_file run name (inl is) = inl is
+input_file run name (inr is) = inr (layer_file (wants_shapes run) run.«data».now run.code.now name is)
 
--- memory ran out before anything was read and written, or later
-unwritten_counts : {program : List ℕ} {old new : CountyReaders} {out out' : Writer} → IsOutcome program (Err extract.Memory) old new out out'
-    → out'.counts ≡ out.counts
-unwritten_counts (inl before) = ap (λ (writer : Writer). writer.counts) before.1
-unwritten_counts (inr later) = later.2.counts
+pub input_named : (run : Run) (failure : Failure) → NamesFile (IsInput run.program.now run.«data».now run.code.now) failure
+    → NamesFile (IsFileOf run) failure
+input_named run (File name error) is = input_file run name.now is
+input_named run (CountyFile folder code file error) is = input_file run (file_name folder.now code.now file) is
+input_named run failure is = tt
 
-memory_unfailed : {program : List ℕ} {old new : CountyReaders} {out out' : Writer} → IsOutcome program (Err extract.Memory) old new out out'
-    → AreUnfailed old new
-memory_unfailed {old = old} (inl before) =
-    subst (AreUnfailed old) (sym before.0) (record { rt1 = refl; rt4 = refl; rt5 = refl; rt6 = refl })
-memory_unfailed (inr later) = later.2.reads
+-- the file of type 2 can't be opened
+pub run_unopened : {R : Type 0} {opens : OpenResults R} (run : Run) {disk between disk' : Disk} {out : Writer} (of : CountyFileFault)
+    → IsUnfailed disk between → IsShapesOpenFault (wants_shapes run) opens run.«data».now run.code.now of
+    → Opens {T = ℕ} (Err of) (λ fault. fault.fault) between disk'
+    → CarriesOut opens (request.Run run) (Err (of_county_file run.«data» run.code of.file of.fault)) disk disk' out out
+run_unopened {opens = opens} run {disk} {between} {disk'} {out} of before is opened =
+    subst (λ (file : CountyFile). CarriesOut opens (request.Run run) (Err (of_county_file run.«data» run.code file of.fault)) disk disk' out out)
+    (sym is.1.of_file)
+    (unopened_carried opens run.«data» run.code Rt2 of.fault (inr (Rt2, shapes_file (wants_shapes run) is.0, refl)) is.1.is_fault
+    (subst (λ (failed : ℕ). CountsFileFault of.fault failed disk'.failed_opens) before.opens opened.opens) (opened.reads ∙ before.reads) refl)
 
-module _ {run : Run} {disk between disk' : Disk} {out out' : Writer} {program bytes : List ℕ} {old new : CountyReaders}
-    (hold : HoldInputs disk.known run.program.now run.«data».now run.code.now program old) (before : IsUnfailed disk between)
-    (closes : Closes (ClosesCounty new) between disk') (same : bytes ≡ program) where
-  outcome_of : (fault : ExtractFault) → IsOutcome bytes (Err fault) old new out out' → IsOutcomeOf run disk.known (Err fault) out out'
-  outcome_of fault is = record {
+module _ {run : Run} {disk between disk' : Disk} {out out' : Writer} {program bytes : List ℕ} {old new : LayerReaders}
+    (hold : HoldInputs disk.known run.program.now run.«data».now run.code.now program old.county)
+    (shapes : HoldsShapes (wants_shapes run) (disk.known (file_name run.«data».now run.code.now Rt2)) old.rt2)
+    (before : IsUnfailed disk between) (closes : Closes (ClosesLayer new) between disk') (same : bytes ≡ program) where
+  outcome_of : (result : Result ℕ ExtractFault) → IsProgramOutcome (parts_of run.layer) bytes result old new out out'
+      → IsOutcomeOf run disk.known result out out'
+  outcome_of result is = record {
     program = program;
     old = old;
     hold = hold;
+    shapes = shapes;
     new = new;
-    outcome = subst (λ (bytes : List ℕ). IsOutcome bytes (Err fault) old new out out') same is;
+    outcome = subst (λ (bytes : List ℕ). IsProgramOutcome (parts_of run.layer) bytes result old new out out') same is;
   }
 
-  pub run_stopped : {R : Type 0} {opens : OpenResults R} (fault : ExtractFault) → IsOutcome bytes (Err fault) old new out out'
+  layer_held : HoldLayer (wants_shapes run) disk.known run.«data».now run.code.now old
+  layer_held = record { county = hold.county; rt2 = shapes }
+
+  layer_closed : ClosesLayer new disk.failed_reads disk'.failed_reads
+  layer_closed = subst (λ (failed : ℕ). ClosesLayer new failed disk'.failed_reads) before.reads closes.reads
+
+  program_closes : (result : Result ℕ ExtractFault) → IsProgramOutcome (parts_of run.layer) bytes result old new out out'
+      → ClosesAs result disk.failed_reads disk'.failed_reads
+  program_closes (Ok count) is = headed_closes layer_held layer_closed (parts_of run.layer) is.0 (Ok count) is.2
+  program_closes (Err (extract.Program fault)) is = sound (program_status fault) (unread_parts layer_held layer_closed is.0.unread is.1)
+  program_closes (Err (extract.Load fault)) is =
+      headed_closes layer_held layer_closed (parts_of run.layer) is.0 (Err (extract.Load fault)) is.2
+  program_closes (Err (extract.Write fault)) is = tt
+  program_closes (Err extract.Memory) (inl is) =
+      sound (λ three. omega (arith, three)) (unread_layer layer_held layer_closed is.0)
+  program_closes (Err extract.Memory) (inr is) =
+      headed_closes layer_held layer_closed (parts_of run.layer) is.0 (Err extract.Memory) is.2
+
+  program_unflushed : (result : Result ℕ ExtractFault) → IsProgramOutcome (parts_of run.layer) bytes result old new out out'
+      → out'.counts.flushes ≡ out.counts.flushes
+  program_unflushed (Ok count) is = headed_unflushed (parts_of run.layer) is.0 (Ok count) is.2
+  program_unflushed (Err (extract.Program fault)) is = unwritten_flushes is.0.unwritten
+  program_unflushed (Err (extract.Load fault)) is = headed_unflushed (parts_of run.layer) is.0 (Err (extract.Load fault)) is.2
+  program_unflushed (Err (extract.Write fault)) is = headed_unflushed (parts_of run.layer) is.0 (Err (extract.Write fault)) is.2
+  program_unflushed (Err extract.Memory) (inl is) = unwritten_flushes is.1
+  program_unflushed (Err extract.Memory) (inr is) = headed_unflushed (parts_of run.layer) is.0 (Err extract.Memory) is.2
+
+  pub run_done : {R : Type 0} {opens : OpenResults R} (count : ℕ) → IsProgramOutcome (parts_of run.layer) bytes (Ok count) old new out out'
+      → CarriesOut opens (request.Run run) (Ok tt) disk disk' out out'
+  run_done count is = record {
+    outcome = (count, outcome_of (Ok count) is);
+    names = tt;
+    counts = record { opens = closes.opens ∙ before.opens; reads = program_closes (Ok count) is };
+    unflushed = program_unflushed (Ok count) is;
+  }
+
+  pub run_stopped : {R : Type 0} {opens : OpenResults R} (fault : ExtractFault)
+      → IsProgramOutcome (parts_of run.layer) bytes (Err fault) old new out out'
       → CarriesOut opens (request.Run run) (Err (of_extract fault)) disk disk' out out'
   run_stopped (extract.Program fault) is =
-      refused_carried (program_fault.refusal fault) (extract.Program fault, refl, outcome_of (extract.Program fault) is)
-      (closes.opens ∙ before.opens) (sound (program_status fault) (unread_closed hold.county (closes_from before closes) is.unread))
-      (ap (λ (writer : Writer). writer.counts.flushes) is.unwritten)
+      refused_carried (program_fault.refusal fault) (extract.Program fault, refl, outcome_of (Err (extract.Program fault)) is)
+      (closes.opens ∙ before.opens) (program_closes (Err (extract.Program fault)) is) (program_unflushed (Err (extract.Program fault)) is)
   run_stopped (extract.Load fault) is =
-      refused_carried (load_fault.refusal fault) (extract.Load fault, refl, outcome_of (extract.Load fault) is)
-      (closes.opens ∙ before.opens)
-      (county_closed hold.county (closes_from before closes) fault (load_refusal fault is.0 old new out out' is.2))
-      (load_unflushed fault is.0 old new out out' is.2)
+      refused_carried (load_fault.refusal fault) (extract.Load fault, refl, outcome_of (Err (extract.Load fault)) is)
+      (closes.opens ∙ before.opens) (program_closes (Err (extract.Load fault)) is) (program_unflushed (Err (extract.Load fault)) is)
   run_stopped (extract.Write fault) is = record {
-    outcome = outcome_of (extract.Write fault) is;
+    outcome = outcome_of (Err (extract.Write fault)) is;
     names = tt;
     counts = λ other. absurd (other refl);
-    unflushed = fault_unflushed fault is.2.between.counts out'.counts is.2.cut_short.5 ∙ flushes_as is.2.before.counts;
+    unflushed = program_unflushed (Err (extract.Write fault)) is;
   }
   run_stopped extract.Memory is =
-      refused_carried (extract_fault.refusal extract.Memory) (extract.Memory, refl, outcome_of extract.Memory is)
-      (closes.opens ∙ before.opens)
-      (sound (λ three. omega (arith, three)) (sound_closed hold.county (closes_from before closes) (memory_unfailed is)))
-      (flushes_as (unwritten_counts is))
+      refused_carried (extract_fault.refusal extract.Memory) (extract.Memory, refl, outcome_of (Err extract.Memory) is)
+      (closes.opens ∙ before.opens) (program_closes (Err extract.Memory) is) (program_unflushed (Err extract.Memory) is)

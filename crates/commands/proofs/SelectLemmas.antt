@@ -1,6 +1,6 @@
--- How `select` is carried out: the filter first, and then the extracts of several counties.
-use Rattle.std.proofs.Common.{◌≡◌, ◌<◌, ◌+◌, ℕ, suc, List, length, get_or, take, drop, Option, Bor, Result, Ok, Err, IfErr}
-use Rattle.std.proofs.Common.{refl, sym, subst, ◌∙◌}
+-- How `select` is carried out: the filter first, and then the header and the counties.
+use Rattle.std.proofs.Common.{◌≡◌, ◌≢◌, ◌<◌, ◌+◌, ℕ, suc, Bool, true, false, List, length, get_or, take, drop, Option, Bor, Result, Ok, Err, IfErr}
+use Rattle.std.proofs.Common.{inl, inr, refl, sym, subst, ◌∙◌, arith}
 use Rattle.std.proofs.Math.Path.{fun_ext}
 use Rattle.std.proofs.lemmas.List.{map_more}
 use Rattle.std.specs.Io.KnownBytes.{Appends}
@@ -9,70 +9,107 @@ use Rattle.cql2.specs.declared.column.NumericColumn.{NumericColumn}
 use Rattle.cql2.specs.declared.filter.Filter.{Filter}
 use Rattle.cql2_code.proofs.Compiled.{extract_of_county}
 use Rattle.cql2_code.specs.Chosen.{Chooses}
+use Rattle.extract.specs.ExtractFault.{of_load}
+use Rattle.extract.specs.declared.fault.ExtractFault.{ExtractFault}
 use Rattle.extract.specs.declared.fault.ExtractFault.TheVariants as extract
 use Rattle.counted_io.specs.ReaderWriter.{Writer}
+use Rattle.counted_io.specs.declared.writing.WriteFault.{WriteFault}
+use Rattle.layers.specs.Layer.{LayerParts, WritesHeader, has_shapes, layer_format}
+use Rattle.layers.specs.LayerParts.{parts_of}
+use Rattle.layers.specs.Writing.{IsLayerOutcome, LayerReaders}
 use Rattle.refusals.specs.Refusal.{RefusalParts}
-use Rattle.commands.specs.Command.{CarriesOut, IsTextRefused}
-use Rattle.commands.specs.Counties.{IsFileOfCounties}
-use Rattle.commands.specs.Failure.{NamesFile, IsUnfailedUnlessUnusable}
-use Rattle.named_files.specs.Files.{Disk, IsUnfailed, OpenResults}
+use Rattle.tl_segments.specs.Shape.{shape_parts}
+use Rattle.tl_segments.specs.declared.fault.CountyFile.{CountyFile as CountyFileType}
+use Rattle.tl_segments.specs.declared.fault.LoadFault.{LoadFault}
+use Rattle.named_files.specs.County.{IsLoaded, file_name}
+use Rattle.named_files.specs.Files.{CountsFileFault, Disk, IsOpenFault, IsUnfailed, OpenResults}
+use Rattle.named_files.specs.declared.county.CountyFileFault.{CountyFileFault}
+use Rattle.named_files.specs.declared.files.FileFault.{FileFault}
+use Rattle.named_files.specs.declared.files.FileFault.TheVariants as fault
+use Rattle.commands.specs.Command.{CarriesOut, IsCarriedOut, IsTextRefused}
+use Rattle.commands.specs.Counties.{IsFileOfOne}
+use Rattle.commands.specs.Failure.{NamesFile, IsUnfailedUnlessUnusable, of_county_extract, of_opening, status}
 use Rattle.commands.specs.Filter.{IsCodeOfText, IsFilterFailure, IsFilterRefusal}
-use Rattle.commands.specs.Select.{FailsAs, IsCountyOutcome, IsCountyRefusal, Selection, SelectsCounties, SelectsCounty, StopsAt}
+use Rattle.commands.specs.LayerInputs.{HoldLayer, IsFileOfLayer, IsLayerFile, IsLayerOpenFault}
+use Rattle.commands.specs.Select.{FailsAs, IsCountyOutcome, IsCountyRefusal, IsFileOf, Selection, SelectsCounties, SelectsCounty, SelectsLayer, StopsAt}
 use Rattle.commands.specs.Select as select
-use Rattle.commands.specs.Select.{WritesAllRows, WritesCounties, WritesCounty, WritesRows, codes_of, more, none, selection}
+use Rattle.commands.specs.Select.{WritesAllTexts, WritesCounties, WritesCounty, WritesTexts, codes_of, more, none, selection}
 use Rattle.commands.specs.declared.request.Request.{Request}
 use Rattle.commands.specs.declared.request.Request.TheVariants as request
 use Rattle.commands.specs.declared.select.Select.{Select}
 use Rattle.commands.specs.declared.failure.Failure.{Failure}
 use Rattle.commands.specs.declared.failure.Failure.TheVariants.{Memory, Write, CountyFile, Noted, County}
 use Rattle.commands.proofs.CountiesLemmas.{codes_at, texts}
+use Rattle.commands.proofs.LayerLemmas.{ClosesAs, shapes_file}
 
--- written extracts count no fault and no flush
+-- a file that a county is loaded from is among those that its layer is made from
+loaded_file : (shapes : Bool) (file : CountyFileType) → IsLoaded file → IsLayerFile shapes file
+loaded_file true file is = tt
+loaded_file false file is = is
+
+-- a refusal for the file of type 2 is no success
+not_refused : {T : Type 0} {count : ℕ} (fault : LoadFault) → Ok count ≡ Err (of_load fault) → T
+not_refused fault is = cc is
+
+-- written counties count no fault and no flush
+
+county_counts : (layer : LayerParts) (program : List Insn) {count : ℕ} {old new : LayerReaders} {out out' : Writer}
+    → IsLayerOutcome layer program (Ok count) old new out out' → out'.counts ≡ out.counts
+county_counts layer program (inl is) = absurd (not_refused is.fault is.is_result)
+county_counts layer program (inr is) = is.outcome.counts
+
 pub counties_counts : {over : Selection} {out : Writer} {codes : List (List ℕ)} {out' : Writer} → WritesCounties over out codes out'
     → out'.counts ≡ out.counts
 counties_counts none = refl
-counties_counts (more code before wrote) = wrote.1.outcome.counts ∙ counties_counts before
+counties_counts {over} (more code before wrote) = county_counts over.layer over.program wrote.1.outcome ∙ counties_counts before
 
--- what was written is the rows of the segments for which the filter is true
+-- what was written is the texts of the segments for which the filter is true
 module _ {A : Type 0} (filter : Filter A) (arguments : Select) (known : List ℕ → Option (List ℕ)) (program : List Insn)
     (chooses : Chooses program filter arguments.filter_options.score) where
-  rows_written : {code : List ℕ} {out out' : Writer} → WritesCounty (selection known arguments.«data».now program) code out out'
-      → WritesRows filter arguments known code out out'
-  rows_written {out = out} {out' = out'} (rows, wrote) = let is = wrote.outcome in record {
-    old = wrote.old;
-    hold = wrote.hold;
-    new = wrote.new;
+  texts_written : {code : List ℕ} {out out' : Writer} (old new : LayerReaders)
+      → HoldLayer (has_shapes (parts_of arguments.layer)) known arguments.«data».now code old → {count : ℕ}
+      → IsLayerOutcome (parts_of arguments.layer) program (Ok count) old new out out' → WritesTexts filter arguments known code out out'
+  texts_written old new hold (inl is) = absurd (not_refused is.fault is.is_result)
+  texts_written {out = out} {out' = out'} old new hold {count} (inr wrote) = let is = wrote.outcome in record {
+    old = old;
+    hold = hold;
+    new = new;
     county = is.county;
     loads = is.loads;
+    rt2 = wrote.rt2;
+    reads = wrote.reads;
     written = subst (λ (text : List ℕ). Appends out.held out'.held text)
-        (extract_of_county program filter arguments.filter_options.score chooses is.county wrote.old wrote.new is.loads is.text rows is.is_extract).text_is
+        (extract_of_county (layer_format (parts_of arguments.layer) (shape_parts wrote.rt2)) program filter arguments.filter_options.score chooses
+        is.county old.county new.county is.loads is.text count is.is_extract).text_is
         is.written;
     counts = is.counts;
   }
 
-  pub all_rows_written : {out : Writer} {codes : List (List ℕ)} {out' : Writer}
-      → WritesCounties (selection known arguments.«data».now program) out codes out' → WritesAllRows filter arguments known out codes out'
-  all_rows_written none = select.none
-  all_rows_written (more code before wrote) = select.more code (all_rows_written before) (rows_written wrote)
+  pub all_texts_written : {out : Writer} {codes : List (List ℕ)} {out' : Writer}
+      → WritesCounties (selection known arguments.«data».now (parts_of arguments.layer) program) out codes out'
+      → WritesAllTexts filter arguments known out codes out'
+  all_texts_written none = select.none
+  all_texts_written (more code before wrote) =
+      select.more code (all_texts_written before) (texts_written wrote.1.old wrote.1.new wrote.1.hold wrote.1.outcome)
 
 -- after the counties of the codes before it
-module _ (known later : List ℕ → Option (List ℕ)) (same : (name : List ℕ) → later name ≡ known name) {folder : List ℕ} {program : List Insn}
-    (codes : List (Bor (List ℕ))) (i : ℕ) (d : Bor (List ℕ)) (inside : i < length codes) {out between : Writer}
-    (so_far : WritesCounties (selection known folder program) out (texts (take i codes)) between) where
-  earlier : (IsSo : Selection → Type 0) → IsSo (selection later folder program) → IsSo (selection known folder program)
-  earlier IsSo = subst (λ (known : List ℕ → Option (List ℕ)). IsSo (selection known folder program)) (fun_ext same)
+module _ (known later : List ℕ → Option (List ℕ)) (same : (name : List ℕ) → later name ≡ known name) {folder : List ℕ}
+    {layer : LayerParts} {program : List Insn} (codes : List (Bor (List ℕ))) (i : ℕ) (d : Bor (List ℕ)) (inside : i < length codes) {out between : Writer}
+    (so_far : WritesCounties (selection known folder layer program) out (texts (take i codes)) between) where
+  earlier : (IsSo : Selection → Type 0) → IsSo (selection later folder layer program) → IsSo (selection known folder layer program)
+  earlier IsSo = subst (λ (known : List ℕ → Option (List ℕ)). IsSo (selection known folder layer program)) (fun_ext same)
 
   -- the county of one more code
-  pub written_more : {out' : Writer} → WritesCounty (selection later folder program) (get_or codes i d).now between out'
-      → WritesCounties (selection known folder program) out (texts (take (i + 1) codes)) out'
+  pub written_more : {out' : Writer} → WritesCounty (selection later folder layer program) (get_or codes i d).now between out'
+      → WritesCounties (selection known folder layer program) out (texts (take (i + 1) codes)) out'
   written_more {out'} wrote =
-      subst (λ (codes : List (List ℕ)). WritesCounties (selection known folder program) out codes out')
+      subst (λ (codes : List (List ℕ)). WritesCounties (selection known folder layer program) out codes out')
       (sym (map_more (λ (code : Bor (List ℕ)). code.now) codes i d inside))
       (more (get_or codes i d).now so_far (earlier (λ over. WritesCounty over (get_or codes i d).now between out') wrote))
 
   -- the command stops at that code
   stopped_after : {StopsSo : List ℕ → Writer → Type 0} → StopsSo (get_or codes i d).now between
-      → StopsAt (selection known folder program) (texts codes) out StopsSo
+      → StopsAt (selection known folder layer program) (texts codes) out StopsSo
   stopped_after is = record {
     before = texts (take i codes);
     code = (get_or codes i d).now;
@@ -84,8 +121,8 @@ module _ (known later : List ℕ → Option (List ℕ)) (same : (name : List ℕ
   }
 
   pub counties_stopped : (out' : Writer) (failure : Failure)
-      → SelectsCounty (selection later folder program) (get_or codes i d).now (Err failure) between out'
-      → SelectsCounties (selection known folder program) (texts codes) (Err failure) out out'
+      → SelectsCounty (selection later folder layer program) (get_or codes i d).now (Err failure) between out'
+      → SelectsCounties (selection known folder layer program) (texts codes) (Err failure) out out'
   counties_stopped out' (Write fault) is =
       stopped_after (earlier (λ over. IsCountyOutcome over (get_or codes i d).now (Err (extract.Write fault)) between out') is)
   counties_stopped out' (County code refusal) is =
@@ -111,44 +148,148 @@ filter_carried text score Memory is each counts =
     record { outcome = refl; names = tt; counts = λ other. counts; unflushed = refl }
 filter_carried text score failure is each counts = absurd is
 
--- the extracts of its program
+same_write : {fault other : WriteFault} → Write fault ≡ Write other → other ≡ fault
+same_write is = cc is
+
+-- only a write is reported as a failed write
+not_write : {failure : Failure} {fault : WriteFault} → {IsOther : Type 0} → failure ≡ Write fault → IsOther
+not_write is = cc is
+
+-- the file that can't be opened, and why
+unopened_file : {R : Type 0} (shapes : Bool) (opens : OpenResults R) (folder code : List ℕ) (of : CountyFileFault)
+    → IsLayerOpenFault shapes opens folder code of → IsLayerFile shapes of.file
+unopened_file shapes opens folder code of (inl is) = loaded_file shapes of.file is.0
+unopened_file shapes opens folder code of (inr is) = subst (IsLayerFile shapes) (sym is.1.of_file) (shapes_file shapes is.0)
+
+unopened_fault : {R : Type 0} (shapes : Bool) (opens : OpenResults R) (folder code : List ℕ) (of : CountyFileFault)
+    → IsLayerOpenFault shapes opens folder code of → IsOpenFault (opens (file_name folder code of.file)) of.fault
+unopened_fault shapes opens folder code of (inl is) = is.1.is_fault
+unopened_fault shapes opens folder code of (inr is) =
+    subst (λ (file : CountyFileType). IsOpenFault (opens (file_name folder code file)) of.fault) (sym is.1.of_file) is.1.is_fault
+
+-- how one county ends, by the outcome of its layer
+module _ {over : Selection} {code : List ℕ} {old new : LayerReaders} (hold : HoldLayer (has_shapes over.layer) over.known over.folder code old)
+    {out out' : Writer} where
+  county_outcome : (result : Result ℕ ExtractFault) → IsLayerOutcome over.layer over.program result old new out out'
+      → IsCountyOutcome over code result out out'
+  county_outcome result is = record { old = old; hold = hold; new = new; outcome = is }
+
+  pub county_done : (count : ℕ) → IsLayerOutcome over.layer over.program (Ok count) old new out out' → SelectsCounty over code (Ok tt) out out'
+  county_done count is = (count, county_outcome (Ok count) is)
+
+  pub county_stopped : (of : Bor (List ℕ)) → of.now ≡ code → (fault : ExtractFault)
+      → IsLayerOutcome over.layer over.program (Err fault) old new out out' → SelectsCounty over code (Err (of_county_extract of fault)) out out'
+  county_stopped of same (extract.Write fault) is = county_outcome (Err (extract.Write fault)) is
+  county_stopped of same (extract.Program fault) is =
+      (same, inl (extract.Program fault, refl, county_outcome (Err (extract.Program fault)) is))
+  county_stopped of same (extract.Load fault) is = (same, inl (extract.Load fault, refl, county_outcome (Err (extract.Load fault)) is))
+  county_stopped of same extract.Memory is = (same, inl (extract.Memory, refl, county_outcome (Err extract.Memory) is))
+
+-- what the failure of a county counts
+module _ {R : Type 0} (opens : OpenResults R) (disk disk' : Disk) (code : Bor (List ℕ)) where
+  pub stopped_fails : (fault : ExtractFault) → ClosesAs (Err fault) disk.failed_reads disk'.failed_reads
+      → FailsAs opens (of_county_extract code fault) disk disk'
+  stopped_fails (extract.Write fault) closes = tt
+  stopped_fails (extract.Program fault) closes = closes.fails
+  stopped_fails (extract.Load fault) closes = closes.fails
+  stopped_fails extract.Memory closes = closes.fails
+
+  pub stopped_counts : (fault : ExtractFault) → ClosesAs (Err fault) disk.failed_reads disk'.failed_reads
+      → disk'.failed_opens ≡ disk.failed_opens → status (of_county_extract code fault) ≢ 3 → IsUnfailed disk disk'
+  stopped_counts (extract.Write fault) closes same other = absurd (other refl)
+  stopped_counts (extract.Program fault) closes same other = record { opens = same; reads = closes.stays other }
+  stopped_counts (extract.Load fault) closes same other = record { opens = same; reads = closes.stays other }
+  stopped_counts extract.Memory closes same other = record { opens = same; reads = closes.stays other }
+
+-- a file of a county can't be opened
+module _ {R : Type 0} (opens : OpenResults R) (shapes : Bool) (folder code : Bor (List ℕ)) (of : CountyFileFault)
+    (is : IsLayerOpenFault shapes opens folder.now code.now of) {disk disk' : Disk}
+    (counts : CountsFileFault of.fault disk.failed_opens disk'.failed_opens) where
+  pub unopened_named : NamesFile (IsFileOfLayer shapes folder.now code.now) (of_opening folder code of.file of.fault)
+  unopened_named = named of.fault
+    where
+      named : (fault : FileFault) → NamesFile (IsFileOfLayer shapes folder.now code.now) (of_opening folder code of.file fault)
+      named (fault.Unusable error) = (of.file, unopened_file shapes opens folder.now code.now of is, refl)
+      named fault.Memory = tt
+
+  pub unopened_fails : FailsAs opens (of_opening folder code of.file of.fault) disk disk'
+  unopened_fails = fails of.fault (unopened_fault shapes opens folder.now code.now of is) counts
+    where
+      fails : (fault : FileFault) → IsOpenFault (opens (file_name folder.now code.now of.file)) fault
+          → CountsFileFault fault disk.failed_opens disk'.failed_opens → FailsAs opens (of_opening folder code of.file fault) disk disk'
+      fails (fault.Unusable error) has counts = (has, counts)
+      fails fault.Memory has counts = λ three. omega (arith, three)
+
+  pub unopened_counts : disk'.failed_reads ≡ disk.failed_reads → status (of_opening folder code of.file of.fault) ≢ 3 → IsUnfailed disk disk'
+  unopened_counts reads = unfailed of.fault counts
+    where
+      unfailed : (fault : FileFault) → CountsFileFault fault disk.failed_opens disk'.failed_opens
+          → status (of_opening folder code of.file fault) ≢ 3 → IsUnfailed disk disk'
+      unfailed (fault.Unusable error) counts other = absurd (other refl)
+      unfailed fault.Memory counts other = record { opens = counts; reads = reads }
+
+  pub unopened_outcome : (over : Selection) (out : Writer) → SelectsCounty over code.now (Err (of_opening folder code of.file of.fault)) out out
+  unopened_outcome over out = outcome of.fault
+    where
+      outcome : (fault : FileFault) → SelectsCounty over code.now (Err (of_opening folder code of.file fault)) out out
+      outcome (fault.Unusable error) = refl
+      outcome fault.Memory = (refl, inr (refl, refl))
+
+-- the header, and then the counties
+module _ {over : Selection} {codes : List (List ℕ)} {out headed out' : Writer} (header : WritesHeader over.layer (Ok tt) out headed) where
+  pub layer_selected : (result : Result (Unit {0}) Failure) → SelectsCounties over codes result headed out' → SelectsLayer over codes result out out'
+  layer_selected (Ok done) is = (headed, header, is)
+  layer_selected (Err failure) is = inr (headed, header, is)
+
+-- the layer of its program
 module _ {R : Type 0} {opens : OpenResults R} {disk disk' : Disk} {out out' : Writer} (arguments : Select) {program : List Insn}
     (is_program : IsCodeOfText arguments.filter.now arguments.filter_options.score program) where
+  outcome_carried : (failure : Failure) → SelectsLayer (selection disk.known arguments.«data».now (parts_of arguments.layer) program)
+      (codes_of arguments) (Err failure) out out' → FailsAs opens failure disk disk'
+      → IsCarriedOut opens (request.Select arguments) (Err failure) disk disk' out out'
+  outcome_carried (Write fault) (inl is) fails = (program, is_program, inl (subst (λ (of : WriteFault). WritesHeader (parts_of arguments.layer) (Err of) out out') (same_write is.1) is.2))
+  outcome_carried (Write fault) (inr is) fails = (program, is_program, inr is)
+  outcome_carried (County code refusal) (inl is) fails = absurd (not_write is.1)
+  outcome_carried (County code refusal) (inr is) fails = ((program, is_program, is), fails)
+  outcome_carried (CountyFile folder code file error) (inl is) fails = absurd (not_write is.1)
+  outcome_carried (CountyFile folder code file error) (inr is) fails = ((program, is_program, is), fails)
+  outcome_carried failure (inl is) fails = absurd (not_write is.1)
+  outcome_carried failure (inr is) fails = absurd is.2
+
   pub select_carried : (result : Result (Unit {0}) Failure)
-      → SelectsCounties (selection disk.known arguments.«data».now program) (codes_of arguments) result out out'
-      → IfErr result (λ failure. FailsAs opens failure disk disk')
-      → IfErr result (NamesFile (IsFileOfCounties arguments.«data».now (codes_of arguments))) → IsUnfailedUnlessUnusable result disk disk'
-      → out'.counts.flushes ≡ out.counts.flushes → CarriesOut opens (request.Select arguments) result disk disk' out out'
+      → SelectsLayer (selection disk.known arguments.«data».now (parts_of arguments.layer) program) (codes_of arguments) result out out'
+      → IfErr result (λ failure. FailsAs opens failure disk disk') → IfErr result (NamesFile (IsFileOf arguments))
+      → IsUnfailedUnlessUnusable result disk disk' → out'.counts.flushes ≡ out.counts.flushes
+      → CarriesOut opens (request.Select arguments) result disk disk' out out'
   select_carried (Ok done) is fails names counts unflushed = record {
     outcome = (
       is_program.filter,
       is_program.is_text,
-      all_rows_written is_program.filter arguments disk.known program is_program.chooses is,
+      is.0,
+      is.1,
+      all_texts_written is_program.filter arguments disk.known program is_program.chooses is.2,
     );
     names = names;
     counts = counts;
     unflushed = unflushed;
   }
-  select_carried (Err (Write fault)) is fails names counts unflushed =
-      record { outcome = (program, is_program, is); names = names; counts = counts; unflushed = unflushed }
-  select_carried (Err (County code refusal)) is fails names counts unflushed =
-      record { outcome = ((program, is_program, is), fails); names = names; counts = counts; unflushed = unflushed }
-  select_carried (Err (CountyFile folder code file error)) is fails names counts unflushed =
-      record { outcome = ((program, is_program, is), fails); names = names; counts = counts; unflushed = unflushed }
-  select_carried (Err failure) is fails names counts unflushed = absurd is
+  select_carried (Err failure) is fails names counts unflushed =
+      record { outcome = outcome_carried failure is fails; names = names; counts = counts; unflushed = unflushed }
 
 -- the same for the call's arguments: the text and the codes are borrowed
 module _ {R : Type 0} {opens : OpenResults R} {disk disk' : Disk} {out out' : Writer} (arguments : Select) {text : List ℕ} {program : List Insn}
     {codes : List (Bor (List ℕ))} where
   pub select_lent : (result : Result (Unit {0}) Failure) → text ≡ arguments.filter.now → codes ≡ arguments.codes.items
       → IsCodeOfText text arguments.filter_options.score program
-      → SelectsCounties (selection disk.known arguments.«data».now program) (texts codes) result out out'
+      → SelectsLayer (selection disk.known arguments.«data».now (parts_of arguments.layer) program) (texts codes) result out out'
       → IfErr result (λ failure. FailsAs opens failure disk disk')
-      → IfErr result (NamesFile (IsFileOfCounties arguments.«data».now (texts codes))) → IsUnfailedUnlessUnusable result disk disk'
-      → out'.counts.flushes ≡ out.counts.flushes → CarriesOut opens (request.Select arguments) result disk disk' out out'
+      → IfErr result (NamesFile (IsFileOfOne (IsFileOfLayer (has_shapes (parts_of arguments.layer)) arguments.«data».now) (texts codes)))
+      → IsUnfailedUnlessUnusable result disk disk' → out'.counts.flushes ≡ out.counts.flushes
+      → CarriesOut opens (request.Select arguments) result disk disk' out out'
   select_lent result same_text same_codes is selects fails names =
       select_carried arguments (subst (λ (text : List ℕ). IsCodeOfText text arguments.filter_options.score program) same_text is) result
       (subst (λ (codes : List (Bor (List ℕ))).
-      SelectsCounties (selection disk.known arguments.«data».now program) (texts codes) result out out') same_codes selects)
+      SelectsLayer (selection disk.known arguments.«data».now (parts_of arguments.layer) program) (texts codes) result out out') same_codes selects)
       fails
-      (subst (λ (codes : List (Bor (List ℕ))). IfErr result (NamesFile (IsFileOfCounties arguments.«data».now (texts codes)))) same_codes names)
+      (subst (λ (codes : List (Bor (List ℕ))). IfErr result (NamesFile
+      (IsFileOfOne (IsFileOfLayer (has_shapes (parts_of arguments.layer)) arguments.«data».now) (texts codes)))) same_codes names)

@@ -78,7 +78,7 @@ IsRefusedWith request known (Noted refusal note) out out' = IsTextRefused reques
 IsRefusedWith request known (County code refusal) out out' = IsCountyRefused request known code.now refusal out out'
 IsRefusedWith request known failure out out' = ⊥
 
--- what was written before a file turned out to be unusable: nothing, except that `select` has written the extracts of the counties before it
+-- what was written before a file turned out to be unusable: nothing, except that `select` has written the header and the counties before it
 abbrev pub WritesBefore : Request → (List ℕ → Option (List ℕ)) → Writer → Writer → Type 0
 WritesBefore (Select arguments) known out out' = select.WritesBefore arguments known out out'
 WritesBefore request known out out' = out' ≡ out
@@ -102,7 +102,7 @@ pub record IsNotUtf8 (request : Request) (known : List ℕ → Option (List ℕ)
 
 -- the request reads a file of this name
 abbrev pub IsFileOf : Request → List ℕ → Type 0
-IsFileOf (Run arguments) name = IsInput arguments.program.now arguments.«data».now arguments.code.now name
+IsFileOf (Run arguments) name = run.IsFileOf arguments name
 IsFileOf (Trace arguments) name = IsInput arguments.program.now arguments.«data».now arguments.code.now name
 IsFileOf (Geocode arguments) name = IsFileOfCounties arguments.«data».now (geocode.codes_of arguments) name
 IsFileOf (GeocodeBatch arguments) name = geocode_batch.IsFileOf arguments name
@@ -111,7 +111,7 @@ IsFileOf (Explain arguments) name = explain.IsFileOf arguments name
 IsFileOf (Assemble arguments) name = name ≡ arguments.source.now
 IsFileOf (Disassemble arguments) name = name ≡ arguments.program.now
 IsFileOf (Compile arguments) name = name ≡ arguments.filter.now
-IsFileOf (Select arguments) name = IsFileOfCounties arguments.«data».now (select.codes_of arguments) name
+IsFileOf (Select arguments) name = select.IsFileOf arguments name
 
 -- The outcome of a request. Its output was written, completely or until the output failed. Or a library refuses it; if the status is 3, a read
 -- failed. Or an open of the file that the failure names failed, or the file was opened and then a read failed. Or memory ran out or the requested
@@ -206,7 +206,7 @@ pub data Ends (failure : Failure) (status : ℕ) (out out' errors errors' : Writ
       → FailsFlush out out' between errors' → Ends failure status out out' errors errors'
 
 -- Why a request fails with status 3. An open of one of the request's files failed, or the file was opened and then a read failed, and nothing was
--- written. Or an open of a county's file failed, and only the extracts of the counties before it were written. Or a read of a county's file failed,
+-- written. Or an open of a county's file failed, and only the header and the counties before it were written. Or a read of a county's file failed,
 -- and a library refused the request. Or a source isn't UTF-8, and nothing was written. In all of these the output was flushed. Or a write failed or
 -- wrote 0 bytes: a prefix was written, and a flush was attempted. Or everything was written, but the flush failed. Each of these was reported. Or
 -- the request failed otherwise, and so did the flush, and both were reported.

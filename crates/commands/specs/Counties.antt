@@ -42,13 +42,17 @@ pub record HaveRefusedCounty (known : List ℕ → Option (List ℕ)) (folder : 
   pub loaded : AreCountiesOf known folder before counties
   pub refused : IsRefusedCounty known folder code refusal
 
--- a file of this name belongs to the county of one of the codes
-pub record IsFileOfCounties (folder : List ℕ) (codes : List (List ℕ)) (name : List ℕ) : Type 0 where
+-- a file of this name belongs to one of the codes, as `IsFile` describes
+pub record IsFileOfOne (IsFile : List ℕ → List ℕ → Type 0) (codes : List (List ℕ)) (name : List ℕ) : Type 0 where
   pub before : List (List ℕ)
   pub code : List ℕ
   pub following : List (List ℕ)
   pub are_codes : codes ≡ before ++ code ∷ following
-  pub is_file : IsFileOfCounty folder code name
+  pub is_file : IsFile code name
+
+-- the county of one of the codes is loaded from a file of this name
+abbrev pub IsFileOfCounties : List ℕ → List (List ℕ) → List ℕ → Type 0
+IsFileOfCounties folder codes name = IsFileOfOne (IsFileOfCounty folder) codes name
 
 -- Why counties can't be loaded: one is refused with this refusal, and a read failed if the status is 3; or one of their files can't be opened; or
 -- an allocation fails.

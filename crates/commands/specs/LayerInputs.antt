@@ -1,10 +1,10 @@
 -- The inputs that a county's layer is made from: the files that the county is loaded from, and that of type 2 if the layer has shapes.
-use Rattle.std.specs.Prelude.{◌≡◌, ℕ, Bool, true, false, IsTrue, List, Option, Some, None, ⊤}
+use Rattle.std.specs.Prelude.{◌≡◌, ◌⊎◌, ℕ, Bool, true, false, IsTrue, List, Option, Some, None, ⊤}
 use Rattle.counted_io.specs.ReaderWriter.{Reader}
 use Rattle.layers.specs.Writing as layers
 use Rattle.layers.specs.Writing.{LayerReaders}
 use Rattle.layers.specs.declared.writing.LayerFiles.{LayerFiles}
-use Rattle.named_files.specs.County.{ClosesCounty, HoldCounty, IsFileOpenFault, IsLoaded, IsOpened, file_name}
+use Rattle.named_files.specs.County.{ClosesCounty, HoldCounty, IsCountyOpenFault, IsFileOpenFault, IsLoaded, IsOpened, file_name}
 use Rattle.named_files.specs.Files.{CountsClose, IsUnread, OpenResults, input_failed_reads, input_remaining}
 use Rattle.named_files.specs.declared.county.CountyFileFault.{CountyFileFault}
 use Rattle.named_files.specs.declared.files.Input.{Input}
@@ -44,6 +44,10 @@ IsOpenedIfAny None = ⊤
 -- shapes are wanted, and the file of type 2 can't be opened: an open of it failed with this error, or memory ran out
 abbrev pub IsShapesOpenFault : {R : Type 0} → Bool → OpenResults R → List ℕ → List ℕ → CountyFileFault → Type 0
 IsShapesOpenFault shapes opens folder code fault = IsTrue shapes × IsFileOpenFault opens folder code Rt2 fault
+
+-- one of the files that the county's layer is made from can't be opened
+abbrev pub IsLayerOpenFault : {R : Type 0} → Bool → OpenResults R → List ℕ → List ℕ → CountyFileFault → Type 0
+IsLayerOpenFault shapes opens folder code fault = IsCountyOpenFault opens folder code fault ⊎ IsShapesOpenFault shapes opens folder code fault
 
 -- what closing the reader of type 2 counts, if there is one
 abbrev pub ClosesShapes : Option Reader → ℕ → ℕ → Type 0

@@ -1,5 +1,5 @@
 //! The inputs of `run` and `trace`: a program and a county.
-ghost use Rattle.std.specs.Prelude.{IfErr, IfOk};
+ghost use Rattle.std.specs.Prelude.{◌≡◌, ℕ, List, IfErr, IfOk};
 ghost use Rattle.named_files.specs.County.{IsOpened, county_readers};
 ghost use Rattle.commands.specs.Failure.{NamesFile, IsUnfailedUnlessUnusable};
 ghost use Rattle.named_files.specs.Files.{disk};
@@ -29,6 +29,7 @@ pub fn open_inputs<'a, A: Allocator + Copy, F: Files>(
     ensures err { IfErr result (IsInputsFailure F.opens name.now folder.now code.now
         (disk F.bytes F.failed_opens F.failed_reads files.old) (disk F.bytes F.failed_opens F.failed_reads files.new)) }
     ensures names { IfErr result (NamesFile (IsInput name.now folder.now code.now)) }
+    ensures stay { (other : List ℕ) → F.bytes files.new other ≡ F.bytes files.old other }
     ensures counts { IsUnfailedUnlessUnusable result (disk F.bytes F.failed_opens F.failed_reads files.old)
         (disk F.bytes F.failed_opens F.failed_reads files.new) }
 {

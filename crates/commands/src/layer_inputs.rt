@@ -1,18 +1,39 @@
 //! The files that a county's layer is made from, opened by name.
 ghost use Rattle.std.specs.Prelude.{◌≡◌, IfErr, IfOk, option_map};
-ghost use Rattle.commands.specs.LayerInputs.{AreUnread, ClosesLayer, HoldsShapes, IsOpenedIfAny, IsShapesOpenFault, layer_readers};
+ghost use Rattle.commands.specs.LayerInputs.{AreUnread, ClosesLayer, HoldLayer, HoldsShapes, IsLayerOpenFault, IsOpenedIfAny, IsShapesOpenFault, layer_readers};
 ghost use Rattle.layers.specs.Layer.{has_shapes};
 ghost use Rattle.layers.specs.LayerParts.{parts_of};
-ghost use Rattle.named_files.specs.County.{county_readers, file_name};
+ghost use Rattle.named_files.specs.County.{IsOpened, county_readers, file_name};
 ghost use Rattle.named_files.specs.Files.{Closes, Opens, disk, input_reader};
 ghost use Rattle.tl_segments.specs.declared.fault.CountyFile.TheVariants.{Rt2};
 
 use layers::{Layer, LayerFiles};
-use named_files::{CountyFileFault, CountyInputs, Files, Input, close, close_county, open_shapes};
+use named_files::{CountyFileFault, CountyInputs, Files, Input, close, close_county, open_county, open_shapes};
 use std::alloc::Allocator;
 
 /// The inputs for the files that a county's layer is made from.
 pub(crate) type LayerInputs<R> = LayerFiles<Input<R>>;
+
+/// Opens the files of a county that its layer is made from. If one of them can't be opened, closes those that are open.
+pub(crate) fn open_layer<A: Allocator + Copy, F: Files>(
+    alloc: A,
+    files: &mut F,
+    folder: &str,
+    code: &str,
+    layer: &Layer,
+) -> Result<LayerInputs<F::Reader>, CountyFileFault>
+    ensures hold { IfOk result (λ inputs. HoldLayer (has_shapes (parts_of layer.now)) (F.bytes files.old) folder.now code.now
+        (layer_readers F.Reader.remaining F.Reader.failed_reads inputs)) }
+    ensures is_open { IfOk result (λ inputs. IsOpened inputs.county.rt1 × IsOpenedIfAny inputs.rt2) }
+    ensures fault { IfErr result (IsLayerOpenFault (has_shapes (parts_of layer.now)) F.opens folder.now code.now) }
+    ensures opens { Opens result (λ fault. fault.fault) (disk F.bytes F.failed_opens F.failed_reads files.old)
+        (disk F.bytes F.failed_opens F.failed_reads files.new) }
+{
+    match open_county(alloc, files, folder, code) {
+        Ok(county) => with_shapes(alloc, files, folder, code, layer, county),
+        Err(fault) => Err(fault),
+    }
+}
 
 /// Opens the file of type 2 beside a county's inputs, if the layer has shapes. It must exist. If it can't be opened, closes the inputs.
 pub(crate) fn with_shapes<A: Allocator + Copy, F: Files>(

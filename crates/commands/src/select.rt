@@ -1,21 +1,23 @@
-//! `select`: writes the rows of the segments for which a filter is true, over counties.
+//! `select`: writes the segments for which a filter is true, over counties.
 ghost use Rattle.std.specs.Prelude.{◌≡◌, ◌≢◌, ℕ, List, map, IfErr};
 ghost use Rattle.counted_io.specs.ReaderWriter.{writer};
 ghost use Rattle.commands.specs.Command.{CarriesOut};
-ghost use Rattle.commands.specs.Counties.{IsFileOfCounties};
-ghost use Rattle.named_files.specs.County.{IsFileOfCounty};
+ghost use Rattle.commands.specs.Counties.{IsFileOfOne};
+ghost use Rattle.commands.specs.LayerInputs.{IsFileOfLayer};
 ghost use Rattle.commands.specs.Failure.{NamesFile, IsUnfailedUnlessUnusable, status};
 ghost use Rattle.named_files.specs.Files.{disk};
-ghost use Rattle.commands.specs.Select.{FailsAs, SelectsCounties, SelectsCounty, selection};
+ghost use Rattle.commands.specs.Select.{FailsAs, SelectsCounties, SelectsCounty, SelectsLayer, selection};
 ghost use Rattle.commands.specs.declared.request.Request.{Request};
+ghost use Rattle.layers.specs.Layer.{has_shapes};
+ghost use Rattle.layers.specs.LayerParts.{parts_of};
 
 use crate::failure::Failure;
 use crate::filter::FilterOptions;
+use crate::layer_inputs::{close_layer, open_layer};
 use bpf_verify::Verified;
 use counted_io::CountedWrite;
-use extract::extract_verified;
-use layers::Layer;
-use named_files::{Files, close_county, open_county};
+use layers::{Layer, write_county};
+use named_files::Files;
 use std::alloc::{Allocator, Global};
 
 /// The arguments of `select`.
@@ -28,11 +30,12 @@ pub struct Select<'a> {
     pub data: &'a str,
     /// The counties' codes, five digits each: the state, then the county within it.
     pub codes: Vec<&'a str>,
+    /// What is written of the selected segments.
     pub layer: Layer,
 }
 
 impl<'a> Select<'a> {
-    /// Compiles the filter once, and then writes each county's extract, up to the first fault.
+    /// Compiles the filter once, writes the header of the layer, and then writes each county, up to the first fault.
     pub fn carry_out<A: Allocator + Copy, F: Files, W: CountedWrite>(
         self,
         alloc: A,
@@ -48,37 +51,66 @@ impl<'a> Select<'a> {
             Ok(program) => program,
             Err(failure) => return Err(failure),
         };
-        select_counties(
+        select_layer(
             alloc,
             files,
             &program,
             self.data,
             self.codes.as_slice(),
+            &self.layer,
             out,
         )
     }
 }
 
-/// Writes the extracts of the counties of these codes, in order, up to the first fault.
+/// Writes the header of a layer and then the counties of these codes, in order, up to the first fault.
+fn select_layer<'a, A: Allocator + Copy, F: Files, W: CountedWrite>(
+    alloc: A,
+    files: &mut F,
+    program: &Verified<Global>,
+    folder: &'a str,
+    codes: &[&'a str],
+    layer: &Layer,
+    out: &mut W,
+) -> Result<(), Failure<'a>>
+    ensures outcome { SelectsLayer (selection (F.bytes files.old) folder.now (parts_of layer.now) program.now.code)
+        (map (λ code. code.now) codes.now) result (writer W.contents W.counts out.old) (writer W.contents W.counts out.new) }
+    ensures fails { IfErr result (λ failure. FailsAs F.opens failure
+        (disk F.bytes F.failed_opens F.failed_reads files.old) (disk F.bytes F.failed_opens F.failed_reads files.new)) }
+    ensures names { IfErr result (NamesFile (IsFileOfOne (IsFileOfLayer (has_shapes (parts_of layer.now)) folder.now)
+        (map (λ code. code.now) codes.now))) }
+    ensures counts { IsUnfailedUnlessUnusable result (disk F.bytes F.failed_opens F.failed_reads files.old)
+        (disk F.bytes F.failed_opens F.failed_reads files.new) }
+    ensures unflushed { (W.counts out.new).flushes ≡ (W.counts out.old).flushes }
+{
+    match layer.write_header(out) {
+        Ok(()) => select_counties(alloc, files, program, folder, codes, layer, out),
+        Err(fault) => Err(Failure::Write(fault)),
+    }
+}
+
+/// Writes the counties of these codes, in order, up to the first fault.
 fn select_counties<'a, A: Allocator + Copy, F: Files, W: CountedWrite>(
     alloc: A,
     files: &mut F,
     program: &Verified<Global>,
     folder: &'a str,
     codes: &[&'a str],
+    layer: &Layer,
     out: &mut W,
 ) -> Result<(), Failure<'a>>
-    ensures outcome { SelectsCounties (selection (F.bytes files.old) folder.now program.now.code) (map (λ code. code.now) codes.now) result
-        (writer W.contents W.counts out.old) (writer W.contents W.counts out.new) }
+    ensures outcome { SelectsCounties (selection (F.bytes files.old) folder.now (parts_of layer.now) program.now.code)
+        (map (λ code. code.now) codes.now) result (writer W.contents W.counts out.old) (writer W.contents W.counts out.new) }
     ensures fails { IfErr result (λ failure. FailsAs F.opens failure
         (disk F.bytes F.failed_opens F.failed_reads files.old) (disk F.bytes F.failed_opens F.failed_reads files.new)) }
-    ensures names { IfErr result (NamesFile (IsFileOfCounties folder.now (map (λ code. code.now) codes.now))) }
+    ensures names { IfErr result (NamesFile (IsFileOfOne (IsFileOfLayer (has_shapes (parts_of layer.now)) folder.now)
+        (map (λ code. code.now) codes.now))) }
     ensures counts { IsUnfailedUnlessUnusable result (disk F.bytes F.failed_opens F.failed_reads files.old)
         (disk F.bytes F.failed_opens F.failed_reads files.new) }
     ensures unflushed { (W.counts out.new).flushes ≡ (W.counts out.old).flushes }
 {
     for code in codes {
-        match select_county(alloc, files, program, folder, code, out) {
+        match select_county(alloc, files, program, folder, code, layer, out) {
             Ok(()) => {}
             Err(failure) => return Err(failure),
         }
@@ -86,32 +118,33 @@ fn select_counties<'a, A: Allocator + Copy, F: Files, W: CountedWrite>(
     Ok(())
 }
 
-/// Opens the files of a county in the data folder and writes its extract.
+/// Opens the files of a county in the data folder and writes its layer.
 fn select_county<'a, A: Allocator + Copy, F: Files, W: CountedWrite>(
     alloc: A,
     files: &mut F,
     program: &Verified<Global>,
     folder: &'a str,
     code: &'a str,
+    layer: &Layer,
     out: &mut W,
 ) -> Result<(), Failure<'a>>
-    ensures outcome { SelectsCounty (selection (F.bytes files.old) folder.now program.now.code) code.now result
+    ensures outcome { SelectsCounty (selection (F.bytes files.old) folder.now (parts_of layer.now) program.now.code) code.now result
         (writer W.contents W.counts out.old) (writer W.contents W.counts out.new) }
     ensures fails { IfErr result (λ failure. FailsAs F.opens failure
         (disk F.bytes F.failed_opens F.failed_reads files.old) (disk F.bytes F.failed_opens F.failed_reads files.new)) }
-    ensures names { IfErr result (NamesFile (IsFileOfCounty folder.now code.now)) }
+    ensures names { IfErr result (NamesFile (IsFileOfLayer (has_shapes (parts_of layer.now)) folder.now code.now)) }
     ensures stay { (other : List ℕ) → F.bytes files.new other ≡ F.bytes files.old other }
     ensures counts { IsUnfailedUnlessUnusable result (disk F.bytes F.failed_opens F.failed_reads files.old)
         (disk F.bytes F.failed_opens F.failed_reads files.new) }
     ensures unflushed { (W.counts out.new).flushes ≡ (W.counts out.old).flushes }
 {
-    let mut inputs = match open_county(alloc, files, folder, code) {
+    let mut inputs = match open_layer(alloc, files, folder, code, layer) {
         Ok(inputs) => inputs,
         Err(fault) => return Err(Failure::of_opening(folder, code, fault)),
     };
-    let extracted = extract_verified(alloc, program, &mut inputs, out);
-    close_county(files, inputs);
-    match extracted {
+    let written = write_county(alloc, program, &mut inputs, layer, out);
+    close_layer(files, inputs);
+    match written {
         Ok(_) => Ok(()),
         Err(fault) => Err(Failure::of_county_extract(code, fault)),
     }

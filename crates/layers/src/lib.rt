@@ -6,4 +6,4 @@ mod layer_writer;
 mod writing;
 
 pub use layer::{Layer, Layout};
-pub use writing::{LayerFiles, write_county};
+pub use writing::{LayerFiles, write_county, write_layer};

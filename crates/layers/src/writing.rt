@@ -3,7 +3,7 @@ ghost use Rattle.std.specs.Prelude.{IfErr, IfOk, option_map};
 ghost use Rattle.counted_io.specs.ReaderWriter.{reader, writer};
 ghost use Rattle.layers.specs.LayerParts.{parts_of};
 ghost use Rattle.layers.specs.ShapeTable.{IsShapesFault, LoadsShapes, table_of};
-ghost use Rattle.layers.specs.Writing.{IsLayerOutcome, layer_readers};
+ghost use Rattle.layers.specs.Writing.{IsHeadedOutcome, IsLayerOutcome, layer_readers};
 
 use crate::layer::{Layer, LayerBuffer};
 use crate::layer_writer::LayerWriter;
@@ -17,6 +17,22 @@ use tl_segments::{CountyFiles, LoadFault, Shapes};
 pub struct LayerFiles<R> {
     pub county: CountyFiles<R>,
     pub rt2: Option<R>,
+}
+
+/// Writes the header of a layer, and then the segments of one county that an accepted program selects, as [`write_county`] does. Returns their number.
+pub fn write_layer<A: Allocator + Copy, B: Allocator, R: CountedRead, W: CountedWrite>(
+    alloc: A,
+    verified: &Verified<B>,
+    files: &mut LayerFiles<R>,
+    layer: &Layer,
+    out: &mut W,
+) -> Result<u64, ExtractFault>
+    ensures { IsHeadedOutcome (parts_of layer.now) verified.now.code result
+        (layer_readers R.remaining R.failed_reads files.old) (layer_readers R.remaining R.failed_reads files.new)
+        (writer W.contents W.counts out.old) (writer W.contents W.counts out.new) }
+{
+    layer.write_header(out)?;
+    write_county(alloc, verified, files, layer, out)
 }
 
 /// Writes the segments of a county that an accepted program selects, in the order of the type 1 file, and returns their number.

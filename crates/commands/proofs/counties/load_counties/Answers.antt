@@ -1,5 +1,6 @@
 use Rattle.std.proofs.Common.{◌∙◌, subst, sym}
 use Rattle.commands.specs.Counties.{AreCountiesOf}
+use Rattle.named_files.specs.County.{IsFileOfCounty}
 use Rattle.named_files.specs.Files.{disk}
 use Rattle.commands.proofs.CountiesLemmas.{counties_more, earlier_load_failure, load_usage, memory_failure, named_after, refused_after}
 use Rattle.named_files.proofs.FileLemmas.{unfailed_both}
@@ -22,7 +23,7 @@ returns-in-Err-clause-usage g c =
 
 pub returns-in-Err-clause-names : goal.returns-in-Err-clause-names
 returns-in-Err-clause-names g c =
-    named_after c.args.folder.now c.args.codes.now c.loop-code.code-index _ c.loop-code-test.true c.in-Err.failure c.in-Err.ensures.names
+    named_after (IsFileOfCounty c.args.folder.now) c.args.codes.now c.loop-code.code-index _ c.loop-code-test.true c.in-Err.failure c.in-Err.ensures.names
 
 pub returns-in-Err-clause-counts : goal.returns-in-Err-clause-counts
 returns-in-Err-clause-counts g c = λ other. unfailed_both c.loop-code.invariant.counts (c.in-Err.ensures.counts other)

@@ -1,7 +1,10 @@
 use Rattle.std.proofs.Common.{ap, refl, ◌∙◌}
 use Rattle.counted_io.specs.ReaderWriter.{WriteCounts, writer}
 use Rattle.named_files.specs.Files.{disk}
+use Rattle.commands.specs.LayerInputs.{IsFileOfLayer}
 use Rattle.commands.specs.Select.{none}
+use Rattle.layers.specs.Layer.{has_shapes}
+use Rattle.layers.specs.LayerParts.{parts_of}
 use Rattle.commands.proofs.CountiesLemmas.{named_after}
 use Rattle.named_files.proofs.FileLemmas.{unfailed_both}
 use Rattle.commands.proofs.SelectLemmas.{counties_counts, counties_stopped, fails_after, written_more}
@@ -25,7 +28,7 @@ returns-in-Err-clause-fails g c =
 
 pub returns-in-Err-clause-names : goal.returns-in-Err-clause-names
 returns-in-Err-clause-names g c =
-    named_after c.args.folder.now c.args.codes.now c.loop-code.code-index _ c.loop-code-test.true c.in-Err.failure c.in-Err.ensures.names
+    named_after (IsFileOfLayer (has_shapes (parts_of c.args.layer.now)) c.args.folder.now) c.args.codes.now c.loop-code.code-index _ c.loop-code-test.true c.in-Err.failure c.in-Err.ensures.names
 
 pub returns-in-Err-clause-counts : goal.returns-in-Err-clause-counts
 returns-in-Err-clause-counts g c = λ other. unfailed_both c.loop-code.invariant.counts (c.in-Err.ensures.counts other)

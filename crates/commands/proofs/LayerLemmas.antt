@@ -1,0 +1,160 @@
+-- A county's layer is written: what closing its readers then counts, and that nothing was flushed.
+use Rattle.std.proofs.Common.{◌≡◌, ◌≢◌, ◌⊎◌, ℕ, Bool, true, false, IsTrue, List, Option, Some, None, Result, Ok, Err, ⊤}
+use Rattle.std.proofs.Common.{inl, inr, refl, ap, sym, subst, ◌∙◌, arith}
+use Rattle.bpf_insn.specs.declared.instruction.Insn.{Insn}
+use Rattle.bpf_meaning.specs.Extract.{TextFormat}
+use Rattle.counted_io.specs.ReaderWriter.{Reader, WriteCounts, Writer}
+use Rattle.counted_io.specs.declared.writing.WriteFault.{WriteFault}
+use Rattle.extract.specs.ExtractFault as extract_fault
+use Rattle.extract.specs.ExtractFault.{of_load}
+use Rattle.extract.specs.Extracting as extracting
+use Rattle.extract.specs.Extracting.{IsLoadRefusalIn, IsOutcomeOfCodeIn}
+use Rattle.extract.specs.declared.fault.ExtractFault.{ExtractFault}
+use Rattle.extract.specs.declared.fault.ExtractFault.TheVariants as extract
+use Rattle.layers.specs.Layer.{LayerParts, Rows, Table, Features, WritesHeader, layer_format}
+use Rattle.layers.specs.ShapeTable.{IsShapesFault, ReadsShapes}
+use Rattle.layers.specs.Writing.{IsHeadedOutcome, IsLayerOutcome, LayerReaders, after_header, in_header}
+use Rattle.tl_segments.specs.County.{CountyReaders}
+use Rattle.tl_segments.specs.LoadFault as load_fault
+use Rattle.tl_segments.specs.Shape.{shape_parts}
+use Rattle.tl_segments.specs.declared.fault.CountyFile.TheVariants.{Rt2}
+use Rattle.tl_segments.specs.declared.fault.LoadFault.{LoadFault}
+use Rattle.tl_segments.specs.declared.fault.LoadFault.TheVariants as load
+use Rattle.named_files.specs.County.{ClosesCounty, HoldCounty}
+use Rattle.commands.specs.Failure.{refusal_status}
+use Rattle.commands.specs.LayerInputs.{ClosesLayer, ClosesShapes, HoldLayer, HoldsShapes, IsLayerFile}
+use Rattle.named_files.proofs.FileLemmas.{sound_close}
+use Rattle.commands.proofs.CarriedLemmas.{fault_unflushed}
+use Rattle.commands.proofs.ReadLemmas.{ReadsAs, county_closed, file_reads, load_refusal, loads_closed, reads_close, reads_then, sound, sound_closed}
+use Rattle.commands.proofs.ReadLemmas.{then_reads, unread_closed}
+
+-- a layer with shapes is made from the file of type 2
+pub shapes_file : (shapes : Bool) → IsTrue shapes → IsLayerFile shapes Rt2
+shapes_file true wanted = tt
+shapes_file false wanted = absurd wanted
+
+-- Closing the reader of type 2, if there is one: nothing was read, or it was read to its end, or its file has a fault.
+
+unread_shapes : (shapes : Bool) (known : Option (List ℕ)) (old : Option Reader) {failed failed' : ℕ} → HoldsShapes shapes known old
+    → ClosesShapes old failed failed' → failed' ≡ failed
+unread_shapes true known (Some reader) hold closes = closes.0 hold.failed
+unread_shapes false known None hold closes = closes
+unread_shapes shapes known old hold closes = absurd hold
+
+read_shapes : (shapes : Bool) (known : Option (List ℕ)) (old new : Option Reader) {failed failed' : ℕ} → HoldsShapes shapes known old
+    → ClosesShapes new failed failed' → (rt2 : List (List ℕ)) → ReadsShapes rt2 old new → failed' ≡ failed
+read_shapes true known (Some old) (Some new) hold closes rt2 reads = sound_close hold.failed closes reads.reads
+read_shapes false known None None hold closes rt2 reads = closes
+read_shapes shapes known old new hold closes rt2 reads = absurd (hold, reads)
+
+faulty_shapes : (shapes : Bool) (known : Option (List ℕ)) (old new : Option Reader) {failed failed' : ℕ} → HoldsShapes shapes known old
+    → ClosesShapes new failed failed' → (fault : LoadFault) → IsShapesFault fault old new
+    → ReadsAs (refusal_status (load_fault.refusal fault)) failed failed'
+faulty_shapes true known (Some old) (Some new) hold closes fault is =
+    reads_close hold.failed closes (file_reads Rt2 fault old new is)
+faulty_shapes shapes known old new hold closes fault is = absurd (hold, is)
+
+-- a count of failed reads changes if the status is 3, and only then; it may do anything if a write failed
+pub ClosesAs : Result ℕ ExtractFault → ℕ → ℕ → Type 0
+ClosesAs (Ok count) failed failed' = failed' ≡ failed
+ClosesAs (Err (extract.Write fault)) failed failed' = ⊤
+ClosesAs (Err fault) failed failed' = ReadsAs (refusal_status (extract_fault.refusal fault)) failed failed'
+
+closes_then : {a b c : ℕ} (result : Result ℕ ExtractFault) → ClosesAs result a b → c ≡ b → ClosesAs result a c
+closes_then (Ok count) is same = same ∙ is
+closes_then (Err (extract.Write fault)) is same = tt
+closes_then (Err (extract.Program fault)) is same = reads_then is same
+closes_then (Err (extract.Load fault)) is same = reads_then is same
+closes_then (Err extract.Memory) is same = reads_then is same
+
+load_closes : {a b : ℕ} (fault : LoadFault) → ReadsAs (refusal_status (load_fault.refusal fault)) a b → ClosesAs (Err (of_load fault)) a b
+load_closes load.Memory is = is
+load_closes (load.Line file fault) is = is
+load_closes (load.TooManyNames line) is = is
+load_closes (load.TooManyRanges line) is = is
+load_closes (load.RepeatedSequence line) is = is
+load_closes (load.TooManyPoints line) is = is
+
+-- the county's readers are closed after its extract
+county_closes : {known : List ℕ → Option (List ℕ)} {folder code : List ℕ} {old new : CountyReaders} {failed failed' : ℕ}
+    → HoldCounty known folder code old → ClosesCounty new failed failed' → (text_of : TextFormat) (program : List Insn)
+    (result : Result ℕ ExtractFault) {out out' : Writer} → IsOutcomeOfCodeIn text_of program result old new out out'
+    → ClosesAs result failed failed'
+county_closes hold closes text_of program (Ok count) is = loads_closed hold closes is.county is.loads
+county_closes hold closes text_of program (Err (extract.Program fault)) is = absurd is
+county_closes {old = old} {new = new} hold closes text_of program (Err (extract.Load fault)) {out} {out'} is =
+    county_closed hold closes fault (load_refusal text_of fault program old new out out' is)
+county_closes hold closes text_of program (Err (extract.Write fault)) is = tt
+county_closes hold closes text_of program (Err extract.Memory) is =
+    sound (λ three. omega (arith, three)) (sound_closed hold closes is.reads)
+
+module _ {shapes : Bool} {known : List ℕ → Option (List ℕ)} {folder code : List ℕ} {old new : LayerReaders} {failed failed' : ℕ}
+    (hold : HoldLayer shapes known folder code old) (closes : ClosesLayer new failed failed') where
+  -- nothing was read
+  pub unread_parts : new.county ≡ old.county → new.rt2 ≡ old.rt2 → failed' ≡ failed
+  unread_parts county rt2 =
+      unread_shapes shapes _ old.rt2 hold.rt2 (subst (λ (rt2 : Option Reader). ClosesShapes rt2 closes.between failed') rt2 closes.rt2)
+      ∙ unread_closed hold.county closes.county county
+
+  pub unread_layer : new ≡ old → failed' ≡ failed
+  unread_layer same =
+      unread_parts (ap (λ (readers : LayerReaders). readers.county) same) (ap (λ (readers : LayerReaders). readers.rt2) same)
+
+  -- the layer was written, or why it wasn't
+  pub layer_closes : (layer : LayerParts) (program : List Insn) (result : Result ℕ ExtractFault) {out out' : Writer}
+      → IsLayerOutcome layer program result old new out out' → ClosesAs result failed failed'
+  layer_closes layer program result (inl is) =
+      subst (λ (result : Result ℕ ExtractFault). ClosesAs result failed failed') (sym is.is_result)
+      (load_closes is.fault (then_reads (unread_closed hold.county closes.county is.unread)
+      (faulty_shapes shapes _ old.rt2 new.rt2 hold.rt2 closes.rt2 is.fault is.is_fault)))
+  layer_closes layer program result (inr is) =
+      closes_then result
+      (county_closes hold.county closes.county (layer_format layer (shape_parts is.rt2)) program result is.outcome)
+      (read_shapes shapes _ old.rt2 new.rt2 hold.rt2 closes.rt2 is.rt2 is.reads)
+
+  pub headed_closes : (layer : LayerParts) (program : List Insn) (result : Result ℕ ExtractFault) {out out' : Writer}
+      → IsHeadedOutcome layer program result old new out out' → ClosesAs result failed failed'
+  headed_closes layer program result (in_header fault is_result written unread) =
+      subst (λ (result : Result ℕ ExtractFault). ClosesAs result failed failed') (sym is_result) tt
+  headed_closes layer program result (after_header headed header is) = layer_closes layer program result is
+
+-- no flush was counted
+
+pub flushes_as : {counts counts' : WriteCounts} → counts' ≡ counts → counts'.flushes ≡ counts.flushes
+flushes_as = ap (λ (counts : WriteCounts). counts.flushes)
+
+pub unwritten_flushes : {out out' : Writer} → out' ≡ out → out'.counts.flushes ≡ out.counts.flushes
+unwritten_flushes = ap (λ (writer : Writer). writer.counts.flushes)
+
+load_unflushed : (text_of : TextFormat) (of : LoadFault) (program : List Insn) (old new : CountyReaders) (out out' : Writer)
+    → IsLoadRefusalIn text_of program of old new out out' → out'.counts.flushes ≡ out.counts.flushes
+load_unflushed text_of of program old new out out' (extracting.before_rt1 has joined rt1 unwritten) = unwritten_flushes unwritten
+load_unflushed text_of of program old new out out' (extracting.in_rt1 joined lines line is reads first written) = flushes_as written.counts
+
+county_unflushed : (text_of : TextFormat) (program : List Insn) (result : Result ℕ ExtractFault) {old new : CountyReaders} {out out' : Writer}
+    → IsOutcomeOfCodeIn text_of program result old new out out' → out'.counts.flushes ≡ out.counts.flushes
+county_unflushed text_of program (Ok count) is = flushes_as is.counts
+county_unflushed text_of program (Err (extract.Program fault)) is = absurd is
+county_unflushed text_of program (Err (extract.Load fault)) {old} {new} {out} {out'} is =
+    load_unflushed text_of fault program old new out out' is
+county_unflushed text_of program (Err (extract.Write fault)) {out' = out'} is =
+    fault_unflushed fault is.between.counts out'.counts is.cut_short.5 ∙ flushes_as is.before.counts
+county_unflushed text_of program (Err extract.Memory) is = flushes_as is.counts
+
+pub layer_unflushed : (layer : LayerParts) (program : List Insn) (result : Result ℕ ExtractFault) {old new : LayerReaders} {out out' : Writer}
+    → IsLayerOutcome layer program result old new out out' → out'.counts.flushes ≡ out.counts.flushes
+layer_unflushed layer program result (inl is) = unwritten_flushes is.unwritten
+layer_unflushed layer program result (inr is) = county_unflushed (layer_format layer (shape_parts is.rt2)) program result is.outcome
+
+pub header_unflushed : (layer : LayerParts) (result : Result (Unit {0}) WriteFault) {out out' : Writer} → WritesHeader layer result out out'
+    → out'.counts.flushes ≡ out.counts.flushes
+header_unflushed Rows result is = unwritten_flushes is.1
+header_unflushed (Table layout) (Ok done) is = flushes_as is.1
+header_unflushed (Table layout) (Err fault) {out} {out'} is = fault_unflushed fault out.counts out'.counts is.1
+header_unflushed (Features layout) result is = unwritten_flushes is.1
+
+pub headed_unflushed : (layer : LayerParts) (program : List Insn) (result : Result ℕ ExtractFault) {old new : LayerReaders} {out out' : Writer}
+    → IsHeadedOutcome layer program result old new out out' → out'.counts.flushes ≡ out.counts.flushes
+headed_unflushed layer program result (in_header fault is_result written unread) = header_unflushed layer (Err fault) written
+headed_unflushed layer program result (after_header headed header is) =
+    layer_unflushed layer program result is ∙ header_unflushed layer (Ok tt) header
