@@ -1,8 +1,9 @@
 #!/usr/bin/env python3
-"""Checks that crates.txt says which libraries a crate's code uses, and which only its definitions and proofs do, and that no modules of a crate
-use each other.
+"""Checks that crates.txt says which libraries a crate's code uses, and which only its definitions and proofs do, that no modules of a crate
+use each other, and that none has the name of a library.
 
-    python3 tools/edges.py          prints each wrong line of crates.txt and a circle of each crate that has one; exits with 1 if there is any
+    python3 tools/edges.py          prints each wrong line of crates.txt, a circle of each crate that has one, and each such module; exits with 1
+                                    if there is any
     python3 tools/edges.py --fix    writes the comments that are missing or wrong
 
 A crate's code uses a library if a source file names it in an ordinary path. Libraries that are named only in `ghost use`, in tactics, in
@@ -105,6 +106,13 @@ def circles(crate: str) -> Iterator[str]:
         yield f"{crate}: {' -> '.join(reversed(error.args[1]))}"
 
 
+def shadowed(crate: Crate) -> Iterator[str]:
+    """Yields the modules that have the name of a library of their crate, which `rt ci` refuses and `rt check` only warns of."""
+    for path in sorted((TOP / "crates" / crate.name / "src").rglob("*.rt")):
+        if path.stem in crate.libraries:
+            yield f"{crate.name}: {path.name} has the name of a library"
+
+
 def fix() -> None:
     marks = {crate.name: proofs_alone(crate) for crate in crates()}
     lines = []
@@ -121,7 +129,7 @@ def fix() -> None:
 def main() -> int:
     if sys.argv[1:] == ["--fix"]:
         fix()
-    found = [fault for crate in crates() for fault in (*faults(crate), *circles(crate.name))]
+    found = [fault for crate in crates() for fault in (*faults(crate), *circles(crate.name), *shadowed(crate))]
     for fault in found:
         print(fault)
     return 1 if found else 0
