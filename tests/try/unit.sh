@@ -50,6 +50,7 @@ try_script() {
     tests/rows/*) compare tests/rows.py "$(command -v extractd)" "$top/$unit" ;;
     tests/filters.py) compare "$unit" 300 ;;
     tests/addresses.py) compare "$unit" 1000 ;;
+    tests/layers.py) compare "$unit" 2000 ;;
     tests/listings.py | tests/clients.py | tests/costs.py) compare "$unit" ;;
     tests/random_programs.py) compare "$unit" --count 40 --cpu v2 ;;
     *) check ;;

@@ -2,7 +2,7 @@
 # The parts of ../try.sh, and their units. A unit is named by its file, from the top of the clone. ../try.sh sources this.
 
 # all_parts: prints the parts in the order in which they begin, those with the longest units first.
-all_parts() { echo exhaustion clients costs listings addresses filters sources c rows commands verdicts documents; }
+all_parts() { echo exhaustion clients costs listings layers addresses filters sources c rows commands verdicts documents; }
 
 # describe_parts: prints a line for each part.
 describe_parts() {
@@ -12,6 +12,7 @@ describe_parts() {
   rows         the tables of tests/rows
   filters      300 filters, against SQLite
   addresses    1,000 addresses, against a second reading of the files
+  layers       segments in CSV and GeoJSON, against GDAL's reading of the files
   listings     listings of `explain`, against a second reading of the rules
   c            programs in C, against native code
   commands     arguments, missing and faulty files, outcomes
@@ -28,7 +29,7 @@ units_of() {
     documents) printf '%s\n' docs/*.md README.md examples/README.md ;;
     verdicts) printf '%s\n' tests/verdicts/*.txt ;;
     rows) printf '%s\n' tests/rows/*.txt ;;
-    filters | addresses | listings | clients | costs) echo "tests/$1.py" ;;
+    filters | addresses | layers | listings | clients | costs) echo "tests/$1.py" ;;
     c) printf '%s\n' tests/random_programs.py tests/test_forward.py ;;
     commands) printf '%s\n' tests/try/commands/*.sh ;;
     exhaustion) printf '%s\n' tests/exhaustion/{memory,server,files}.sh ;;
@@ -46,6 +47,7 @@ commands_of() {
     tests/rows/* | tests/annotations.py | tests/calls.py | tools/links.py | tools/edges.py | tools/contract_names.py | tools/mutants.py) echo python3 ;;
     tests/exhaustion/*) echo curl python3 ;;
     tests/costs.py) echo python3.11 valgrind ;;
+    tests/layers.py) echo python3.11 ogr2ogr ;;
     tests/random_programs.py) echo python3.11 clang llvm-objcopy cc ;;
     *.py) echo python3.11 ;;
     esac

@@ -7,7 +7,7 @@ use Rattle.tl_segments.specs.declared.county_files.CountyFiles.{CountyFiles}
 use Rattle.tl_segments.specs.declared.county_files.JoinedFiles.{JoinedFiles}
 use Rattle.tl_segments.specs.declared.fault.CountyFile.{CountyFile}
 use Rattle.tl_segments.specs.declared.fault.CountyFile.TheVariants.{Rt1, Rt2, Rt4, Rt5, Rt6}
-use Rattle.named_files.specs.Files.{CountsClose, IsOpenFault, IsUnread, OpenResults, input_failed_reads, input_remaining}
+use Rattle.named_files.specs.Files.{CountsClose, IsNotMissing, IsOpenFault, IsUnread, OpenResults, input_failed_reads, input_remaining}
 use Rattle.named_files.specs.declared.county.CountyFileFault.{CountyFileFault}
 use Rattle.named_files.specs.declared.files.Input.{Input}
 use Rattle.named_files.specs.declared.files.Input.TheVariants as input
@@ -71,11 +71,13 @@ pub record ClosesCounty (readers : CountyReaders) (failed failed' : ℕ) : Type 
   pub rt5 : CountsClose readers.joined.rt5.failed after_rt4 after_rt5
   pub rt6 : CountsClose readers.joined.rt6.failed after_rt5 failed'
 
--- why this file of a county can't be opened: an open of it failed with this error, or memory ran out
+-- Why this file of a county can't be opened: an open of it failed with this error, or memory ran out. Unless the file must exist, it isn't refused for
+-- not existing.
 pub record IsFileOpenFault {R : Type 0} (opens : OpenResults R) (folder code : List ℕ) (file : CountyFile) (fault : CountyFileFault)
     : Type 0 where
   pub of_file : fault.file ≡ file
   pub is_fault : IsOpenFault (opens (file_name folder code file)) fault.fault
+  pub exists : ¬ MustExist file → IsNotMissing fault.fault
 
 -- why one of the files that a county is loaded from can't be opened
 abbrev pub IsCountyOpenFault : {R : Type 0} → OpenResults R → List ℕ → List ℕ → CountyFileFault → Type 0

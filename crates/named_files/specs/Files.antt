@@ -168,6 +168,11 @@ abbrev pub IsOpenFault : {R : Type 0} → (Result R Error → Type 0) → FileFa
 IsOpenFault HasResult (Unusable error) = HasResult (Err error)
 IsOpenFault HasResult Memory = ⊤
 
+-- the file isn't refused for not existing
+abbrev pub IsNotMissing : FileFault → Type 0
+IsNotMissing (Unusable error) = error_kind error ≢ NotFound
+IsNotMissing Memory = ⊤
+
 -- why a file can't be read: it can't be used, with this error; or memory ran out
 abbrev pub IsUseFault : {R : Type 0} → (Result R Error → Type 0) → Disk → Disk → FileFault → Type 0
 IsUseFault HasResult disk disk' (Unusable error) = FailsToUse HasResult error disk disk'

@@ -6,7 +6,7 @@ ghost use Rattle.std.specs.Io.KnownBytes.{Keeps, ReadConsumes};
 ghost use Rattle.std.specs.declared.io.Error.{Error};
 ghost use Rattle.counted_io.specs.Counting.{CountsFailure};
 ghost use Rattle.counted_io.specs.ReaderWriter.{reader};
-ghost use Rattle.named_files.specs.Files.{Closes, CountsClose, CountsOpen, CountsProgramFault, IsOpenFault, IsPrefix, IsProgramUseFault, IsTooLong, IsUseFault, IsUnread, Opens, OpensOptional, OpensReader, CountsFileResult, IsProgramInputFault, CountsProgramUse, CountsUseResult, disk, input_failed_reads, input_reader, input_remaining};
+ghost use Rattle.named_files.specs.Files.{Closes, CountsClose, CountsOpen, CountsProgramFault, IsNotMissing, IsOpenFault, IsPrefix, IsProgramUseFault, IsTooLong, IsUseFault, IsUnread, Opens, OpensOptional, OpensReader, CountsFileResult, IsProgramInputFault, CountsProgramUse, CountsUseResult, disk, input_failed_reads, input_reader, input_remaining};
 ghost use Rattle.named_files.specs.declared.files.FileFault.TheVariants.{Memory};
 ghost use Rattle.named_files.specs.declared.files.ProgramInputFault.TheVariants.{File};
 ghost use Rattle.named_files.specs.declared.files.TheConstants.{MAX_STORED_BYTES};
@@ -230,6 +230,7 @@ pub fn open_optional<F: Files>(files: &mut F, name: &str) -> Result<Input<F::Rea
     ensures known { IfOk result (λ input. IsUnread (F.bytes files.old name.now)
         (input_reader F.Reader.remaining F.Reader.failed_reads input)) }
     ensures fault { IfErr result (IsOpenFault (F.opens name.now)) }
+    ensures exists { IfErr result IsNotMissing }
     ensures opens { Opens result (λ fault. fault) (disk F.bytes F.failed_opens F.failed_reads files.old)
         (disk F.bytes F.failed_opens F.failed_reads files.new) }
 {

@@ -6,7 +6,7 @@ pub returns-in-Err-clause-err : goal.returns-in-Err-clause-err
 returns-in-Err-clause-err g c =
     rw c.of_county_file.ensures (open_failure g.F.Files.opens _ (disk g.F.Files.bytes g.F.Files.failed_opens g.F.Files.failed_reads c.args.files.now)
     (disk g.F.Files.bytes g.F.Files.failed_opens g.F.Files.failed_reads c.open_county.new.files) c.args.folder c.args.code
-    c.in-Err.fault.file c.in-Err.fault.fault c.in-Err.ensures.fault.1 c.in-Err.ensures.opens.opens)
+    c.in-Err.fault.file c.in-Err.fault.fault c.in-Err.ensures.fault.1.is_fault c.in-Err.ensures.opens.opens)
 
 pub returns-in-Err-clause-counts : goal.returns-in-Err-clause-counts
 returns-in-Err-clause-counts g c =

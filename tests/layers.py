@@ -1,0 +1,130 @@
+#!/usr/bin/env python3
+"""Compares the layers of `extractd select` with what GDAL's TIGER driver reads from the same files: has GDAL read them, in CSV and as a GeoJSON
+sequence, with straight lines and with the points of record type 2.
+
+    python3 layers.py COUNT [SEED]
+
+`extractd` and `ogr2ogr` are taken from the search path. The script makes a county of COUNT segments from the town in examples, with new TLIDs, and draws 0
+to 25 points for each. `extractd` reads its lines of type 2 in a random order; the driver takes the lines of a TLID as they follow each other.
+
+Prints the first segment that differs in each layer, then how many agree and how many differ. Exits with 1 if any differs. SEED defaults to 1; the same
+seed draws the same points.
+"""
+# Needs only Python 3.11 or later, and GDAL's tools.
+
+import csv
+import io
+import subprocess
+import sys
+import tempfile
+from collections.abc import Iterator
+from pathlib import Path
+from random import Random
+from typing import NamedTuple
+
+TOWN = Path(__file__).resolve().parent.parent / "examples" / "town" / "TGR01007.RT1"
+CODE = "01007"
+POINTS_OF_A_LINE = 10
+MOST_POINTS = 25
+FORMATS = {"csv": ["CSV:/vsistdin/", "-oo", "KEEP_GEOM_COLUMNS=NO"], "geojsonseq": ["/vsistdin/"]}
+# The columns that the driver has, too. It makes integers of some.
+COLUMNS = (
+    "TLID SIDE1 SOURCE FEDIRP FENAME FETYPE FEDIRS CFCC FRADDL TOADDL FRADDR TOADDR ZIPL ZIPR STATEL STATER COUNTYL COUNTYR COUSUBL COUSUBR "
+    "PLACEL PLACER TRACTL TRACTR BLOCKL BLOCKR"
+).split()
+
+
+class Segment(NamedTuple):
+    values: list[str]
+    # In millionths of a degree.
+    points: list[int]
+
+
+def segments_with(tlids: range) -> Iterator[bytes]:
+    """Yields the town's lines with these TLIDs, one after the other and then from the start."""
+    lines = TOWN.read_bytes().splitlines()
+    for index, tlid in enumerate(tlids):
+        line = lines[index % len(lines)]
+        yield line[:5] + b"%10d" % tlid + line[15:]
+
+
+def shape(random: Random, tlid: int) -> Iterator[bytes]:
+    """Yields the lines of type 2 of a segment."""
+    count = random.randrange(MOST_POINTS + 1)
+    points = [(random.randint(-179_999_999, 179_999_999), random.randint(-89_999_999, 89_999_999)) for _ in range(count)]
+    for sequence, first in enumerate(range(0, count, POINTS_OF_A_LINE), start=1):
+        used = points[first : first + POINTS_OF_A_LINE]
+        unused = [(0, 0)] * (POINTS_OF_A_LINE - len(used))
+        text = "".join(f"{longitude:+010d}{latitude:+09d}" for longitude, latitude in used + unused)
+        yield f"20006{tlid:10d}{sequence:3d}{text}".encode()
+
+
+def write_lines(path: Path, lines: list[bytes]) -> None:
+    path.parent.mkdir(exist_ok=True)
+    path.write_bytes(b"".join(line + b"\r\n" for line in lines))
+
+
+def write_counties(folder: Path, count: int, random: Random) -> None:
+    """Writes the county three times: for straight lines, for the driver, and for `extractd` with the lines of type 2 in a random order."""
+    tlids = range(1_000_000, 1_000_000 + count)
+    segments = list(segments_with(tlids))
+    shapes = [line for tlid in tlids for line in shape(random, tlid)]
+    for name in ("straight", "ordered", "shuffled"):
+        write_lines(folder / name / f"TGR{CODE}.RT1", segments)
+    write_lines(folder / "ordered" / f"TGR{CODE}.RT2", shapes)
+    random.shuffle(shapes)
+    write_lines(folder / "shuffled" / f"TGR{CODE}.RT2", shapes)
+
+
+def points_of(wkt: str) -> list[int]:
+    numbers = wkt.removeprefix("LINESTRING").strip(" ()").replace(",", " ").split()
+    return [round(float(number) * 1_000_000) for number in numbers]
+
+
+def read(table: bytes, encoding: str) -> Iterator[Segment]:
+    """Yields the segments of GDAL's output. Numbers have no leading zeros, and texts no blanks, as in the driver's."""
+    for row in csv.DictReader(io.StringIO(table.decode(encoding))):
+        yield Segment([row[name].strip().lstrip("0") for name in COLUMNS], points_of(row["WKT"]))
+
+
+def gdal(*source: str, given: bytes | None = None) -> bytes:
+    command = ["ogr2ogr", "-f", "CSV", "-lco", "GEOMETRY=AS_WKT", "/vsistdout/", *source]
+    return subprocess.run(command, input=given, stdout=subprocess.PIPE, check=True).stdout
+
+
+def layer(folder: Path, form: str, geometry: str) -> Iterator[Segment]:
+    options = ["--format", form, "--geometry", geometry, "--columns", ",".join(COLUMNS)]
+    command = ["extractd", "select", "--where", "TRUE", *options, "--data", str(folder), CODE]
+    written = subprocess.run(command, stdout=subprocess.PIPE, check=True).stdout
+    return read(gdal(*FORMATS[form], given=written), "utf-8")
+
+
+def differing(expected: list[Segment], found: Iterator[Segment], name: str) -> int:
+    others = list(found)
+    pairs = [(one, other) for one, other in zip(expected, others, strict=False) if one != other]
+    for one, other in pairs[:1]:
+        print(f"{name}:\n  is to be {one}\n  and is   {other}")
+    if len(others) != len(expected):
+        print(f"{name}: {len(others)} segments")
+    return len(pairs) + abs(len(others) - len(expected))
+
+
+def main() -> None:
+    if len(sys.argv) not in (2, 3):
+        sys.exit(__doc__)
+    count, random = int(sys.argv[1]), Random(sys.argv[2] if len(sys.argv) == 3 else "1")
+    agree = differ = 0
+    with tempfile.TemporaryDirectory() as name:
+        folder = Path(name)
+        write_counties(folder, count, random)
+        for geometry, read_by_gdal, given in (("line", "straight", "straight"), ("shape", "ordered", "shuffled")):
+            expected = list(read(gdal(str(folder / read_by_gdal / f"TGR{CODE}.RT1"), "CompleteChain"), "latin-1"))
+            for form in FORMATS:
+                wrong = differing(expected, layer(folder / given, form, geometry), f"{form} with {geometry}")
+                agree, differ = agree + len(expected) - wrong, differ + wrong
+    print(f"{agree} segments agree, {differ} differ")
+    sys.exit(differ != 0 or agree == 0)
+
+
+if __name__ == "__main__":
+    main()
