@@ -1,6 +1,7 @@
 -- A county's layer is written: what closing its readers then counts, and that nothing was flushed.
-use Rattle.std.proofs.Common.{◌≡◌, ◌≢◌, ◌⊎◌, ℕ, Bool, true, false, IsTrue, List, Option, Some, None, Result, Ok, Err, ⊤}
+use Rattle.std.proofs.Common.{◌≡◌, ◌≢◌, ◌⊎◌, ℕ, Bool, true, false, IsTrue, List, Option, Some, None, Result, Ok, Err}
 use Rattle.std.proofs.Common.{inl, inr, refl, ap, sym, subst, ◌∙◌, arith}
+use Rattle.std.specs.Prelude.{⊤}
 use Rattle.bpf_insn.specs.declared.instruction.Insn.{Insn}
 use Rattle.bpf_meaning.specs.Extract.{TextFormat}
 use Rattle.counted_io.specs.ReaderWriter.{Reader, WriteCounts, Writer}
@@ -31,7 +32,7 @@ use Rattle.commands.proofs.ReadLemmas.{then_reads, unread_closed}
 -- a layer with shapes is made from the file of type 2
 pub shapes_file : (shapes : Bool) → IsTrue shapes → IsLayerFile shapes Rt2
 shapes_file true wanted = tt
-shapes_file false wanted = absurd wanted
+shapes_file false wanted = let no : ⊥ = cc wanted in no
 
 -- Closing the reader of type 2, if there is one: nothing was read, or it was read to its end, or its file has a fault.
 
@@ -45,47 +46,53 @@ read_shapes : (shapes : Bool) (known : Option (List ℕ)) (old new : Option Read
     → ClosesShapes new failed failed' → (rt2 : List (List ℕ)) → ReadsShapes rt2 old new → failed' ≡ failed
 read_shapes true known (Some old) (Some new) hold closes rt2 reads = sound_close hold.failed closes reads.reads
 read_shapes false known None None hold closes rt2 reads = closes
-read_shapes shapes known old new hold closes rt2 reads = absurd (hold, reads)
+read_shapes true known (Some old) None hold closes rt2 reads = absurd reads
+read_shapes true known None new hold closes rt2 reads = absurd hold
+read_shapes false known None (Some new) hold closes rt2 reads = absurd reads
+read_shapes false known (Some old) new hold closes rt2 reads = absurd hold
 
 faulty_shapes : (shapes : Bool) (known : Option (List ℕ)) (old new : Option Reader) {failed failed' : ℕ} → HoldsShapes shapes known old
     → ClosesShapes new failed failed' → (fault : LoadFault) → IsShapesFault fault old new
     → ReadsAs (refusal_status (load_fault.refusal fault)) failed failed'
 faulty_shapes true known (Some old) (Some new) hold closes fault is =
     reads_close hold.failed closes (file_reads Rt2 fault old new is)
-faulty_shapes shapes known old new hold closes fault is = absurd (hold, is)
+faulty_shapes true known (Some old) None hold closes fault is = absurd is
+faulty_shapes true known None new hold closes fault is = absurd hold
+faulty_shapes false known None new hold closes fault is = absurd is
+faulty_shapes false known (Some old) new hold closes fault is = absurd hold
 
 -- a count of failed reads changes if the status is 3, and only then; it may do anything if a write failed
-pub ClosesAs : Result ℕ ExtractFault → ℕ → ℕ → Type 0
+abbrev pub ClosesAs : Result ℕ ExtractFault → ℕ → ℕ → Type 0
 ClosesAs (Ok count) failed failed' = failed' ≡ failed
 ClosesAs (Err (extract.Write fault)) failed failed' = ⊤
 ClosesAs (Err fault) failed failed' = ReadsAs (refusal_status (extract_fault.refusal fault)) failed failed'
 
-closes_then : {a b c : ℕ} (result : Result ℕ ExtractFault) → ClosesAs result a b → c ≡ b → ClosesAs result a c
-closes_then (Ok count) is same = same ∙ is
-closes_then (Err (extract.Write fault)) is same = tt
-closes_then (Err (extract.Program fault)) is same = reads_then is same
-closes_then (Err (extract.Load fault)) is same = reads_then is same
-closes_then (Err extract.Memory) is same = reads_then is same
+closes_then : (a b c : ℕ) (result : Result ℕ ExtractFault) → ClosesAs result a b → c ≡ b → ClosesAs result a c
+closes_then a b c (Ok count) is same = same ∙ is
+closes_then a b c (Err (extract.Write fault)) is same = tt
+closes_then a b c (Err (extract.Program fault)) is same = reads_then is same
+closes_then a b c (Err (extract.Load fault)) is same = reads_then is same
+closes_then a b c (Err extract.Memory) is same = reads_then is same
 
-load_closes : {a b : ℕ} (fault : LoadFault) → ReadsAs (refusal_status (load_fault.refusal fault)) a b → ClosesAs (Err (of_load fault)) a b
-load_closes load.Memory is = is
-load_closes (load.Line file fault) is = is
-load_closes (load.TooManyNames line) is = is
-load_closes (load.TooManyRanges line) is = is
-load_closes (load.RepeatedSequence line) is = is
-load_closes (load.TooManyPoints line) is = is
+load_closes : (a b : ℕ) (fault : LoadFault) → ReadsAs (refusal_status (load_fault.refusal fault)) a b → ClosesAs (Err (of_load fault)) a b
+load_closes a b load.Memory is = is
+load_closes a b (load.Line file fault) is = is
+load_closes a b (load.TooManyNames line) is = is
+load_closes a b (load.TooManyRanges line) is = is
+load_closes a b (load.RepeatedSequence line) is = is
+load_closes a b (load.TooManyPoints line) is = is
 
 -- the county's readers are closed after its extract
 county_closes : {known : List ℕ → Option (List ℕ)} {folder code : List ℕ} {old new : CountyReaders} {failed failed' : ℕ}
     → HoldCounty known folder code old → ClosesCounty new failed failed' → (text_of : TextFormat) (program : List Insn)
-    (result : Result ℕ ExtractFault) {out out' : Writer} → IsOutcomeOfCodeIn text_of program result old new out out'
+    (result : Result ℕ ExtractFault) (out out' : Writer) → IsOutcomeOfCodeIn text_of program result old new out out'
     → ClosesAs result failed failed'
-county_closes hold closes text_of program (Ok count) is = loads_closed hold closes is.county is.loads
-county_closes hold closes text_of program (Err (extract.Program fault)) is = absurd is
-county_closes {old = old} {new = new} hold closes text_of program (Err (extract.Load fault)) {out} {out'} is =
+county_closes hold closes text_of program (Ok count) out out' is = loads_closed hold closes is.county is.loads
+county_closes hold closes text_of program (Err (extract.Program fault)) out out' is = absurd is
+county_closes {old = old} {new = new} hold closes text_of program (Err (extract.Load fault)) out out' is =
     county_closed hold closes fault (load_refusal text_of fault program old new out out' is)
-county_closes hold closes text_of program (Err (extract.Write fault)) is = tt
-county_closes hold closes text_of program (Err extract.Memory) is =
+county_closes hold closes text_of program (Err (extract.Write fault)) out out' is = tt
+county_closes hold closes text_of program (Err extract.Memory) out out' is =
     sound (λ three. omega (arith, three)) (sound_closed hold closes is.reads)
 
 module _ {shapes : Bool} {known : List ℕ → Option (List ℕ)} {folder code : List ℕ} {old new : LayerReaders} {failed failed' : ℕ}
@@ -105,11 +112,11 @@ module _ {shapes : Bool} {known : List ℕ → Option (List ℕ)} {folder code :
       → IsLayerOutcome layer program result old new out out' → ClosesAs result failed failed'
   layer_closes layer program result (inl is) =
       subst (λ (result : Result ℕ ExtractFault). ClosesAs result failed failed') (sym is.is_result)
-      (load_closes is.fault (then_reads (unread_closed hold.county closes.county is.unread)
+      (load_closes failed failed' is.fault (then_reads (unread_closed hold.county closes.county is.unread)
       (faulty_shapes shapes _ old.rt2 new.rt2 hold.rt2 closes.rt2 is.fault is.is_fault)))
   layer_closes layer program result (inr is) =
-      closes_then result
-      (county_closes hold.county closes.county (layer_format layer (shape_parts is.rt2)) program result is.outcome)
+      closes_then failed closes.between failed' result
+      (county_closes hold.county closes.county (layer_format layer (shape_parts is.rt2)) program result _ _ is.outcome)
       (read_shapes shapes _ old.rt2 new.rt2 hold.rt2 closes.rt2 is.rt2 is.reads)
 
   pub headed_closes : (layer : LayerParts) (program : List Insn) (result : Result ℕ ExtractFault) {out out' : Writer}
@@ -131,30 +138,32 @@ load_unflushed : (text_of : TextFormat) (of : LoadFault) (program : List Insn) (
 load_unflushed text_of of program old new out out' (extracting.before_rt1 has joined rt1 unwritten) = unwritten_flushes unwritten
 load_unflushed text_of of program old new out out' (extracting.in_rt1 joined lines line is reads first written) = flushes_as written.counts
 
-county_unflushed : (text_of : TextFormat) (program : List Insn) (result : Result ℕ ExtractFault) {old new : CountyReaders} {out out' : Writer}
+county_unflushed : (text_of : TextFormat) (program : List Insn) (result : Result ℕ ExtractFault) (old new : CountyReaders) (out out' : Writer)
     → IsOutcomeOfCodeIn text_of program result old new out out' → out'.counts.flushes ≡ out.counts.flushes
-county_unflushed text_of program (Ok count) is = flushes_as is.counts
-county_unflushed text_of program (Err (extract.Program fault)) is = absurd is
-county_unflushed text_of program (Err (extract.Load fault)) {old} {new} {out} {out'} is =
+county_unflushed text_of program (Ok count) old new out out' is = flushes_as is.counts
+county_unflushed text_of program (Err (extract.Program fault)) old new out out' is = absurd is
+county_unflushed text_of program (Err (extract.Load fault)) old new out out' is =
     load_unflushed text_of fault program old new out out' is
-county_unflushed text_of program (Err (extract.Write fault)) {out' = out'} is =
+county_unflushed text_of program (Err (extract.Write fault)) old new out out' is =
     fault_unflushed fault is.between.counts out'.counts is.cut_short.5 ∙ flushes_as is.before.counts
-county_unflushed text_of program (Err extract.Memory) is = flushes_as is.counts
+county_unflushed text_of program (Err extract.Memory) old new out out' is = flushes_as is.counts
 
-pub layer_unflushed : (layer : LayerParts) (program : List Insn) (result : Result ℕ ExtractFault) {old new : LayerReaders} {out out' : Writer}
+pub layer_unflushed : (layer : LayerParts) (program : List Insn) (result : Result ℕ ExtractFault) (old new : LayerReaders) (out out' : Writer)
     → IsLayerOutcome layer program result old new out out' → out'.counts.flushes ≡ out.counts.flushes
-layer_unflushed layer program result (inl is) = unwritten_flushes is.unwritten
-layer_unflushed layer program result (inr is) = county_unflushed (layer_format layer (shape_parts is.rt2)) program result is.outcome
+layer_unflushed layer program result old new out out' (inl is) = unwritten_flushes is.unwritten
+layer_unflushed layer program result old new out out' (inr is) =
+    county_unflushed (layer_format layer (shape_parts is.rt2)) program result old.county new.county out out' is.outcome
 
-pub header_unflushed : (layer : LayerParts) (result : Result (Unit {0}) WriteFault) {out out' : Writer} → WritesHeader layer result out out'
+pub header_unflushed : (layer : LayerParts) (result : Result (Unit {0}) WriteFault) (out out' : Writer) → WritesHeader layer result out out'
     → out'.counts.flushes ≡ out.counts.flushes
-header_unflushed Rows result is = unwritten_flushes is.1
-header_unflushed (Table layout) (Ok done) is = flushes_as is.1
-header_unflushed (Table layout) (Err fault) {out} {out'} is = fault_unflushed fault out.counts out'.counts is.1
-header_unflushed (Features layout) result is = unwritten_flushes is.1
+header_unflushed Rows result out out' is = unwritten_flushes is.1
+header_unflushed (Table layout) (Ok done) out out' is = flushes_as is.1
+header_unflushed (Table layout) (Err fault) out out' is = fault_unflushed fault out.counts out'.counts is.1
+header_unflushed (Features layout) result out out' is = unwritten_flushes is.1
 
-pub headed_unflushed : (layer : LayerParts) (program : List Insn) (result : Result ℕ ExtractFault) {old new : LayerReaders} {out out' : Writer}
+pub headed_unflushed : (layer : LayerParts) (program : List Insn) (result : Result ℕ ExtractFault) (old new : LayerReaders) (out out' : Writer)
     → IsHeadedOutcome layer program result old new out out' → out'.counts.flushes ≡ out.counts.flushes
-headed_unflushed layer program result (in_header fault is_result written unread) = header_unflushed layer (Err fault) written
-headed_unflushed layer program result (after_header headed header is) =
-    layer_unflushed layer program result is ∙ header_unflushed layer (Ok tt) header
+headed_unflushed layer program result old new out out' (in_header fault is_result written unread) =
+    header_unflushed layer (Err fault) out out' written
+headed_unflushed layer program result old new out out' (after_header headed header is) =
+    layer_unflushed layer program result old new headed out' is ∙ header_unflushed layer (Ok tt) out headed header

@@ -1,16 +1,27 @@
 -- How `run` is carried out, by its outcome.
 use Rattle.std.proofs.Common.{◌≡◌, ℕ, Bool, true, false, List, Option, Some, None, Bor, Result, Ok, Err, inl, inr, refl, ap, sym, subst, arith, ◌∙◌}
+use Rattle.std.specs.Prelude.{⊤}
+use Rattle.bpf_insn.specs.declared.instruction.Insn.{Insn}
+use Rattle.bpf_meaning.specs.Extract.{TextFormat}
+use Rattle.bpf_program.specs.Program.{IsSafeProgram}
 use Rattle.extract.specs.ExtractFault as extract_fault
+use Rattle.extract.specs.ExtractFault.{of_load}
+use Rattle.extract.specs.Extracting.{IsOutcomeOfCodeIn}
 use Rattle.extract.specs.declared.fault.ExtractFault.{ExtractFault}
 use Rattle.extract.specs.declared.fault.ExtractFault.TheVariants as extract
 use Rattle.bpf_program.specs.ProgramFault as program_fault
 use Rattle.bpf_program.specs.declared.program.ProgramFault.TheVariants as program
 use Rattle.refusals.specs.Refusal.{RefusalParts}
 use Rattle.counted_io.specs.ReaderWriter.{Reader, Writer}
+use Rattle.layers.specs.Layer.{LayerParts, layer_format}
 use Rattle.layers.specs.LayerParts.{parts_of}
-use Rattle.layers.specs.Writing.{LayerReaders}
+use Rattle.layers.specs.Writing.{IsHeadedOutcome, IsLayerOutcome, LayerReaders, after_header, in_header}
+use Rattle.tl_segments.specs.County.{CountyReaders}
 use Rattle.tl_segments.specs.LoadFault as load_fault
-use Rattle.tl_segments.specs.declared.fault.CountyFile.{CountyFile}
+use Rattle.tl_segments.specs.Shape.{shape_parts}
+use Rattle.tl_segments.specs.declared.fault.LoadFault.{LoadFault}
+use Rattle.tl_segments.specs.declared.fault.LoadFault.TheVariants as load
+use Rattle.tl_segments.specs.declared.fault.CountyFile.{CountyFile as CountyFileType}
 use Rattle.tl_segments.specs.declared.fault.CountyFile.TheVariants.{Rt2}
 use Rattle.commands.specs.Command.{CarriesOut}
 use Rattle.commands.specs.Failure.{NamesFile, of_county_file, of_extract}
@@ -58,6 +69,50 @@ run_too_long run known out refusal is =
       },
     )
 
+-- an accepted program is not refused after that
+
+abbrev NotProgram : Result ℕ ExtractFault → Type 0
+NotProgram (Err (extract.Program fault)) = ⊥
+NotProgram result = ⊤
+
+load_no_program : (fault : LoadFault) → NotProgram (Err (of_load fault))
+load_no_program load.Memory = tt
+load_no_program (load.Line file fault) = tt
+load_no_program (load.TooManyNames line) = tt
+load_no_program (load.TooManyRanges line) = tt
+load_no_program (load.RepeatedSequence line) = tt
+load_no_program (load.TooManyPoints line) = tt
+
+code_no_program : (text_of : TextFormat) (code : List Insn) (result : Result ℕ ExtractFault) (old new : CountyReaders) (out out' : Writer)
+    → IsOutcomeOfCodeIn text_of code result old new out out' → NotProgram result
+code_no_program text_of code (Ok count) old new out out' is = tt
+code_no_program text_of code (Err (extract.Program fault)) old new out out' is = is
+code_no_program text_of code (Err (extract.Load fault)) old new out out' is = tt
+code_no_program text_of code (Err (extract.Write fault)) old new out out' is = tt
+code_no_program text_of code (Err extract.Memory) old new out out' is = tt
+
+layer_no_program : (layer : LayerParts) (code : List Insn) (result : Result ℕ ExtractFault) (old new : LayerReaders) (out out' : Writer)
+    → IsLayerOutcome layer code result old new out out' → NotProgram result
+layer_no_program layer code result old new out out' (inl is) = subst NotProgram (sym is.is_result) (load_no_program is.fault)
+layer_no_program layer code result old new out out' (inr is) =
+    code_no_program (layer_format layer (shape_parts is.rt2)) code result old.county new.county out out' is.outcome
+
+headed_no_program : (layer : LayerParts) (code : List Insn) (result : Result ℕ ExtractFault) (old new : LayerReaders) (out out' : Writer)
+    → IsHeadedOutcome layer code result old new out out' → NotProgram result
+headed_no_program layer code result old new out out' (in_header fault is_result written unread) = subst NotProgram (sym is_result) tt
+headed_no_program layer code result old new out out' (after_header headed header is) =
+    layer_no_program layer code result old new headed out' is
+
+pub accepted_outcome : (layer : LayerParts) (program : List ℕ) (code : List Insn) (result : Result ℕ ExtractFault) (old new : LayerReaders)
+    (out out' : Writer) → IsSafeProgram program code → IsHeadedOutcome layer code result old new out out'
+    → IsProgramOutcome layer program result old new out out'
+accepted_outcome layer program code (Ok count) old new out out' safe is = (code, safe, is)
+accepted_outcome layer program code (Err (extract.Program fault)) old new out out' safe is =
+    absurd (headed_no_program layer code (Err (extract.Program fault)) old new out out' is)
+accepted_outcome layer program code (Err (extract.Load fault)) old new out out' safe is = (code, safe, is)
+accepted_outcome layer program code (Err (extract.Write fault)) old new out out' safe is = (code, safe, is)
+accepted_outcome layer program code (Err extract.Memory) old new out out' safe is = inr (code, safe, is)
+
 -- what the county is loaded from is among the files that its layer is made from
 layer_file : (shapes : Bool) (folder code name : List ℕ) → IsFileOfCounty folder code name → IsFileOfLayer shapes folder code name
 layer_file true folder code name is = (is.0, tt, is.2)
@@ -79,12 +134,12 @@ pub run_unopened : {R : Type 0} {opens : OpenResults R} (run : Run) {disk betwee
     → Opens {T = ℕ} (Err of) (λ fault. fault.fault) between disk'
     → CarriesOut opens (request.Run run) (Err (of_county_file run.«data» run.code of.file of.fault)) disk disk' out out
 run_unopened {opens = opens} run {disk} {between} {disk'} {out} of before is opened =
-    subst (λ (file : CountyFile). CarriesOut opens (request.Run run) (Err (of_county_file run.«data» run.code file of.fault)) disk disk' out out)
+    subst (λ (file : CountyFileType). CarriesOut opens (request.Run run) (Err (of_county_file run.«data» run.code file of.fault)) disk disk' out out)
     (sym is.1.of_file)
     (unopened_carried opens run.«data» run.code Rt2 of.fault (inr (Rt2, shapes_file (wants_shapes run) is.0, refl)) is.1.is_fault
     (subst (λ (failed : ℕ). CountsFileFault of.fault failed disk'.failed_opens) before.opens opened.opens) (opened.reads ∙ before.reads) refl)
 
-module _ {run : Run} {disk between disk' : Disk} {out out' : Writer} {program bytes : List ℕ} {old new : LayerReaders}
+module _ (run : Run) (disk between disk' : Disk) (out out' : Writer) (program bytes : List ℕ) (old new : LayerReaders)
     (hold : HoldInputs disk.known run.program.now run.«data».now run.code.now program old.county)
     (shapes : HoldsShapes (wants_shapes run) (disk.known (file_name run.«data».now run.code.now Rt2)) old.rt2)
     (before : IsUnfailed disk between) (closes : Closes (ClosesLayer new) between disk') (same : bytes ≡ program) where
@@ -119,12 +174,12 @@ module _ {run : Run} {disk between disk' : Disk} {out out' : Writer} {program by
 
   program_unflushed : (result : Result ℕ ExtractFault) → IsProgramOutcome (parts_of run.layer) bytes result old new out out'
       → out'.counts.flushes ≡ out.counts.flushes
-  program_unflushed (Ok count) is = headed_unflushed (parts_of run.layer) is.0 (Ok count) is.2
+  program_unflushed (Ok count) is = headed_unflushed (parts_of run.layer) is.0 (Ok count) old new out out' is.2
   program_unflushed (Err (extract.Program fault)) is = unwritten_flushes is.0.unwritten
-  program_unflushed (Err (extract.Load fault)) is = headed_unflushed (parts_of run.layer) is.0 (Err (extract.Load fault)) is.2
-  program_unflushed (Err (extract.Write fault)) is = headed_unflushed (parts_of run.layer) is.0 (Err (extract.Write fault)) is.2
+  program_unflushed (Err (extract.Load fault)) is = headed_unflushed (parts_of run.layer) is.0 (Err (extract.Load fault)) old new out out' is.2
+  program_unflushed (Err (extract.Write fault)) is = headed_unflushed (parts_of run.layer) is.0 (Err (extract.Write fault)) old new out out' is.2
   program_unflushed (Err extract.Memory) (inl is) = unwritten_flushes is.1
-  program_unflushed (Err extract.Memory) (inr is) = headed_unflushed (parts_of run.layer) is.0 (Err extract.Memory) is.2
+  program_unflushed (Err extract.Memory) (inr is) = headed_unflushed (parts_of run.layer) is.0 (Err extract.Memory) old new out out' is.2
 
   pub run_done : {R : Type 0} {opens : OpenResults R} (count : ℕ) → IsProgramOutcome (parts_of run.layer) bytes (Ok count) old new out out'
       → CarriesOut opens (request.Run run) (Ok tt) disk disk' out out'

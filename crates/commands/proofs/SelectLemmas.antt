@@ -4,6 +4,7 @@ use Rattle.std.proofs.Common.{inl, inr, refl, sym, subst, ◌∙◌, arith}
 use Rattle.std.proofs.Math.Path.{fun_ext}
 use Rattle.std.proofs.lemmas.List.{map_more}
 use Rattle.std.specs.Io.KnownBytes.{Appends}
+use Rattle.std.specs.Prelude.{⊤}
 use Rattle.bpf_insn.specs.declared.instruction.Insn.{Insn}
 use Rattle.cql2.specs.declared.column.NumericColumn.{NumericColumn}
 use Rattle.cql2.specs.declared.filter.Filter.{Filter}
@@ -48,7 +49,7 @@ loaded_file true file is = tt
 loaded_file false file is = is
 
 -- a refusal for the file of type 2 is no success
-not_refused : {T : Type 0} {count : ℕ} (fault : LoadFault) → Ok count ≡ Err (of_load fault) → T
+not_refused : {count : ℕ} (fault : LoadFault) → Ok count ≡ Err (of_load fault) → ⊥
 not_refused fault is = cc is
 
 -- written counties count no fault and no flush
@@ -151,109 +152,41 @@ filter_carried text score failure is each counts = absurd is
 same_write : {fault other : WriteFault} → Write fault ≡ Write other → other ≡ fault
 same_write is = cc is
 
--- only a write is reported as a failed write
-not_write : {failure : Failure} {fault : WriteFault} → {IsOther : Type 0} → failure ≡ Write fault → IsOther
-not_write is = cc is
+-- only a failed write is reported as one
 
--- the file that can't be opened, and why
-unopened_file : {R : Type 0} (shapes : Bool) (opens : OpenResults R) (folder code : List ℕ) (of : CountyFileFault)
-    → IsLayerOpenFault shapes opens folder code of → IsLayerFile shapes of.file
-unopened_file shapes opens folder code of (inl is) = loaded_file shapes of.file is.0
-unopened_file shapes opens folder code of (inr is) = subst (IsLayerFile shapes) (sym is.1.of_file) (shapes_file shapes is.0)
+abbrev IsWrite : Failure → Type 0
+IsWrite (Write fault) = ⊤
+IsWrite failure = ⊥
 
-unopened_fault : {R : Type 0} (shapes : Bool) (opens : OpenResults R) (folder code : List ℕ) (of : CountyFileFault)
-    → IsLayerOpenFault shapes opens folder code of → IsOpenFault (opens (file_name folder code of.file)) of.fault
-unopened_fault shapes opens folder code of (inl is) = is.1.is_fault
-unopened_fault shapes opens folder code of (inr is) =
-    subst (λ (file : CountyFileType). IsOpenFault (opens (file_name folder code file)) of.fault) (sym is.1.of_file) is.1.is_fault
+is_write : (failure : Failure) (fault : WriteFault) → failure ≡ Write fault → IsWrite failure
+is_write failure fault is = subst IsWrite (sym is) tt
 
--- how one county ends, by the outcome of its layer
-module _ {over : Selection} {code : List ℕ} {old new : LayerReaders} (hold : HoldLayer (has_shapes over.layer) over.known over.folder code old)
-    {out out' : Writer} where
-  county_outcome : (result : Result ℕ ExtractFault) → IsLayerOutcome over.layer over.program result old new out out'
-      → IsCountyOutcome over code result out out'
-  county_outcome result is = record { old = old; hold = hold; new = new; outcome = is }
-
-  pub county_done : (count : ℕ) → IsLayerOutcome over.layer over.program (Ok count) old new out out' → SelectsCounty over code (Ok tt) out out'
-  county_done count is = (count, county_outcome (Ok count) is)
-
-  pub county_stopped : (of : Bor (List ℕ)) → of.now ≡ code → (fault : ExtractFault)
-      → IsLayerOutcome over.layer over.program (Err fault) old new out out' → SelectsCounty over code (Err (of_county_extract of fault)) out out'
-  county_stopped of same (extract.Write fault) is = county_outcome (Err (extract.Write fault)) is
-  county_stopped of same (extract.Program fault) is =
-      (same, inl (extract.Program fault, refl, county_outcome (Err (extract.Program fault)) is))
-  county_stopped of same (extract.Load fault) is = (same, inl (extract.Load fault, refl, county_outcome (Err (extract.Load fault)) is))
-  county_stopped of same extract.Memory is = (same, inl (extract.Memory, refl, county_outcome (Err extract.Memory) is))
-
--- what the failure of a county counts
-module _ {R : Type 0} (opens : OpenResults R) (disk disk' : Disk) (code : Bor (List ℕ)) where
-  pub stopped_fails : (fault : ExtractFault) → ClosesAs (Err fault) disk.failed_reads disk'.failed_reads
-      → FailsAs opens (of_county_extract code fault) disk disk'
-  stopped_fails (extract.Write fault) closes = tt
-  stopped_fails (extract.Program fault) closes = closes.fails
-  stopped_fails (extract.Load fault) closes = closes.fails
-  stopped_fails extract.Memory closes = closes.fails
-
-  pub stopped_counts : (fault : ExtractFault) → ClosesAs (Err fault) disk.failed_reads disk'.failed_reads
-      → disk'.failed_opens ≡ disk.failed_opens → status (of_county_extract code fault) ≢ 3 → IsUnfailed disk disk'
-  stopped_counts (extract.Write fault) closes same other = absurd (other refl)
-  stopped_counts (extract.Program fault) closes same other = record { opens = same; reads = closes.stays other }
-  stopped_counts (extract.Load fault) closes same other = record { opens = same; reads = closes.stays other }
-  stopped_counts extract.Memory closes same other = record { opens = same; reads = closes.stays other }
-
--- a file of a county can't be opened
-module _ {R : Type 0} (opens : OpenResults R) (shapes : Bool) (folder code : Bor (List ℕ)) (of : CountyFileFault)
-    (is : IsLayerOpenFault shapes opens folder.now code.now of) {disk disk' : Disk}
-    (counts : CountsFileFault of.fault disk.failed_opens disk'.failed_opens) where
-  pub unopened_named : NamesFile (IsFileOfLayer shapes folder.now code.now) (of_opening folder code of.file of.fault)
-  unopened_named = named of.fault
-    where
-      named : (fault : FileFault) → NamesFile (IsFileOfLayer shapes folder.now code.now) (of_opening folder code of.file fault)
-      named (fault.Unusable error) = (of.file, unopened_file shapes opens folder.now code.now of is, refl)
-      named fault.Memory = tt
-
-  pub unopened_fails : FailsAs opens (of_opening folder code of.file of.fault) disk disk'
-  unopened_fails = fails of.fault (unopened_fault shapes opens folder.now code.now of is) counts
-    where
-      fails : (fault : FileFault) → IsOpenFault (opens (file_name folder.now code.now of.file)) fault
-          → CountsFileFault fault disk.failed_opens disk'.failed_opens → FailsAs opens (of_opening folder code of.file fault) disk disk'
-      fails (fault.Unusable error) has counts = (has, counts)
-      fails fault.Memory has counts = λ three. omega (arith, three)
-
-  pub unopened_counts : disk'.failed_reads ≡ disk.failed_reads → status (of_opening folder code of.file of.fault) ≢ 3 → IsUnfailed disk disk'
-  unopened_counts reads = unfailed of.fault counts
-    where
-      unfailed : (fault : FileFault) → CountsFileFault fault disk.failed_opens disk'.failed_opens
-          → status (of_opening folder code of.file fault) ≢ 3 → IsUnfailed disk disk'
-      unfailed (fault.Unusable error) counts other = absurd (other refl)
-      unfailed fault.Memory counts other = record { opens = counts; reads = reads }
-
-  pub unopened_outcome : (over : Selection) (out : Writer) → SelectsCounty over code.now (Err (of_opening folder code of.file of.fault)) out out
-  unopened_outcome over out = outcome of.fault
-    where
-      outcome : (fault : FileFault) → SelectsCounty over code.now (Err (of_opening folder code of.file fault)) out out
-      outcome (fault.Unusable error) = refl
-      outcome fault.Memory = (refl, inr (refl, refl))
-
--- the header, and then the counties
-module _ {over : Selection} {codes : List (List ℕ)} {out headed out' : Writer} (header : WritesHeader over.layer (Ok tt) out headed) where
-  pub layer_selected : (result : Result (Unit {0}) Failure) → SelectsCounties over codes result headed out' → SelectsLayer over codes result out out'
-  layer_selected (Ok done) is = (headed, header, is)
-  layer_selected (Err failure) is = inr (headed, header, is)
+-- what closing the readers of a county counts if its layer isn't written completely
+pub stopped_counts : (disk disk' : Disk) (code : Bor (List ℕ)) (fault : ExtractFault)
+    → ClosesAs (Err fault) disk.failed_reads disk'.failed_reads → disk'.failed_opens ≡ disk.failed_opens
+    → status (of_county_extract code fault) ≢ 3 → IsUnfailed disk disk'
+stopped_counts disk disk' code (extract.Write fault) closes same other = absurd (other refl)
+stopped_counts disk disk' code (extract.Program fault) closes same other = record { opens = same; reads = closes.stays other }
+stopped_counts disk disk' code (extract.Load fault) closes same other = record { opens = same; reads = closes.stays other }
+stopped_counts disk disk' code extract.Memory closes same other = record { opens = same; reads = closes.stays other }
 
 -- the layer of its program
-module _ {R : Type 0} {opens : OpenResults R} {disk disk' : Disk} {out out' : Writer} (arguments : Select) {program : List Insn}
+module _ {R : Type 0} (opens : OpenResults R) (disk disk' : Disk) (out out' : Writer) (arguments : Select) {program : List Insn}
     (is_program : IsCodeOfText arguments.filter.now arguments.filter_options.score program) where
   outcome_carried : (failure : Failure) → SelectsLayer (selection disk.known arguments.«data».now (parts_of arguments.layer) program)
       (codes_of arguments) (Err failure) out out' → FailsAs opens failure disk disk'
       → IsCarriedOut opens (request.Select arguments) (Err failure) disk disk' out out'
-  outcome_carried (Write fault) (inl is) fails = (program, is_program, inl (subst (λ (of : WriteFault). WritesHeader (parts_of arguments.layer) (Err of) out out') (same_write is.1) is.2))
+  outcome_carried (Write fault) (inl is) fails = (
+    program,
+    is_program,
+    inl (subst (λ (of : WriteFault). WritesHeader (parts_of arguments.layer) (Err of) out out') (same_write is.1) is.2),
+  )
   outcome_carried (Write fault) (inr is) fails = (program, is_program, inr is)
-  outcome_carried (County code refusal) (inl is) fails = absurd (not_write is.1)
+  outcome_carried (County code refusal) (inl is) fails = absurd (is_write (County code refusal) is.0 is.1)
   outcome_carried (County code refusal) (inr is) fails = ((program, is_program, is), fails)
-  outcome_carried (CountyFile folder code file error) (inl is) fails = absurd (not_write is.1)
+  outcome_carried (CountyFile folder code file error) (inl is) fails = absurd (is_write (CountyFile folder code file error) is.0 is.1)
   outcome_carried (CountyFile folder code file error) (inr is) fails = ((program, is_program, is), fails)
-  outcome_carried failure (inl is) fails = absurd (not_write is.1)
+  outcome_carried failure (inl is) fails = absurd (is_write failure is.0 is.1)
   outcome_carried failure (inr is) fails = absurd is.2
 
   pub select_carried : (result : Result (Unit {0}) Failure)
@@ -277,7 +210,7 @@ module _ {R : Type 0} {opens : OpenResults R} {disk disk' : Disk} {out out' : Wr
       record { outcome = outcome_carried failure is fails; names = names; counts = counts; unflushed = unflushed }
 
 -- the same for the call's arguments: the text and the codes are borrowed
-module _ {R : Type 0} {opens : OpenResults R} {disk disk' : Disk} {out out' : Writer} (arguments : Select) {text : List ℕ} {program : List Insn}
+module _ {R : Type 0} (opens : OpenResults R) (disk disk' : Disk) (out out' : Writer) (arguments : Select) {text : List ℕ} {program : List Insn}
     {codes : List (Bor (List ℕ))} where
   pub select_lent : (result : Result (Unit {0}) Failure) → text ≡ arguments.filter.now → codes ≡ arguments.codes.items
       → IsCodeOfText text arguments.filter_options.score program
@@ -287,7 +220,7 @@ module _ {R : Type 0} {opens : OpenResults R} {disk disk' : Disk} {out out' : Wr
       → IsUnfailedUnlessUnusable result disk disk' → out'.counts.flushes ≡ out.counts.flushes
       → CarriesOut opens (request.Select arguments) result disk disk' out out'
   select_lent result same_text same_codes is selects fails names =
-      select_carried arguments (subst (λ (text : List ℕ). IsCodeOfText text arguments.filter_options.score program) same_text is) result
+      select_carried opens disk disk' out out' arguments (subst (λ (text : List ℕ). IsCodeOfText text arguments.filter_options.score program) same_text is) result
       (subst (λ (codes : List (Bor (List ℕ))).
       SelectsLayer (selection disk.known arguments.«data».now (parts_of arguments.layer) program) (texts codes) result out out') same_codes selects)
       fails

@@ -31,8 +31,10 @@ pub fn write_layer<A: Allocator + Copy, B: Allocator, R: CountedRead, W: Counted
         (layer_readers R.remaining R.failed_reads files.old) (layer_readers R.remaining R.failed_reads files.new)
         (writer W.contents W.counts out.old) (writer W.contents W.counts out.new) }
 {
-    layer.write_header(out)?;
-    write_county(alloc, verified, files, layer, out)
+    match layer.write_header(out) {
+        Ok(()) => write_county(alloc, verified, files, layer, out),
+        Err(fault) => Err(ExtractFault::Write(fault)),
+    }
 }
 
 /// Writes the segments of a county that an accepted program selects, in the order of the type 1 file, and returns their number.

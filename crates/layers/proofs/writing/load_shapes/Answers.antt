@@ -1,4 +1,4 @@
-use Rattle.std.proofs.Common.{Option, [], option_map, refl, subst, sym}
+use Rattle.std.proofs.Common.{[], option_map, refl, subst, sym}
 use Rattle.counted_io.specs.ReaderWriter.{reader}
 use Rattle.layers.specs.ShapeTable.{ReadsShapes}
 use Rattle.tl_segments.proofs.ShapeTableLemmas.{no_parts}

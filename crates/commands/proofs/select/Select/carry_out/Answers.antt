@@ -11,6 +11,6 @@ returns-in-Err-clause-carried g c =
 
 pub returns-clause-carried : goal.returns-clause-carried
 returns-clause-carried g c =
-    select_lent c.args.self c.select_counties.result c.as_bytes.ensures.value c.as_slice.ensures.value
-    c.in-Ok.ensures.ok c.select_counties.ensures.outcome c.select_counties.ensures.fails c.select_counties.ensures.names
-    c.select_counties.ensures.counts c.select_counties.ensures.unflushed
+    select_lent g.F.Files.opens _ _ _ _ c.args.self c.select_layer.result c.as_bytes.ensures.value c.as_slice.ensures.value
+    c.in-Ok.ensures.ok c.select_layer.ensures.outcome c.select_layer.ensures.fails c.select_layer.ensures.names
+    c.select_layer.ensures.counts c.select_layer.ensures.unflushed
