@@ -5,8 +5,8 @@
 
 `extractd` is taken from the search path. The script draws small counties with alternate names, further ranges, hyphenated numbers and unknown
 coordinates. It draws addresses on and near their streets, as a CSV file with its columns in any order, quoted cells, line breaks within cells, empty
-lines and either line ending. It reads the four files by docs/records.md and answers the addresses by docs/geocoding.md. `geocode-batch` must write the
-same bytes.
+lines and either line ending. It reads the files by docs/records.md and answers the addresses by docs/geocoding.md, every second time along shapes
+(`--shape`). `geocode-batch` must write the same bytes.
 
 Prints each address with a different answer, then how many agree and how many differ. Exits with 1 if any differs. SEED defaults to 1; the same seed
 draws the same addresses.
@@ -19,6 +19,8 @@ import subprocess
 import sys
 import tempfile
 from collections.abc import Iterator
+from itertools import pairwise
+from math import cos, isqrt, radians
 from pathlib import Path
 from random import Random
 from typing import NamedTuple
@@ -33,6 +35,8 @@ ODD_CELLS = ["", "12-34", "123456789012", "x" * 31, "No Street", "1" * 11, "é" 
 DIRECTIONS = ["", "", "", "N", "S", "NE"]
 TYPES = ["St", "Rd", "Ave", "Blvd", ""]
 ZIPS = ["36066", "36067", "07001", "", "36067"]
+# Of whole degrees, in 1/32,768.
+COSINES = [round(cos(radians(degree)) * 2**15) for degree in range(91)] + [0] * 20
 
 
 class FullName(NamedTuple):
@@ -43,6 +47,11 @@ class FullName(NamedTuple):
 
     def field(self) -> str:
         return f"{self.fedirp:2}{self.fename:30}{self.fetype:4}{self.fedirs:2}"
+
+
+class Point(NamedTuple):
+    longitude: int
+    latitude: int
 
 
 class Side(NamedTuple):
@@ -57,10 +66,12 @@ class Segment(NamedTuple):
     names: list[FullName]
     sides: list[Side]
     coordinates: list[int | None]
+    # The points between its ends, or none if it is a straight line.
+    shape: list[Point] | None
 
 
 class Hit(NamedTuple):
-    place: tuple[int, int] | None
+    place: Point | None
     cells: list[str]
 
 
@@ -85,8 +96,25 @@ def sides_of(addresses: str, zips: str) -> list[Side]:
     return [Side("L", cut[0], cut[1], zips[:5]), Side("R", cut[2], cut[3], zips[5:])]
 
 
-def read_county(folder: Path, code: str) -> list[Segment]:
+def points_of(line: str) -> Iterator[Point]:
+    """Returns the points of a type 2 line before the first unused one."""
+    for at in range(18, 208, 19):
+        longitude, latitude = coordinate_of(line[at : at + 10]), coordinate_of(line[at + 10 : at + 19])
+        if longitude is None or latitude is None or longitude == latitude == 0:
+            return
+        yield Point(longitude, latitude)
+
+
+def read_shapes(path: Path) -> dict[int, list[Point]]:
+    shapes: dict[int, list[Point]] = {}
+    for line in sorted(lines(path), key=lambda line: int(line[15:18])):
+        shapes.setdefault(int(line[5:15]), []).extend(points_of(line))
+    return shapes
+
+
+def read_county(folder: Path, code: str, shaped: bool) -> list[Segment]:
     stem = folder / f"TGR{code}"
+    shapes = read_shapes(stem.with_suffix(".RT2"))
     features: dict[int, FullName] = {}
     for line in lines(stem.with_suffix(".RT5")):
         features.setdefault(int(line[10:18]), FullName(line[18:20], line[20:50], line[50:54], line[54:56]))
@@ -104,7 +132,8 @@ def read_county(folder: Path, code: str) -> list[Segment]:
         tlid = int(line[5:15])
         own = FullName(line[17:19], line[19:49], line[49:53], line[53:55])
         coordinates = [coordinate_of(line[190:200]), coordinate_of(line[200:209]), coordinate_of(line[209:219]), coordinate_of(line[219:228])]
-        segments.append(Segment(tlid, [own, *names.get(tlid, [])], sides_of(line[58:102], line[106:116]) + ranges.get(tlid, []), coordinates))
+        sides = sides_of(line[58:102], line[106:116]) + ranges.get(tlid, [])
+        segments.append(Segment(tlid, [own, *names.get(tlid, [])], sides, coordinates, shapes.get(tlid, []) if shaped else None))
     return segments
 
 
@@ -115,20 +144,43 @@ def is_on(number: int, side: Side) -> bool:
     return min(start, end) <= number <= max(start, end) and (start % 2 != end % 2 or number % 2 == start % 2)
 
 
-def along(start: int, end: int, number: int, side: Side) -> int:
-    first, last = int(side.start), int(side.end)
-    if first == last:
+def between(start: int, end: int, part: int, whole: int) -> int:
+    if whole == 0:
         return start
-    product, whole = (end - start) * (number - first), last - first
-    quotient = abs(product) // abs(whole)
-    return start + (quotient if (product < 0) == (whole < 0) else -quotient)
+    quotient = abs(end - start) * part // whole
+    return start + (quotient if start <= end else -quotient)
 
 
-def place_of(segment: Segment, number: int, side: Side) -> tuple[int, int] | None:
+def length(start: Point, end: Point) -> int:
+    """Returns the length of a straight line, in 1/32,768 of a millionth of a degree of latitude."""
+    degree, rest = divmod(abs(start.latitude + end.latitude) // 2, 1_000_000)
+    cosine = (COSINES[degree] * (1_000_000 - rest) + COSINES[degree + 1] * rest) // 1_000_000
+    return isqrt((abs(start.longitude - end.longitude) * cosine) ** 2 + (abs(start.latitude - end.latitude) * 2**15) ** 2)
+
+
+def place_along(points: list[Point], part: int, whole: int) -> Point:
+    """Returns the place at a share of the length of a line."""
+    left = sum(length(*piece) for piece in pairwise(points)) * part // whole
+    for start, end in pairwise(points):
+        if left <= length(start, end):
+            break
+        left -= length(start, end)
+    return place_between(start, end, left, length(start, end))
+
+
+def place_between(start: Point, end: Point, part: int, whole: int) -> Point:
+    return Point(between(start.longitude, end.longitude, part, whole), between(start.latitude, end.latitude, part, whole))
+
+
+def place_of(segment: Segment, number: int, side: Side) -> Point | None:
     from_longitude, from_latitude, to_longitude, to_latitude = segment.coordinates
     if from_longitude is None or from_latitude is None or to_longitude is None or to_latitude is None:
         return None
-    return along(from_longitude, to_longitude, number, side), along(from_latitude, to_latitude, number, side)
+    start, end = Point(from_longitude, from_latitude), Point(to_longitude, to_latitude)
+    part, whole = abs(number - int(side.start)), abs(int(side.end) - int(side.start))
+    if segment.shape is None:
+        return place_between(start, end, part, whole)
+    return place_along([start, *segment.shape, end], part, whole or 1)
 
 
 def degrees(coordinate: int) -> str:
@@ -161,7 +213,7 @@ def hits_on(segment: Segment, name: FullName, code: str, number: int, wanted_zip
         if not is_on(number, side) or (wanted_zip is not None and number_of(side.zip) != wanted_zip):
             continue
         place = place_of(segment, number, side)
-        coordinates = ["", ""] if place is None else [degrees(place[0]), degrees(place[1])]
+        coordinates = ["", ""] if place is None else [degrees(place.longitude), degrees(place.latitude)]
         fields = [*name, side.zip, code, side.start, side.end]
         yield Hit(place, [*coordinates, str(segment.tlid), side.letter, *(field.strip(" ") for field in fields)])
 
@@ -214,15 +266,25 @@ def draw_addresses(random: Random) -> str:
     return text
 
 
-def draw_coordinates(random: Random) -> str:
-    def one(width: int) -> str:
-        if random.random() < 0.03:
-            return " " * width
-        # Near zero too, where a coordinate has no whole degrees.
-        value = random.choice((random.randint(-99_999_999, 99_999_999), random.randint(-999_999, 999_999)))
-        return f"{value:+0{width}d}"
+def draw_coordinate(random: Random, width: int) -> str:
+    if random.random() < 0.03:
+        return " " * width
+    # Near zero too, where a coordinate has no whole degrees.
+    value = random.choice((random.randint(-99_999_999, 99_999_999), random.randint(-999_999, 999_999)))
+    return f"{value:+0{width}d}"
 
-    return one(10) + one(9) + one(10) + one(9)
+
+def draw_points(random: Random, count: int) -> str:
+    return "".join(draw_coordinate(random, 10) + draw_coordinate(random, 9) for _ in range(count))
+
+
+def draw_shape(random: Random, tlid: int) -> list[str]:
+    """Returns the type 2 lines of a segment."""
+    drawn = []
+    for number in random.sample(range(1000), random.choice((1, 1, 2, 3))):
+        points = draw_points(random, random.randint(0, 10))
+        drawn.append(f"20006{tlid:10}{number:3}{points}{'+000000000+00000000' * 10}"[:208])
+    return drawn
 
 
 def write_county(random: Random, folder: Path, code: str) -> None:
@@ -234,7 +296,9 @@ def write_county(random: Random, folder: Path, code: str) -> None:
         tlid = tlids[-1] if tlids and random.random() < 0.1 else random.randint(1, 10**6)
         tlids.append(tlid)
         line = f"10006{tlid:10}  {draw_full_name(random).field()}A41{draw_addresses(random)}0000{random.choice(ZIPS):5}{random.choice(ZIPS):5}"
-        rt1.append(f"{line:190}{draw_coordinates(random)}")
+        rt1.append(f"{line:190}{draw_points(random, 2)}")
+    rt2 = [line for tlid in random.sample(sorted(set(tlids)), 25) for line in draw_shape(random, tlid)]
+    random.shuffle(rt2)
     rt4 = []
     for tlid in random.sample(tlids, 25):
         rt4.append(f"40006{tlid:10}  1" + "".join(f"{random.choice((*features, 99, '')):>8}" for _ in range(5)))
@@ -242,7 +306,7 @@ def write_county(random: Random, folder: Path, code: str) -> None:
     rt6 = [
         f"60006{tlid:10}  1{draw_addresses(random)}0000{random.choice(ZIPS):5}{random.choice(ZIPS):5}" for tlid in random.choices(tlids, k=20)
     ]
-    for end, file in ((".RT1", rt1), (".RT4", rt4), (".RT5", rt5), (".RT6", rt6)):
+    for end, file in ((".RT1", rt1), (".RT2", rt2), (".RT4", rt4), (".RT5", rt5), (".RT6", rt6)):
         stem.with_suffix(end).write_text("".join(line + "\n" for line in file), "latin-1", newline="")
 
 
@@ -295,16 +359,16 @@ def write_file(random: Random, rows: list[dict[str, str]]) -> tuple[str, list[st
     return ("\ufeff" if random.random() < 0.3 else "") + file, ids
 
 
-def compare(random: Random, folder: Path, count: int) -> int:
+def compare(random: Random, folder: Path, count: int, shaped: bool) -> int:
     """Returns how many of the addresses get a different answer."""
     for code in CODES:
         write_county(random, folder, code)
-    counties = [(code, read_county(folder, code)) for code in CODES]
+    counties = [(code, read_county(folder, code, shaped)) for code in CODES]
     segments = [segment for _, county in counties for segment in county]
     rows = [draw_cells(random, segments, at) for at in range(count)]
     file, ids = write_file(random, rows)
     (folder / "addresses.csv").write_text(file, "utf-8", newline="")
-    arguments = ["extractd", "geocode-batch", "--addresses", str(folder / "addresses.csv"), "--data", str(folder), *CODES]
+    arguments = ["extractd", "geocode-batch", "--addresses", str(folder / "addresses.csv"), "--data", str(folder), *(["--shape"] if shaped else []), *CODES]
     done = subprocess.run(arguments, capture_output=True)
     if done.returncode != 0 or done.stderr:
         print(f"status {done.returncode}: {done.stderr.decode()}")
@@ -343,7 +407,7 @@ def main() -> None:
     differing = 0
     for batch, start in enumerate(range(0, count, ADDRESSES_OF_COUNTIES)):
         with tempfile.TemporaryDirectory() as folder:
-            differing += compare(Random(f"{seed} {batch}"), Path(folder), min(ADDRESSES_OF_COUNTIES, count - start))
+            differing += compare(Random(f"{seed} {batch}"), Path(folder), min(ADDRESSES_OF_COUNTIES, count - start), batch % 2 == 1)
     print(f"{count - differing} addresses agree, {differing} differ")
     sys.exit(differing != 0)
 

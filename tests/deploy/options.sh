@@ -94,7 +94,7 @@ for page in "$packaging"/man/*.1; do
     [ "${page##*/}" != extractd.1 ] || continue
     command=$(basename "$page" .1)
     same "the synopsis of ${page##*/}" "$(long_options "${command#extractd-}" | grep -v -x -e --help)" \
-        "$(sed -n '/^\.Sh SYNOPSIS/,/^\.Sh DESCRIPTION/s/^\.\(Op \)\?Fl Fl \([a-z-]*\) .*/--\2/p' "$page")"
+        "$(sed -n '/^\.Sh SYNOPSIS/,/^\.Sh DESCRIPTION/s/^\.\(Op \)\?Fl Fl \([a-z-]*\)\( .*\)\?$/--\2/p' "$page")"
     [ -z "$groff" ] || same "the warnings of ${page##*/}" '' "$(groff -mdoc -Tutf8 -ww -z "$page" 2>&1)"
 done
 

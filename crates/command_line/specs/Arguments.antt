@@ -4,7 +4,7 @@ use Rattle.std.specs.Str.{bytes_eq}
 use Rattle.clap.specs.Lexer.{usize_max}
 use Rattle.clap.specs.Walk.{Rule, Text, is_empty}
 use Rattle.clap.specs.Simple.{App, Shape, app_of, new_rule, new_shape}
-use Rattle.clap.specs.declared.builder.action.ArgAction.TheVariants.{Set, Append}
+use Rattle.clap.specs.declared.builder.action.ArgAction.TheVariants.{Set, SetTrue, Append}
 use Rattle.clap.specs.declared.builder.command.Command.{Command}
 use Rattle.clap.specs.declared.builder.command.Command.TheViews.{out-Command as fields_of}
 use Rattle.command_line.specs.declared.arguments.subcommand.Subcommand.{Subcommand}
@@ -17,6 +17,10 @@ required name = record (new_rule name) { long = Some name; value_names = 1; requ
 -- `--NAME VALUE`, at most once
 abbrev pub optional : Text → Rule
 optional name = record (required name) { required = false }
+
+-- `--NAME` without a value, at most once
+abbrev pub flag : Text → Rule
+flag name = record (new_rule name) { long = Some name; action = Some SetTrue }
 
 -- `CODE`
 abbrev pub county : Rule
@@ -53,7 +57,7 @@ arguments_of Run = required (codes "program") ∷ required (codes "data") ∷ co
 arguments_of Trace = required (codes "program") ∷ required (codes "data") ∷ required (codes "line") ∷ required (codes "limit") ∷ county ∷ []
 arguments_of Geocode =
     required (codes "data") ∷ required (codes "number") ∷ required (codes "name") ∷ optional (codes "zip") ∷ counties ∷ []
-arguments_of GeocodeBatch = required (codes "addresses") ∷ required (codes "data") ∷ counties ∷ []
+arguments_of GeocodeBatch = required (codes "addresses") ∷ required (codes "data") ∷ flag (codes "shape") ∷ counties ∷ []
 arguments_of Verify = required (codes "program") ∷ []
 arguments_of Explain = required (codes "program") ∷ optional (codes "lines") ∷ []
 arguments_of Assemble = required (codes "source") ∷ []

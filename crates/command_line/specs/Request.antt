@@ -18,7 +18,7 @@ use Rattle.commands.specs.declared.explain.Explain.{Explain}
 use Rattle.commands.specs.declared.assemble.Assemble.{Assemble}
 use Rattle.commands.specs.declared.disassemble.Disassemble.{Disassemble}
 use Rattle.command_line.specs.Arguments.{named, program}
-use Rattle.command_line.specs.Values.{code_of, codes_of, file_of, number_of, port_of, score_of}
+use Rattle.command_line.specs.Values.{code_of, codes_of, file_of, flag_of, number_of, port_of, score_of}
 use Rattle.command_line.specs.declared.arguments.subcommand.Subcommand.{Subcommand}
 use Rattle.command_line.specs.declared.arguments.subcommand.Subcommand.TheVariants as command
 use Rattle.command_line.specs.declared.serve.Serve.{Serve}
@@ -59,10 +59,11 @@ pub record IsGeocode (rows : List Row) (geocode : Geocode) : Type 0 where
   pub query : query_of number name (first_of (codes "zip") rows) ≡ Ok (parts_of geocode.query)
   pub codes : codes_of rows ≡ Some (map (λ code. code.now) geocode.codes.items)
 
--- geocode-batch --addresses FILE --data DIR CODE..
+-- geocode-batch --addresses FILE --data DIR [--shape] CODE..
 pub record IsGeocodeBatch (rows : List Row) (batch : GeocodeBatch) : Type 0 where
   pub addresses : file_of (codes "addresses") rows ≡ Some batch.addresses.now
   pub folder : first_of (codes "data") rows ≡ Some batch.«data».now
+  pub shape : flag_of (codes "shape") rows ≡ batch.shape
   pub codes : codes_of rows ≡ Some (map (λ code. code.now) batch.codes.items)
 
 -- verify --program FILE

@@ -1,6 +1,7 @@
 -- The values of a command's arguments.
-use Rattle.std.specs.Prelude.{◌≢◌, ◌==◌, ◌&&◌, ℕ, Bool, if◌then◌else◌, nat_le, List, length, codes, Option, Some, None, option_and_then, option_map, Result, Ok, Err}
+use Rattle.std.specs.Prelude.{◌≢◌, ◌==◌, ◌&&◌, ℕ, Bool, false, if◌then◌else◌, nat_le, List, length, codes, Option, Some, None, option_and_then, option_map, Result, Ok, Err}
 use Rattle.std.specs.List.{list_all}
+use Rattle.std.specs.Option.{option_map_or}
 use Rattle.std.specs.Char.{is_ascii_digit}
 use Rattle.std.specs.Str.{bytes_eq}
 use Rattle.std.specs.Str.Parse.{digits_value}
@@ -56,6 +57,10 @@ score_in (Some name) = option_map Some (numeric (column_named name))
 
 abbrev pub file_of : Text → List Row → Option Text
 file_of name rows = option_map file_named (first_of name rows)
+
+-- whether a flag is given; its value is then the text `true`
+abbrev pub flag_of : Text → List Row → Bool
+flag_of name rows = option_map_or (λ value. bytes_eq value (codes "true")) (first_of name rows) false
 
 -- a number of at most `most` digits
 abbrev pub number_of : ℕ → Text → List Row → Option ℕ

@@ -1,6 +1,7 @@
 //! Laws about the definitions, stated as contracts of functions that do nothing.
-ghost use Rattle.std.specs.Prelude.{◌≡◌, [], ◌∷◌, codes};
+ghost use Rattle.std.specs.Prelude.{◌≡◌, [], ◌∷◌, codes, false, map, true};
 ghost use Rattle.command_line.specs.Request.{HasNoRequest, IsRequestOf};
+ghost use Rattle.commands.specs.declared.geocode_batch.GeocodeBatch.{GeocodeBatch};
 ghost use Rattle.commands.specs.declared.request.Request.TheVariants as request;
 ghost use Rattle.commands.specs.declared.run.Run.{Run};
 
@@ -8,6 +9,14 @@ ghost use Rattle.commands.specs.declared.run.Run.{Run};
 pub fn requests()
     ensures run { (run : Run) → run.program.now ≡ codes "street.bpf" → run.«data».now ≡ codes "tiger" → run.code.now ≡ codes "01001"
         → IsRequestOf (codes "run" ∷ codes "--data" ∷ codes "tiger" ∷ codes "--program=street.bpf" ∷ codes "01001" ∷ []) (request.Run run) }
+    ensures shape { (batch : GeocodeBatch) → batch.addresses.now ≡ codes "a.csv" → batch.«data».now ≡ codes "tiger" → batch.shape ≡ true
+        → map (λ code. code.now) batch.codes.items ≡ codes "01001" ∷ []
+        → IsRequestOf (codes "geocode-batch" ∷ codes "--shape" ∷ codes "--addresses=a.csv" ∷ codes "--data=tiger" ∷ codes "01001" ∷ [])
+        (request.GeocodeBatch batch) }
+    ensures no_shape { (batch : GeocodeBatch) → batch.addresses.now ≡ codes "a.csv" → batch.«data».now ≡ codes "tiger" → batch.shape ≡ false
+        → map (λ code. code.now) batch.codes.items ≡ codes "01001" ∷ []
+        → IsRequestOf (codes "geocode-batch" ∷ codes "--addresses=a.csv" ∷ codes "--data=tiger" ∷ codes "01001" ∷ [])
+        (request.GeocodeBatch batch) }
     ensures twice { HasNoRequest (codes "dis" ∷ codes "--program" ∷ codes "a.bpf" ∷ codes "--program" ∷ codes "b.bpf" ∷ []) }
     ensures missing { HasNoRequest (codes "run" ∷ codes "--program" ∷ codes "street.bpf" ∷ codes "01001" ∷ []) }
     ensures help { HasNoRequest (codes "--help" ∷ []) }

@@ -4,6 +4,7 @@
 mod arguments;
 mod dispatch;
 mod fault;
+mod flags;
 pub mod laws;
 mod options;
 mod serve;

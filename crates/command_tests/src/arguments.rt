@@ -7,7 +7,7 @@ use std::alloc::Global;
 
 // A command line, and the start of the text for the user.
 const STARTS: Table = Table {
-    rows: 90,
+    rows: 94,
     text: r#"
 extractd; error: 'extractd' requires a subcommand
 extractd run; error:
@@ -80,6 +80,10 @@ extractd geocode-batch --data d 01001; error:
 extractd geocode-batch --addresses a.csv 01001; error:
 extractd geocode-batch --addresses a.csv --addresses a.csv --data d 01001; error:
 extractd geocode-batch --addresses a.csv --data d 1001; error: CODE is five digits, and "1001" isn't
+extractd geocode-batch --addresses a.csv --data d --shape --shape 01001; error:
+extractd geocode-batch --addresses a.csv --data d --shape=true 01001; error:
+extractd geocode-batch --addresses a.csv --data d --shape; error: the following required arguments were not provided:
+extractd geocode --data d --number 1 --name Main --shape 01001; error: unexpected argument '--shape' found
 extractd serve --data d --port 8080; error: the following required arguments were not provided:
 extractd serve --help; Answers requests
 extractd help; error:
@@ -111,12 +115,14 @@ extractd geocode --data d --number 151 --name main 010010; error: CODE is five d
 
 // A command line, and a part of the text for the user: the program's name in a usage line, its version, or an example of each command.
 const PARTS: Table = Table {
-    rows: 32,
+    rows: 34,
     text: r#"
 extractd --help; extractd serve --data tiger --port 8080 01001
 extractd serve; Usage: extractd serve --data <DIR> --port <P> <CODE>...
 extractd geocode-batch --help; fedirp, fename, fetype, fedirs
 extractd geocode-batch --help; extractd geocode-batch --addresses addresses.csv --data tiger 01001 > places.csv
+extractd geocode-batch --help; extractd geocode-batch --addresses addresses.csv --data tiger --shape 01001 > places.csv
+extractd geocode-batch --help; Places along the shapes of the segments, from the files of record type 2
 extractd run; Usage: extractd run --program <FILE> --data <DIR> <CODE>
 extractd trace; Usage: extractd trace --program <FILE> --data <DIR> --line <N> --limit <L> <CODE>
 extractd select; Usage: extractd select --where <TEXT> --data <DIR> <CODE>...

@@ -1,5 +1,5 @@
 //! Rows for the command `geocode-batch`. Places are those of `geocodes`, in decimal degrees: house 151 is 50/98 of the way along each street's
-//! line.
+//! line. Shapes are on the equator or to its north, where lengths are easily added: house 150 is half of the way along them.
 use fixtures::Table;
 
 /// Abbreviations in rows: the first line of output, and the empty cells in the line of an address without a match.
@@ -12,7 +12,7 @@ pub const WORDS: [(&str, &str); 2] = [
 ];
 
 pub const BATCHES: Table = Table {
-    rows: 28,
+    rows: 42,
     text: r#"
 extractd geocode-batch --addresses a.csv --data d 01001 >
   a.csv d/TGR01001.RT1 d/TGR01001.RT4 d/TGR01001.RT5 d/TGR01001.RT6;
@@ -81,5 +81,42 @@ extractd geocode-batch --addresses a.csv --data d 01001;; 1; refused 1 rt1 line 
   d/TGR01001.RT1: {rt1}\n{rt1 ..227}\n
 extractd geocode-batch --addresses a.csv --data d 01001 01003;; 3; error: d/TGR01003.RT1: not found;
   a.csv: number,name\n151,"main\n; d/TGR01001.RT1: {rt1}\n
+extractd geocode-batch --addresses a.csv --data d --shape 01001 >
+  a.csv d/TGR01001.RT1 d/TGR01001.RT4 d/TGR01001.RT5 d/TGR01001.RT6 d/TGR01001.RT2;
+  HEADER2,match,,0.002000,0.001000,123456789,R,,Main,,,36067,01001,100,200\n3,no_match,no_such_street,EMPTY\n; 0;;
+  a.csv: number,name\n150,main\n150,elm\n; d/TGR01001.RT1: {rt1 FRLONG=1000 FRLAT=0 TOLONG=2000 TOLAT=3000 TOADDR=200}\n;
+  d/TGR01001.RT2: {rt2 LONG1=2000 LAT1=0 LONG2=}\n
+extractd geocode-batch --addresses a.csv --data d 01001 >
+  a.csv d/TGR01001.RT1 d/TGR01001.RT4 d/TGR01001.RT5 d/TGR01001.RT6;
+  HEADER2,match,,0.001500,0.001500,123456789,R,,Main,,,36067,01001,100,200\n; 0;; a.csv: number,name\n150,main\n;
+  d/TGR01001.RT1: {rt1 FRLONG=1000 FRLAT=0 TOLONG=2000 TOLAT=3000 TOADDR=200}\n; d/TGR01001.RT2: {rt2 LONG1=2000 LAT1=0 LONG2=}\n
+extractd geocode-batch --shape --addresses a.csv --data d 01001 01003;
+  HEADER2,tie,,0.002000,0.001000,123456789,R,,Main,,,36067,01001,100,200\n2,tie,,0.004000,0.000000,123456789,R,,Main,,,36067,01003,100,200\n;
+  0;; a.csv: number,name\n150,main\n; d/TGR01001.RT1: {rt1 FRLONG=1000 FRLAT=0 TOLONG=2000 TOLAT=3000 TOADDR=200}\n;
+  d/TGR01003.RT1: {rt1 FRLONG=1000 FRLAT=0 TOLONG=2000 TOLAT=3000 TOADDR=200}\n; d/TGR01001.RT2: {rt2 LONG1=2000 LAT1=0 LONG2=}\n;
+  d/TGR01003.RT2: {rt2 LONG1=5000 LAT1=0 LONG2=2000 LAT2=0}\n
+extractd geocode-batch --addresses a.csv --data d --shape 01001;
+  HEADER2,match,,0.001000,0.001500,123456789,R,,Main,,,36067,01001,100,200\n; 0;; a.csv: number,name\n150,main\n;
+  d/TGR01001.RT1: {rt1 FRLONG=1000 FRLAT=0 TOLONG=1000 TOLAT=3000 TOADDR=200}\n; d/TGR01001.RT2: {rt2 TLID=5}\n
+extractd geocode-batch --addresses a.csv --data d --shape 01001; HEADER2,match,,,,123456789,L,,Main,,,36067,01001,101,199\n; 0;;
+  a.csv: number,name\n151,main\n; d/TGR01001.RT1: {rt1 FRLAT=}\n; d/TGR01001.RT2: {rt2}\n
+extractd geocode-batch --addresses a.csv --data d --shape 01001;; 3; error: d/TGR01001.RT2: not found; a.csv: number,nam\n;
+  d/TGR01001.RT1: {rt1}\n
+extractd geocode-batch --addresses a.csv --data d --shape 01001 01003;; 3; error: d/TGR01003.RT2: not found; a.csv: number,name\n;
+  d/TGR01001.RT1: {rt1}\n; d/TGR01003.RT1: {rt1}\n; d/TGR01001.RT2: {rt2}\n
+extractd geocode-batch --addresses a.csv --data d --shape 01001 01003;; 1; refused 1 rt1 line 1 WrongLength; a.csv: number,name\n;
+  d/TGR01001.RT1: {rt1}\n; d/TGR01003.RT1: {rt1 ..227}\n
+extractd geocode-batch --addresses a.csv --data d --shape 01001;; 1; refused 1 rt2 line 4 WrongLength; a.csv: number,nam\n;
+  d/TGR01001.RT1: {rt1}\n; d/TGR01001.RT2: {rt2}\n{rt2 RTSQ=2}\n{rt2 TLID=5}\n{rt2 ..207}\n
+extractd geocode-batch --addresses a.csv --data d --shape 01001;; 1; refused 120 rt2 line 2 BadSequence; a.csv: number,name\n;
+  d/TGR01001.RT1: {rt1}\n; d/TGR01001.RT2: {rt2}\n{rt2 RTSQ=}\n
+extractd geocode-batch --addresses a.csv --data d --shape 01001 01003;; 1; refused 121 rt2 line 2 RepeatedSequence; a.csv: number,name\n;
+  d/TGR01001.RT1: {rt1}\n; d/TGR01003.RT1: {rt1}\n; d/TGR01001.RT2: {rt2}\n; d/TGR01003.RT2: {rt2}\n{rt2}\n
+extractd geocode-batch --addresses a.csv --data d --shape 01001;; 3; refused 5 rt2 line 1 Read; a.csv: number,name\n;
+  d/TGR01001.RT1: {rt1}\n; d/TGR01001.RT2: ! call 1 pipe
+extractd geocode-batch --addresses a.csv --data d --shape 01001;; 3; error: d/TGR01001.RT2: permission denied; a.csv: number,name\n;
+  d/TGR01001.RT1: {rt1}\n; d/TGR01001.RT2: ! closed denied
+extractd geocode-batch --addresses a.csv --data d --shape 01001;; 4; refused memory; a.csv: number,name\n;
+  d/TGR01001.RT1: {rt1}\n; d/TGR01001.RT2: ! closed memory
 "#,
 };

@@ -283,7 +283,7 @@ fn can_open(line: &str, name: &str) -> bool {
         .strip_prefix("d/TGR")
         .and_then(|file| file.split_once(".RT"));
     match county {
-        Some((code, kind)) => has_word(line, code) && matches!(kind, "1" | "4" | "5" | "6"),
+        Some((code, kind)) => has_word(line, code) && matches!(kind, "1" | "2" | "4" | "5" | "6"),
         None => has_word(line, name),
     }
 }

@@ -10,7 +10,7 @@ use std::test::Fail;
 // Rows in the form of `Row`. After `reads` comes the number of reads of a file that isn't read to its end. Each type 1 line that `run` reads
 // yields a row.
 const REQUESTS: Table = Table {
-    rows: 47,
+    rows: 49,
     text: r#"
 extractd run --program p.bpf --data d 01001; 0\t{rt1}\n0\t{rt1}\n; 0;; p.bpf: {every}; d/TGR01001.RT1: {rt1\n*2}
 extractd run --program p.bpf --data d 01001;; 0;; p.bpf: {every}; d/TGR01001.RT1:
@@ -56,6 +56,11 @@ extractd geocode-batch --addresses a.csv --data d 01001 01003;
   a.csv: number,name\n151,main\n151,elm\n; d/TGR01001.RT1:; d/TGR01003.RT1: {rt1 TLID=7}\n
 extractd geocode-batch --addresses a.csv --data d 01001; HEADERx,match,,-86.494898,32.405102,123456789,L,,Oak,,,36067,01001,101,199\n;
   0;; a.csv: number,name,id\n151,oak,x\n; d/TGR01001.RT1: {rt1}\n; d/TGR01001.RT4: {rt4}\n; d/TGR01001.RT5: {rt5}\n
+extractd geocode-batch --addresses a.csv --data d --shape 01001; HEADER2,match,,0.002000,0.001000,123456789,R,,Main,,,36067,01001,100,200\n;
+  0;; a.csv: number,name\n150,main\n; d/TGR01001.RT1: {rt1 FRLONG=1000 FRLAT=0 TOLONG=2000 TOLAT=3000 TOADDR=200}\n;
+  d/TGR01001.RT2: {rt2 LONG1=2000 LAT1=0 LONG2=}\n
+extractd geocode-batch --addresses a.csv --data d --shape 01001;; 1; refused 1 rt2 line 1 WrongLength; a.csv: number,name;
+  d/TGR01001.RT1: {rt1}\n; d/TGR01001.RT2: {rt2 ..207}\n ! reads 208
 extractd geocode-batch --addresses a.csv --data d 01001;; 1; refused 105 line 3 NotOneRecord\na carriage return or an unquoted line break ends the record early;
   a.csv: number,name\n151,main\n151,main\rx\n; d/TGR01001.RT1: {rt1}\n
 extractd geocode-batch --addresses a.csv --data d 01001;; 1; refused 1 rt1 line 1 WrongLength; a.csv: number,nam;

@@ -12,4 +12,5 @@ mod TraceLemmas
 mod SelectLemmas
 mod AnswerLemmas
 pub mod OpenLemmas
+mod CountyShapesLemmas
 mod BatchLemmas

@@ -1,18 +1,22 @@
 -- What `geocode-batch` writes, and why it is refused.
-use Rattle.std.specs.Prelude.{◌≡◌, ◌⊎◌, ⊤, ℕ, List, map, take, Option, Some, None, Result, Ok, Err}
+use Rattle.std.specs.Prelude.{◌≡◌, ◌⊎◌, ⊤, ℕ, List, ◌++◌, map, take, Option, Some, None, Result, Ok, Err}
+use Rattle.std.specs.Bool.{IsTrue}
+use Rattle.std.specs.List.{AllZip, concat}
 use Rattle.std.specs.Io.KnownBytes.{Keeps}
 use Rattle.addresses.specs.Address.{AddressParts}
 use Rattle.addresses.specs.AddressFault as address_fault
 use Rattle.addresses.specs.Listing.{Listing, addresses_in}
 use Rattle.addresses.specs.declared.fault.AddressFault.{AddressFault}
 use Rattle.addresses.specs.declared.fault.AddressFault.TheVariants as fault
-use Rattle.batch.specs.Lines.{lines_of_all}
+use Rattle.batch.specs.Lines.{header, lines_of}
+use Rattle.batch.specs.ShapedLookup.{AreShapedLines}
 use Rattle.refusals.specs.Refusal.{RefusalParts, memory}
 use Rattle.counted_io.specs.ReaderWriter.{Writer}
 use Rattle.counted_io.specs.Writing.{WritesText}
 use Rattle.counted_io.specs.declared.writing.WriteFault.{WriteFault}
 use Rattle.tl_segments.specs.County.{CountyParts}
 use Rattle.commands.specs.Counties.{AreCountiesOf, HaveRefusedCounty, IsFileOfCounties}
+use Rattle.commands.specs.CountyShapes.{HaveRefusedShapes, HaveShapeLinesIf, IsShapesFile}
 use Rattle.commands.specs.declared.failure.Failure.{Failure}
 use Rattle.commands.specs.declared.failure.Failure.TheVariants.{Refusal, Write}
 use Rattle.commands.specs.declared.geocode_batch.GeocodeBatch.{GeocodeBatch}
@@ -21,9 +25,12 @@ use Rattle.commands.specs.declared.geocode_batch.GeocodeBatch.{GeocodeBatch}
 abbrev pub codes_of : GeocodeBatch → List (List ℕ)
 codes_of batch = map (λ code. code.now) batch.codes.items
 
--- this is the name of the file of addresses, or of a file of one of the counties
+-- this is the name of the file of addresses, of a file that one of the counties is loaded from, or, if places are along shapes, of the type 2 file of
+-- one of the counties
 abbrev pub IsFileOf : GeocodeBatch → List ℕ → Type 0
-IsFileOf batch name = (name ≡ batch.addresses.now) ⊎ IsFileOfCounties batch.«data».now (codes_of batch) name
+IsFileOf batch name =
+    (name ≡ batch.addresses.now) ⊎ IsFileOfCounties batch.«data».now (codes_of batch) name
+    ⊎ (IsTrue batch.shape × IsShapesFile batch.«data».now (codes_of batch) name)
 
 -- the file has these addresses and no fault
 abbrev pub AreAddressesOf : List ℕ → List AddressParts → Type 0
@@ -43,16 +50,39 @@ abbrev pub IsAddressesFault : List ℕ → AddressFault → Type 0
 IsAddressesFault file fault.Memory = ⊤
 IsAddressesFault file fault = IsFaultOf file fault
 
--- the file of addresses and the requested counties, whose files' bytes agree with what is known of them
+-- the file of addresses, the requested counties, and their type 2 lines if places are along shapes; the files' bytes agree with what is known of them
 pub record Inputs (batch : GeocodeBatch) (known : List ℕ → Option (List ℕ)) : Type 0 where
   pub file : List ℕ
   pub is_file : Keeps (known batch.addresses.now) (Some file)
   pub counties : List CountyParts
   pub are_counties : AreCountiesOf known batch.«data».now (codes_of batch) counties
+  pub rt2 : Option (List (List (List ℕ)))
+  pub have_lines : HaveShapeLinesIf batch.shape known batch.«data».now (codes_of batch) rt2
 
--- the output for these addresses over the counties
-abbrev pub output : {batch : GeocodeBatch} {known : List ℕ → Option (List ℕ)} → Inputs batch known → List AddressParts → List ℕ
-output {batch} inputs addresses = lines_of_all (codes_of batch) inputs.counties addresses
+-- the lines of an address in counties with these codes: if there are type 2 lines, each match is in its place along the shape of its segment, and
+-- otherwise on the straight line between its ends
+abbrev pub AreLinesIn : Option (List (List (List ℕ))) → List (List ℕ) → List CountyParts → AddressParts → List ℕ → Type 0
+AreLinesIn (Some rt2) codes counties address lines = AreShapedLines rt2 codes counties address lines
+AreLinesIn None codes counties address lines = lines ≡ lines_of codes counties address
+
+-- the lines of an address in the counties
+abbrev pub AreLinesOf : {batch : GeocodeBatch} {known : List ℕ → Option (List ℕ)} → Inputs batch known → AddressParts → List ℕ → Type 0
+AreLinesOf {batch} inputs = AreLinesIn inputs.rt2 (codes_of batch) inputs.counties
+
+-- the header and the lines of each of these addresses, in order
+pub record IsOutput (AreLines : AddressParts → List ℕ → Type 0) (addresses : List AddressParts) (text : List ℕ) : Type 0 where
+  pub lines : List (List ℕ)
+  pub are_lines : AllZip AreLines addresses lines
+  pub is_text : text ≡ header ++ concat lines
+
+-- the output for the first `count` addresses
+abbrev pub IsOutputOfFirst : (AddressParts → List ℕ → Type 0) → List AddressParts → List ℕ → Type 0
+IsOutputOfFirst AreLines addresses text = (count : ℕ) × IsOutput AreLines (take count addresses) text
+
+-- the output for all addresses, or, if a write failed, for those up to the one in whose lines it failed
+abbrev pub IsOutputUntil : Result (Unit {0}) WriteFault → (AddressParts → List ℕ → Type 0) → List AddressParts → List ℕ → Type 0
+IsOutputUntil (Ok done) AreLines addresses text = IsOutput AreLines addresses text
+IsOutputUntil (Err fault) AreLines addresses text = IsOutputOfFirst AreLines addresses text
 
 -- The header and the lines of all addresses were written, completely or until the output failed.
 pub record Writes (batch : GeocodeBatch) (known : List ℕ → Option (List ℕ)) (result : Result (Unit {0}) WriteFault)
@@ -60,15 +90,18 @@ pub record Writes (batch : GeocodeBatch) (known : List ℕ → Option (List ℕ)
   pub inputs : Inputs batch known
   pub addresses : List AddressParts
   pub are_addresses : AreAddressesOf inputs.file addresses
-  pub written : WritesText (output inputs addresses) result out out'
+  pub text : List ℕ
+  pub is_text : IsOutputUntil result (AreLinesOf inputs) addresses text
+  pub written : WritesText text result out out'
 
--- the header and the lines of the first `count` addresses were written
+-- the header and the lines of the first addresses were written
 pub record WritesFirst (batch : GeocodeBatch) (known : List ℕ → Option (List ℕ)) (out out' : Writer) : Type 0 where
   pub inputs : Inputs batch known
   pub addresses : List AddressParts
   pub are_addresses : AreAddressesOf inputs.file addresses
-  pub count : ℕ
-  pub written : WritesText (output inputs (take count addresses)) (Ok tt) out out'
+  pub text : List ℕ
+  pub is_text : IsOutputOfFirst (AreLinesOf inputs) addresses text
+  pub written : WritesText text (Ok tt) out out'
 
 -- the file of addresses is refused
 pub record AreAddressesRefused (batch : GeocodeBatch) (known : List ℕ → Option (List ℕ)) (refusal : RefusalParts) : Type 0 where
@@ -77,20 +110,32 @@ pub record AreAddressesRefused (batch : GeocodeBatch) (known : List ℕ → Opti
   pub is_fault : IsFaultOf inputs.file fault
   pub refused : refusal ≡ address_fault.refusal fault
 
--- Why `geocode-batch` is refused otherwise. One of the counties is refused, and nothing was written. Or an allocation failed, and either nothing
--- was written, or the header and the lines of the first few addresses.
+-- Places are along shapes, the counties are loaded, and the type 2 file of one of them is refused.
+pub record AreShapesRefused (batch : GeocodeBatch) (known : List ℕ → Option (List ℕ)) (refusal : RefusalParts) : Type 0 where
+  pub wanted : IsTrue batch.shape
+  pub counties : List CountyParts
+  pub are_counties : AreCountiesOf known batch.«data».now (codes_of batch) counties
+  pub refused : HaveRefusedShapes known batch.«data».now (codes_of batch) refusal
+
+-- Why `geocode-batch` is refused otherwise. One of the counties is refused, or its type 2 file, and nothing was written. Or an allocation failed, and
+-- either nothing was written, or the header and the lines of the first few addresses.
 pub data IsRefused (batch : GeocodeBatch) (known : List ℕ → Option (List ℕ)) (refusal : RefusalParts) (out out' : Writer) : Type 0 where
   of_county : HaveRefusedCounty known batch.«data».now (codes_of batch) refusal → out' ≡ out → IsRefused batch known refusal out out'
+  of_shapes : AreShapesRefused batch known refusal → out' ≡ out → IsRefused batch known refusal out out'
   of_memory : refusal ≡ memory → (out' ≡ out) ⊎ WritesFirst batch known out out' → IsRefused batch known refusal out out'
 
--- The text was written, completely or until the output failed. Or an allocation failed, after what `WritesBefore` describes was written.
-abbrev pub WritesUnlessMemory : List ℕ → (Writer → Writer → Type 0) → Result (Unit {0}) Failure → Writer → Writer → Type 0
-WritesUnlessMemory text WritesBefore (Ok done) out out' = WritesText text (Ok done) out out'
-WritesUnlessMemory text WritesBefore (Err (Write fault)) out out' = WritesText text (Err fault) out out'
-WritesUnlessMemory text WritesBefore (Err (Refusal refusal)) out out' = (refusal ≡ memory) × WritesBefore out out'
-WritesUnlessMemory text WritesBefore (Err failure) out out' = ⊥
+-- Such a text was written, completely or until the output failed. Or an allocation failed, after what `WritesBefore` describes was written.
+abbrev pub WritesUnlessMemory : (List ℕ → Type 0) → (Writer → Writer → Type 0) → Result (Unit {0}) Failure → Writer → Writer → Type 0
+WritesUnlessMemory IsText WritesBefore (Ok done) out out' = (text : List ℕ) × IsText text × WritesText text (Ok done) out out'
+WritesUnlessMemory IsText WritesBefore (Err (Write fault)) out out' = (text : List ℕ) × IsText text × WritesText text (Err fault) out out'
+WritesUnlessMemory IsText WritesBefore (Err (Refusal refusal)) out out' = (refusal ≡ memory) × WritesBefore out out'
+WritesUnlessMemory IsText WritesBefore (Err failure) out out' = ⊥
 
--- the output for all addresses was written in this sense: before an allocation failed, the output for the first `count` of them was written
-abbrev pub WritesBatch : (List AddressParts → List ℕ) → List AddressParts → Result (Unit {0}) Failure → Writer → Writer → Type 0
-WritesBatch output addresses result out out' = WritesUnlessMemory (output addresses)
-    (λ before after. (count : ℕ) × WritesText (output (take count addresses)) (Ok tt) before after) result out out'
+-- the output for all addresses was written, or that for the first ones until the output or an allocation failed
+abbrev pub WritesBatch : (AddressParts → List ℕ → Type 0) → List AddressParts → Result (Unit {0}) Failure → Writer → Writer → Type 0
+WritesBatch AreLines addresses (Ok done) out out' = (text : List ℕ) × IsOutput AreLines addresses text × WritesText text (Ok done) out out'
+WritesBatch AreLines addresses (Err (Write fault)) out out' =
+    (text : List ℕ) × IsOutputOfFirst AreLines addresses text × WritesText text (Err fault) out out'
+WritesBatch AreLines addresses (Err (Refusal refusal)) out out' =
+    (refusal ≡ memory) × (text : List ℕ) × IsOutputOfFirst AreLines addresses text × WritesText text (Ok tt) out out'
+WritesBatch AreLines addresses (Err failure) out out' = ⊥

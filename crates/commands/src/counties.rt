@@ -23,6 +23,7 @@ pub fn load_counties<'a, A: Allocator + Copy, F: Files>(
     ensures err { IfErr result (IsLoadFailure F.opens (HaveRefusedCounty (F.bytes files.old) folder.now (map (λ code. code.now) codes.now))
         (disk F.bytes F.failed_opens F.failed_reads files.old) (disk F.bytes F.failed_opens F.failed_reads files.new)) }
     ensures names { IfErr result (NamesFile (IsFileOfCounties folder.now (map (λ code. code.now) codes.now))) }
+    ensures stay { (other : List ℕ) → F.bytes files.new other ≡ F.bytes files.old other }
     ensures usage { IfErr result (λ failure. status failure ≢ 2) }
     ensures counts { IsUnfailedUnlessUnusable result (disk F.bytes F.failed_opens F.failed_reads files.old)
         (disk F.bytes F.failed_opens F.failed_reads files.new) }

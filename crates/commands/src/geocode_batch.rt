@@ -1,22 +1,24 @@
 //! `geocode-batch`: geocodes the addresses in a file over counties.
-ghost use Rattle.std.specs.Prelude.{◌≡◌, ◌≢◌, List, IfErr, IfOk};
-ghost use Rattle.addresses.specs.Address.{AddressParts, address_in};
-ghost use Rattle.batch.specs.Lines.{lines_of, lines_of_all};
+ghost use Rattle.std.specs.Prelude.{◌≡◌, ◌≢◌, ℕ, List, Option, option_map, IfErr, IfOk, OnOk};
+ghost use Rattle.addresses.specs.Address.{AddressParts, address_in, parts_of};
 ghost use Rattle.counted_io.specs.ReaderWriter.{writer};
 ghost use Rattle.commands.specs.Command.{CarriesOut};
+ghost use Rattle.commands.specs.CountyShapes.{AreShapesIfAny};
 ghost use Rattle.commands.specs.Failure.{status};
 ghost use Rattle.named_files.specs.Files.{disk};
-ghost use Rattle.commands.specs.GeocodeBatch.{AreAddressesOf, IsAddressesFault, WritesBatch, WritesUnlessMemory};
+ghost use Rattle.commands.specs.GeocodeBatch.{AreAddressesOf, AreLinesIn, IsAddressesFault, WritesBatch, WritesUnlessMemory};
 ghost use Rattle.commands.specs.declared.request.Request.{Request};
 
 use crate::counties::load_counties;
+use crate::county_shapes::load_shapes_if;
 use crate::failure::{Failure, write};
-use addresses::{AddressFault, AddressRow, Addresses};
+use addresses::{Address, AddressFault, AddressRow, Addresses};
 use batch::{Batch, Lines, header};
 use counted_io::CountedWrite;
 use named_files::{Files, read_file};
 use refusals::{Fault, Refusal};
-use std::alloc::{Allocator, Global};
+use std::alloc::{AllocError, Allocator, Global};
+use tl_segments::Shapes;
 
 /// The arguments of `geocode-batch`.
 #[derive(Drop)]
@@ -27,12 +29,15 @@ pub struct GeocodeBatch<'a> {
     pub data: &'a str,
     /// The counties' codes, five digits each: the state, then the county within it.
     pub codes: Vec<&'a str>,
+    /// Whether places are along the shapes of segments, which the counties' files of type 2 have, and not on straight lines.
+    pub shape: bool,
     /// The allocator for CSV records, which is part of their type.
     pub tables: Global,
 }
 
 impl<'a> GeocodeBatch<'a> {
-    /// Reads the file of addresses and the counties, and then writes the header and each address's lines.
+    /// Reads the file of addresses and the counties, and then writes the header and each address's lines. If places are along shapes, reads the files of
+    /// type 2 too, after all other files of the counties and in their order. Each of them must exist.
     ///
     /// A file of addresses that has a fault is refused before anything is written.
     pub fn carry_out<A: Allocator + Copy, F: Files, W: CountedWrite>(
@@ -54,12 +59,52 @@ impl<'a> GeocodeBatch<'a> {
             Ok(counties) => counties,
             Err(failure) => return Err(failure),
         };
+        let shapes = match load_shapes_if(
+            self.shape,
+            alloc,
+            files,
+            self.data,
+            self.codes.as_slice(),
+        ) {
+            Ok(shapes) => shapes,
+            Err(failure) => return Err(failure),
+        };
         match check_addresses(self.tables, file.as_slice()) {
             Ok(()) => {}
             Err(fault) => return Err(Failure::of_addresses(fault)),
         }
         let batch = Batch::of(alloc, counties.as_slice(), self.codes.as_slice())?;
-        write_batch(alloc, self.tables, file.as_slice(), &batch, out)
+        let lookup = Lookup { batch, shapes };
+        write_batch(alloc, self.tables, file.as_slice(), &lookup, out)
+    }
+}
+
+/// Counties to look for addresses in, and the shapes of their segments if places are along them.
+#[derive(Drop)]
+struct Lookup<'a, A: Allocator> {
+    batch: Batch<'a, A>,
+    shapes: Option<Vec<Shapes<A>, A>>,
+}
+
+impl<A: Allocator + Copy> Lookup<'_, A> {
+    /// Writes the lines of an address, at least one, in place of the lines that are there.
+    fn write_lines(
+        &self,
+        alloc: A,
+        tables: Global,
+        address: &Address<'_>,
+        lines: &mut Lines,
+    ) -> Result<(), AllocError>
+        ensures { (rt2 : Option (List (List (List ℕ)))) → AreShapesIfAny (option_map (λ shapes. shapes.items) self.now.shapes) rt2
+            → OnOk result (AreLinesIn rt2 self.now.batch.codes self.now.batch.counties (parts_of address.now) lines.new) }
+    {
+        match &self.shapes {
+            Some(shapes) => {
+                self.batch
+                    .write_shaped_lines(alloc, tables, address, shapes.as_slice(), lines)
+            }
+            None => self.batch.write_lines(alloc, tables, address, lines),
+        }
     }
 }
 
@@ -79,11 +124,12 @@ fn write_batch<'a, A: Allocator + Copy, W: CountedWrite>(
     alloc: A,
     tables: Global,
     file: &[u8],
-    batch: &Batch<'_, A>,
+    lookup: &Lookup<'_, A>,
     out: &mut W,
 ) -> Result<(), Failure<'a>>
-    ensures { (addresses : List AddressParts) → AreAddressesOf file.now addresses
-        → WritesBatch (lines_of_all batch.now.codes batch.now.counties) addresses result
+    ensures { (rt2 : Option (List (List (List ℕ)))) → AreShapesIfAny (option_map (λ shapes. shapes.items) lookup.now.shapes) rt2
+        → (addresses : List AddressParts) → AreAddressesOf file.now addresses
+        → WritesBatch (AreLinesIn rt2 lookup.now.batch.codes lookup.now.batch.counties) addresses result
         (writer W.contents W.counts out.old) (writer W.contents W.counts out.new) }
 {
     match write(out, header().as_bytes()) {
@@ -103,7 +149,7 @@ fn write_batch<'a, A: Allocator + Copy, W: CountedWrite>(
             Ok(false) => return Ok(()),
             Err(fault) => return Err(Failure::Refusal(fault.refusal())),
         }
-        match write_lines(alloc, tables, batch, &row, &mut lines, out) {
+        match write_row(alloc, tables, lookup, &row, &mut lines, out) {
             Ok(()) => {}
             Err(failure) => return Err(failure),
         }
@@ -111,19 +157,20 @@ fn write_batch<'a, A: Allocator + Copy, W: CountedWrite>(
 }
 
 /// Writes the lines for a row's address.
-fn write_lines<'a, A: Allocator + Copy, W: CountedWrite>(
+fn write_row<'a, A: Allocator + Copy, W: CountedWrite>(
     alloc: A,
     tables: Global,
-    batch: &Batch<'_, A>,
+    lookup: &Lookup<'_, A>,
     row: &AddressRow,
     lines: &mut Lines,
     out: &mut W,
 ) -> Result<(), Failure<'a>>
-    ensures { WritesUnlessMemory (lines_of batch.now.codes batch.now.counties (address_in row.now)) (λ before after. after ≡ before) result
-        (writer W.contents W.counts out.old) (writer W.contents W.counts out.new) }
+    ensures { (rt2 : Option (List (List (List ℕ)))) → AreShapesIfAny (option_map (λ shapes. shapes.items) lookup.now.shapes) rt2
+        → WritesUnlessMemory (AreLinesIn rt2 lookup.now.batch.codes lookup.now.batch.counties (address_in row.now))
+        (λ before after. after ≡ before) result (writer W.contents W.counts out.old) (writer W.contents W.counts out.new) }
 {
     let address = row.address();
-    match batch.write_lines(alloc, tables, &address, lines) {
+    match lookup.write_lines(alloc, tables, &address, lines) {
         Ok(()) => {}
         Err(_error) => return Err(Failure::Refusal(Refusal::memory())),
     }

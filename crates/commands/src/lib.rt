@@ -4,6 +4,7 @@
 mod assemble;
 mod compile;
 mod counties;
+mod county_shapes;
 mod diagnostic_line;
 mod disassemble;
 mod escape;

@@ -9,7 +9,7 @@ _extractd_options() {
     run) echo --program --data --help ;;
     trace) echo --program --data --line --limit --help ;;
     geocode) echo --data --number --name --zip --help ;;
-    geocode-batch) echo --addresses --data --help ;;
+    geocode-batch) echo --addresses --data --shape --help ;;
     verify | dis) echo --program --help ;;
     explain) echo --program --lines --help ;;
     asm) echo --source --help ;;

@@ -6,6 +6,7 @@ ghost use Rattle.command_line.specs.Values.{ReadsUnlessMemory, rows_in};
 ghost use Rattle.command_line.specs.declared.arguments.subcommand.Subcommand.TheVariants as Subcommand;
 
 use crate::fault::ArgumentsFault;
+use crate::flags::{flag, is_given};
 use crate::options::{codes, counties_option, file, option, value};
 use clap::{ArgMatches, Command};
 use commands::GeocodeBatch;
@@ -31,8 +32,9 @@ Output, CSV with a header and one line for each match of an address, or one line
   zip, county                     the ZIP code of the side, and the county's code
   from, to                        the address range
 
-Example:
-  extractd geocode-batch --addresses addresses.csv --data tiger 01001 > places.csv"
+Examples:
+  extractd geocode-batch --addresses addresses.csv --data tiger 01001 > places.csv
+  extractd geocode-batch --addresses addresses.csv --data tiger --shape 01001 > places.csv"
         ))
         .arg(option(
             alloc,
@@ -45,6 +47,11 @@ Example:
             "data",
             "DIR",
             "The folder of the TIGER/Line 2006 files",
+        ))?
+        .arg(flag(
+            alloc,
+            "shape",
+            "Places along the shapes of the segments, from the files of record type 2",
         ))?
         .arg(counties_option(alloc))
 }
@@ -59,6 +66,7 @@ pub fn request<'a>(
     Ok(GeocodeBatch {
         addresses: file(matches, "addresses")?,
         data: value(matches, "data")?,
+        shape: is_given(matches, "shape"),
         codes: codes(alloc, matches)?,
         tables: alloc,
     })

@@ -1,4 +1,4 @@
-use Rattle.std.proofs.Common.{refl, sym, ap, Some}
+use Rattle.std.proofs.Common.{List, refl, sym, ap, Some}
 use Rattle.clap.specs.Walk.{Text}
 use Rattle.clap.proofs.OnLiterals.{clap_on_literals}
 use Rattle.command_line.specs.Arguments.{program}
@@ -15,6 +15,38 @@ returns-clause-run c = λ run file folder code. record {
       program = ap (λ (text : Text). Some text) (sym file);
       folder = ap (λ (text : Text). Some text) (sym folder);
       code = ap (λ (text : Text). Some text) (sym code);
+    },
+  );
+}
+
+pub returns-clause-shape : goal.returns-clause-shape
+unfolding clap_on_literals program
+returns-clause-shape c = λ batch file folder shape counties. record {
+  taken = refl;
+  made = (
+    batch,
+    refl,
+    record {
+      addresses = ap (λ (text : Text). Some text) (sym file);
+      folder = ap (λ (text : Text). Some text) (sym folder);
+      shape = sym shape;
+      codes = ap (λ (texts : List Text). Some texts) (sym counties);
+    },
+  );
+}
+
+pub returns-clause-no_shape : goal.returns-clause-no_shape
+unfolding clap_on_literals program
+returns-clause-no_shape c = λ batch file folder shape counties. record {
+  taken = refl;
+  made = (
+    batch,
+    refl,
+    record {
+      addresses = ap (λ (text : Text). Some text) (sym file);
+      folder = ap (λ (text : Text). Some text) (sym folder);
+      shape = sym shape;
+      codes = ap (λ (texts : List Text). Some texts) (sym counties);
     },
   );
 }

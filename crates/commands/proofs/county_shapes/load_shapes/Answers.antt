@@ -1,0 +1,44 @@
+use Rattle.std.proofs.Common.{◌≡◌, ◌∙◌, subst, sym}
+use Rattle.named_files.specs.County.{file_name}
+use Rattle.named_files.specs.Files.{disk}
+use Rattle.tl_segments.specs.declared.fault.CountyFile.TheVariants.{Rt2}
+use Rattle.commands.proofs.CountiesLemmas.{earlier_load_failure, load_usage, memory_failure, named_after}
+use Rattle.commands.proofs.CountyShapesLemmas.{LoadShapes, shapes_more, shapes_refused_after}
+use Rattle.named_files.proofs.FileLemmas.{unfailed_both}
+use Rattle.commands.proofs.county_shapes.load_shapes.Goals as goal
+
+pub returns-in-Err-clause-err : goal.returns-in-Err-clause-err
+returns-in-Err-clause-err g c =
+    let so_far = c.loop-code.invariant in
+    earlier_load_failure g.F.Files.opens (disk g.F.Files.bytes g.F.Files.failed_opens g.F.Files.failed_reads c.args.files.now)
+    (disk g.F.Files.bytes g.F.Files.failed_opens g.F.Files.failed_reads c.loop-code.files)
+    (disk g.F.Files.bytes g.F.Files.failed_opens g.F.Files.failed_reads c.load_county_shapes.new.files) c.in-Err.failure so_far.counts
+    (λ _. shapes_refused_after so_far.stay c.args.codes.now c.loop-code.code-index _ c.loop-code.shapes.items c.loop-code-test.true
+    so_far.loaded)
+    c.in-Err.ensures.err
+
+pub returns-in-Err-clause-usage : goal.returns-in-Err-clause-usage
+returns-in-Err-clause-usage g c =
+    load_usage g.F.Files.opens _ (disk g.F.Files.bytes g.F.Files.failed_opens g.F.Files.failed_reads c.loop-code.files)
+    (disk g.F.Files.bytes g.F.Files.failed_opens g.F.Files.failed_reads c.load_county_shapes.new.files) c.in-Err.failure c.in-Err.ensures.err
+
+pub returns-in-Err-clause-names : goal.returns-in-Err-clause-names
+returns-in-Err-clause-names g c =
+    named_after (λ code name. name ≡ file_name c.args.folder.now code Rt2) c.args.codes.now c.loop-code.code-index _ c.loop-code-test.true c.in-Err.failure c.in-Err.ensures.names
+
+pub returns-in-Err-clause-counts : goal.returns-in-Err-clause-counts
+returns-in-Err-clause-counts g c = λ other. unfailed_both c.loop-code.invariant.counts (c.in-Err.ensures.counts other)
+
+pub returns-in_err-push-in-Ok-clause-err : goal.returns-in_err-push-in-Ok-clause-err
+returns-in_err-push-in-Ok-clause-err g c =
+    memory_failure g.F.Files.opens c.from_residual.result _ (disk g.F.Files.bytes g.F.Files.failed_opens g.F.Files.failed_reads c.args.files.now)
+    (disk g.F.Files.bytes g.F.Files.failed_opens g.F.Files.failed_reads c.load_county_shapes.new.files) c.from_residual.ensures.1
+
+pub loop-code-preserved : goal.loop-code-preserved
+loop-code-preserved g c = let so_far = c.loop-code.invariant in record {
+  loaded = subst (LoadShapes _ c.args.folder.now _) (sym c.in_ok-push-in-Ok.ensures.items)
+      (shapes_more so_far.stay c.args.codes.now c.loop-code.code-index _ c.loop-code.shapes.items c.loop-code-test.true
+      so_far.loaded c.in-Ok.of_county c.in-Ok.ensures.ok.0 c.in-Ok.ensures.ok.1 c.in-Ok.ensures.ok.2);
+  stay = λ name. c.in-Ok.ensures.stay name ∙ so_far.stay name;
+  counts = unfailed_both so_far.counts c.in-Ok.ensures.counts;
+}
