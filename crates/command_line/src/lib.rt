@@ -5,6 +5,7 @@ mod arguments;
 mod dispatch;
 mod fault;
 pub mod laws;
+mod layer_options;
 mod options;
 mod serve;
 
