@@ -2,7 +2,7 @@
 # Compares the manual pages and the completions with a built program: tests/deploy/options.sh PATH_TO_extractd
 #
 # Each command and each option of its --help must be in its manual page and in both completions, and no other may be there. Each page must render
-# without a warning and name the program's version. Each offered column must be accepted, and docs/filters.md must have all numeric columns.
+# without a warning and name the program's version. Each offered column must be accepted, and docs/filters.md must have all columns.
 #
 # Needs bash and coreutils, and for some tests zsh and groff. Without these the tests are left out. With REQUIRE_ALL set, as .ci/run sets it, they are
 # installed, as root on Debian 12, and anything left out is a failure.
@@ -47,7 +47,8 @@ mkdir "$scratch/zdot"
 cd "$top/examples" || exit
 {
     printf '%s\n' 'extractd ' 'extractd --' 'extractd run --data . ' 'extractd select --data=. 0' \
-        'extractd geocode-batch --addresses addr' 'extractd run --data to' 'extractd select --score '
+        'extractd geocode-batch --addresses addr' 'extractd run --data to' 'extractd select --score ' \
+        'extractd select --columns ' 'extractd select --columns TLID,fen' 'extractd select --format ' 'extractd run --geometry '
     for command in $commands; do echo "extractd $command --"; done
 } > "$scratch/lines"
 zsh=
@@ -84,6 +85,18 @@ columns=$(sed -n -E 's/^\| (number|coordinate) \| ([A-Z, ]*) \|.*/\2/p' "$top/do
 offers 'columns' "$columns" extractd select --score ''
 for column in $columns; do
     same "$column is accepted" '' "$(echo TRUE | "$program" compile --filter - --score "$column" 2>&1 > "$scratch/bpf")"
+done
+
+fields=$(sed -n -E 's/^\| (number|coordinate|text) \| ([A-Z0-9, ]*) \|.*/\2/p' "$top/docs/filters.md" | tr -d ,)
+offers 'columns of a list' "$fields" extractd select --columns ''
+same 'bash: the next column' TLID,FENAME "$(bash_offers extractd select --columns TLID,fen)"
+[ -z "$zsh" ] || same 'zsh: the next column' FENAME "$(zsh_offers 'extractd select --columns TLID,fen')"
+offers 'formats' 'rows csv geojsonseq' extractd select --format ''
+offers 'geometries' 'none line shape' extractd run --geometry ''
+: > "$scratch/empty.bpf"
+for field in $fields; do
+    # The program is read after the options.
+    same "$field is accepted" 'refused 10 Empty' "$("$program" run --program "$scratch/empty.bpf" --data . --format csv --columns "$field" 01001 2>&1 > "$scratch/table")"
 done
 
 version=$("$program" --version 2>&1)

@@ -1,5 +1,5 @@
 -- The program's commands and their arguments.
-use Rattle.std.specs.Prelude.{◌≡◌, true, false, List, [], ◌∷◌, map, codes, Option, Some, find}
+use Rattle.std.specs.Prelude.{◌≡◌, true, false, List, [], ◌∷◌, ◌++◌, map, codes, Option, Some, find}
 use Rattle.std.specs.Str.{bytes_eq}
 use Rattle.clap.specs.Lexer.{usize_max}
 use Rattle.clap.specs.Walk.{Rule, Text, is_empty}
@@ -35,6 +35,10 @@ counties = record (new_rule (codes "code")) {
   action = Some Append;
 }
 
+-- `--format FORMAT`, `--columns NAMES` and `--geometry GEOMETRY`, each at most once
+abbrev pub layer_options : List Rule
+layer_options = optional (codes "format") ∷ optional (codes "columns") ∷ optional (codes "geometry") ∷ []
+
 -- the word that names a command
 abbrev pub name_of : Subcommand → Text
 name_of Select = codes "select"
@@ -51,9 +55,10 @@ name_of Serve = codes "serve"
 
 -- the arguments of a command
 abbrev pub arguments_of : Subcommand → List Rule
-arguments_of Select = required (codes "where") ∷ optional (codes "score") ∷ required (codes "data") ∷ counties ∷ []
+arguments_of Select =
+    required (codes "where") ∷ optional (codes "score") ∷ required (codes "data") ∷ layer_options ++ counties ∷ []
 arguments_of Compile = required (codes "filter") ∷ optional (codes "score") ∷ []
-arguments_of Run = required (codes "program") ∷ required (codes "data") ∷ county ∷ []
+arguments_of Run = required (codes "program") ∷ required (codes "data") ∷ layer_options ++ county ∷ []
 arguments_of Trace = required (codes "program") ∷ required (codes "data") ∷ required (codes "line") ∷ required (codes "limit") ∷ county ∷ []
 arguments_of Geocode =
     required (codes "data") ∷ required (codes "number") ∷ required (codes "name") ∷ optional (codes "zip") ∷ counties ∷ []

@@ -147,7 +147,7 @@ fn request<'a>(
     match subcommand {
         Subcommand::Select => Ok(Request::Select(select::request(alloc, matches)?)),
         Subcommand::Compile => Ok(Request::Compile(compile::request(alloc, matches)?)),
-        Subcommand::Run => Ok(Request::Run(run::request(matches)?)),
+        Subcommand::Run => Ok(Request::Run(run::request(alloc, matches)?)),
         Subcommand::Trace => Ok(Request::Trace(trace::request(matches)?)),
         Subcommand::Geocode => Ok(Request::Geocode(geocoder::request(alloc, matches)?)),
         Subcommand::GeocodeBatch => Ok(Request::GeocodeBatch(geocode_batch::request(

@@ -12,6 +12,7 @@ ghost use Rattle.command_line.specs.declared.fault.ArgumentsFault.TheVariants.{M
 use clap::error::ErrorKind as UsageKind;
 use commands::{DiagnosticLine, Failure, OUT_OF_MEMORY, USAGE};
 use counted_io::{CountedWrite, write_text};
+use cql2_tokens::nearest_column;
 use std::alloc::{AllocError, AllocFailed};
 use std::fmt::Write;
 use std::io::ErrorKind;
@@ -44,6 +45,16 @@ pub enum ArgumentsFault<'a> {
     Name(&'a str),
     /// This isn't the name of a numeric column.
     Score(&'a str),
+    /// This isn't the name of a format.
+    Format(&'a str),
+    /// This option isn't for rows.
+    NotOfRows(&'static str),
+    /// This name in a list of columns isn't that of a column.
+    Column(&'a str),
+    /// This name repeats a column of the list.
+    RepeatedColumn(&'a str),
+    /// This isn't the name of a geometry.
+    Geometry(&'a str),
     /// This port isn't 1 to 65535.
     Port(&'a str),
     /// `serve`, which is not a command over files.
@@ -113,6 +124,28 @@ impl ArgumentsFault<'_> {
                 write!(line, "error: --score is a column with numbers")?;
                 end_with_value(line, name)
             }
+            ArgumentsFault::Format(name) => {
+                write!(line, "error: --format is rows, csv or geojsonseq")?;
+                end_with_value(line, name)
+            }
+            ArgumentsFault::NotOfRows(name) => {
+                write!(line, "error: --{name} needs --format csv or geojsonseq\n")
+            }
+            ArgumentsFault::Column("") => write!(line, "error: --columns has an empty name\n"),
+            ArgumentsFault::Column(name) => {
+                write!(line, "error: --columns has \"")?;
+                line.echo(name)?;
+                end_with_nearest(line, name)
+            }
+            ArgumentsFault::RepeatedColumn(name) => {
+                write!(line, "error: --columns has \"")?;
+                line.echo(name)?;
+                write!(line, "\" twice\n")
+            }
+            ArgumentsFault::Geometry(name) => {
+                write!(line, "error: --geometry is none, line or shape")?;
+                end_with_value(line, name)
+            }
             ArgumentsFault::Port(text) => {
                 write!(line, "error: --port is 1 to 65535")?;
                 end_with_value(line, text)
@@ -128,6 +161,15 @@ fn end_with_value<E: CountedWrite>(line: &mut DiagnosticLine<'_, E>, text: &str)
     write!(line, ", and \"")?;
     line.echo(text)?;
     write!(line, "\" isn't\n")
+}
+
+/// Ends a line with the nearest column to a name that is no column.
+fn end_with_nearest<E: CountedWrite>(line: &mut DiagnosticLine<'_, E>, name: &str) -> fmt::Result {
+    let nearest = nearest_column(name.trim().as_bytes());
+    write!(
+        line,
+        "\", which isn't a column, and the nearest is {nearest}\n"
+    )
 }
 
 // The system fails to read the arguments if one isn't UTF-8 or if memory runs out.

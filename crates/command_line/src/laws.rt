@@ -4,11 +4,28 @@ ghost use Rattle.command_line.specs.Request.{HasNoRequest, IsRequestOf};
 ghost use Rattle.commands.specs.declared.geocode_batch.GeocodeBatch.{GeocodeBatch};
 ghost use Rattle.commands.specs.declared.request.Request.TheVariants as request;
 ghost use Rattle.commands.specs.declared.run.Run.{Run};
+ghost use Rattle.cql2.specs.declared.column.Column.TheVariants as column;
+ghost use Rattle.cql2.specs.declared.column.NumberColumn.TheVariants.{Tlid};
+ghost use Rattle.cql2.specs.declared.column.NumericColumn.TheVariants.{Number};
+ghost use Rattle.cql2.specs.declared.column.TextColumn.TheVariants.{Cfcc};
+ghost use Rattle.features.specs.declared.geometry.Geometry.TheVariants as geometry;
+ghost use Rattle.layers.specs.Layer.{Features, Rows, Table};
+ghost use Rattle.layers.specs.LayerParts.{parts_of as layer_parts};
 
 /// Shows what some words request.
 pub fn requests()
     ensures run { (run : Run) → run.program.now ≡ codes "street.bpf" → run.«data».now ≡ codes "tiger" → run.code.now ≡ codes "01001"
+        → layer_parts run.layer ≡ Rows
         → IsRequestOf (codes "run" ∷ codes "--data" ∷ codes "tiger" ∷ codes "--program=street.bpf" ∷ codes "01001" ∷ []) (request.Run run) }
+    ensures table { (run : Run) → run.program.now ≡ codes "p" → run.«data».now ≡ codes "d" → run.code.now ≡ codes "01001"
+        → layer_parts run.layer ≡ Table (record { columns = column.Text Cfcc ∷ column.Numeric (Number Tlid) ∷ []; geometry = geometry.Line })
+        → IsRequestOf (codes "run" ∷ codes "--program=p" ∷ codes "--data=d" ∷ codes "--format" ∷ codes "csv" ∷ codes "--columns" ∷ codes "cfcc,TLID"
+        ∷ codes "01001" ∷ []) (request.Run run) }
+    ensures features { (run : Run) → run.program.now ≡ codes "p" → run.«data».now ≡ codes "d" → run.code.now ≡ codes "01001"
+        → layer_parts run.layer ≡ Features (record { columns = column.Text Cfcc ∷ []; geometry = geometry.Shape })
+        → IsRequestOf (codes "run" ∷ codes "--program=p" ∷ codes "--data=d" ∷ codes "--geometry=shape" ∷ codes "--columns=CFCC"
+        ∷ codes "--format=geojsonseq" ∷ codes "01001" ∷ []) (request.Run run) }
+    ensures unformatted { HasNoRequest (codes "run" ∷ codes "--program=p" ∷ codes "--data=d" ∷ codes "--columns=CFCC" ∷ codes "01001" ∷ []) }
     ensures shape { (batch : GeocodeBatch) → batch.addresses.now ≡ codes "a.csv" → batch.«data».now ≡ codes "tiger" → batch.shape ≡ true
         → map (λ code. code.now) batch.codes.items ≡ codes "01001" ∷ []
         → IsRequestOf (codes "geocode-batch" ∷ codes "--shape" ∷ codes "--addresses=a.csv" ∷ codes "--data=tiger" ∷ codes "01001" ∷ [])

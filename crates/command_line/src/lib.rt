@@ -6,6 +6,7 @@ mod dispatch;
 mod fault;
 mod flags;
 pub mod laws;
+mod layer_options;
 mod options;
 mod serve;
 

@@ -7,7 +7,7 @@ use std::alloc::Global;
 
 // A command line, and the start of the text for the user.
 const STARTS: Table = Table {
-    rows: 94,
+    rows: 112,
     text: r#"
 extractd; error: 'extractd' requires a subcommand
 extractd run; error:
@@ -33,6 +33,29 @@ extractd select --data d 01001; error:
 extractd select --where TRUE --score CFCC --data d 01001; error: --score is a column with numbers, and "CFCC" isn't
 extractd select --where TRUE --score FRLATT --data d 01001;
   error: --score is a column with numbers, and "FRLATT" isn't
+extractd select --where TRUE --data d --format json 01001; error: --format is rows, csv or geojsonseq, and "json" isn't
+extractd run --program p.bpf --data d --format CSV 01001; error: --format is rows, csv or geojsonseq, and "CSV" isn't
+extractd run --program p.bpf --data d --format '' 01001; error: --format is rows, csv or geojsonseq, and "" isn't
+extractd run --program p.bpf --data d --format csv\n 01001; error: --format is rows, csv or geojsonseq, and "csv\n" isn't
+extractd run --program p.bpf --data d --format csv --format csv 01001; error:
+extractd run --program p.bpf --data d --columns TLID 01001; error: --columns needs --format csv or geojsonseq
+extractd select --where TRUE --data d --format rows --columns TLID 01001; error: --columns needs --format csv or geojsonseq
+extractd select --where TRUE --data d --geometry line 01001; error: --geometry needs --format csv or geojsonseq
+extractd run --program p.bpf --data d --format rows --geometry none 01001; error: --geometry needs --format csv or geojsonseq
+extractd run --program p.bpf --data d --format csv --geometry point 01001;
+  error: --geometry is none, line or shape, and "point" isn't
+extractd select --where TRUE --data d --format geojsonseq --geometry Line 01001;
+  error: --geometry is none, line or shape, and "Line" isn't
+extractd run --program p.bpf --data d --format csv --columns TLID,FRLATT 01001;
+  error: --columns has "FRLATT", which isn't a column, and the nearest is FRLAT
+extractd select --where TRUE --data d --format geojsonseq --columns TLID,_cfc 01001;
+  error: --columns has " cfc", which isn't a column, and the nearest is CFCC
+extractd run --program p.bpf --data d --format csv --columns TLID,Z\tP 01001;
+  error: --columns has "Z\tP", which isn't a column, and the nearest is RT
+extractd run --program p.bpf --data d --format csv --columns TLID,CFCC,tlid 01001; error: --columns has "tlid" twice
+extractd select --where TRUE --data d --format csv --columns '' 01001; error: --columns has an empty name
+extractd run --program p.bpf --data d --format geojsonseq --columns TLID,,CFCC 01001; error: --columns has an empty name
+extractd run --program p.bpf --data d --format csv --columns TLID, 01001; error: --columns has an empty name
 extractd compile; error:
 extractd compile f.cql; error:
 extractd verify; error:
@@ -115,7 +138,7 @@ extractd geocode --data d --number 151 --name main 010010; error: CODE is five d
 
 // A command line, and a part of the text for the user: the program's name in a usage line, its version, or an example of each command.
 const PARTS: Table = Table {
-    rows: 34,
+    rows: 37,
     text: r#"
 extractd --help; extractd serve --data tiger --port 8080 01001
 extractd serve; Usage: extractd serve --data <DIR> --port <P> <CODE>...
@@ -147,6 +170,9 @@ extractd --help; extractd dis --program street.bpf
 extractd --help; extractd 1.0.0
 extractd --help; 4  out of memory
 extractd run --help; extractd run --program street.bpf --data tiger 01001 > rows.tsv
+extractd run --help; --format csv --columns TLID,FENAME --geometry none 01001 > names.csv
+extractd select --help; --format geojsonseq 01001 | ogr2ogr roads.gpkg /vsistdin/ -nln roads
+extractd select --help; none, line (the default), or shape
 extractd trace --help; stuck place P cause N
 extractd verify --help; extractd verify --program street.bpf
 extractd asm --help; extractd asm --source street.s > street.bpf
@@ -201,15 +227,22 @@ serve --data d --port 1 01001 01003 01001; 1; 3
 serve --port 65535 01001 01003 --data d; 65535; 2",
 };
 
-// Other arguments of `serve`, and the status and text of the fault.
+// Other arguments, and the status and text of the fault.
 const FAULTS: Table = Table {
-    rows: 5,
+    rows: 11,
     text: r#"
 serve --data d --port 0 01001; 2; error: --port is 1 to 65535, and "0" isn't\n
 serve --data d --port 65536 01001; 2; error: --port is 1 to 65535, and "65536" isn't\n
 serve --data d --port +80 01001; 2; error: --port is 1 to 65535, and "+80" isn't\n
 serve --data d --port http 01001; 2; error: --port is 1 to 65535, and "http" isn't\n
 serve --data d --port 8080 0100; 2; error: CODE is five digits, and "0100" isn't\n
+run --program p --data d --format json 01001; 2; error: --format is rows, csv or geojsonseq, and "json" isn't\n
+run --program p --data d --columns CFCC 01001; 2; error: --columns needs --format csv or geojsonseq\n
+run --program p --data d --format csv --columns CFC 01001; 2;
+  error: --columns has "CFC", which isn't a column, and the nearest is CFCC\n
+run --program p --data d --format csv --columns CFCC,cfcc 01001; 2; error: --columns has "cfcc" twice\n
+run --program p --data d --format csv --columns CFCC, 01001; 2; error: --columns has an empty name\n
+run --program p --data d --format csv --geometry wkt 01001; 2; error: --geometry is none, line or shape, and "wkt" isn't\n
 "#,
 };
 

@@ -4,9 +4,9 @@
 _extractd_options() {
     case $1 in
     '') echo --help --version ;;
-    select) echo --where --score --data --help ;;
+    select) echo --where --score --data --format --columns --geometry --help ;;
     compile) echo --filter --score --help ;;
-    run) echo --program --data --help ;;
+    run) echo --program --data --format --columns --geometry --help ;;
     trace) echo --program --data --line --limit --help ;;
     geocode) echo --data --number --name --zip --help ;;
     geocode-batch) echo --addresses --data --shape --help ;;
@@ -28,7 +28,7 @@ _extractd_codes() {
 }
 
 _extractd() {
-    local current=${COMP_WORDS[COMP_CWORD]} previous=${COMP_WORDS[COMP_CWORD - 1]} command='' data=. given=' ' words='' index word
+    local current=${COMP_WORDS[COMP_CWORD]} previous=${COMP_WORDS[COMP_CWORD - 1]} command='' data=. given=' ' words='' before='' index word
     # Bash splits --data=DIR into words, and = is one of them.
     if [ "$current" = = ]; then
         current=
@@ -61,6 +61,24 @@ _extractd() {
         words='TLID FRADDL TOADDL FRADDR TOADDR ZIPL ZIPR STATEL STATER COUNTYL COUNTYR PLACEL PLACER TRACTL TRACTR BLOCKL BLOCKR
             FRLONG FRLAT TOLONG TOLAT'
         mapfile -t COMPREPLY < <(compgen -W "$words" -- "${current^^}")
+        return
+        ;;
+    --format)
+        mapfile -t COMPREPLY < <(compgen -W 'rows csv geojsonseq' -- "$current")
+        return
+        ;;
+    --geometry)
+        mapfile -t COMPREPLY < <(compgen -W 'none line shape' -- "$current")
+        return
+        ;;
+    --columns)
+        words='RT VERSION TLID SIDE1 SOURCE FEDIRP FENAME FETYPE FEDIRS CFCC FRADDL TOADDL FRADDR TOADDR ZIPL ZIPR STATEL STATER COUNTYL
+            COUNTYR COUSUBL COUSUBR PLACEL PLACER TRACTL TRACTR BLOCKL BLOCKR FRLONG FRLAT TOLONG TOLAT'
+        # The last name of the list is completed.
+        compopt -o nospace
+        word=${current##*,}
+        before=${current%"$word"}
+        mapfile -t COMPREPLY < <(compgen -P "$before" -W "$words" -- "${word^^}")
         return
         ;;
     --where | --number | --name | --zip | --line | --limit | --port) return ;;

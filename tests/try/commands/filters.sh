@@ -13,6 +13,14 @@ select --where TRUE --data faulty 01001 01005|3|$rows|error: faulty/TGR01005.RT1
 select --where TRUE --data folders 01001|3|0|refused 5 rt1 line 1 Read?county 01001
 select --where ZIPP=1 --data missing 01001|1|0|refused 91 line 1 column 1 UnknownColumn?no column has this name, and the nearest is ZIPL
 select --where TRUE --score FENAME --data $county 01001|2|0|error: --score is a column with numbers, and "FENAME" isn't
+select --where TRUE --format json --data missing 01001|2|0|error: --format is rows, csv or geojsonseq, and "json" isn't
+select --where TRUE --columns TLID --data missing 01001|2|0|error: --columns needs --format csv or geojsonseq
+run --program missing --format rows --geometry line --data missing 01001|2|0|error: --geometry needs --format csv or geojsonseq
+run --program missing --format csv --columns TLID,FRLATT --data missing 01001|2|0|error: --columns has "FRLATT", which isn't a column, and the nearest is FRLAT
+run --program missing --format csv --columns CFCC,TLID,TLID --data missing 01001|2|0|error: --columns has "TLID" twice
+select --where TRUE --format csv --columns '' --data missing 01001|2|0|error: --columns has an empty name
+select --where TRUE --format csv --columns CFCC,,TLID --data missing 01001|2|0|error: --columns has an empty name
+select --where TRUE --format geojsonseq --geometry point --data missing 01001|2|0|error: --geometry is none, line or shape, and "point" isn't
 compile --filter missing.cql|3|0|error: missing.cql: not found
 compile --filter folder|3|0|error: folder: is a directory
 compile --filter /dev/zero|1|0|refused 96 line 1 column 1048577 TooLong?the text has more than 1,048,576 bytes
@@ -20,3 +28,9 @@ compile --filter latin.s|1|0|refused 90 line 1 column 8 Syntax?expected UTF-8
 compile --filter -|1|0|refused 90 line 1 column 1 Syntax?expected a predicate, TRUE, FALSE or a parenthesis
 END
 try_shown 'error: --score is a column with numbers, and "FENAME" isn'\''t'
+try_shown 'error: --format is rows, csv or geojsonseq, and "json" isn'\''t'
+try_shown 'error: --columns needs --format csv or geojsonseq'
+try_shown 'error: --columns has "FRLATT", which isn'\''t a column, and the nearest is FRLAT'
+try_shown 'error: --columns has "TLID" twice'
+try_shown 'error: --columns has an empty name'
+try_shown 'error: --geometry is none, line or shape, and "point" isn'\''t'

@@ -2,24 +2,32 @@
 ghost use Rattle.std.specs.Prelude.{IfOk};
 ghost use Rattle.command_line.specs.Arguments.{Takes, arguments_of};
 ghost use Rattle.command_line.specs.Request.{IsRun};
-ghost use Rattle.command_line.specs.Values.{Reads, rows_in};
+ghost use Rattle.command_line.specs.Values.{ReadsUnlessMemory, rows_in};
 ghost use Rattle.command_line.specs.declared.arguments.subcommand.Subcommand.TheVariants as Subcommand;
 
 use crate::fault::ArgumentsFault;
+use crate::layer_options::{layer, with_layer_options};
 use crate::options::{code, county_option, option, value};
 use clap::{ArgMatches, Command};
 use commands::Run;
-use layers::Layer;
 use std::alloc::{AllocError, Global};
 
 /// Returns the command for the argument parser.
 pub fn command<'a>(alloc: Global, name: &'a str) -> Result<Command<'a>, AllocError>
     ensures { IfOk result (Takes name.entry.now (arguments_of Subcommand.Run)) }
 {
-    Command::new(alloc, name)
+    let command = Command::new(alloc, name)
         .about("Writes the rows of the segments that a program selects")
         .after_help(help_end!(
-            "Example:\n  extractd run --program street.bpf --data tiger 01001 > rows.tsv"
+            "Output, one line for each segment, in the order of the file:
+  rows        the score, a tab, and the segment's record of 228 bytes
+  csv         the score, the columns, and the geometry as WKT, after a header
+  geojsonseq  a GeoJSON feature, as GDAL's driver GeoJSONSeq reads it
+
+Examples:
+  extractd run --program street.bpf --data tiger 01001 > rows.tsv
+  extractd run --program street.bpf --data tiger --format csv --columns TLID,FENAME --geometry none 01001 > names.csv
+  extractd run --program street.bpf --data tiger --format geojsonseq --geometry shape 01001 | ogr2ogr roads.gpkg /vsistdin/ -nln roads"
         ))
         .arg(option(
             alloc,
@@ -32,18 +40,18 @@ pub fn command<'a>(alloc: Global, name: &'a str) -> Result<Command<'a>, AllocErr
             "data",
             "DIR",
             "The folder of the TIGER/Line 2006 files",
-        ))?
-        .arg(county_option(alloc))
+        ))?;
+    with_layer_options(alloc, command)?.arg(county_option(alloc))
 }
 
 /// Returns the request that the matched arguments make.
-pub fn request<'a>(matches: &ArgMatches<'a>) -> Result<Run<'a>, ArgumentsFault<'a>>
-    ensures { Reads (IsRun (rows_in matches.now)) result }
+pub fn request<'a>(alloc: Global, matches: &ArgMatches<'a>) -> Result<Run<'a>, ArgumentsFault<'a>>
+    ensures { ReadsUnlessMemory (IsRun (rows_in matches.now)) result }
 {
     Ok(Run {
         program: value(matches, "program")?,
         data: value(matches, "data")?,
         code: code(matches)?,
-        layer: Layer::Rows,
+        layer: layer(alloc, matches)?,
     })
 }

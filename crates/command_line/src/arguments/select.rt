@@ -6,23 +6,25 @@ ghost use Rattle.command_line.specs.Values.{ReadsUnlessMemory, rows_in};
 ghost use Rattle.command_line.specs.declared.arguments.subcommand.Subcommand.TheVariants as Subcommand;
 
 use crate::fault::ArgumentsFault;
+use crate::layer_options::{layer, with_layer_options};
 use crate::options::{codes, counties_option, filter_options, option, score_option, value};
 use clap::{ArgMatches, Command};
 use commands::Select;
-use layers::Layer;
 use std::alloc::{AllocError, Global};
 
 /// Returns the command for the argument parser.
 pub fn command<'a>(alloc: Global, name: &'a str) -> Result<Command<'a>, AllocError>
     ensures { IfOk result (Takes name.entry.now (arguments_of Subcommand.Select)) }
 {
-    Command::new(alloc, name)
+    let command = Command::new(alloc, name)
         .about("Writes the rows of the street segments for which a filter is true")
         .after_help(help_end!(
-            "Output, one row for each segment, as run writes it: county by county, up to the first fault.
+            "Output, one line for each segment, as run writes it: county by county, up to the first fault.
 
-Example:
-  extractd select --where \"CFCC LIKE 'A4%' AND ZIPL = 36067\" --data tiger 01001 > rows.tsv"
+Examples:
+  extractd select --where \"CFCC LIKE 'A4%' AND ZIPL = 36067\" --data tiger 01001 > rows.tsv
+  extractd select --where \"CFCC LIKE 'A4%'\" --data tiger --format csv --columns TLID,FENAME --geometry none 01001 > names.csv
+  extractd select --where \"CFCC LIKE 'A4%'\" --data tiger --format geojsonseq 01001 | ogr2ogr roads.gpkg /vsistdin/ -nln roads"
         ))
         .arg(option(alloc, "where", "TEXT", "The filter, as CQL2 text"))?
         .arg(score_option(alloc))?
@@ -31,8 +33,8 @@ Example:
             "data",
             "DIR",
             "The folder of the TIGER/Line 2006 files",
-        ))?
-        .arg(counties_option(alloc))
+        ))?;
+    with_layer_options(alloc, command)?.arg(counties_option(alloc))
 }
 
 /// Returns the request that the matched arguments make.
@@ -47,6 +49,6 @@ pub fn request<'a>(
         filter_options: filter_options(alloc, matches)?,
         data: value(matches, "data")?,
         codes: codes(alloc, matches)?,
-        layer: Layer::Rows,
+        layer: layer(alloc, matches)?,
     })
 }

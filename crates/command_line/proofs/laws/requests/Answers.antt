@@ -1,12 +1,15 @@
-use Rattle.std.proofs.Common.{List, refl, sym, ap, Some}
+use Rattle.std.proofs.Common.{◌≡◌, List, refl, sym, ap, Some, None}
 use Rattle.clap.specs.Walk.{Text}
 use Rattle.clap.proofs.OnLiterals.{clap_on_literals}
+use Rattle.features.specs.Columns.{is_same}
+use Rattle.layers.specs.Layer.{LayerParts}
+use Rattle.layers.specs.LayerParts.{parts_of}
 use Rattle.command_line.specs.Arguments.{program}
 use Rattle.command_line.proofs.laws.requests.Goals as goal
 
 pub returns-clause-run : goal.returns-clause-run
 unfolding clap_on_literals program
-returns-clause-run c = λ run file folder code. record {
+returns-clause-run c = λ run file folder code layer. record {
   taken = refl;
   made = (
     run,
@@ -14,10 +17,48 @@ returns-clause-run c = λ run file folder code. record {
     record {
       program = ap (λ (text : Text). Some text) (sym file);
       folder = ap (λ (text : Text). Some text) (sym folder);
+      layer = ap (λ (layer : LayerParts). Some layer) (sym layer);
       code = ap (λ (text : Text). Some text) (sym code);
     },
   );
 }
+
+pub returns-clause-table : goal.returns-clause-table
+unfolding clap_on_literals program is_same
+returns-clause-table c = λ run file folder code layer. record {
+  taken = refl;
+  made = (
+    run,
+    refl,
+    record {
+      program = ap (λ (text : Text). Some text) (sym file);
+      folder = ap (λ (text : Text). Some text) (sym folder);
+      layer = ap (λ (layer : LayerParts). Some layer) (sym layer);
+      code = ap (λ (text : Text). Some text) (sym code);
+    },
+  );
+}
+
+pub returns-clause-features : goal.returns-clause-features
+unfolding clap_on_literals program is_same
+returns-clause-features c = λ run file folder code layer. record {
+  taken = refl;
+  made = (
+    run,
+    refl,
+    record {
+      program = ap (λ (text : Text). Some text) (sym file);
+      folder = ap (λ (text : Text). Some text) (sym folder);
+      layer = ap (λ (layer : LayerParts). Some layer) (sym layer);
+      code = ap (λ (text : Text). Some text) (sym code);
+    },
+  );
+}
+
+pub returns-clause-unformatted : goal.returns-clause-unformatted
+unfolding clap_on_literals program
+returns-clause-unformatted c = λ request is.
+    let none : None ≡ Some (parts_of is.made.0.layer) = is.made.2.layer in cc
 
 pub returns-clause-shape : goal.returns-clause-shape
 unfolding clap_on_literals program

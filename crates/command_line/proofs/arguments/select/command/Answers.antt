@@ -9,5 +9,6 @@ returns c =
     let none : Takes c.args.name.now [] c.after_help.result = search rules in
     let filter = takes_arg none c.in_ok-arg.ensures c.option.ensures.rule c.option.ensures.local in
     let score = takes_arg filter c.in_ok-arg-2.ensures c.score_option.ensures.rule c.score_option.ensures.local in
-    let folder = takes_arg score c.in_ok-arg-3.ensures c.option-2.ensures.rule c.option-2.ensures.local in
-    IfOk-weaker c.arg-4.result _ _ (λ made adds. takes_arg folder adds c.counties_option.ensures.rule c.counties_option.ensures.local) c.arg-4.ensures
+    let folder = takes_arg score c.in_ok-command.ensures c.option-2.ensures.rule c.option-2.ensures.local in
+    let layer = c.in_ok-with_layer_options.ensures _ _ folder in
+    IfOk-weaker c.arg-4.result _ _ (λ made adds. takes_arg layer adds c.counties_option.ensures.rule c.counties_option.ensures.local) c.arg-4.ensures

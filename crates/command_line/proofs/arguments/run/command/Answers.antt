@@ -1,0 +1,13 @@
+use Rattle.std.proofs.Common.{rules, []}
+use Rattle.std.proofs.lemmas.Result.{IfOk-weaker}
+use Rattle.command_line.proofs.ArgumentLemmas.{takes_arg}
+use Rattle.command_line.specs.Arguments.{Takes}
+use Rattle.command_line.proofs.arguments.run.command.Goals as goal
+
+pub returns : goal.returns
+returns c =
+    let none : Takes c.args.name.now [] c.after_help.result = search rules in
+    let program = takes_arg none c.in_ok-arg.ensures c.option.ensures.rule c.option.ensures.local in
+    let folder = takes_arg program c.in_ok-command.ensures c.option-2.ensures.rule c.option-2.ensures.local in
+    let layer = c.in_ok-with_layer_options.ensures _ _ folder in
+    IfOk-weaker c.arg-3.result _ _ (λ made adds. takes_arg layer adds c.county_option.ensures.rule c.county_option.ensures.local) c.arg-3.ensures
