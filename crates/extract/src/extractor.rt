@@ -3,7 +3,7 @@ ghost use Rattle.std.specs.Prelude.{◌≡◌, Err, IfErr, IfOk};
 ghost use Rattle.counted_io.specs.ReaderWriter.{reader, writer};
 ghost use Rattle.tl_segments.specs.CountyFiles.{county_readers};
 ghost use Rattle.tl_segments.specs.Loading.{IsJoinedFault, Readers, readers};
-ghost use Rattle.extract.specs.Extracting.{IsOutcome, IsOutcomeOfCode, IsOutcomeOfCodeIn, ServesExtract};
+ghost use Rattle.extract.specs.Extracting.{IsOutcome, IsOutcomeOfCodeIn, ServesExtract};
 ghost use Rattle.bpf_program.specs.declared.program.ProgramFault.{ProgramFault};
 
 use crate::fault::ExtractFault;
@@ -47,22 +47,8 @@ pub fn extract<A: Allocator + Copy, R: CountedRead, W: CountedWrite>(
     write_selected(&verified, &index, rt1, &mut row, out)
 }
 
-/// Does what [`extract`] does after it has accepted the program. A caller with several counties accepts its program once.
-pub fn extract_verified<A: Allocator + Copy, B: Allocator, R: CountedRead, W: CountedWrite>(
-    alloc: A,
-    verified: &Verified<B>,
-    files: &mut CountyFiles<R>,
-    out: &mut W,
-) -> Result<u64, ExtractFault>
-    ensures { IsOutcomeOfCode verified.now.code result
-        (county_readers R.remaining R.failed_reads files.old) (county_readers R.remaining R.failed_reads files.new)
-        (writer W.contents W.counts out.old) (writer W.contents W.counts out.new) }
-{
-    let mut row = RowBuffer::new();
-    extract_verified_in(alloc, verified, files, &mut row, out)
-}
-
-/// Does what [`extract_verified`] does, but writes the segments in this format.
+/// Does what [`extract`] does after it has accepted the program, and writes the segments in this format. A caller with several counties accepts its
+/// program once.
 pub fn extract_verified_in<
     A: Allocator + Copy,
     B: Allocator,

@@ -8,7 +8,7 @@ mod row_buffer;
 mod rows;
 
 pub use bpf_program::{ProgramFault, accept};
-pub use extractor::{extract, extract_verified, extract_verified_in};
+pub use extractor::{extract, extract_verified_in};
 pub use fault::ExtractFault;
 pub use formatting::Format;
 pub use row_buffer::{MAX_ROW_LENGTH, RowBuffer};
