@@ -1,5 +1,5 @@
 -- The values of a command's arguments.
-use Rattle.std.specs.Prelude.{◌≢◌, ◌==◌, ◌&&◌, ◌||◌, ℕ, Bool, false, if◌then◌else◌, nat_le, List, [], ◌∷◌, length, codes}
+use Rattle.std.specs.Prelude.{◌≢◌, ◌==◌, ◌&&◌, ◌||◌, ℕ, Bool, false, if◌then◌else◌, nat_le, List, length, codes}
 use Rattle.std.specs.Prelude.{Option, Some, None, is_some, option_and_then, option_map, unwrap_or, Result, Ok, Err}
 use Rattle.std.specs.List.{list_all, slice_split}
 use Rattle.std.specs.Option.{option_map_or}
@@ -13,15 +13,11 @@ use Rattle.clap.specs.Walk.{Row, Text, all_of, first_of, rows_of}
 use Rattle.clap.specs.declared.parser.matches.ArgMatches.{ArgMatches}
 use Rattle.cql2_tokens.specs.Name.{column_named}
 use Rattle.cql2.specs.declared.column.Column.{Column}
-use Rattle.cql2.specs.declared.column.Column.TheVariants as kind
-use Rattle.cql2.specs.declared.column.CoordinateColumn.TheVariants.{Frlong, Frlat, Tolong, Tolat}
-use Rattle.cql2.specs.declared.column.NumberColumn.TheVariants.{Tlid, Fraddl, Toaddl, Fraddr, Toaddr, Zipl, Zipr, Statel, Stater}
-use Rattle.cql2.specs.declared.column.NumberColumn.TheVariants.{Countyl, Countyr, Placel, Placer, Tractl, Tractr, Blockl, Blockr}
+use Rattle.cql2.specs.declared.column.Column.TheVariants.{Numeric}
 use Rattle.cql2.specs.declared.column.NumericColumn.{NumericColumn}
-use Rattle.cql2.specs.declared.column.NumericColumn.TheVariants.{Number, Coordinate}
-use Rattle.cql2.specs.declared.column.TextColumn.TheVariants.{Rt, Version, Side1, Source, Fedirp, Fename, Fetype, Fedirs, Cfcc, Cousubl, Cousubr}
 use Rattle.features.specs.Columns.{columns_named}
 use Rattle.features.specs.Layout.{LayoutParts}
+use Rattle.features.specs.declared.columns.TheConstants.{COLUMNS}
 use Rattle.features.specs.declared.geometry.Geometry.{Geometry}
 use Rattle.features.specs.declared.geometry.Geometry.TheVariants as geometry
 use Rattle.layers.specs.Layer.{LayerParts, Rows, Table, Features}
@@ -57,7 +53,7 @@ port_in text =
 
 -- the column, if it holds numbers or a coordinate
 abbrev pub numeric : Option Column → Option NumericColumn
-numeric (Some (kind.Numeric column)) = Some column
+numeric (Some (Numeric column)) = Some column
 numeric _ = None
 
 -- the column of the score, or none if no option names it; a text that names no such column has no meaning
@@ -65,21 +61,9 @@ abbrev pub score_in : Option Text → Option (Option NumericColumn)
 score_in None = Some None
 score_in (Some name) = option_map Some (numeric (column_named name))
 
--- all columns that a filter can name, in the order of the record
-abbrev pub every_column : List Column
-every_column =
-    kind.Text Rt ∷ kind.Text Version ∷ kind.Numeric (Number Tlid) ∷ kind.Text Side1 ∷ kind.Text Source
-    ∷ kind.Text Fedirp ∷ kind.Text Fename ∷ kind.Text Fetype ∷ kind.Text Fedirs ∷ kind.Text Cfcc
-    ∷ kind.Numeric (Number Fraddl) ∷ kind.Numeric (Number Toaddl) ∷ kind.Numeric (Number Fraddr) ∷ kind.Numeric (Number Toaddr)
-    ∷ kind.Numeric (Number Zipl) ∷ kind.Numeric (Number Zipr) ∷ kind.Numeric (Number Statel) ∷ kind.Numeric (Number Stater)
-    ∷ kind.Numeric (Number Countyl) ∷ kind.Numeric (Number Countyr) ∷ kind.Text Cousubl ∷ kind.Text Cousubr
-    ∷ kind.Numeric (Number Placel) ∷ kind.Numeric (Number Placer) ∷ kind.Numeric (Number Tractl) ∷ kind.Numeric (Number Tractr)
-    ∷ kind.Numeric (Number Blockl) ∷ kind.Numeric (Number Blockr)
-    ∷ kind.Numeric (Coordinate Frlong) ∷ kind.Numeric (Coordinate Frlat) ∷ kind.Numeric (Coordinate Tolong) ∷ kind.Numeric (Coordinate Tolat) ∷ []
-
 -- all columns, or those of the names between the commas of a text; each name is that of a column, and none is repeated
 abbrev pub columns_in : Option Text → Option (List Column)
-columns_in None = Some every_column
+columns_in None = Some COLUMNS
 columns_in (Some text) = result_ok (columns_named (slice_split (λ byte. byte == 44) text))
 
 -- the geometry that a text names

@@ -8,11 +8,13 @@ ghost use Rattle.named_files.specs.Files.{Closes, Opens, disk, input_reader};
 ghost use Rattle.tl_segments.specs.declared.fault.CountyFile.TheVariants.{Rt2};
 
 use layers::{Layer, LayerFiles};
-use named_files::{CountyFileFault, CountyInputs, Files, Input, close, close_county, open_county, open_shapes};
+use named_files::{
+    CountyFileFault, CountyInput, CountyInputs, Files, close, close_county, open_county, open_shapes,
+};
 use std::alloc::Allocator;
 
 /// The inputs for the files that a county's layer is made from.
-pub(crate) type LayerInputs<R> = LayerFiles<Input<R>>;
+pub(crate) type LayerInputs<R> = LayerFiles<CountyInput<R>>;
 
 /// Opens the files of a county that its layer is made from. If one of them can't be opened, closes those that are open.
 pub(crate) fn open_layer<A: Allocator + Copy, F: Files>(

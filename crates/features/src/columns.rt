@@ -12,13 +12,13 @@ use std::marker::Model;
 use tl_records::{Places, RECORD_LENGTH};
 
 /// The number of columns that a filter can name.
-pub(crate) const MAX_COLUMNS: usize = 32;
+pub const MAX_COLUMNS: usize = 32;
 
 /// The width of the widest field, FENAME.
 pub(crate) const MAX_FIELD_LENGTH: usize = 30;
 
-/// The columns, in the order of the record.
-const COLUMNS: [Column; MAX_COLUMNS] = [
+/// All columns that a filter can name, in the order of the record.
+pub const COLUMNS: [Column; MAX_COLUMNS] = [
     Column::Text(TextColumn::Rt),
     Column::Text(TextColumn::Version),
     Column::Numeric(NumericColumn::Number(NumberColumn::Tlid)),

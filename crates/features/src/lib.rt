@@ -14,7 +14,7 @@ mod string;
 mod text;
 mod value;
 
-pub use columns::Columns;
+pub use columns::{COLUMNS, Columns, MAX_COLUMNS};
 pub use columns_fault::ColumnsFault;
 pub use csv_table::CsvTable;
 pub use feature_lines::FeatureLines;

@@ -8,8 +8,11 @@ use crate::files::{FileFault, Files, Input, close, open, open_optional};
 use std::alloc::{AllocError, Allocator};
 use tl_segments::{CountyFile, CountyFiles, JoinedFiles};
 
-/// The inputs for a county's four files.
-pub type CountyInputs<R> = CountyFiles<Input<R>>;
+/// The input for one of a county's files.
+pub type CountyInput<R> = Input<R>;
+
+/// The inputs for the four files that a county is loaded from.
+pub type CountyInputs<R> = CountyFiles<CountyInput<R>>;
 
 /// Why a county's file can't be opened.
 #[derive(Clone, Copy)]

@@ -4,8 +4,10 @@
 mod county;
 mod files;
 
-pub use county::{CountyFileFault, CountyInputs, close_county, name_end, open_county, open_shapes};
+pub use county::{
+    CountyFileFault, CountyInput, CountyInputs, close_county, name_end, open_county, open_shapes,
+};
 pub use files::{
-    FileFault, FileSystem, Files, INPUT_BUFFER, Input, ProgramInputFault, SystemFiles, close, open,
+    FileFault, FileSystem, Files, INPUT_BUFFER, ProgramInputFault, SystemFiles, close, open,
     read_file, read_file_prefix, read_program, read_program_file, read_to_end,
 };
