@@ -1,5 +1,5 @@
 -- What each exit status guarantees, given how a request was carried out.
-use Rattle.std.proofs.Common.{◌≡◌, ◌≢◌, ℕ, List, Option, Result, Ok, Err, refl, ap, subst, sym, arith, ◌∙◌}
+use Rattle.std.proofs.Common.{◌≡◌, ◌≢◌, ℕ, List, Option, Result, Ok, Err, inl, inr, refl, ap, subst, sym, arith, ◌∙◌}
 use Rattle.std.specs.declared.io.Error.{Error}
 use Rattle.refusals.specs.Refusal.{RefusalParts}
 use Rattle.counted_io.specs.Counting.{CountsFault, CountsFlush}
@@ -12,7 +12,9 @@ use Rattle.commands.specs.Failure.{IsFailureBeforeFlush, Reports, refusal_status
 use Rattle.named_files.specs.Files.{Disk, OpenResults}
 use Rattle.commands.specs.Command.{IsUnusable, of_county, of_county_file, of_file, of_source, of_two, of_write}
 use Rattle.commands.proofs.ClassLemmas.{address_status, filter_status}
+use Rattle.commands.proofs.LayerLemmas.{header_counts, header_fault_counts, headed_fault_counts, layer_fault_counts}
 use Rattle.commands.proofs.SelectLemmas.{counties_counts}
+use Rattle.layers.specs.LayerParts.{parts_of}
 use Rattle.commands.specs.declared.request.Request.{Request}
 use Rattle.commands.specs.declared.request.Request.TheVariants.{Run, Compile, GeocodeBatch, Select}
 use Rattle.commands.specs.declared.failure.Failure.{Failure}
@@ -27,10 +29,13 @@ flush_counted flush counts counts' is same = grind (arith, is, same)
 write_counts : (request : Request) (known : List ℕ → Option (List ℕ)) (fault : WriteFault) (out out' : Writer)
     → Writes request known (Err fault) out out' → CountsFault fault out.counts out'.counts
 write_counts (Run arguments) known fault out out' is =
-    subst (λ (counts : WriteCounts). CountsFault fault counts out'.counts) is.outcome.2.before.counts is.outcome.2.cut_short.5
-write_counts (Select arguments) known fault out out' is =
+    headed_fault_counts (parts_of arguments.layer) is.outcome.0 fault is.old is.new out out' is.outcome.2
+write_counts (Select arguments) known fault out out' (program, is_program, inl is) =
+    header_fault_counts (parts_of arguments.layer) fault out out' is
+write_counts (Select arguments) known fault out out' (program, is_program, inr (headed, header, is)) =
     subst (λ (counts : WriteCounts). CountsFault fault counts out'.counts)
-    (is.2.stops.outcome.before.counts ∙ counties_counts is.2.written) is.2.stops.outcome.cut_short.5
+    (counties_counts is.written ∙ header_counts (parts_of arguments.layer) out headed header)
+    (layer_fault_counts (parts_of arguments.layer) program fault is.stops.old is.stops.new is.between out' is.stops.outcome)
 write_counts request known fault out out' is = is.written.1
 
 -- a text's refusal is never an I/O failure

@@ -4,6 +4,7 @@ use Rattle.std.proofs.Common.{inl, inr, refl, ap, sym, subst, ◌∙◌, arith}
 use Rattle.std.specs.Prelude.{⊤}
 use Rattle.bpf_insn.specs.declared.instruction.Insn.{Insn}
 use Rattle.bpf_meaning.specs.Extract.{TextFormat}
+use Rattle.counted_io.specs.Counting.{CountsFault}
 use Rattle.counted_io.specs.ReaderWriter.{Reader, WriteCounts, Writer}
 use Rattle.counted_io.specs.declared.writing.WriteFault.{WriteFault}
 use Rattle.extract.specs.ExtractFault as extract_fault
@@ -14,7 +15,7 @@ use Rattle.extract.specs.declared.fault.ExtractFault.{ExtractFault}
 use Rattle.extract.specs.declared.fault.ExtractFault.TheVariants as extract
 use Rattle.layers.specs.Layer.{LayerParts, Rows, Table, Features, WritesHeader, layer_format}
 use Rattle.layers.specs.ShapeTable.{IsShapesFault, ReadsShapes}
-use Rattle.layers.specs.Writing.{IsHeadedOutcome, IsLayerOutcome, LayerReaders, after_header, in_header}
+use Rattle.layers.specs.Writing.{IsHeadedOutcome, IsLayerOutcome, IsRefusedForShapes, LayerReaders, after_header, in_header}
 use Rattle.tl_segments.specs.County.{CountyReaders}
 use Rattle.tl_segments.specs.LoadFault as load_fault
 use Rattle.tl_segments.specs.Shape.{shape_parts}
@@ -124,6 +125,59 @@ module _ {shapes : Bool} {known : List ℕ → Option (List ℕ)} {folder code :
   headed_closes layer program result (in_header fault is_result written unread) =
       subst (λ (result : Result ℕ ExtractFault). ClosesAs result failed failed') (sym is_result) tt
   headed_closes layer program result (after_header headed header is) = layer_closes layer program result is
+
+-- the result is that of a refusal for a county's file
+
+abbrev pub IsOfLoad : Result ℕ ExtractFault → Type 0
+IsOfLoad (Err (extract.Load fault)) = ⊤
+IsOfLoad (Err extract.Memory) = ⊤
+IsOfLoad result = ⊥
+
+load_result : (fault : LoadFault) → IsOfLoad (Err (of_load fault))
+load_result load.Memory = tt
+load_result (load.Line file fault) = tt
+load_result (load.TooManyNames line) = tt
+load_result (load.TooManyRanges line) = tt
+load_result (load.RepeatedSequence line) = tt
+load_result (load.TooManyPoints line) = tt
+
+pub shapes_result : {result : Result ℕ ExtractFault} (old new : LayerReaders) (out out' : Writer) → IsRefusedForShapes result old new out out'
+    → IsOfLoad result
+shapes_result old new out out' is = subst IsOfLoad (sym is.is_result) (load_result is.fault)
+
+-- a failed write is counted as one
+
+pub header_counts : (layer : LayerParts) (out out' : Writer) → WritesHeader layer (Ok tt) out out' → out'.counts ≡ out.counts
+header_counts Rows out out' is = ap (λ (writer : Writer). writer.counts) is.1
+header_counts (Table layout) out out' is = is.1
+header_counts (Features layout) out out' is = ap (λ (writer : Writer). writer.counts) is.1
+
+pub header_fault_counts : (layer : LayerParts) (fault : WriteFault) (out out' : Writer) → WritesHeader layer (Err fault) out out'
+    → CountsFault fault out.counts out'.counts
+header_fault_counts Rows fault out out' is = let bad = is.0 in absurd (let no : ⊥ = cc bad in no)
+header_fault_counts (Table layout) fault out out' is = is.1
+header_fault_counts (Features layout) fault out out' is = let bad = is.0 in absurd (let no : ⊥ = cc bad in no)
+
+pub layer_fault_counts : (layer : LayerParts) (program : List Insn) (fault : WriteFault) (old new : LayerReaders) (out out' : Writer)
+    → IsLayerOutcome layer program (Err (extract.Write fault)) old new out out' → CountsFault fault out.counts out'.counts
+layer_fault_counts layer program fault old new out out' (inl is) = absurd (shapes_result old new out out' is)
+layer_fault_counts layer program fault old new out out' (inr is) =
+    subst (λ (counts : WriteCounts). CountsFault fault counts out'.counts) is.outcome.before.counts is.outcome.cut_short.5
+
+abbrev of_write : WriteFault → Result ℕ ExtractFault
+of_write fault = Err (extract.Write fault)
+
+same_fault : {fault other : WriteFault} → of_write fault ≡ of_write other → other ≡ fault
+same_fault is = cc is
+
+pub headed_fault_counts : (layer : LayerParts) (program : List Insn) (fault : WriteFault) (old new : LayerReaders) (out out' : Writer)
+    → IsHeadedOutcome layer program (Err (extract.Write fault)) old new out out' → CountsFault fault out.counts out'.counts
+headed_fault_counts layer program fault old new out out' (in_header other is_result written unread) =
+    header_fault_counts layer fault out out'
+    (subst (λ (of : WriteFault). WritesHeader layer (Err of) out out') (same_fault is_result) written)
+headed_fault_counts layer program fault old new out out' (after_header headed header is) =
+    subst (λ (counts : WriteCounts). CountsFault fault counts out'.counts) (header_counts layer out headed header)
+    (layer_fault_counts layer program fault old new headed out' is)
 
 -- no flush was counted
 

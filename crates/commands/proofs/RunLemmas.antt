@@ -5,7 +5,6 @@ use Rattle.bpf_insn.specs.declared.instruction.Insn.{Insn}
 use Rattle.bpf_meaning.specs.Extract.{TextFormat}
 use Rattle.bpf_program.specs.Program.{IsSafeProgram}
 use Rattle.extract.specs.ExtractFault as extract_fault
-use Rattle.extract.specs.ExtractFault.{of_load}
 use Rattle.extract.specs.Extracting.{IsOutcomeOfCodeIn}
 use Rattle.extract.specs.declared.fault.ExtractFault.{ExtractFault}
 use Rattle.extract.specs.declared.fault.ExtractFault.TheVariants as extract
@@ -19,8 +18,6 @@ use Rattle.layers.specs.Writing.{IsHeadedOutcome, IsLayerOutcome, LayerReaders, 
 use Rattle.tl_segments.specs.County.{CountyReaders}
 use Rattle.tl_segments.specs.LoadFault as load_fault
 use Rattle.tl_segments.specs.Shape.{shape_parts}
-use Rattle.tl_segments.specs.declared.fault.LoadFault.{LoadFault}
-use Rattle.tl_segments.specs.declared.fault.LoadFault.TheVariants as load
 use Rattle.tl_segments.specs.declared.fault.CountyFile.{CountyFile as CountyFileType}
 use Rattle.tl_segments.specs.declared.fault.CountyFile.TheVariants.{Rt2}
 use Rattle.commands.specs.Command.{CarriesOut}
@@ -37,7 +34,7 @@ use Rattle.named_files.specs.Files.{Closes, CountsFileFault, Disk, IsUnfailed, I
 use Rattle.named_files.specs.declared.county.CountyFileFault.{CountyFileFault}
 use Rattle.commands.proofs.CarriedLemmas.{refused_carried, unopened_carried}
 use Rattle.commands.proofs.ClassLemmas.{program_status}
-use Rattle.commands.proofs.LayerLemmas.{ClosesAs, headed_closes, headed_unflushed, shapes_file, unread_layer, unread_parts, unwritten_flushes}
+use Rattle.commands.proofs.LayerLemmas.{ClosesAs, IsOfLoad, headed_closes, headed_unflushed, shapes_file, shapes_result, unread_layer, unread_parts, unwritten_flushes}
 use Rattle.commands.proofs.ReadLemmas.{sound}
 
 -- a reader of unread bytes, if shapes are wanted
@@ -75,13 +72,12 @@ abbrev NotProgram : Result ℕ ExtractFault → Type 0
 NotProgram (Err (extract.Program fault)) = ⊥
 NotProgram result = ⊤
 
-load_no_program : (fault : LoadFault) → NotProgram (Err (of_load fault))
-load_no_program load.Memory = tt
-load_no_program (load.Line file fault) = tt
-load_no_program (load.TooManyNames line) = tt
-load_no_program (load.TooManyRanges line) = tt
-load_no_program (load.RepeatedSequence line) = tt
-load_no_program (load.TooManyPoints line) = tt
+load_no_program : (result : Result ℕ ExtractFault) → IsOfLoad result → NotProgram result
+load_no_program (Ok count) is = tt
+load_no_program (Err (extract.Program fault)) is = is
+load_no_program (Err (extract.Load fault)) is = tt
+load_no_program (Err (extract.Write fault)) is = tt
+load_no_program (Err extract.Memory) is = tt
 
 code_no_program : (text_of : TextFormat) (code : List Insn) (result : Result ℕ ExtractFault) (old new : CountyReaders) (out out' : Writer)
     → IsOutcomeOfCodeIn text_of code result old new out out' → NotProgram result
@@ -93,7 +89,7 @@ code_no_program text_of code (Err extract.Memory) old new out out' is = tt
 
 layer_no_program : (layer : LayerParts) (code : List Insn) (result : Result ℕ ExtractFault) (old new : LayerReaders) (out out' : Writer)
     → IsLayerOutcome layer code result old new out out' → NotProgram result
-layer_no_program layer code result old new out out' (inl is) = subst NotProgram (sym is.is_result) (load_no_program is.fault)
+layer_no_program layer code result old new out out' (inl is) = load_no_program result (shapes_result old new out out' is)
 layer_no_program layer code result old new out out' (inr is) =
     code_no_program (layer_format layer (shape_parts is.rt2)) code result old.county new.county out out' is.outcome
 
