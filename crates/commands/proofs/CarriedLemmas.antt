@@ -8,11 +8,9 @@ use Rattle.counted_io.specs.ReaderWriter.{WriteCounts, Writer}
 use Rattle.counted_io.specs.Writing.{WritesText}
 use Rattle.counted_io.specs.declared.writing.WriteFault.{WriteFault}
 use Rattle.commands.specs.Command.{CarriesOut, IsFileOf, IsRefused, Writes, WritesBefore}
-use Rattle.commands.specs.Failure.{IsUnchangedOnUsage, NamesFile, IsUnfailedUnlessUnusable, WritesAs, of_county_file, of_file, of_program, refusal_status}
-use Rattle.named_files.specs.Files.{CountsFileFault, CountsProgramUse, CountsUse, Disk, IsOpenFault, IsProgramInputFault, IsProgramUseFault, IsTooLong, IsUnfailed, IsUseFault, OpenResults}
+use Rattle.commands.specs.Failure.{IsUnchangedOnUsage, NamesFile, IsUnfailedUnlessUnusable, WritesAs, of_file, of_program, refusal_status}
+use Rattle.named_files.specs.Files.{CountsProgramUse, CountsUse, Disk, IsProgramInputFault, IsProgramUseFault, IsTooLong, IsUnfailed, IsUseFault, OpenResults}
 use Rattle.commands.specs.Inputs.{HoldTooLong, IsInputsFailure}
-use Rattle.named_files.specs.County.{file_name}
-use Rattle.tl_segments.specs.declared.fault.CountyFile as county_file
 use Rattle.commands.specs.declared.request.Request.{Request}
 use Rattle.commands.specs.declared.failure.Failure.{Failure}
 use Rattle.commands.specs.declared.failure.Failure.TheVariants.{Refusal, Memory, File, CountyFile}
@@ -74,20 +72,6 @@ module _ {R : Type 0} (opens : OpenResults R) {request : Request} {disk disk' : 
   file_carried name (fault.Unusable error) is fails uses =
       record { outcome = (refl, fails); names = is; counts = λ other. absurd (other refl); unflushed = refl }
   file_carried name fault.Memory is fails uses = record { outcome = refl; names = tt; counts = λ other. uses; unflushed = refl }
-
-  -- a county's file can't be opened
-  pub unopened_carried : (folder code : Bor (List ℕ)) (file : county_file.CountyFile) (of : FileFault)
-      → IsFileOf request (file_name folder.now code.now file) → IsOpenFault (opens (file_name folder.now code.now file)) of
-      → CountsFileFault of disk.failed_opens disk'.failed_opens → disk'.failed_reads ≡ disk.failed_reads
-      → WritesBefore request disk.known out out → CarriesOut opens request (Err (of_county_file folder code file of)) disk disk' out out
-  unopened_carried folder code file (fault.Unusable error) is has counts reads before =
-      record { outcome = (before, (has, counts)); names = is; counts = λ other. absurd (other refl); unflushed = refl }
-  unopened_carried folder code file fault.Memory is has counts reads before = record {
-    outcome = refl;
-    names = tt;
-    counts = λ other. record { opens = counts; reads = reads };
-    unflushed = refl;
-  }
 
   -- a program can't be read or is too long
   pub program_carried : (name : Bor (List ℕ)) (known : Option (List ℕ)) (of : ProgramInputFault) → IsFileOf request name.now

@@ -1,5 +1,5 @@
 -- How `run` is carried out, by its outcome.
-use Rattle.std.proofs.Common.{◌≡◌, ℕ, Bool, true, false, List, Option, Some, None, Bor, Result, Ok, Err, inl, inr, refl, ap, sym, subst, arith, ◌∙◌}
+use Rattle.std.proofs.Common.{◌≡◌, ℕ, Bool, true, false, List, Option, Some, None, Result, Ok, Err, inl, inr, refl, sym, subst, arith, ◌∙◌}
 use Rattle.std.specs.Prelude.{⊤}
 use Rattle.bpf_insn.specs.declared.instruction.Insn.{Insn}
 use Rattle.bpf_meaning.specs.Extract.{TextFormat}
@@ -18,23 +18,21 @@ use Rattle.layers.specs.Writing.{IsHeadedOutcome, IsLayerOutcome, LayerReaders, 
 use Rattle.tl_segments.specs.County.{CountyReaders}
 use Rattle.tl_segments.specs.LoadFault as load_fault
 use Rattle.tl_segments.specs.Shape.{shape_parts}
-use Rattle.tl_segments.specs.declared.fault.CountyFile.{CountyFile as CountyFileType}
 use Rattle.tl_segments.specs.declared.fault.CountyFile.TheVariants.{Rt2}
 use Rattle.commands.specs.Command.{CarriesOut}
-use Rattle.commands.specs.Failure.{NamesFile, of_county_file, of_extract}
+use Rattle.commands.specs.Failure.{NamesFile, of_extract}
 use Rattle.commands.specs.Inputs.{HoldInputs, HoldTooLong, IsInput}
-use Rattle.commands.specs.LayerInputs.{ClosesLayer, ClosesShapes, HoldLayer, HoldsShapes, IsFileOfLayer, IsShapesOpenFault}
+use Rattle.commands.specs.LayerInputs.{ClosesLayer, HoldLayer, HoldsShapes, IsFileOfLayer}
 use Rattle.commands.specs.Run.{IsFileOf, IsOutcomeOf, IsProgramOutcome, IsRefused, wants_shapes}
 use Rattle.commands.specs.declared.failure.Failure.{Failure}
 use Rattle.commands.specs.declared.failure.Failure.TheVariants.{File, CountyFile}
 use Rattle.commands.specs.declared.request.Request.TheVariants as request
 use Rattle.commands.specs.declared.run.Run.{Run}
 use Rattle.named_files.specs.County.{IsFileOfCounty, file_name}
-use Rattle.named_files.specs.Files.{Closes, CountsFileFault, Disk, IsUnfailed, IsUnread, OpenResults, Opens}
-use Rattle.named_files.specs.declared.county.CountyFileFault.{CountyFileFault}
-use Rattle.commands.proofs.CarriedLemmas.{refused_carried, unopened_carried}
+use Rattle.named_files.specs.Files.{Closes, Disk, IsUnfailed, IsUnread, OpenResults}
+use Rattle.commands.proofs.CarriedLemmas.{refused_carried}
 use Rattle.commands.proofs.ClassLemmas.{program_status}
-use Rattle.commands.proofs.LayerLemmas.{ClosesAs, IsOfLoad, headed_closes, headed_unflushed, shapes_file, shapes_result, unread_layer, unread_parts, unwritten_flushes}
+use Rattle.commands.proofs.LayerLemmas.{ClosesAs, IsOfLoad, headed_closes, headed_unflushed, shapes_result, unread_layer, unread_parts, unwritten_flushes}
 use Rattle.commands.proofs.ReadLemmas.{sound}
 
 -- a reader of unread bytes, if shapes are wanted
@@ -124,17 +122,6 @@ input_named run (File name error) is = input_file run name.now is
 input_named run (CountyFile folder code file error) is = input_file run (file_name folder.now code.now file) is
 input_named run failure is = tt
 
--- the file of type 2 can't be opened
-pub run_unopened : {R : Type 0} {opens : OpenResults R} (run : Run) {disk between disk' : Disk} {out : Writer} (of : CountyFileFault)
-    → IsUnfailed disk between → IsShapesOpenFault (wants_shapes run) opens run.«data».now run.code.now of
-    → Opens {T = ℕ} (Err of) (λ fault. fault.fault) between disk'
-    → CarriesOut opens (request.Run run) (Err (of_county_file run.«data» run.code of.file of.fault)) disk disk' out out
-run_unopened {opens = opens} run {disk} {between} {disk'} {out} of before is opened =
-    subst (λ (file : CountyFileType). CarriesOut opens (request.Run run) (Err (of_county_file run.«data» run.code file of.fault)) disk disk' out out)
-    (sym is.1.of_file)
-    (unopened_carried opens run.«data» run.code Rt2 of.fault (inr (Rt2, shapes_file (wants_shapes run) is.0, refl)) is.1.is_fault
-    (subst (λ (failed : ℕ). CountsFileFault of.fault failed disk'.failed_opens) before.opens opened.opens) (opened.reads ∙ before.reads) refl)
-
 module _ (run : Run) (disk between disk' : Disk) (out out' : Writer) (program bytes : List ℕ) (old new : LayerReaders)
     (hold : HoldInputs disk.known run.program.now run.«data».now run.code.now program old.county)
     (shapes : HoldsShapes (wants_shapes run) (disk.known (file_name run.«data».now run.code.now Rt2)) old.rt2)
@@ -176,15 +163,6 @@ module _ (run : Run) (disk between disk' : Disk) (out out' : Writer) (program by
   program_unflushed (Err (extract.Write fault)) is = headed_unflushed (parts_of run.layer) is.0 (Err (extract.Write fault)) old new out out' is.2
   program_unflushed (Err extract.Memory) (inl is) = unwritten_flushes is.1
   program_unflushed (Err extract.Memory) (inr is) = headed_unflushed (parts_of run.layer) is.0 (Err extract.Memory) old new out out' is.2
-
-  pub run_done : {R : Type 0} {opens : OpenResults R} (count : ℕ) → IsProgramOutcome (parts_of run.layer) bytes (Ok count) old new out out'
-      → CarriesOut opens (request.Run run) (Ok tt) disk disk' out out'
-  run_done count is = record {
-    outcome = (count, outcome_of (Ok count) is);
-    names = tt;
-    counts = record { opens = closes.opens ∙ before.opens; reads = program_closes (Ok count) is };
-    unflushed = program_unflushed (Ok count) is;
-  }
 
   pub run_stopped : {R : Type 0} {opens : OpenResults R} (fault : ExtractFault)
       → IsProgramOutcome (parts_of run.layer) bytes (Err fault) old new out out'

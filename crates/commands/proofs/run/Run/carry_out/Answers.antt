@@ -2,7 +2,7 @@ use Rattle.std.proofs.Common.{refl, ◌∙◌}
 use Rattle.named_files.specs.County.{file_name}
 use Rattle.tl_segments.specs.declared.fault.CountyFile.TheVariants.{Rt2}
 use Rattle.commands.proofs.CarriedLemmas.{inputs_carried}
-use Rattle.commands.proofs.RunLemmas.{input_named, run_done, run_stopped, run_too_long, run_unopened}
+use Rattle.commands.proofs.RunLemmas.{input_named, run_stopped, run_too_long}
 use Rattle.commands.proofs.run.Run.carry_out.Goals as goal
 
 pub returns-in-Err-clause-carried : goal.returns-in-Err-clause-carried
