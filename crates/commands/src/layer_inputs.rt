@@ -9,7 +9,8 @@ ghost use Rattle.tl_segments.specs.declared.fault.CountyFile.TheVariants.{Rt2};
 
 use layers::{Layer, LayerFiles};
 use named_files::{
-    CountyFileFault, CountyInput, CountyInputs, Files, close, close_county, open_county, open_shapes,
+    CountyFileFault, CountyInput, CountyInputs, Files, close, close_county, open_county,
+    open_shapes,
 };
 use std::alloc::Allocator;
 
