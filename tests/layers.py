@@ -26,7 +26,7 @@ TOWN = Path(__file__).resolve().parent.parent / "examples" / "town" / "TGR01007.
 CODE = "01007"
 POINTS_OF_A_LINE = 10
 MOST_POINTS = 25
-FORMATS = {"csv": ["CSV:/vsistdin/", "-oo", "KEEP_GEOM_COLUMNS=NO"], "geojsonseq": ["/vsistdin/"]}
+FORMATS = {"csv": ["CSV:/vsistdin/", "-oo", "KEEP_GEOM_COLUMNS=NO"], "geojsonseq": ["/vsistdin?buffer_limit=-1"]}
 # The columns that the driver has, too. It makes integers of some.
 COLUMNS = (
     "TLID SIDE1 SOURCE FEDIRP FENAME FETYPE FEDIRS CFCC FRADDL TOADDL FRADDR TOADDR ZIPL ZIPR STATEL STATER COUNTYL COUNTYR COUSUBL COUSUBR "

@@ -171,7 +171,7 @@ extractd --help; extractd 1.0.0
 extractd --help; 4  out of memory
 extractd run --help; extractd run --program street.bpf --data tiger 01001 > rows.tsv
 extractd run --help; --format csv --columns TLID,FENAME --geometry none 01001 > names.csv
-extractd select --help; --format geojsonseq 01001 | ogr2ogr roads.gpkg /vsistdin/ -nln roads
+extractd select --help; --format geojsonseq 01001 | ogr2ogr roads.gpkg '/vsistdin?buffer_limit=-1' -nln roads
 extractd select --help; none, line (the default), or shape
 extractd trace --help; stuck place P cause N
 extractd verify --help; extractd verify --program street.bpf

@@ -27,7 +27,7 @@ pub fn command<'a>(alloc: Global, name: &'a str) -> Result<Command<'a>, AllocErr
 Examples:
   extractd run --program street.bpf --data tiger 01001 > rows.tsv
   extractd run --program street.bpf --data tiger --format csv --columns TLID,FENAME --geometry none 01001 > names.csv
-  extractd run --program street.bpf --data tiger --format geojsonseq --geometry shape 01001 | ogr2ogr roads.gpkg /vsistdin/ -nln roads"
+  extractd run --program street.bpf --data tiger --format geojsonseq --geometry shape 01001 | ogr2ogr roads.gpkg '/vsistdin?buffer_limit=-1' -nln roads"
         ))
         .arg(option(
             alloc,

@@ -24,7 +24,7 @@ pub fn command<'a>(alloc: Global, name: &'a str) -> Result<Command<'a>, AllocErr
 Examples:
   extractd select --where \"CFCC LIKE 'A4%' AND ZIPL = 36067\" --data tiger 01001 > rows.tsv
   extractd select --where \"CFCC LIKE 'A4%'\" --data tiger --format csv --columns TLID,FENAME --geometry none 01001 > names.csv
-  extractd select --where \"CFCC LIKE 'A4%'\" --data tiger --format geojsonseq 01001 | ogr2ogr roads.gpkg /vsistdin/ -nln roads"
+  extractd select --where \"CFCC LIKE 'A4%'\" --data tiger --format geojsonseq 01001 | ogr2ogr roads.gpkg '/vsistdin?buffer_limit=-1' -nln roads"
         ))
         .arg(option(alloc, "where", "TEXT", "The filter, as CQL2 text"))?
         .arg(score_option(alloc))?
