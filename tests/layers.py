@@ -88,8 +88,12 @@ def read(table: bytes, encoding: str) -> Iterator[Segment]:
 
 
 def gdal(*source: str, given: bytes | None = None) -> bytes:
+    """Returns what GDAL reads, as a table. Its warnings, as of a missing file of type 2, are shown only if it fails."""
     command = ["ogr2ogr", "-f", "CSV", "-lco", "GEOMETRY=AS_WKT", "/vsistdout/", *source]
-    return subprocess.run(command, input=given, stdout=subprocess.PIPE, check=True).stdout
+    done = subprocess.run(command, input=given, capture_output=True)
+    if done.returncode != 0:
+        sys.exit(done.stderr.decode())
+    return done.stdout
 
 
 def layer(folder: Path, form: str, geometry: str) -> Iterator[Segment]:

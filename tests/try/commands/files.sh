@@ -51,7 +51,7 @@ try_help() {
     local command
     try_case 2 0 "*Usage: extractd <COMMAND>*Examples:*Exit status:*extractd 1.0.0" 'extractd --help'
     for command in select compile run trace geocode geocode-batch verify explain asm dis serve; do
-        try_case 2 0 "*Usage: extractd $command *Example:*extractd $command *Exit status:*extractd 1.0.0" "extractd $command --help"
+        try_case 2 0 "*Usage: extractd $command *Example*:*extractd $command *Exit status:*extractd 1.0.0" "extractd $command --help"
     done
 }
 
