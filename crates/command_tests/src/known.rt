@@ -2,6 +2,8 @@
 ghost use Rattle.std.specs.Prelude.{◌≡◌};
 ghost use Rattle.command_tests.specs.Memory.{bytes_named};
 ghost use Rattle.command_tests.specs.Known.{AppendsAcceptance, AppendsExtract};
+ghost use Rattle.layers.specs.Layer.{Rows};
+ghost use Rattle.layers.specs.LayerParts.{parts_of};
 
 use crate::files::MemoryFiles;
 #[cfg(test)]
@@ -12,6 +14,7 @@ use commands::{Request, Run, Verify};
 use counted_io::Counting;
 #[cfg(test)]
 use fixtures::bytes;
+#[cfg(test)]
 use layers::Layer;
 use std::alloc::Global;
 #[cfg(test)]
@@ -31,7 +34,7 @@ pub fn answer_verify(
     Request::Verify(verify).answer(alloc, files, out, errors)
 }
 
-/// Runs a program over a county in memory, and returns the exit status.
+/// Runs a program over a county in memory, and returns the exit status. The contract is about rows.
 pub fn answer_run(
     alloc: Global,
     run: Run<'_>,
@@ -39,7 +42,8 @@ pub fn answer_run(
     out: &mut Counting<Vec<u8>>,
     errors: &mut Counting<Vec<u8>>,
 ) -> u8
-    ensures { result ≡ 0 → AppendsExtract (bytes_named files.old.files.now) run.entry out.old.inner.items out.new.inner.items }
+    ensures { result ≡ 0 → parts_of run.entry.layer ≡ Rows
+        → AppendsExtract (bytes_named files.old.files.now) run.entry out.old.inner.items out.new.inner.items }
 {
     Request::Run(run).answer(alloc, files, out, errors)
 }
