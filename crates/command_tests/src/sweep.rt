@@ -10,7 +10,7 @@ use std::test::Fail;
 // Rows in the form of `Row`. After `reads` comes the number of reads of a file that isn't read to its end. Each type 1 line that `run` reads
 // yields a row.
 const REQUESTS: Table = Table {
-    rows: 48,
+    rows: 47,
     text: r#"
 extractd run --program p.bpf --data d 01001; 0\t{rt1}\n0\t{rt1}\n; 0;; p.bpf: {every}; d/TGR01001.RT1: {rt1\n*2}
 extractd run --program p.bpf --data d 01001;; 0;; p.bpf: {every}; d/TGR01001.RT1:
@@ -71,9 +71,6 @@ extractd compile --filter f.cql;; 1; refused 90 line 1 column 2 Syntax\nexpected
 extractd select --where ZIPL_=_36067 --data d 01001; 0\t{rt1}\n0\t{rt1}\n; 0;; d/TGR01001.RT1: {rt1\n*2}
 extractd select --where HAS~NAME('oak') --data d 01001; 0\t{rt1}\n; 0;; d/TGR01001.RT1: {rt1}\n;
   d/TGR01001.RT4: {rt4}\n; d/TGR01001.RT5: {rt5}\n
-extractd run --program p.bpf --format geojsonseq --columns TLID --geometry shape --data d 01001;
-  \x7b"type":"Feature","properties":\x7b"score":0,"TLID":123456789\x7d,"geometry":\x7b"type":"LineString","coordinates":[[-86.500000,32.400000],[-86.498000,32.403000],[-86.495000,32.406000],[-86.490000,32.410000]]\x7d\x7d\n;
-  0;; p.bpf: {every}; d/TGR01001.RT1: {rt1}\n; d/TGR01001.RT2: {rt2}\n
 extractd verify --program p.bpf; accepted\n; 0;; p.bpf: {every}
 extractd verify --program p.bpf; accepted\n; 0;; p.bpf: {roads}
 extractd verify --program p.bpf;; 1; refused 40 place 0 ReadsNothing(0); p.bpf: {stuck}
