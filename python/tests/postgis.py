@@ -36,7 +36,6 @@ from test_geocoding_index import Index, Segment
 from test_reversing import METERS, House, beside, houses
 from tigerline._layout import FIELDS
 from tigerline._nearest import foot_of
-from tigerline._shapes import shape_points
 
 PACKAGES = ["postgresql-15", "postgresql-15-postgis-3", "postgresql-15-postgis-3-scripts"]
 PROGRAMS = Path("/usr/lib/postgresql/15/bin")
@@ -167,7 +166,7 @@ def load(server: Server, database: str, folder: Path, code: str) -> Lines:
 def write_tables(target: Path, folder: Path, code: str) -> Lines:
     """Writes the tables that postgis.sql reads, and returns the lines of all segments in degrees."""
     segments = Index(folder, code).segments
-    shapes = shape_points(folder / f"TGR{code}.RT2", {segment.tlid for segment in segments}, "RT2")
+    shapes = shape_points(folder / f"TGR{code}.RT2")
     records = (folder / f"TGR{code}.RT1").read_text("latin-1").splitlines()
     lines: Lines = {}
     nodes: dict[Point, int] = {}
@@ -188,6 +187,15 @@ def write_tables(target: Path, folder: Path, code: str) -> Lines:
         with (target / f"{table}.csv").open("w", newline="") as file:
             csv.writer(file).writerows(rows)
     return lines
+
+
+def shape_points(path: Path) -> Mapping[int, list[Point]]:
+    """Returns the shape points of each TLID in degrees, in the order of the file."""
+    found: dict[int, list[Point]] = {}
+    for record in path.read_text("latin-1").splitlines():
+        points = ((int(record[at : at + 10]), int(record[at + 10 : at + 19])) for at in range(18, 208, 19))
+        found.setdefault(int(record[5:15]), []).extend((x / 1e6, y / 1e6) for x, y in points if (x, y) != (0, 0))
+    return found
 
 
 def line_of(segment: Segment, shape: Sequence[Point]) -> list[Point]:

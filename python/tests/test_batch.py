@@ -27,15 +27,15 @@ from batches import (
     wait_for,
     write_counties,
 )
-from counties import write_shapes
 from test_interrupts import processes_with
 from tigerline import __main__ as command
 from tigerline import _batch, _map_rows
 from tigerline._extract import Request
 from tigerline._interrupts import Interrupts
+from tigerline._tables import Form
 
 SEED = 20062
-FORM = _batch.Form(("TLID",), has_lines=False, signed=False, for_gdal=False, has_map=False)
+FORM = Form(("TLID",), "none")
 
 pytestmark = pytest.mark.usefixtures("extractd", "scratch")
 
@@ -95,8 +95,6 @@ def test_same_bytes(data: Path, out: Path, suffix: str, gdal: None) -> None:
 )
 def test_same_map(data: Path, out: Path, name: str, options: tuple[str, ...]) -> None:
     """With and without the segments around the selection."""
-    for code in CODES:
-        write_shapes(data, code)
     selection = ("--where", "FENAME LIKE 'C%' OR CFCC = 'A21'", *options)
     expected = plain(data, out / "a.csv", *selection, "--map", out / name)
     drawn = (out / name).read_bytes()
@@ -138,8 +136,6 @@ def test_same_bytes_of_options(
     """Also if counties are zip files, and if the path of the program is relative."""
     (out.parent / "all.bpf").write_bytes(bytes.fromhex("b700000001000000 9500000000000000"))
     monkeypatch.chdir(out.parent)
-    for code in CODES:
-        write_shapes(data, code)
     expected = plain(data, out / "a.csv", *options)
     source = write_archives(data, out.parent / "zip") if "--program" in options else data
     assert plain(source, out / "b.csv", *options, "--workers", "2") == expected
@@ -264,11 +260,10 @@ class TestTasks:
         data: Path,
         store: Path,
         request: Request = Request("TRUE"),
-        form: _batch.Form = FORM,
-        all_rows: bool = False,
+        form: Form = FORM,
     ) -> _batch.PartTask:
         with Interrupts() as interrupts:
-            source = _batch.county_tasks(request, data, "01001", False, all_rows, interrupts)[0]
+            source = _batch.county_tasks(request, data, "01001", form.outputs, interrupts)[0]
         store.mkdir(exist_ok=True)
         return _batch.part_task(source, form, store)
 
@@ -287,15 +282,16 @@ class TestTasks:
             lambda: self.task(data, tmp_path, Request("TRUE", score="TLID")),
             lambda: self.task(data, tmp_path, Request(program=b"words")),
             lambda: self.task(data, tmp_path, Request("TRUE", extractd=program)),
-            lambda: self.task(data, tmp_path, all_rows=True),
             *[
                 lambda form=form: self.task(data, tmp_path, form=form)
                 for form in (
                     replace(FORM, names=("CFCC",)),
-                    replace(FORM, has_lines=True),
+                    replace(FORM, geometry="line"),
+                    replace(FORM, geometry="shape"),
                     replace(FORM, signed=True),
                     replace(FORM, for_gdal=True),
                     replace(FORM, has_map=True),
+                    replace(FORM, has_map=True, has_background=True),
                 )
             ],
             lambda: os.utime(data / "TGR01001.RT6", (0, 0)) or self.task(data, tmp_path),

@@ -1,9 +1,14 @@
-"""Rows as columns and as tuples, with arbitrary bytes."""
+"""Rows as columns and tables as tuples, with arbitrary bytes."""
+
+from pathlib import Path
+from tempfile import TemporaryDirectory
 
 import pytest
 from tigerline import _layout as layout
-from tigerline._extract import CountyRows
-from tigerline._rows import read_rows
+from tigerline._extract import ALL_SEGMENTS, ROWS, Output, county_texts
+from tigerline._interrupts import Interrupts
+from tigerline._rows import read_lines, read_rows
+from tigerline._sources import County
 
 pytest.importorskip("hypothesis", reason="no hypothesis")
 pytest.importorskip("pandas", reason="no pandas")
@@ -11,6 +16,8 @@ import pandas as pd  # noqa: E402
 from hypothesis import given, settings  # noqa: E402
 from hypothesis import strategies as st  # noqa: E402
 from tigerline import _columns  # noqa: E402
+
+TYPES = "1456"
 
 
 def records_of(alphabet: bytes) -> st.SearchStrategy[bytes]:
@@ -23,7 +30,7 @@ BYTES = records_of(bytes(byte for byte in range(256) if byte != 10))
 FIELDS = records_of(b" 0123456789+-\t\r\0A\xff")
 SPARSE = records_of(b"       0123456789-")
 SCORES = st.sampled_from([0, 1, 9, 10, 2**31, 2**63 - 1, 2**63, 2**64 - 1]) | st.integers(0, 2**64 - 1)
-ROWS = st.lists(st.tuples(SCORES, BYTES | FIELDS | SPARSE), max_size=12)
+ROWS_OF_ANY_BYTES = st.lists(st.tuples(SCORES, BYTES | FIELDS | SPARSE), max_size=12)
 
 
 def encoded(rows: list[tuple[int, bytes]]) -> bytes:
@@ -31,30 +38,48 @@ def encoded(rows: list[tuple[int, bytes]]) -> bytes:
 
 
 @settings(max_examples=100)
-@given(ROWS)
-def test_columns_are_the_fields(rows: list[tuple[int, bytes]]) -> None:
+@given(ROWS_OF_ANY_BYTES)
+def test_rows_are_split(rows: list[tuple[int, bytes]]) -> None:
     scores, records = _columns.split(encoded(rows))
     assert scores.tolist() == [score for score, _ in rows]
     assert [record.tobytes() for record in records] == [record for _, record in rows]
-    table = _columns.columns(records, layout.NAMES)
-    tuples = list(read_rows(CountyRows("01001", encoded(rows)), signed=False))
-    assert [row.score for row in tuples] == [score for score, _ in rows]
-    for field in layout.FIELDS:
-        expected = [getattr(row, field.name) for row in tuples]
-        assert [None if pd.isna(value) else value for value in table[field.name]] == expected
 
 
 @settings(max_examples=60)
-@given(st.lists(SPARSE, min_size=1, max_size=4), st.integers(0, 2**64 - 1))
-def test_tuples_are_the_fields(records: list[bytes], score: int) -> None:
-    rows = read_rows(CountyRows("01001", encoded([(score, record) for record in records])), signed=True)
-    for record, row in zip(records, rows, strict=True):
-        assert row.score % 2**64 == score and -(2**63) <= row.score < 2**63
-        for field in layout.FIELDS:
-            if field.kind is layout.Kind.CODE:
-                assert (getattr(row, field.name) or "") == record[field.first - 1 : field.last].decode("latin-1").strip(
-                    " "
-                )
+@given(st.lists(BYTES | FIELDS | SPARSE, min_size=1, max_size=12))
+def test_columns_are_those_of_the_table(extractd: str, found: list[bytes]) -> None:
+    """The fields that numpy reads are those of the program's table."""
+    lines = [b"1%b%10d%b9\r\n" % (record[1:5], at, record[15:227]) for at, record in enumerate(found)]
+    with TemporaryDirectory() as folder, Interrupts() as interrupts:
+        files = {record_type: Path(folder) / f"TGR01001.RT{record_type}" for record_type in TYPES}
+        for record_type, path in files.items():
+            path.write_bytes(b"".join(lines) if record_type == "1" else b"")
+        county = County("01001", Path(folder), files)
+        rows, table = county_texts(extractd, ALL_SEGMENTS, county, [ROWS, Output(layout.NAMES)], interrupts).texts
+    columns = _columns.columns(_columns.split(rows)[1], layout.NAMES)
+    tuples = list(read_rows("01001", table, signed=False))
+    for name in layout.NAMES:
+        expected = [getattr(row, name) for row in tuples]
+        assert [None if pd.isna(value) else value for value in columns[name]] == expected
+
+
+@pytest.mark.parametrize(
+    ("score", "signed"), [(0, 0), (2**63 - 1, 2**63 - 1), (2**63, -(2**63)), (2**64 - 1, -1)]
+)
+def test_signed_scores(score: int, signed: int) -> None:
+    table = ",".join(("score", *layout.NAMES)) + f"\n{score}" + "," * len(layout.NAMES) + "\n"
+    assert [[row.score for row in read_rows("01001", table.encode(), is_signed)] for is_signed in (False, True)] == [
+        [score],
+        [signed],
+    ]
+
+
+def test_lines() -> None:
+    table = 'score,CFCC,WKT\n0,A41,"LINESTRING (-86.500000 32.400000,1.000000 2.000000)"\n7,"a"",b",\n'
+    assert list(read_lines(table.encode(), ("CFCC",))) == [
+        (0, ["A41"], ((-86.5, 32.4), (1.0, 2.0))),
+        (7, ['a",b'], None),
+    ]
 
 
 def test_many_distinct_values() -> None:
@@ -88,7 +113,21 @@ def test_what_is_no_row(rows: bytes) -> None:
             _columns.split(text)
 
 
-def test_what_is_no_tuple() -> None:
-    for rows in (b"x\t" + b"1" * 228 + b"\n", b"0\t" + b"1" * 228, b"0 " + b"1" * 228 + b"\n", b"\n"):
-        with pytest.raises(OSError, match="extractd wrote something"):
-            list(read_rows(CountyRows("01001", rows), signed=False))
+@pytest.mark.parametrize(
+    "table",
+    [
+        "",
+        "score,CFCC\n",
+        "score,CFCC,WKT\n0,A41,",
+        "score,CFCC,WKT\n0,A41\n",
+        "score,CFCC,WKT\n0,A41,x\n",
+        "score,CFCC,WKT\n,A41,\n",
+        "score,CFCC,WKT\n-1,A41,\n",
+        "score,CFCC,WKT\n0,A41,A42,\n",
+        'score,CFCC,WKT\n0,"A41,\n',
+        'score,CFCC,WKT\n0,A41,"LINESTRING (1 2,3 4\n',
+    ],
+)
+def test_what_is_no_table(table: str) -> None:
+    with pytest.raises(OSError, match="extractd wrote something that isn't a table"):
+        list(read_lines(table.encode(), ("CFCC",)))

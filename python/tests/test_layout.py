@@ -81,9 +81,7 @@ def test_numbers_and_coordinates(field: str) -> None:
 @given(st.text(st.characters(max_codepoint=255), max_size=30))
 def test_texts(field: str) -> None:
     text = layout.text(field)
-    assert (text or "").ljust(len(field)) == field and text != "" and (text is None or text[-1] != " ")
-    code = layout.code(field)
-    assert (code or "") == field.strip(" ") and code != ""
+    assert (text or "") == field.strip(" ") and text != ""
 
 
 def test_unknown_column() -> None:

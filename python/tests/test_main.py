@@ -20,6 +20,7 @@ pytestmark = pytest.mark.usefixtures("scratch")
 
 COMMAND = [sys.executable, "-m", "tigerline"]
 ROADS = "CFCC LIKE 'A%'"
+STRAIGHT = ("--geometry", "line")  # The example county has no shapes.
 
 
 def run(*arguments: object, before: list[str] | None = None, **options: object) -> subprocess.CompletedProcess[str]:
@@ -89,7 +90,7 @@ class TestFormats:
     def test_odd_names(self, out: Path) -> None:
         for name in ("a b?c&d=e:f%20.gpkg", "-n.geojson", "CAPITALS.FGB", "\u00e9.csv"):
             path = out / name
-            done = run(EXAMPLES, path, "--where", ROADS, "--counties", CODE, "--columns", "TLID")
+            done = run(EXAMPLES, path, "--where", ROADS, "--counties", CODE, *STRAIGHT)
             assert (done.returncode, done.stderr) == (0, "") and path.stat().st_size > 10_000
 
     def test_no_segment(self, out: Path) -> None:
@@ -125,7 +126,7 @@ class TestFormats:
         lines[2] = lines[2][:19] + b"nul\0cr\rx".ljust(30) + lines[2][49:]
         (tmp_path / "TGR01001.RT1").write_bytes(b"\n".join(lines))
         for suffix in ("gpkg", "geojson", "csv"):
-            done = run(tmp_path, out / f"a.{suffix}", "--where", "TRUE", "--columns", "FENAME")
+            done = run(tmp_path, out / f"a.{suffix}", "--where", "TRUE", "--columns", "FENAME", *STRAIGHT)
             assert done.returncode == 0 and done.stderr.startswith("warning: ") and done.stderr.count("\n") == 1
         names = [feature["properties"]["FENAME"] for feature in json.loads((out / "a.geojson").read_text())["features"]]
         with sqlite3.connect(out / "a.gpkg") as database:
@@ -162,9 +163,8 @@ class TestMaps:
         roads = [record for record in north if record[55:57] == b"A4"]
         where = "CFCC LIKE 'A4%' AND (ZIPL = 35042 OR ZIPR = 35042) AND FRLONG < 0"
         for options, background in (((), True), (("--no-background",), False)):
-            done = run(
-                tmp_path / "data", out / "a.csv", "--where", where, "--map", out / "a.svg", "--overwrite", *options
-            )
+            options = (*STRAIGHT, "--map", out / "a.svg", "--overwrite", *options)
+            done = run(tmp_path / "data", out / "a.csv", "--where", where, *options)
             assert done.returncode == 0 and done.stderr.count("\n") == 1, done.stderr
             counts = re.findall(r">(Local road|Not selected)</text><text[^>]*>([0-9,]+)<", (out / "a.svg").read_text())
             assert dict(counts)["Local road"] == str(len(roads))
@@ -194,7 +194,8 @@ class TestMaps:
         assert "Not selected" not in (out / "a.svg").read_text()
 
     def test_nothing_selected(self, out: Path) -> None:
-        done = run(EXAMPLES, out / "a.csv", "--where", "FALSE", "--counties", CODE, "--map", out / "a.svg")
+        options = ("--where", "FALSE", "--counties", CODE, *STRAIGHT)
+        done = run(EXAMPLES, out / "a.csv", *options, "--map", out / "a.svg")
         assert (done.returncode, done.stderr) == (0, "") and "FALSE: 0 segments" in (out / "a.svg").read_text()
 
     def test_neither_file_without_the_other(self, out: Path) -> None:
@@ -351,9 +352,8 @@ class TestFaults:
     def test_full_disk(self, out: Path, tmp_path: Path, suffix: str, kilobytes: int, gdal: None) -> None:
         """A limit on the size of files makes writes fail like a full disk."""
         before = ["sh", "-c", f'ulimit -f {kilobytes * 2}; exec "$@"', "sh"]
-        done = run(
-            EXAMPLES, out / f"a.{suffix}", "--where", "TRUE", "--counties", CODE, "--columns", "TLID", before=before
-        )
+        options = ("--where", "TRUE", "--counties", CODE, "--columns", "TLID", *STRAIGHT)
+        done = run(EXAMPLES, out / f"a.{suffix}", *options, before=before)
         assert done.returncode == 3 and done.stderr.startswith("error: ") and done.stderr.count("\n") == 1
         assert not list(out.iterdir())
 
@@ -365,16 +365,16 @@ class TestFaults:
     def test_no_outputs(self, out: Path) -> None:
         """Standard output or standard error is closed."""
         close = ["sh", "-c", 'exec "$@" >&-', "sh"]
-        done = run(EXAMPLES, out / "a.csv", "--where", "TRUE", "--counties", CODE, before=close)
+        done = run(EXAMPLES, out / "a.csv", "--where", "TRUE", "--counties", CODE, *STRAIGHT, before=close)
         assert (done.returncode, done.stderr) == (3, "error: the output can't be written: it is closed\n")
         close = ["sh", "-c", 'exec "$@" 2>&-', "sh"]
-        done = run(EXAMPLES, out / "a.csv", "--where", "TRUE", "--counties", CODE, before=close)
+        done = run(EXAMPLES, out / "a.csv", "--where", "TRUE", "--counties", CODE, *STRAIGHT, before=close)
         assert (done.returncode, done.stdout) == (3, "")
 
     def test_closed_output(self, out: Path) -> None:
         reader, writer = os.pipe()
         os.close(reader)
-        done = run(EXAMPLES, out / "a.csv", "--where", "TRUE", "--counties", CODE, stdout=writer)
+        done = run(EXAMPLES, out / "a.csv", "--where", "TRUE", "--counties", CODE, *STRAIGHT, stdout=writer)
         os.close(writer)
         assert (done.returncode, done.stderr) == (3, "error: the output can't be written: Broken pipe\n")
         assert len((out / "a.csv").read_text().splitlines()) == SEGMENTS + 1

@@ -13,11 +13,11 @@ from pathlib import Path
 from xml.etree import ElementTree
 
 import pytest
-from tigerline._lines import line_of
-from tigerline._map_rows import box_around
+from tigerline._interrupts import Interrupts
+from tigerline._map_rows import box_around, map_segments
 from tigerline._map_view import Box
-from tigerline._rows import read_rows
-from tigerline.maps import MapSegment, county_of, draw_html, draw_svg
+from tigerline._program import find_program
+from tigerline.maps import MapSegment, draw_html, draw_svg, table_of
 
 SVG = "{http://www.w3.org/2000/svg}"
 TOWN = Path(__file__).parents[2] / "examples" / "town"
@@ -323,9 +323,9 @@ def test_picture_of_the_readme_is_what_the_command_draws() -> None:
     ("rows", "county", "status", "text"),
     [
         (None, None, 3, "nowhere: No such file or directory"),
-        (b"no row\n", None, 3, "extractd wrote something that isn't a row: b'no row\\n'"),
+        (b"no row\n", None, 3, "rows: this isn't a row that extractd wrote: b'no row\\n'"),
         (b"", "nowhere", 3, "nowhere: No such file or directory"),
-        (b"", b"1" * 228 + b"\n" + b"2" * 228 + b"\n", 3, "county: line 2 isn't a record of type 1"),
+        (b"", b"1" * 228 + b"\n" + b"2" * 228 + b"\n", 3, "county: refused 2 rt1 line 2 WrongType"),
     ],
 )
 def test_bad_input(tmp_path: Path, rows: bytes | None, county: bytes | str | None, status: int, text: str) -> None:
@@ -369,8 +369,10 @@ def assert_gdal_reads(folder: Path) -> None:
     precision = ["-lco", "COORDINATE_PRECISION=6"]
     command = [needed("ogr2ogr"), "-f", "GeoJSONSeq", "/vsistdout/", str(folder), "CompleteChain", *precision]
     features = subprocess.run(command, stdout=subprocess.PIPE, check=True).stdout.decode().splitlines()
-    county = county_of(folder / "TGR01007.RT1")
-    segments = [(row.CFCC, line_of(row, county.shapes)) for row in read_rows(county, signed=False)]
+    county = folder / "TGR01007.RT1"
+    with Interrupts() as interrupts:
+        table = table_of(find_program(None, interrupts), county, county, interrupts)
+    segments = [(segment.cfcc, segment.points) for segment in map_segments(table)]
     assert len(features) == len(segments) > 300
     assert sum(len(line) for _, line in segments) > 2.5 * len(segments)
     for feature, (cfcc, line) in zip(map(json.loads, features), segments):

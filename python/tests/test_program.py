@@ -10,8 +10,11 @@ import pytest
 import tigerline
 from counties import CODE, EXAMPLES, SEGMENTS, TOP, copy_county, program_of, records
 from tigerline import Refused
+from tigerline._layout import NAMES
 
-ROW = "0\\t" + "1" * 228 + "\\n"
+HEADER = ",".join(("score", *NAMES)) + "\\n"
+ROW = "0" + "," * len(NAMES) + "\\n"
+TABLE = HEADER + ROW
 
 
 def outcome(program: str | None, **options: object) -> list[tigerline.Row]:
@@ -25,15 +28,15 @@ class TestStatuses:
     @pytest.mark.parametrize(
         ("script", "error", "text"),
         [
-            (f"printf '{ROW}'; echo 'refused memory' >&2; exit 4", MemoryError, "refused memory"),
+            (f"printf '{TABLE}'; echo 'refused memory' >&2; exit 4", MemoryError, "refused memory"),
             ("echo 'error: CODE is five digits' >&2; exit 2", ValueError, "CODE is five digits"),
-            (f"printf '{ROW}'; echo 'refused 60 Write' >&2; exit 3", OSError, "refused 60 Write"),
+            (f"printf '{TABLE}'; echo 'refused 60 Write' >&2; exit 3", OSError, "refused 60 Write"),
             ("echo 'error: f: not found' >&2; exit 3", OSError, "f: not found"),
             ("exit 1", OSError, "ended with status 1"),
             ("exit 77", OSError, "ended with status 77"),
-            (f"printf '{ROW}'; kill -9 $$", OSError, "was ended by signal 9"),
-            ("echo something", OSError, "wrote something that isn't a row"),
-            (f"printf '{ROW}0'", OSError, "wrote something that isn't a row"),
+            (f"printf '{TABLE}'; kill -9 $$", OSError, "was ended by signal 9"),
+            ("echo something", OSError, "wrote something that isn't a table"),
+            (f"printf '{TABLE}0'", OSError, "wrote something that isn't a table"),
         ],
     )
     def test_errors(self, tmp_path: Path, script: str, error: type[Exception], text: str) -> None:
@@ -59,7 +62,7 @@ class TestStatuses:
     )
     def test_refusals(self, tmp_path: Path, line: str, number: int, name: str, place: str, county: str | None) -> None:
         with pytest.raises(Refused) as caught:
-            outcome(program_of(tmp_path / "program", f"printf '{ROW}'; echo '{line}' >&2; exit 1"))
+            outcome(program_of(tmp_path / "program", f"printf '{TABLE}'; echo '{line}' >&2; exit 1"))
         refused = pickle.loads(pickle.dumps(caught.value))
         assert (refused.number, refused.name, refused.place, refused.county) == (number, name, place, county)
         assert refused.text == str(refused) and refused.text.startswith(line)
@@ -73,7 +76,7 @@ class TestStatuses:
         assert str(caught.value) == f"{tmp_path}/data/tgr01001.rt1: permission denied"
 
     def test_much_on_standard_error(self, tmp_path: Path) -> None:
-        noisy = program_of(tmp_path / "noisy", f"yes | head -c 300000 >&2; printf '{ROW}'")
+        noisy = program_of(tmp_path / "noisy", f"yes | head -c 300000 >&2; printf '{TABLE}'")
         assert len(outcome(noisy)) == 1
 
 
@@ -83,7 +86,7 @@ class TestFinding:
 
     def test_order(self, tmp_path: Path, monkeypatch: pytest.MonkeyPatch) -> None:
         rows = {
-            name: program_of(tmp_path / name, f"printf '{ROW * count}'")
+            name: program_of(tmp_path / name, f"printf '{HEADER}{ROW * count}'")
             for count, name in enumerate(("extractd", "a", "b"))
         }
         monkeypatch.setenv("PATH", str(tmp_path), prepend=os.pathsep)

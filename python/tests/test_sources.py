@@ -229,10 +229,18 @@ class TestBadSources:
         with pytest.raises(FileNotFoundError, match="has no TGR01001.RT1"):
             segments(tmp_path, None, never)
 
-    @pytest.mark.parametrize("line", [b"2 short\n", b"3" + b" " * 207 + b"\n", b"2" + b" " * 207 + b"\n", b"\n"])
-    def test_bad_shapes(self, tmp_path: Path, frames: None, line: bytes) -> None:
+    @pytest.mark.parametrize(
+        ("line", "said"),
+        [
+            (b"2 short\n", "refused 1 rt2 line 8 WrongLength\ncounty 01001"),
+            (b"3" + b" " * 207 + b"\n", "refused 2 rt2 line 8 WrongType\ncounty 01001"),
+            (b"2" + b" " * 207 + b"\n", "refused 3 rt2 line 8 BadTlid\ncounty 01001"),
+            (b"\n", "refused 1 rt2 line 8 WrongLength\ncounty 01001"),
+        ],
+    )
+    def test_bad_shapes(self, tmp_path: Path, frames: None, extractd: str, line: bytes, said: str) -> None:
         path = write_shapes(copy_county(tmp_path))
         path.write_bytes(b"".join(path.read_bytes().splitlines(keepends=True)[:7]) + line)
-        nothing = program_of(tmp_path / "nothing", "exit 0")
-        with pytest.raises(OSError, match="TGR01001.RT2: line 8 isn't a record of type 2"):
-            tigerline.select("TRUE", tmp_path, CODE, geometry="shape", extractd=nothing)
+        with pytest.raises(tigerline.Refused) as caught:
+            tigerline.select("TRUE", tmp_path, CODE)
+        assert str(caught.value) == said

@@ -9,9 +9,8 @@ import argparse
 import os
 import signal
 import sys
-from collections.abc import Callable, Sequence
+from collections.abc import Callable, Iterator, Sequence
 from contextlib import ExitStack
-from dataclasses import replace
 from functools import partial
 from pathlib import Path
 
@@ -23,7 +22,7 @@ from ._layout import chosen_names
 from ._map_rows import MapContent, box_around
 from ._output import PendingFile, pending_file
 from ._scratch import rename_errors_to
-from ._tables import SUFFIXES, Selection, write_by_gdal, write_csv
+from ._tables import SUFFIXES, Form, TablePart, table_part, write_table
 from ._version import __version__
 
 MAP_SUFFIXES = (".svg", ".html")
@@ -60,8 +59,10 @@ def _add_selection(result: argparse.ArgumentParser) -> None:
     result.add_argument("--counties", metavar="CODE", nargs="+", help=counties)
     columns = "fields of record type 1 by their TIGER names (default: all)"
     result.add_argument("--columns", metavar="NAME", nargs="+", help=columns)
-    geometry = "line: the two ends; shape: also the shape points of record type 2, which are not proved; none"
-    result.add_argument("--geometry", choices=("line", "shape", "none"), default="line", help=geometry)
+    geometry = (
+        "shape: with the points of record type 2; line: the two ends; none (default: shape, or line without type 2)"
+    )
+    result.add_argument("--geometry", choices=("shape", "line", "none"), default="auto", help=geometry)
     result.add_argument("--score", metavar="COLUMN", help="the column that becomes the score of a filter")
 
 
@@ -94,21 +95,20 @@ def path_with(suffixes: Sequence[str]) -> Callable[[str], Path]:
 
 def write(options: argparse.Namespace) -> int:
     """Writes the requested files, and returns the number of segments in them."""
-    names = chosen_names(options.columns)
     request = Request(options.where, options.program, options.score, options.extractd)
     if options.map is not None and os.path.realpath(options.map) == os.path.realpath(options.out):
         raise ValueError("OUT and the map are the same file")
     with Interrupts(signal.SIGINT, signal.SIGTERM, signal.SIGHUP) as interrupts, ExitStack() as files:
         table = files.enter_context(pending_file(options.out, options.overwrite))
         picture = files.enter_context(pending_file(options.map, options.overwrite)) if options.map else None
-        content = MapContent() if picture else None
-        watcher = content.add_selected if content else None
-        selection = Selection((), names, options.geometry != "none", options.signed, watcher)
+        form = form_of(options, table)
+        content = MapContent(options.signed)
         if options.workers or options.scheduler is not None or options.resume:
-            count = _write_in_parts(table, request, selection, content, options, interrupts, files)
+            parts = _parts_of_workers(table, request, form, content, options, interrupts, files)
         else:
-            count = _write(table, request, selection, content, options, interrupts)
-        if picture and content:
+            parts = _parts(request, form, content, options, interrupts)
+        count = write_table(table, parts, form, interrupts)
+        if picture:
             draw(picture, content, options, interrupts)
         interrupts.check()
         for file in (table, picture):
@@ -117,56 +117,50 @@ def write(options: argparse.Namespace) -> int:
     return count
 
 
-def shows_background(options: argparse.Namespace) -> bool:
-    """Returns whether the map shows segments that aren't selected."""
-    return options.map is not None and not options.no_background
-
-
-def _write(
-    table: PendingFile,
-    request: Request,
-    selection: Selection,
-    content: MapContent | None,
-    options: argparse.Namespace,
-    interrupts: Interrupts,
-) -> int:
-    counties = extract(
-        request,
-        options.data,
-        options.counties,
-        shapes=options.geometry == "shape",
-        all_rows=shows_background(options),
-        progress=options.progress,
-        interrupts=interrupts,
+def form_of(options: argparse.Namespace, table: PendingFile) -> Form:
+    """Returns the form of the requested files."""
+    has_map = options.map is not None
+    return Form(
+        chosen_names(options.columns),
+        options.geometry,
+        options.signed,
+        for_gdal=table.path.suffix != ".csv",
+        has_map=has_map,
+        has_background=has_map and not options.no_background,
     )
-    selection = replace(selection, counties=content.of(counties) if content else counties)
-    if table.path.suffix == ".csv":
-        return write_csv(table, selection, interrupts)
-    return write_by_gdal(table, selection, interrupts)
 
 
-def _write_in_parts(
+def _parts(
+    request: Request, form: Form, content: MapContent, options: argparse.Namespace, interrupts: Interrupts
+) -> Iterator[TablePart]:
+    """Yields the table of each county, and adds its segments to the map."""
+    for found in extract(
+        request, options.data, options.counties, form.outputs, progress=options.progress, interrupts=interrupts
+    ):
+        content.add_county(*found.texts[1:])
+        yield table_part(found, form)
+
+
+def _parts_of_workers(
     table: PendingFile,
     request: Request,
-    selection: Selection,
-    content: MapContent | None,
+    form: Form,
+    content: MapContent,
     options: argparse.Namespace,
     interrupts: Interrupts,
     files: ExitStack,
-) -> int:
-    """Has worker processes or a scheduler select the counties. Keeps the parts until all files are published."""
+) -> Iterator[TablePart]:
+    """Has worker processes or a scheduler write the counties. Keeps the parts until all files are published."""
     engine: _batch.Engine = partial(_workers.run_here, options.workers or 1)
     if options.scheduler is not None:
         engine = partial(_cluster.run_there, options.scheduler)
-    shapes, all_rows = options.geometry == "shape", shows_background(options)
-    sources = _batch.county_tasks(request, options.data, options.counties, shapes, all_rows, interrupts)
-    for_gdal = table.path.suffix != ".csv"
-    form = _batch.Form(selection.names, selection.has_lines, selection.signed, for_gdal, content is not None)
+    sources = _batch.county_tasks(request, options.data, options.counties, form.outputs, interrupts)
     store = files.enter_context(_batch.part_store(table.final, options.resume))
     tasks = [_batch.part_task(source, form, store) for source in sources]
     with rename_errors_to(table.final):
         parts = _batch.run_tasks(tasks, store, engine, options.progress, interrupts)
-    return _batch.join_parts(table, parts, selection, content, interrupts)
+    _batch.collect_map(parts, content, interrupts)
+    return _batch.table_parts(parts)
 
 
 def draw(file: PendingFile, content: MapContent, options: argparse.Namespace, interrupts: Interrupts) -> None:

@@ -22,16 +22,15 @@ from functools import cache, partial
 from pathlib import Path
 from typing import BinaryIO
 
-from ._extract import CountyRows, Request, county_rows
+from ._extract import CountyTexts, Output, Request, county_texts, outputs_of, record_types
 from ._interrupts import Interrupts
 from ._map_rows import MapContent
 from ._map_view import MapSegment
-from ._output import PendingFile
 from ._program import VERSION, PathLike, find_program
 from ._progress import with_progress
 from ._scratch import rename_errors_to, scratch_folder
 from ._sources import County, choose_counties, find_counties
-from ._tables import Selection, write_by_gdal, write_csv, write_source
+from ._tables import Form, TablePart, table_part
 from ._version import __version__
 
 CHUNK = 1 << 20
@@ -64,15 +63,13 @@ class CountyTask:
     files: tuple[Stamp, ...]
     request: Request
     program: Stamp
-    shapes: bool
-    all_rows: bool
+    outputs: tuple[Output, ...]
 
-    def rows(self, interrupts: Interrupts) -> CountyRows:
-        """Returns the county's rows. Raises OSError if a file has changed since the task was made."""
+    def texts(self, interrupts: Interrupts) -> CountyTexts:
+        """Returns the county's texts. Raises OSError if a file has changed since the task was made."""
         self._check("isn't the same file on")
         self._check_program(interrupts)
-        program = self.program.path
-        found = county_rows(program, self.request, self.county, self.shapes, self.all_rows, interrupts)
+        found = county_texts(self.program.path, self.request, self.county, self.outputs, interrupts)
         self._check("has changed on")
         return found
 
@@ -110,17 +107,6 @@ def host() -> str:
 
 
 @dataclass(frozen=True)
-class Form:
-    """The form of a part's lines: a CSV file or the input for GDAL, with or without the data for a map."""
-
-    names: tuple[str, ...]
-    has_lines: bool
-    signed: bool
-    for_gdal: bool
-    has_map: bool
-
-
-@dataclass(frozen=True)
 class Summary:
     """The summary of a part.
 
@@ -151,7 +137,7 @@ class PartTask:
 
     def run(self, interrupts: Interrupts) -> str:
         """Writes the part, and returns the name of the machine that did."""
-        found = self.source.rows(interrupts)
+        found = self.source.texts(interrupts)
         try:
             number, name = tempfile.mkstemp(prefix=f"{self.path.name}.", dir=self.path.parent)
         except FileNotFoundError as error:
@@ -173,26 +159,25 @@ def run_part(task: PartTask) -> str:
         return task.run(interrupts)
 
 
-def run_county(task: CountyTask) -> CountyRows:
-    """Returns the rows of a county in a process that this package didn't start."""
+def run_county(task: CountyTask) -> CountyTexts:
+    """Returns the texts of a county in a process that this package didn't start."""
     with Interrupts() as interrupts:
-        return task.rows(interrupts)
+        return task.texts(interrupts)
 
 
-def _write_part(path: Path, found: CountyRows, form: Form, interrupts: Interrupts) -> None:
-    content = MapContent()
-    watcher = content.add_selected if form.has_map else None
-    selection = Selection(content.of([found]), form.names, form.has_lines, form.signed, watcher)
-    if form.for_gdal:
-        with rename_errors_to(path):
-            segments, without_line = write_source(path, selection, interrupts)
-    else:
-        segments, without_line = write_csv(PendingFile(path, path, True), selection, interrupts), 0
-    with rename_errors_to(path), open(path, "ab") as file:
+def _write_part(path: Path, found: CountyTexts, form: Form, interrupts: Interrupts) -> None:
+    part = table_part(found, form)
+    content = MapContent(form.signed)
+    content.add_county(*found.texts[1:])
+    with rename_errors_to(path), open(path, "wb") as file:
+        for chunk in (part.header, *part.chunks):
+            interrupts.check()
+            file.write(chunk)
         table = file.tell()
         selected = _write_map(file, content.selected)
         others = _write_map(file, content.others(interrupts))
-        summary = Summary(table, selected, others, segments, without_line, content.others_count, found.warning)
+        counts = part.segments, part.without_line, content.others_count
+        summary = Summary(table, selected, others, *counts, found.warning)
         file.write(json.dumps(asdict(summary)).encode() + b"\n")
         file.flush()
         file.write(_checksum(path, file.tell()))
@@ -252,8 +237,7 @@ def county_tasks(
     request: Request,
     data: PathLike,
     counties: str | Iterable[str] | None,
-    shapes: bool,
-    all_rows: bool,
+    outputs: Sequence[Output],
     interrupts: Interrupts,
 ) -> list[CountyTask]:
     """Returns one task per county. All paths in it are absolute, and a program is included as its words."""
@@ -263,11 +247,15 @@ def county_tasks(
     if request.program is not None and not isinstance(request.program, bytes):
         request = replace(request, program=Path(request.program).read_bytes())
     request = replace(request, extractd=None)
-    types = "12456" if shapes else "1456"
-    return [CountyTask(county, _stamps(county, types), request, program, shapes, all_rows) for county in chosen]
+    wanted = outputs_of(chosen, outputs)
+    return [
+        CountyTask(county, _stamps(county, wanted[county.code]), request, program, wanted[county.code])
+        for county in chosen
+    ]
 
 
-def _stamps(county: County, types: str) -> tuple[Stamp, ...]:
+def _stamps(county: County, outputs: Sequence[Output]) -> tuple[Stamp, ...]:
+    types = record_types(outputs)
     files = [county.archive] if county.archive else [county.files[key] for key in sorted(county.files) if key in types]
     return tuple(Stamp.of(path) for path in files)
 
@@ -277,7 +265,7 @@ def part_task(source: CountyTask, form: Form, store: Path) -> PartTask:
     request = source.request
     depends_on = (
         (__version__, VERSION, astuple(source.program), [astuple(stamp) for stamp in source.files]),
-        (source.shapes, source.all_rows),
+        [astuple(output) for output in source.outputs],
         (request.where, repr(request.program), request.score),
         astuple(form),
     )
@@ -355,19 +343,13 @@ def run_tasks(tasks: Sequence[PartTask], store: Path, engine: Engine, progress: 
     return parts
 
 
-def join_parts(
-    file: PendingFile, parts: Parts, selection: Selection, content: MapContent | None, interrupts: Interrupts
-) -> int:
-    """Writes the file of the parts and returns the number of segments. Adds their segments to those of a map.
-
-    The columns are those of `selection`; its counties aren't used.
-    """
-    if content is not None:
-        _collect(parts, content, interrupts)
-    if file.path.suffix == ".csv":
-        with rename_errors_to(file.final):
-            return _join(file.path, parts, interrupts)[0]
-    return write_by_gdal(file, selection, interrupts, lambda path, *_: _join(path, parts, interrupts))
+def table_parts(parts: Parts) -> Iterator[TablePart]:
+    """Yields the tables of the parts."""
+    for path, summary in parts:
+        with open(path, "rb") as part:
+            header = part.readline()
+            chunks = _chunks(part, summary.table - len(header))
+            yield TablePart(header, chunks, summary.segments, summary.without_line)
 
 
 def _unfinished(tasks: Sequence[PartTask], store: Path, interrupts: Interrupts) -> list[PartTask]:
@@ -395,21 +377,8 @@ def _require_visible(task: PartTask, where: str, interrupts: Interrupts) -> None
         time.sleep(0.1)
 
 
-def _join(out: Path, parts: Parts, interrupts: Interrupts) -> tuple[int, int]:
-    """Writes the tables of the parts one after the other, under the header of the first. Returns their counts."""
-    with open(out, "wb") as file:
-        for path, summary in parts:
-            with open(path, "rb") as part:
-                head = part.readline()
-                if file.tell() == 0:
-                    file.write(head)
-                for chunk in _chunks(part, summary.table - len(head)):
-                    interrupts.check()
-                    file.write(chunk)
-    return sum(summary.segments for _, summary in parts), sum(summary.without_line for _, summary in parts)
-
-
-def _collect(parts: Parts, content: MapContent, interrupts: Interrupts) -> None:
+def collect_map(parts: Parts, content: MapContent, interrupts: Interrupts) -> None:
+    """Adds the segments of the parts to a map."""
     for path, summary in parts:
         for segment in _read_map(path, summary.table, summary.selected):
             interrupts.check()

@@ -12,7 +12,7 @@ from queue import Empty, SimpleQueue
 from typing import Any, TypeVar
 
 from ._batch import CountyTask, PartTask, county_tasks, run_county, run_part
-from ._extract import CountyRows, Request
+from ._extract import CountyTexts, Output, Request
 from ._interrupts import Interrupts
 from ._program import PathLike
 from ._progress import with_progress
@@ -128,22 +128,22 @@ def extract(
     request: Request,
     data: PathLike,
     counties: str | Iterable[str] | None,
-    shapes: bool,
+    outputs: Sequence[Output],
     progress: bool,
-) -> Iterator[CountyRows]:
-    """Yields the rows of each county in order. The workers of a client select them."""
+) -> Iterator[CountyTexts]:
+    """Yields the texts of each county in order. The workers of a client write them."""
     from distributed import Client  # An optional package, as above.
 
     if not isinstance(client, Client) or client.asynchronous:
         raise ValueError("client= is a dask.distributed.Client that isn't asynchronous")
     with Interrupts() as interrupts:
-        tasks = county_tasks(request, data, counties, shapes, False, interrupts)
-    early: dict[str, CountyRows] = {}
+        tasks = county_tasks(request, data, counties, outputs, interrupts)
+    early: dict[str, CountyTexts] = {}
     with closing(completed(client, run_county, tasks, lambda: None)) as done:
         for task in with_progress(tasks, len(tasks), "county", progress):
             while task.county.code not in early:
-                other, rows = next(done)
-                early[other.county.code] = rows
+                other, texts = next(done)
+                early[other.county.code] = texts
             found = early.pop(task.county.code)
             if found.warning is not None:
                 warnings.warn(found.warning, stacklevel=2)

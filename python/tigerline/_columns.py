@@ -6,8 +6,7 @@ from typing import Any
 import numpy as np
 import pandas as pd
 
-from . import _layout
-from ._layout import FIELDS, RECORD_LENGTH, TLID, Field, Kind
+from ._layout import FIELDS, RECORD_LENGTH, Field, Kind, text
 
 ZERO, NINE, BLANK, TAB, LINE_FEED, PLUS, MINUS = b"09 \t\n+-"
 LONGEST_SCORE = 20
@@ -73,22 +72,12 @@ def columns(records: Array, names: tuple[str, ...]) -> dict[str, Any]:
     """Returns the named columns of the records: TLID as Int64, coordinates as floats, the others as strings."""
     read: dict[Kind, Callable[[Array, Field], Any]] = {
         Kind.NUMBER: _number_column,
-        Kind.TEXT: lambda records, field: _string_column(records, field, _layout.text),
-        Kind.CODE: lambda records, field: _string_column(records, field, _layout.code),
+        Kind.TEXT: _string_column,
+        Kind.CODE: _string_column,
         Kind.COORDINATE: _coordinate_column,
     }
     by_name = {field.name: field for field in FIELDS}
     return {name: read[by_name[name].kind](records, by_name[name]) for name in names}
-
-
-def ends(records: Array) -> Array:
-    """Returns the longitude and latitude of each record's start and end, in degrees; NaN is a missing one."""
-    return np.stack([_coordinate_column(records, field) for field in FIELDS if field.kind is Kind.COORDINATE], axis=1)
-
-
-def tlids(records: Array) -> Array:
-    """Returns the TLID of each record."""
-    return numbers(records[:, TLID.bytes])[0]
 
 
 def numbers(field: Array) -> tuple[Array, Array]:
@@ -139,12 +128,12 @@ def _coordinate_column(records: Array, field: Field) -> Array:
     return coordinates(records[:, field.bytes])
 
 
-def _string_column(records: Array, field: Field, read: Callable[[str], str | None]) -> Any:
+def _string_column(records: Array, field: Field) -> Any:
     """Decodes each distinct field once."""
     places, examples = _distinct(records, field)
     texts = np.empty(len(examples), object)
     for index, example in enumerate(examples):
-        found = read(records[example, field.bytes].tobytes().decode("latin-1"))
+        found = text(records[example, field.bytes].tobytes().decode("latin-1"))
         texts[index] = pd.NA if found is None else found
     return pd.arrays.StringArray(texts[places])
 

@@ -1,22 +1,25 @@
-"""Has `extractd` select the segments of counties, and returns its rows county by county."""
+"""Has `extractd` write the segments of counties, and returns what it wrote county by county."""
 
 import os
-from collections.abc import Iterable, Iterator
+import warnings
+from collections.abc import Iterable, Iterator, Sequence
 from contextlib import AbstractContextManager, nullcontext
-from dataclasses import dataclass, field, replace
+from dataclasses import dataclass, replace
 from pathlib import Path
+from typing import Literal
 
 from . import _program
 from ._interrupts import Interrupts
-from ._layout import RECORD_LENGTH, TLID, number
 from ._program import PathLike
 from ._progress import with_progress
 from ._scratch import scratch_folder
-from ._shapes import Shapes, shape_points
-from ._sources import County, choose_counties, find_counties, missing_names, opened_county
+from ._sources import County, choose_counties, find_counties, has_shapes, missing_names, opened_county
 
 # The system's limit on an argument is 131,072 bytes.
 LONGEST_ARGUMENT = 100_000
+
+# "auto" is the shape in counties with a file of record type 2, and a straight line in others.
+Geometry = Literal["auto", "shape", "line", "none"]
 
 
 @dataclass(frozen=True)
@@ -35,21 +38,41 @@ class Request:
             raise ValueError("score= needs where=: a program sets its score itself")
 
 
+@dataclass(frozen=True)
+class Output:
+    """What is to be written about a county: rows, or a table in CSV (docs/layers.md) if columns are named.
+
+    `of_all` asks for all segments, in place of the selected ones.
+    """
+
+    names: tuple[str, ...] = ()
+    geometry: Geometry = "none"
+    of_all: bool = False
+
+    @property
+    def options(self) -> list[str]:
+        """The options of `extractd`."""
+        if not self.names:
+            return []
+        return ["--format", "csv", "--columns", ",".join(self.names), "--geometry", self.geometry]
+
+    def for_county(self, county: County) -> "Output":
+        """Returns what is to be written about this county, with the geometry that it has."""
+        if self.geometry != "auto":
+            return self
+        return replace(self, geometry="shape" if has_shapes(county) else "line")
+
+
 ALL_SEGMENTS = Request("TRUE")
+ROWS = Output()
 
 
 @dataclass(frozen=True)
-class CountyRows:
-    """The rows of a county as `extractd` wrote them.
-
-    On request it also has the shape points of the segments and, if some segments are selected, the rows of all
-    segments. `warning` names the missing files.
-    """
+class CountyTexts:
+    """What `extractd` wrote about a county, a text for each output. `warning` names the missing files."""
 
     county: str
-    rows: bytes
-    shapes: Shapes = field(default_factory=dict)
-    all_rows: bytes = b""
+    texts: tuple[bytes, ...]
     warning: str | None = None
 
 
@@ -57,13 +80,12 @@ def extract(
     request: Request,
     data: PathLike,
     counties: str | Iterable[str] | None,
+    outputs: Sequence[Output],
     *,
-    shapes: bool = False,
-    all_rows: bool = False,
     progress: bool = False,
     interrupts: Interrupts | None = None,
-) -> Iterator[CountyRows]:
-    """Yields the rows of each county after `extractd` has ended for it with status 0.
+) -> Iterator[CountyTexts]:
+    """Yields the texts of each county after `extractd` has ended for it with status 0.
 
     At each yield, the county's temporary files and processes are gone.
     """
@@ -71,10 +93,11 @@ def extract(
     with active_interrupts(interrupts) as active:
         program = _program.find_program(request.extractd, active)
         chosen = choose_counties(find_counties(folder), counties, folder)
+        wanted = outputs_of(chosen, outputs)
     for county in with_progress(chosen, len(chosen), "county", progress):
         with active_interrupts(interrupts) as active:
-            rows = county_rows(program, request, county, shapes, all_rows, active)
-        yield rows
+            texts = county_texts(program, request, county, wanted[county.code], active)
+        yield texts
 
 
 def active_interrupts(interrupts: Interrupts | None) -> AbstractContextManager[Interrupts]:
@@ -83,47 +106,69 @@ def active_interrupts(interrupts: Interrupts | None) -> AbstractContextManager[I
     return nullcontext(interrupts)
 
 
-def county_rows(
-    program: str, request: Request, county: County, shapes: bool, all_rows: bool, interrupts: Interrupts
-) -> CountyRows:
-    """Has `extractd` select the segments of one county."""
-    types = "12456" if shapes else "1456"
-    with opened_county(county, types, interrupts) as files, scratch_folder() as scratch:
+def outputs_of(counties: Sequence[County], outputs: Sequence[Output]) -> dict[str, tuple[Output, ...]]:
+    """Returns the outputs of each county, with the geometry that it has. Warns once if some have no shapes."""
+    found = {county.code: tuple(output.for_county(county) for output in outputs) for county in counties}
+    if any(output.geometry == "auto" for output in outputs):
+        straight = [county for county in counties if all(output.geometry != "shape" for output in found[county.code])]
+        if straight:
+            warnings.warn(_straight_lines(straight), stacklevel=3)
+    return found
+
+
+def _straight_lines(counties: Sequence[County]) -> str:
+    code, others = counties[0].code, len(counties) - 1
+    if not others:
+        return f"county {code} has no TGR{code}.RT2: its segments are straight lines"
+    return f"county {code} and {others} other{'s' if others > 1 else ''} have no file of type 2: their segments are straight lines"
+
+
+def record_types(outputs: Iterable[Output]) -> str:
+    """Returns the record types that are read for these outputs."""
+    return "12456" if any(output.geometry == "shape" for output in outputs) else "1456"
+
+
+def county_texts(
+    program: str, request: Request, county: County, outputs: Sequence[Output], interrupts: Interrupts
+) -> CountyTexts:
+    """Has `extractd` write one county. An output of all segments is empty if none is selected."""
+    with opened_county(county, record_types(outputs), interrupts) as files, scratch_folder() as scratch:
         folder = files["1"].parent
-        command = _command(program, request, folder, county.code, scratch, interrupts)
         try:
-            rows = _program.run(command, interrupts, county=county.code)
-            everything = b""
-            if all_rows and rows:
-                command = _command(program, ALL_SEGMENTS, folder, county.code, scratch, interrupts)
-                everything = _program.run(command, interrupts, county=county.code)
+            selected = _selection(program, request, scratch, interrupts)
+            texts: list[bytes] = []
+            for output in outputs:
+                words = [program, "select", "--where=TRUE"] if output.of_all else selected
+                if output.of_all and not _has_segments(outputs[0], texts[0]):
+                    texts.append(b"")
+                    continue
+                command = [*words, "--data", str(folder), *output.options, county.code]
+                texts.append(_program.run(command, interrupts, county=county.code))
         except OSError as error:
             raise with_own_paths(error, county, files) from None
-        found = CountyRows(county.code, rows, all_rows=everything, warning=missing_names(county, files))
-        if not shapes:
-            return found
-        name = str(county.files.get("2") or county.archive)
-        return replace(found, shapes=shape_points(files["2"], set(tlids(everything or rows)), name))
+        return CountyTexts(county.code, tuple(texts), missing_names(county, files))
 
 
-def _command(
-    program: str, request: Request, folder: Path, code: str, scratch: Path, interrupts: Interrupts
-) -> list[str]:
-    """Returns the command that writes the rows of a county.
+def _has_segments(output: Output, text: bytes) -> bool:
+    """Returns whether a text has more than a header."""
+    return len(text) > text.find(b"\n") + 1 if output.names else bool(text)
+
+
+def _selection(program: str, request: Request, scratch: Path, interrupts: Interrupts) -> list[str]:
+    """Returns the words of the command that select the segments.
 
     A program that isn't in a file yet, or that of a long filter, is written to a file in `scratch`.
     """
-    of_county = ["--data", str(folder), code]
     words = scratch / "program.bpf"
     if request.where is not None:
         if len(request.where.encode()) <= LONGEST_ARGUMENT:
-            return [program, "select", f"--where={request.where}", *_program.score_option(request.score), *of_county]
+            return [program, "select", f"--where={request.where}", *_program.score_option(request.score)]
         _program.compile_filter(program, request.where, request.score, words, interrupts)
     elif isinstance(request.program, bytes):
         words.write_bytes(request.program)
     elif request.program is not None:
         words = Path(os.path.abspath(request.program))
-    return [program, "run", "--program", str(words), *of_county]
+    return [program, "run", "--program", str(words)]
 
 
 def with_own_paths(error: OSError, county: County, files: dict[str, Path]) -> OSError:
@@ -132,12 +177,3 @@ def with_own_paths(error: OSError, county: County, files: dict[str, Path]) -> OS
     for record_type, path in files.items():
         text = text.replace(str(path), str(county.files.get(record_type, f"{county.archive}: {path.name}")))
     return OSError(text)
-
-
-def tlids(rows: bytes) -> Iterator[int]:
-    """Yields the TLID of each row."""
-    for row in rows.split(b"\n")[:-1]:
-        record = row[-RECORD_LENGTH:]
-        tlid = number(record[TLID.bytes].decode("latin-1"))
-        if tlid is not None:
-            yield tlid

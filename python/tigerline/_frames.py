@@ -1,16 +1,16 @@
 """Selected segments as data frames."""
 
-from collections.abc import Iterable, Iterator
+from collections.abc import Iterable
 from typing import TYPE_CHECKING, Any, Literal, overload
 
 import numpy as np
 import pandas as pd
 
 from . import _cluster, _columns
-from ._extract import CountyRows, Request, extract
-from ._layout import chosen_names
+from ._extract import ROWS, CountyTexts, Output, Request, extract
+from ._layout import TLID, chosen_names
 from ._program import PathLike
-from ._shapes import Shapes
+from ._rows import wkt_lines
 
 if TYPE_CHECKING:
     import distributed
@@ -18,7 +18,8 @@ if TYPE_CHECKING:
 
 CRS = "EPSG:4269"  # NAD 83
 
-Geometry = Literal["line", "shape", False]
+Geometry = Literal["auto", "shape", "line", False]
+LINES = (TLID.name,)  # the columns beside the lines
 
 
 @overload
@@ -29,7 +30,7 @@ def select(
     *,
     program: PathLike | bytes | None = None,
     columns: Iterable[str] | None = None,
-    geometry: Literal["line", "shape"] = "line",
+    geometry: Literal["auto", "shape", "line"] = "auto",
     score: str | None = None,
     signed: bool = False,
     progress: bool = False,
@@ -64,7 +65,7 @@ def select(
     *,
     program: PathLike | bytes | None = None,
     columns: Iterable[str] | None = None,
-    geometry: Geometry = "line",
+    geometry: Geometry = "auto",
     score: str | None = None,
     signed: bool = False,
     progress: bool = False,
@@ -81,8 +82,9 @@ def select(
     and all others are strings. Blank fields are missing values. `county` and `score` are always there. `score` names
     the column that becomes the score of a filter. Scores are unsigned numbers of 64 bits, or signed with `signed`.
 
-    `geometry` is "line", a line between the two ends of each segment, in NAD 83 (EPSG:4269). "shape" adds the shape
-    points of record type 2. They are not proved, since `extractd` doesn't read this type. False returns a DataFrame.
+    `geometry` is "shape", the line of each segment with the shape points of record type 2, in NAD 83 (EPSG:4269), or
+    "line", a straight one between its two ends. The default takes the shape in counties that have type 2, and warns of
+    others. False returns a DataFrame.
 
     `client` is a dask.distributed client, whose workers then select the counties (docs/scale.md).
 
@@ -99,7 +101,7 @@ def read_county(
     county: str,
     *,
     columns: Iterable[str] | None = None,
-    geometry: Literal["line", "shape"] = "line",
+    geometry: Literal["auto", "shape", "line"] = "auto",
     extractd: PathLike | None = None,
 ) -> "geopandas.GeoDataFrame":
     ...
@@ -122,7 +124,7 @@ def read_county(
     county: str,
     *,
     columns: Iterable[str] | None = None,
-    geometry: Geometry = "line",
+    geometry: Geometry = "auto",
     extractd: PathLike | None = None,
 ) -> Any:
     """Returns all segments of a county: those that the filter TRUE selects. The arguments are those of `select`."""
@@ -140,18 +142,20 @@ def _select(
     progress: bool = False,
     client: "distributed.Client | None" = None,
 ) -> Any:
-    if geometry not in ("line", "shape", False):
-        raise ValueError(f'geometry is "line", "shape" or False, and {geometry!r} isn\'t')
+    if geometry not in ("auto", "shape", "line") and geometry is not False:
+        raise ValueError(f'geometry is "auto", "shape", "line" or False, and {geometry!r} isn\'t')
     names = chosen_names(None if columns is None else list(columns))
+    outputs = [ROWS] if geometry is False else [ROWS, Output(LINES, geometry)]
     if client is None:
-        found = extract(request, data, counties, shapes=geometry == "shape", progress=progress)
+        found = extract(request, data, counties, outputs, progress=progress)
     else:
-        found = _cluster.extract(client, request, data, counties, geometry == "shape", progress)
-    return _joined([_frame(county, names, geometry, signed) for county in found])
+        found = _cluster.extract(client, request, data, counties, outputs, progress)
+    return _joined([_frame(county, names, signed) for county in found])
 
 
-def _frame(county: CountyRows, names: tuple[str, ...], geometry: Geometry, signed: bool) -> Any:
-    scores, records = _columns.split(county.rows)
+def _frame(county: CountyTexts, names: tuple[str, ...], signed: bool) -> Any:
+    rows, *lines = county.texts
+    scores, records = _columns.split(rows)
     codes = pd.arrays.StringArray(np.full(len(records), county.county, object))
     table = {
         "county": codes,
@@ -159,25 +163,11 @@ def _frame(county: CountyRows, names: tuple[str, ...], geometry: Geometry, signe
         **_columns.columns(records, names),
     }
     frame = pd.DataFrame(table)
-    if not geometry:
+    if not lines:
         return frame
     import geopandas  # An optional package: only geometry needs it.
 
-    lines = np.empty(len(records), object)
-    for index, line in enumerate(_lines(records, county.shapes)):
-        lines[index] = line
-    return geopandas.GeoDataFrame(frame, geometry=geopandas.array.GeometryArray(lines, crs=CRS))
-
-
-def _lines(records: Any, shapes: Shapes) -> Iterator[Any]:
-    """Yields the line of each record, or None if one of its ends has no coordinates."""
-    from shapely.geometry import LineString  # An optional package, as above.
-
-    ends = _columns.ends(records)
-    tlids = _columns.tlids(records).tolist() if shapes else [None] * len(ends)
-    missing = np.isnan(ends).any(axis=1).tolist()
-    for (from_x, from_y, to_x, to_y), tlid, is_missing in zip(ends.tolist(), tlids, missing):
-        yield None if is_missing else LineString([(from_x, from_y), *shapes.get(tlid, ()), (to_x, to_y)])
+    return geopandas.GeoDataFrame(frame, geometry=geopandas.GeoSeries.from_wkt(wkt_lines(lines[0], LINES), crs=CRS))
 
 
 def _joined(frames: list[Any]) -> Any:

@@ -20,9 +20,10 @@ from ._geocode_streets import OTHER_NAMES, Streets, name_key, street_names
 from ._geocode_towns import Cities
 from ._interrupts import Interrupts
 from ._scratch import scratch_folder
-from ._sources import County, opened_county
+from ._sources import County, has_shapes, opened_county
 
 RECORD_TYPES = "1456C"
+WITH_SHAPES = "12456C"
 NO_PARTS = ("", "", "")
 QUESTION_COLUMNS = ("id", "number", "name", "predir", "type", "sufdir")
 HIT_COLUMNS = (
@@ -120,7 +121,8 @@ class Lookup:
             with warnings.catch_warnings():
                 if self.has_warned_of_files:
                     warnings.simplefilter("ignore", UserWarning)
-                files = stack.enter_context(opened_county(county, RECORD_TYPES, interrupts))
+                types = WITH_SHAPES if has_shapes(county) else RECORD_TYPES
+                files = stack.enter_context(opened_county(county, types, interrupts))
             name = str(county.files.get("C") or county.archive)
             if "C" not in files:
                 self._without_cities.add(county.code)
@@ -161,7 +163,9 @@ class Lookup:
     ) -> None:
         """Runs the program for a county or its copy."""
         county = opened.county
-        command = [self.program, "geocode-batch", "--addresses", "-", "--data", str(files["1"].parent), county.code]
+        shape = ["--shape"] if "2" in files else []
+        command = [self.program, "geocode-batch", "--addresses", "-", *shape, "--data", str(files["1"].parent)]
+        command.append(county.code)
         try:
             output = _program.run(command, interrupts, standard_input=_csv_of(questions), county=county.code)
         except OSError as error:

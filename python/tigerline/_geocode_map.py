@@ -6,19 +6,17 @@ from collections.abc import Callable, Iterable, Iterator, Sequence
 from dataclasses import replace
 from typing import NamedTuple
 
-from ._extract import ALL_SEGMENTS, extract
+from ._extract import ALL_SEGMENTS, Output, extract
 from ._geocode_match import Match
 from ._interrupts import Interrupts
-from ._lines import line_of
 from ._map_layers import INK, PALE, groups_of
 
 from ._map_parts import (
     FRAME, LEGEND_WIDTH, LINE_HEIGHT, PAPER, background_parts, escape, legend_text, scale_parts, stroke,
 )  # fmt: skip
-from ._map_rows import MOST_SEGMENTS, box_around, map_segment
+from ._map_rows import DRAWN, MOST_SEGMENTS, box_around, map_segments
 from ._map_view import MARGIN, Box, MapSegment, View, extent_of, view_of
 from ._program import PathLike
-from ._rows import read_rows
 from .maps import FONT, Sheet, page_of, page_rows
 
 RADIUS = 3.5  # pixels
@@ -103,10 +101,10 @@ def _segments_in(
     found: list[MapSegment] = []
     with warnings.catch_warnings():
         warnings.simplefilter("ignore")  # Missing files were reported before.
-        for county in extract(replace(ALL_SEGMENTS, extractd=extractd), data, counties, interrupts=interrupts):
-            for row in read_rows(county, signed=False):
+        request, output = replace(ALL_SEGMENTS, extractd=extractd), Output(DRAWN, "auto")
+        for county in extract(request, data, counties, [output], interrupts=interrupts):
+            for segment in map_segments(county.texts[0]):
                 interrupts.check()
-                segment = map_segment(row, line_of(row, {}))
                 if segment.points and box.touches(extent_of(segment.points)):
                     found.append(segment)
     if len(found) > MOST_SEGMENTS:

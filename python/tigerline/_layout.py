@@ -30,7 +30,6 @@ class Field(NamedTuple):
         return slice(self.first - 1, self.last)
 
 
-# The imputed address flags have no name in docs/records.md; these are the names of GDAL's TIGER driver.
 FIELDS = (
     Field("RT", 1, 1, Kind.TEXT),
     Field("VERSION", 2, 5, Kind.TEXT),
@@ -46,10 +45,10 @@ FIELDS = (
     Field("TOADDL", 70, 80, Kind.CODE),
     Field("FRADDR", 81, 91, Kind.CODE),
     Field("TOADDR", 92, 102, Kind.CODE),
-    Field("FRIADDL", 103, 103, Kind.CODE),
-    Field("TOIADDL", 104, 104, Kind.CODE),
-    Field("FRIADDR", 105, 105, Kind.CODE),
-    Field("TOIADDR", 106, 106, Kind.CODE),
+    Field("FRIADDL", 103, 103, Kind.TEXT),
+    Field("TOIADDL", 104, 104, Kind.TEXT),
+    Field("FRIADDR", 105, 105, Kind.TEXT),
+    Field("TOIADDR", 106, 106, Kind.TEXT),
     Field("ZIPL", 107, 111, Kind.CODE),
     Field("ZIPR", 112, 116, Kind.CODE),
     Field("STATEL", 131, 132, Kind.CODE),
@@ -89,12 +88,7 @@ def coordinate(field: str) -> float | None:
 
 
 def text(field: str) -> str | None:
-    """Returns a text without trailing blanks, or None if the field is blank."""
-    return field.rstrip(" ") or None
-
-
-def code(field: str) -> str | None:
-    """Returns a code or a house number without blanks around it, or None if the field is blank."""
+    """Returns a text, a code or a house number without blanks around it, or None if the field is blank."""
     return field.strip(" ") or None
 
 

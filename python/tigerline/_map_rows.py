@@ -2,25 +2,32 @@
 
 import warnings
 from collections.abc import Callable, Iterable, Iterator
-from dataclasses import replace
 from functools import partial
 
-from ._extract import CountyRows
 from ._interrupts import Interrupts
-from ._lines import Line, line_of
 from ._map_view import SMALLEST_EXTENT, Box, MapSegment, extent_of
-from ._rows import Row, read_rows, without
+from ._rows import read_lines, score_of
 
 AROUND = 0.15  # how far the map extends around the selection, as a part of its larger extent
 MOST_SEGMENTS = 500_000  # about a small state; drawing more takes long, and so does opening the map
+# The columns of what is drawn. The TLID tells segments apart.
+DRAWN = ("TLID", "FEDIRP", "FENAME", "FETYPE", "FEDIRS", "CFCC")
 
 Reader = Callable[[], Iterator[MapSegment]]
 
 
-def map_segment(row: Row, line: Line) -> MapSegment:
-    """Returns the segment of a row, without points if it has no line."""
-    name = " ".join(part for part in (row.FEDIRP, row.FENAME, row.FETYPE, row.FEDIRS) if part)
-    return MapSegment(row.CFCC or "", name, row.score, line or ())
+def map_segments(table: bytes, signed: bool = False) -> Iterator[MapSegment]:
+    """Yields the segments of a table of these columns. A segment without coordinates has no points."""
+    for score, (_, *name, cfcc), line in read_lines(table, DRAWN):
+        yield MapSegment(cfcc, " ".join(part for part in name if part), score_of(score, signed), line or ())
+
+
+def without(table: bytes, other: bytes) -> bytes:
+    """Returns a table without the segments of another one. Their scores don't matter."""
+    known = {line.partition(b",")[2] for line in other.split(b"\n")[1:]}
+    header, *lines = table.split(b"\n")
+    rest = [line for line in lines if line.partition(b",")[2] not in known]
+    return b"".join(line + b"\n" for line in (header, *filter(None, rest)))
 
 
 def box_around(segments: Iterable[MapSegment]) -> Box | None:
@@ -39,14 +46,19 @@ class MapContent:
     The function that reads the others is kept until the place of the selected ones is known.
     """
 
-    def __init__(self) -> None:
+    def __init__(self, signed: bool = False) -> None:
         self.selected: list[MapSegment] = []
         self.others_count = 0
+        self._signed = signed
         self._others: list[Reader] = []
 
-    def add_selected(self, row: Row, line: Line) -> None:
-        """Adds the segment of a row."""
-        self.selected.append(map_segment(row, line))
+    def add_county(self, selected: bytes = b"", everything: bytes = b"") -> None:
+        """Adds the segments of a county: its selected ones, and the others, from tables that may be empty."""
+        if selected:
+            self.selected += map_segments(selected, self._signed)
+        if everything:
+            rest = without(everything, selected)
+            self.add_others(rest.count(b"\n") - 1, partial(map_segments, rest))
 
     def add_others(self, count: int, read: Reader) -> None:
         """Adds the other segments of a county. If there are too many in total, none is kept."""
@@ -55,14 +67,6 @@ class MapContent:
             self._others.append(read)
         else:
             self._others.clear()
-
-    def of(self, counties: Iterable[CountyRows]) -> Iterator[CountyRows]:
-        """Yields the counties, and adds the other segments of each."""
-        for county in counties:
-            if county.all_rows:
-                rest = CountyRows(county.county, without(county.all_rows, county.rows), county.shapes)
-                self.add_others(rest.rows.count(b"\n"), partial(_segments, rest))
-            yield replace(county, all_rows=b"")
 
     def others(self, interrupts: Interrupts) -> Iterator[MapSegment]:
         """Yields the other segments that are kept."""
@@ -82,8 +86,3 @@ class MapContent:
             return []
         segments = (segment for segment in self.others(interrupts) if segment.points)
         return [segment for segment in segments if box.touches(extent_of(segment.points))]
-
-
-def _segments(county: CountyRows) -> Iterator[MapSegment]:
-    for row in read_rows(county, signed=False):
-        yield map_segment(row, line_of(row, county.shapes))

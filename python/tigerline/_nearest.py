@@ -6,7 +6,7 @@ from collections.abc import Sequence
 from itertools import pairwise
 from typing import Any, NamedTuple
 
-from ._shapes import Point
+from ._rows import Point
 from ._streets import Range, Street
 
 

@@ -5,7 +5,8 @@ import re
 import shutil
 import subprocess
 import tempfile
-from collections.abc import Sequence
+from collections.abc import Iterable, Sequence
+from contextlib import suppress
 from pathlib import Path
 
 from ._interrupts import Interrupts, kill_group
@@ -91,6 +92,38 @@ def run_process(command: Sequence[str], interrupts: Interrupts, standard_input: 
         interrupts.check()
         errors.seek(0)
         return status, output, errors.read().decode("utf-8", "replace").strip()
+
+
+def feed_process(command: Sequence[str], chunks: Iterable[bytes], interrupts: Interrupts) -> tuple[int, str]:
+    """Runs a process that reads chunks from a pipe, and returns its status and what it wrote to standard error.
+
+    It is killed if the chunks raise an exception. Chunks are small, since a signal waits until one is written.
+    """
+    with tempfile.TemporaryFile() as errors:
+        with subprocess.Popen(
+            command, stdin=subprocess.PIPE, stdout=errors, stderr=errors, process_group=0, restore_signals=False
+        ) as process:
+            try:
+                _feed(process, chunks, interrupts)
+                status = process.wait()
+            finally:
+                interrupts.watch(None)
+                if process.returncode is None:
+                    kill_group(process)
+        interrupts.check()
+        errors.seek(0)
+        return status, errors.read().decode("utf-8", "replace").strip()
+
+
+def _feed(process: subprocess.Popen[bytes], chunks: Iterable[bytes], interrupts: Interrupts) -> None:
+    """Writes the chunks, until the process ends."""
+    assert process.stdin is not None
+    with suppress(BrokenPipeError), process.stdin as pipe:
+        for chunk in chunks:
+            interrupts.check()
+            interrupts.watch(process)  # While a chunk was made, another process was watched.
+            pipe.write(chunk)
+    interrupts.watch(process)
 
 
 def failure(program: str, status: int, said: str, county: str | None) -> Exception:

@@ -1,18 +1,23 @@
-"""Reads rows of `extractd` as typed tuples, with the standard library alone."""
+"""Reads tables of `extractd` as typed tuples, with the standard library alone."""
 
-import io
-from collections.abc import Iterable, Iterator
+import csv
+from collections.abc import Callable, Iterable, Iterator
 from typing import Any, NamedTuple
 
-from ._extract import CountyRows, Request, extract
-from ._layout import FIELDS, RECORD_LENGTH, Kind, coordinate, number
+from ._extract import Output, Request, extract
+from ._layout import FIELDS, NAMES, Kind
 from ._program import PathLike
 
-# Most fields are texts and codes. Methods of str read these; Python functions would take twice the time.
-_STRIP = {Kind.TEXT: str.rstrip}
-_TEXTS = tuple((field.bytes, _STRIP.get(field.kind, str.strip)) for field in FIELDS)
-_READ = {Kind.NUMBER: number, Kind.COORDINATE: coordinate}
-_NUMBERS = tuple((index, field.bytes, _READ[field.kind]) for index, field in enumerate(FIELDS) if field.kind in _READ)
+Point = tuple[float, float]
+Line = tuple[Point, ...] | None
+
+SCORE = "score"
+LINE_COLUMN = "WKT"
+LINE_START, LINE_END = ',"LINESTRING (', ')"'
+
+_READ: dict[Kind, Callable[[str], object]] = {Kind.NUMBER: int, Kind.COORDINATE: float}
+# The places of the numbers among the cells of all columns.
+_NUMBERS = tuple((place, _READ[field.kind]) for place, field in enumerate(FIELDS) if field.kind in _READ)
 
 
 class Row(NamedTuple):
@@ -79,33 +84,76 @@ def rows(
     a failure raises its exception before the first of them.
     """
     request = Request(where, program, score, extractd)
-    return (row for county in extract(request, data, counties, progress=progress) for row in read_rows(county, signed))
+    found = extract(request, data, counties, [Output(NAMES)], progress=progress)
+    return (row for county in found for row in read_rows(county.county, county.texts[0], signed))
 
 
-def read_rows(county: CountyRows, signed: bool) -> Iterator[Row]:
-    """Reads the rows of a county. Raises OSError if the data isn't rows.
+def read_rows(county: str, table: bytes, signed: bool) -> Iterator[Row]:
+    """Reads a table of all columns without geometry. Raises OSError if the text isn't one."""
+    for score, cells in read_cells(table, NAMES):
+        fields: list[Any] = [cell or None for cell in cells]
+        for place, read in _NUMBERS:
+            if cells[place]:
+                fields[place] = read(cells[place])
+        yield Row._make((county, score_of(score, signed), *fields))
 
-    A record may contain any byte but LF, so it is found by its length from the end, and not by the tab before it.
+
+def read_cells(table: bytes, names: tuple[str, ...]) -> Iterator[tuple[int, list[str]]]:
+    """Reads the score and the cells of each segment of a table without geometry."""
+    return _read_cells(_lines_of(table, names), len(names))
+
+
+def read_lines(table: bytes, names: tuple[str, ...]) -> Iterator[tuple[int, list[str], Line]]:
+    """Reads the score, the cells and the line of each segment of a table with geometry.
+
+    The line is None for a segment without coordinates.
     """
-    for line in io.BytesIO(county.rows):
-        before, record = line[: -RECORD_LENGTH - 1], line[-RECORD_LENGTH - 1 :]
-        score, tab = before[:-1], before[-1:]
-        if tab != b"\t" or not score.isdigit() or not record.endswith(b"\n"):
-            raise OSError(f"extractd wrote something that isn't a row: {line[:40]!r}")
-        yield Row._make([county.county, score_of(int(score), signed), *_fields(record.decode("latin-1"))])
+    halves = [_halves(text) for text in _lines_of(table, (*names, LINE_COLUMN))]
+    for (score, cells), (_, points) in zip(_read_cells((cells for cells, _ in halves), len(names)), halves):
+        yield score, cells, _points(points) if points else None
 
 
-def _fields(record: str) -> list[Any]:
-    fields: list[Any] = [strip(record[place], " ") or None for place, strip in _TEXTS]
-    for index, place, read in _NUMBERS:
-        fields[index] = read(record[place])
-    return fields
+def wkt_lines(table: bytes, names: tuple[str, ...]) -> list[str | None]:
+    """Returns the line of each segment of a table with geometry as WKT, or None for one without coordinates."""
+    found = (_halves(text)[1] for text in _lines_of(table, (*names, LINE_COLUMN)))
+    return [f"LINESTRING ({points})" if points else None for points in found]
 
 
-def without(rows: bytes, others: bytes) -> bytes:
-    """Returns the rows whose records aren't among those of the other rows."""
-    records = {line[-RECORD_LENGTH - 1 :] for line in io.BytesIO(others)}
-    return b"".join(line for line in io.BytesIO(rows) if line[-RECORD_LENGTH - 1 :] not in records)
+def _lines_of(table: bytes, names: tuple[str, ...]) -> list[str]:
+    """Returns the lines after the header. A cell has no line feed, which ends a record in the county's file."""
+    header, *lines = table.decode().split("\n")
+    if header != ",".join((SCORE, *names)) or lines[-1:] != [""]:
+        raise no_table(header)
+    return lines[:-1]
+
+
+def _read_cells(lines: Iterable[str], count: int) -> Iterator[tuple[int, list[str]]]:
+    try:
+        for cells in csv.reader(lines, strict=True):
+            if len(cells) != count + 1 or not cells[0].isdecimal():
+                raise no_table(",".join(cells))
+            yield int(cells.pop(0)), cells
+    except csv.Error as error:
+        raise no_table(str(error)) from None
+
+
+def _halves(text: str) -> tuple[str, str]:
+    """Splits a line before its geometry, which may be longer than a cell that the module csv reads."""
+    cells, found, points = text.rpartition(LINE_START)
+    if found and points.endswith(LINE_END):
+        return cells, points[: -len(LINE_END)]
+    if found or not text.endswith(","):
+        raise no_table(text)
+    return text[:-1], ""
+
+
+def _points(text: str) -> tuple[Point, ...]:
+    pairs = (pair.split(" ") for pair in text.split(","))
+    return tuple((float(longitude), float(latitude)) for longitude, latitude in pairs)
+
+
+def no_table(text: str) -> OSError:
+    return OSError(f"extractd wrote something that isn't a table: {text[:40]!r}")
 
 
 def score_of(score: int, signed: bool) -> int:

@@ -1,6 +1,6 @@
 """Reads the streets of a county: their names, their lines and the house numbers on their sides.
 
-`extractd` selects the segments. Their shape points aren't proved, and neither are the ranges of record type 6 here.
+`extractd` writes the segments. The ranges of record type 6 here aren't proved.
 """
 
 from collections import defaultdict
@@ -9,14 +9,12 @@ from pathlib import Path
 from typing import NamedTuple
 
 from . import _program
-from ._extract import CountyRows, tlids, with_own_paths
+from ._extract import Output, record_types, with_own_paths
 from ._geocode_towns import Cities
 from ._interrupts import Interrupts
 from ._layout import number
-from ._lines import line_of
-from ._rows import Row, read_rows
-from ._shapes import Point, Shapes, shape_points
-from ._sources import County, has_shapes, opened_county
+from ._rows import Line, Point, read_lines
+from ._sources import County, opened_county
 
 STREETS = "CFCC LIKE 'A%' AND FENAME IS NOT NULL"
 
@@ -27,6 +25,26 @@ class Range(NamedTuple):
     first: int | None
     last: int | None
     zip: str
+
+
+class Columns(NamedTuple):
+    """The columns of a street, which are empty where the record is blank."""
+
+    TLID: str
+    FEDIRP: str
+    FENAME: str
+    FETYPE: str
+    FEDIRS: str
+    FRADDL: str
+    TOADDL: str
+    FRADDR: str
+    TOADDR: str
+    ZIPL: str
+    ZIPR: str
+    COUSUBL: str
+    COUSUBR: str
+    PLACEL: str
+    PLACER: str
 
 
 class Side(NamedTuple):
@@ -53,21 +71,18 @@ Ranges = tuple[Range, Range]
 
 def read_streets(program: str, county: County, interrupts: Interrupts) -> list[Street]:
     """Returns the streets of a county that have coordinates, with shape points if it has a file of type 2."""
-    types = "12456C" if has_shapes(county) else "1456C"
-    with opened_county(county, types, interrupts) as files:
-        command = [program, "select", f"--where={STREETS}", "--data", str(files["1"].parent), county.code]
+    output = Output(Columns._fields, "auto").for_county(county)
+    with opened_county(county, record_types([output]) + "C", interrupts) as files:
+        command = [program, "select", f"--where={STREETS}", "--data", str(files["1"].parent)]
         try:
-            rows = _program.run(command, interrupts, county=county.code)
+            table = _program.run([*command, *output.options, county.code], interrupts, county=county.code)
         except OSError as error:
             raise with_own_paths(error, county, files) from None
-        chosen = set(tlids(rows))
-        shapes: Shapes = {}
-        if "2" in files:
-            shapes = shape_points(files["2"], chosen, str(county.files.get("2") or county.archive))
-        further = further_ranges(files["6"], chosen) if "6" in files else {}
+        found = [(Columns._make(cells), line) for _, cells, line in read_lines(table, Columns._fields)]
+        further = further_ranges(files["6"], {int(row.TLID) for row, _ in found}) if "6" in files else {}
         cities = Cities(files.get("C"), str(county.files.get("C") or county.archive))
     interrupts.check()
-    streets = (_street(row, shapes, further, cities) for row in read_rows(CountyRows(county.code, rows), signed=False))
+    streets = (_street(county.code, row, line, further, cities) for row, line in found)
     return [street for street in streets if street is not None]
 
 
@@ -84,26 +99,28 @@ def further_ranges(path: Path, chosen: Collection[int]) -> Mapping[int, list[Ran
     return found
 
 
-def _street(row: Row, shapes: Shapes, further: Mapping[int, list[Ranges]], cities: Cities) -> Street | None:
-    """Returns the street of a row, or None if it has no line with a length."""
-    line = line_of(row, shapes)
-    if line is None or row.TLID is None:
+def _street(
+    county: str, row: Columns, line: Line, further: Mapping[int, list[Ranges]], cities: Cities
+) -> Street | None:
+    """Returns the street of a segment, or None if it has no line with a length."""
+    if line is None:
         return None
     points = tuple(point for at, point in enumerate(line) if at == 0 or point != line[at - 1])
     if len(points) < 2:
         return None
+    tlid = int(row.TLID)
     own = (_range(row.FRADDL, row.TOADDL, row.ZIPL), _range(row.FRADDR, row.TOADDR, row.ZIPR))
-    left, right = zip(own, *further.get(row.TLID, ()))
+    left, right = zip(own, *further.get(tlid, ()))
     sides = Side(left, _city(cities, row.PLACEL, row.COUSUBL)), Side(right, _city(cities, row.PLACER, row.COUSUBR))
     name = " ".join(part for part in (row.FEDIRP, row.FENAME, row.FETYPE, row.FEDIRS) if part)
-    return Street(row.county, row.TLID, name, points, *sides)
+    return Street(county, tlid, name, points, *sides)
 
 
-def _range(first: str | None, last: str | None, zip_code: str | None) -> Range:
-    return Range(number(first or ""), number(last or ""), zip_code or "")
+def _range(first: str, last: str, zip_code: str) -> Range:
+    return Range(number(first), number(last), zip_code)
 
 
-def _city(cities: Cities, place: str | None, subdivision: str | None) -> str:
+def _city(cities: Cities, place: str, subdivision: str) -> str:
     """Returns the name of a place, or else of a county subdivision."""
-    names = cities.of(((place or "").encode("latin-1"), (subdivision or "").encode("latin-1")))
+    names = cities.of((place.encode("latin-1"), subdivision.encode("latin-1")))
     return names[0] if names else ""

@@ -1,21 +1,20 @@
-"""Writes selected segments as files: CSV directly, other formats with GDAL's tools."""
+"""Writes tables of `extractd` to files: CSV as it is, other formats by ogr2ogr, which reads it from a pipe."""
 
-import csv
 import os
 import re
 import shutil
-from collections.abc import Callable, Iterable, Iterator, Sequence
-from dataclasses import dataclass, replace
-from operator import itemgetter
+from collections.abc import Iterable, Iterator, Sequence
+from dataclasses import dataclass
+from functools import partial
 from pathlib import Path
 
-from ._extract import CountyRows
+from ._extract import CountyTexts, Geometry, Output
 from ._interrupts import Interrupts
 from ._layout import FIELDS, Kind
-from ._lines import Line, line_of, well_known_binary, well_known_text
+from ._map_rows import DRAWN
 from ._output import PendingFile
-from ._program import run_process
-from ._rows import Row, read_rows
+from ._program import feed_process, run_process
+from ._rows import LINE_COLUMN, SCORE, no_table, score_of
 from ._scratch import rename_errors_to, scratch_folder
 
 DRIVERS = {".gpkg": "GPKG", ".geojson": "GeoJSON", ".fgb": "FlatGeobuf"}
@@ -23,115 +22,145 @@ SUFFIXES = (*DRIVERS, ".csv")
 CRS = "EPSG:4269"  # NAD 83
 GEOJSON_END = b"]\n}\n"
 LARGEST_INTEGER = (1 << 63) - 1
+COUNTY = "county"
 # CSV readers, including GDAL's, end a text at NUL and read CR as a line end, so both become question marks.
 READABLE = bytes.maketrans(b"\0\r", b"??")
+CHUNK = 1 << 20
 
-Watcher = Callable[[Row, Line], None]
+_LARGE_SCORE = re.compile(rb"^[0-9]{19,20}(?=,)", re.MULTILINE)
 
 
 @dataclass(frozen=True)
-class Selection:
-    """The rows to write, their columns, whether they have lines, and whether scores are signed.
+class Form:
+    """The columns and the geometry of a file, whether its scores are signed, and what a map shows beside it."""
 
-    `watcher` is called with each row and its line.
-    """
-
-    counties: Iterable[CountyRows]
     names: tuple[str, ...]
-    has_lines: bool
-    signed: bool
-    watcher: Watcher | None = None
+    geometry: Geometry
+    signed: bool = False
+    for_gdal: bool = False
+    has_map: bool = False
+    has_background: bool = False
+
+    @property
+    def has_lines(self) -> bool:
+        """Whether the file has a column of lines."""
+        return self.geometry != "none"
 
     @property
     def columns(self) -> tuple[str, ...]:
         """The names of all columns except that of the lines."""
-        return ("county", "score", *self.names)
+        return (COUNTY, SCORE, *self.names)
 
-    def values_of(self) -> Callable[[Row], tuple[object, ...]]:
-        """Returns a function that returns the values of these columns for a row."""
-        return itemgetter(*[Row._fields.index(name) for name in self.columns])
-
-    def rows(self, interrupts: Interrupts) -> Iterator[tuple[Row, Line]]:
-        """Yields each row with its line, or None for a segment without coordinates."""
-        for county in self.counties:
-            readable = replace(county, rows=county.rows.translate(READABLE))
-            for row in read_rows(readable, self.signed):
-                interrupts.check()
-                line = line_of(row, county.shapes)
-                if self.watcher is not None:
-                    self.watcher(row, line)
-                yield row, line
+    @property
+    def outputs(self) -> tuple[Output, ...]:
+        """What is needed of each county: the table, the segments of the map, and those around them."""
+        drawn = self.geometry if self.has_lines else "line"
+        of_map = Output(DRAWN, drawn), Output(DRAWN, drawn, of_all=True)
+        return (Output(self.names, self.geometry), *of_map[: self.has_map + self.has_background])
 
 
-def write_csv(file: PendingFile, selection: Selection, interrupts: Interrupts) -> int:
-    """Writes a CSV file in UTF-8, with lines as WKT in the last column. Returns the number of segments."""
-    values_of = selection.values_of()
+@dataclass(frozen=True)
+class TablePart:
+    """The lines of a county's table in chunks, and the header, which is the same for all counties."""
+
+    header: bytes
+    chunks: Iterable[bytes]
+    segments: int
+    without_line: int
+
+
+def table_part(found: CountyTexts, form: Form) -> TablePart:
+    """Returns the part of a county: the table of `extractd` with the county's code in front of each line."""
+    header, _, lines = found.texts[0].translate(READABLE).partition(b"\n")
+    names = (SCORE, *form.names, LINE_COLUMN) if form.has_lines else (SCORE, *form.names)
+    if header != ",".join(names).encode() or (lines and not lines.endswith(b"\n")):
+        raise no_table(header.decode(errors="replace"))
+    if form.signed or form.for_gdal:
+        lines = _LARGE_SCORE.sub(partial(_fitting_score, form.signed), lines)
+    code = f"{found.county},".encode()
+    marked = (code + lines.replace(b"\n", b"\n" + code))[: -len(code)]
+    without_line = lines.count(b",\n") if form.has_lines else 0
+    return TablePart(f"{COUNTY},".encode() + header + b"\n", _chunks(marked), lines.count(b"\n"), without_line)
+
+
+def _fitting_score(signed: bool, found: re.Match[bytes]) -> bytes:
+    score = score_of(int(found[0]), signed)
+    if not signed and score > LARGEST_INTEGER:
+        raise ValueError(f"the score {score} doesn't fit into a signed integer of 64 bits: use --signed, or .csv")
+    return str(score).encode()
+
+
+def _chunks(text: bytes) -> Iterator[bytes]:
+    for place in range(0, len(text), CHUNK):
+        yield text[place : place + CHUNK]
+
+
+def write_table(file: PendingFile, parts: Iterable[TablePart], form: Form, interrupts: Interrupts) -> int:
+    """Writes the parts in the format of the file's suffix, and returns the number of segments."""
+    if form.for_gdal:
+        return _write_by_gdal(file, parts, form, interrupts)
     count = 0
-    with rename_errors_to(file.final), open(file.path, "w", encoding="utf-8", newline="") as output:
-        writer = csv.writer(output, lineterminator="\n")
-        writer.writerow([*selection.columns, "WKT"] if selection.has_lines else selection.columns)
-        for row, line in selection.rows(interrupts):
-            values = values_of(row)
-            writer.writerow((*values, well_known_text(line)) if selection.has_lines else values)
-            count += 1
+    with rename_errors_to(file.final), open(file.path, "wb") as output:
+        for part in parts:
+            for chunk in part.chunks if count or output.tell() else (part.header, *part.chunks):
+                interrupts.check()
+                output.write(chunk)
+            count += part.segments
     return count
 
 
-def write_source(path: Path, selection: Selection, interrupts: Interrupts) -> tuple[int, int]:
-    """Writes CSV for ogr2ogr, with lines as WKB. Returns the number of segments, and how many have no line."""
-    values_of = selection.values_of()
-    count = without_line = 0
-    with open(path, "w", encoding="utf-8", newline="") as file:
-        writer = csv.writer(file, lineterminator="\n")
-        writer.writerow(["geom", *selection.columns] if selection.has_lines else selection.columns)
-        for row, line in selection.rows(interrupts):
-            if row.score > LARGEST_INTEGER:
-                raise ValueError(
-                    f"the score {row.score} doesn't fit into a signed integer of 64 bits: use --signed, or .csv"
-                )
-            values = values_of(row)
-            writer.writerow((well_known_binary(line), *values) if selection.has_lines else values)
-            count += 1
-            without_line += line is None
-    return count, without_line
-
-
-SourceWriter = Callable[[Path, Selection, Interrupts], tuple[int, int]]
-
-
-def write_by_gdal(
-    file: PendingFile, selection: Selection, interrupts: Interrupts, write_source: SourceWriter = write_source
-) -> int:
-    """Has ogr2ogr write a file, and returns the number of segments. Raises OSError if some are missing in the file."""
+def _write_by_gdal(file: PendingFile, parts: Iterable[TablePart], form: Form, interrupts: Interrupts) -> int:
+    """Has ogr2ogr write a file. Raises OSError if some segments are missing in it."""
     suffix = file.path.suffix
-    if suffix == ".fgb" and not selection.has_lines:
+    if suffix == ".fgb" and not form.has_lines:
         raise ValueError("FlatGeobuf has no segments without geometry: use .gpkg, .geojson or .csv")
     ogr2ogr, ogrinfo = gdal_tool("ogr2ogr"), gdal_tool("ogrinfo")
+    counts: list[int] = []
     with scratch_folder() as scratch:
-        source = scratch / "segments.csv"
-        with rename_errors_to(source):
-            count, without_line = write_source(source, selection, interrupts)
-            source.with_suffix(".csvt").write_text(",".join(_types(selection)) + "\n")
-        if suffix == ".fgb" and without_line:
-            raise ValueError(
-                f"FlatGeobuf has no segments without geometry, and {without_line} have no coordinates: "
-                "use .gpkg, .geojson or .csv"
-            )
-        convert(ogr2ogr, source, file, _options(selection.has_lines), interrupts)
+        source = scratch / "segments.vrt"
+        source.write_text(_source(form))
+        convert(ogr2ogr, source, file, (), interrupts, _fed(parts, suffix == ".fgb", counts))
+    count = sum(counts)
     written = _features_of_geojson(file.path) if suffix == ".geojson" else None
     if written != count:
-        written = count_features(ogrinfo, file.path, "segments", "score", interrupts)
+        written = count_features(ogrinfo, file.path, "segments", SCORE, interrupts)
     if written != count:
         raise OSError(f"{file.final}: ogr2ogr wrote {written or 'none'} of {count} segments; the disk may be full")
     return count
 
 
-def _types(selection: Selection) -> list[str]:
-    """Returns GDAL's types of the columns."""
-    kinds = {field.name: field.kind for field in FIELDS}
-    types = {Kind.NUMBER: "Integer64", Kind.COORDINATE: "Real"}
-    columns = ["String", "Integer64", *(types.get(kinds[name], "String") for name in selection.names)]
-    return ["String", *columns] if selection.has_lines else columns
+def _fed(parts: Iterable[TablePart], needs_lines: bool, counts: list[int]) -> Iterator[bytes]:
+    """Yields the chunks of a table, and adds the number of segments of each part to the counts."""
+    for part in parts:
+        if needs_lines and part.without_line:
+            raise ValueError(
+                f"FlatGeobuf has no segments without geometry, and {part.without_line} have no coordinates: "
+                "use .gpkg, .geojson or .csv"
+            )
+        if not counts:
+            yield part.header
+        yield from part.chunks
+        counts.append(part.segments)
+
+
+def _source(form: Form) -> str:
+    """Returns the description of a table on standard input, for GDAL (a virtual format)."""
+    types = {field.name: _TYPES.get(field.kind, "String") for field in FIELDS} | {SCORE: "Integer64", COUNTY: "String"}
+    fields = "".join(f'<Field name="{name}" type="{types[name]}"/>' for name in form.columns)
+    geometry = "<GeometryType>wkbNone</GeometryType>"
+    if form.has_lines:
+        geometry = (
+            f"<GeometryType>wkbLineString</GeometryType><LayerSRS>{CRS}</LayerSRS>"
+            f'<GeometryField name="geom" encoding="WKT" field="{LINE_COLUMN}"/>'
+        )
+    return (
+        '<OGRVRTDataSource><OGRVRTLayer name="segments"><SrcDataSource>CSV:/vsistdin/</SrcDataSource>'
+        '<OpenOptions><OOI key="EMPTY_STRING_AS_NULL">YES</OOI></OpenOptions><SrcLayer>layer</SrcLayer>'
+        f"{geometry}{fields}</OGRVRTLayer></OGRVRTDataSource>"
+    )
+
+
+_TYPES = {Kind.NUMBER: "Integer64", Kind.COORDINATE: "Real"}
 
 
 def gdal_tool(name: str) -> str:
@@ -141,19 +170,17 @@ def gdal_tool(name: str) -> str:
     return found
 
 
-def _options(has_lines: bool) -> list[str]:
-    options = "-nln segments -oo EMPTY_STRING_AS_NULL=YES"
-    if has_lines:
-        options += f" -nlt LINESTRING -a_srs {CRS} -oo GEOM_POSSIBLE_NAMES=geom -oo KEEP_GEOM_COLUMNS=NO"
-    else:
-        options += " -nlt NONE"
-    return options.split()
-
-
-def convert(ogr2ogr: str, source: Path, file: PendingFile, options: Sequence[str], interrupts: Interrupts) -> None:
-    """Has ogr2ogr write a file in the format of its suffix. Raises OSError with what it says if it fails."""
+def convert(
+    ogr2ogr: str,
+    source: Path,
+    file: PendingFile,
+    options: Sequence[str],
+    interrupts: Interrupts,
+    chunks: Iterable[bytes] = (),
+) -> None:
+    """Has ogr2ogr write a file in the format of its suffix, and feeds it chunks. Raises OSError with what it says."""
     command = [ogr2ogr, "-f", DRIVERS[file.path.suffix], str(file.path), str(source), *options]
-    status, _, said = run_process(command, interrupts)
+    status, said = feed_process(command, chunks, interrupts)
     error = re.search(r"^ERROR [0-9]+: (.*)", said, re.MULTILINE)
     if status != 0 or error:
         raise OSError(f"{file.final}: ogr2ogr can't write it: {error[1][:200] if error else f'status {status}'}")

@@ -3,33 +3,37 @@
     extractd select --where "CFCC LIKE 'A%'" --data examples/town 01007 > rows
     python3 -m tigerline.maps --county examples/town/TGR01007.RT1 --caption Roads rows > roads.svg
 
-Needs only the standard library. A degree of longitude is drawn as wide as it is at the middle latitude, which suits a
+Needs only the standard library, and `extractd`, which reads the records. A degree of longitude is drawn as wide as it is at the middle latitude, which suits a
 county or a state.
 """
 
 import argparse
+import io
 import json
 import sys
 import textwrap
+import warnings
 from collections.abc import Iterable, Iterator, Mapping, Sequence
 from pathlib import Path
 from typing import NamedTuple
 
 from ._commands import exit_status
-from ._extract import CountyRows, tlids
+from ._extract import ALL_SEGMENTS, Output, county_texts
+from ._interrupts import Interrupts
 from ._layout import RECORD_LENGTH
-from ._lines import line_of
 from ._map_labels import NAME_SIZE
 from ._map_layers import INK, By, groups_of
 from ._map_page import PAGE, SCRIPT, STYLE
 from ._map_parts import LEGEND_WIDTH, LINE_HEIGHT, escape, legend_parts, map_parts, printable, scale_parts
-from ._map_rows import map_segment
+from ._map_rows import DRAWN, map_segments, without
 from ._map_view import MARGIN, Box, MapSegment, View, view_of
-from ._rows import read_rows, without
-from ._shapes import shape_points
+from ._program import Refused, find_program
+from ._scratch import scratch_folder
+from ._sources import County
 from ._start import end_at_interrupt
 
 CAPTION_LINES = 6
+CODE = "00000"  # of a county whose file has any name
 FONT = "'Liberation Sans', Arial, Helvetica, sans-serif"
 
 
@@ -167,32 +171,49 @@ def parsed_arguments(arguments: Sequence[str] | None) -> argparse.Namespace:
     return parser.parse_args(arguments)
 
 
-def county_of(path: Path) -> CountyRows:
-    """Returns all segments of a type 1 file, with the shape points of the type 2 file next to it if it exists.
+def split_rows(path: Path) -> tuple[list[int], bytes]:
+    """Returns the scores of the rows in a file, and the records as a file of type 1. Raises OSError for other files.
 
-    Raises OSError if a line isn't of its type.
+    A record may contain any byte but LF, so it is found by its length from the end, and not by the tab before it.
     """
-    lines = path.read_bytes().removesuffix(b"\n").split(b"\n")
-    records = [line.removesuffix(b"\r") for line in lines] if lines != [b""] else []
-    for number, record in enumerate(records, start=1):
-        if len(record) != RECORD_LENGTH or record[:1] != b"1":
-            raise OSError(f"{path}: line {number} isn't a record of type 1")
-    rows = b"".join(b"0\t%b\n" % record for record in records)
-    points = next((beside for beside in map(path.with_suffix, (".RT2", ".rt2")) if beside.exists()), None)
-    return CountyRows("", rows, shape_points(points, set(tlids(rows)), str(points)) if points else {})
+    scores, records = [], []
+    for line in io.BytesIO(path.read_bytes()):
+        before, record = line[: -RECORD_LENGTH - 1], line[-RECORD_LENGTH - 1 :]
+        score, tab = before[:-1], before[-1:]
+        if tab != b"\t" or not score.isdigit() or not record.endswith(b"\n"):
+            raise OSError(f"{path}: this isn't a row that extractd wrote: {line[:40]!r}")
+        scores.append(int(score))
+        records.append(record[:-1] + b"\r\n")
+    return scores, b"".join(records)
 
 
 def drawing(options: argparse.Namespace) -> str:
     """Returns the map of the rows in a file, with the other segments of their county."""
-    county = county_of(options.county) if options.county else CountyRows("", b"")
-    selected = CountyRows("", options.rows.read_bytes(), county.shapes)
-    rest = CountyRows("", without(county.rows, selected.rows), county.shapes)
-    segments, background = (
-        [map_segment(row, line_of(row, rows.shapes)) for row in read_rows(rows, signed=False)]
-        for rows in (selected, rest)
-    )
+    scores, records = split_rows(options.rows)
+    with Interrupts() as interrupts, scratch_folder() as folder:
+        program = find_program(None, interrupts)
+        chosen = folder / "rows"
+        chosen.write_bytes(records)
+        selected = table_of(program, chosen, options.county or chosen, interrupts)
+        everything = table_of(program, options.county, options.county, interrupts) if options.county else b""
+    segments = [segment._replace(score=score) for segment, score in zip(map_segments(selected), scores, strict=True)]
+    background = list(map_segments(without(everything, selected))) if everything else []
     draw = draw_html if options.html else draw_svg
     return draw(segments, caption=options.caption, by=options.by, background=background)
+
+
+def table_of(program: str, path: Path, county: Path, interrupts: Interrupts) -> bytes:
+    """Returns the table of a file of type 1, with the shapes of the type 2 file beside that of the county."""
+    county.stat()  # Raises OSError with this name.
+    shapes = next((beside for beside in map(county.with_suffix, (".RT2", ".rt2")) if beside.exists()), None)
+    files = {"1": path} if shapes is None else {"1": path, "2": shapes}
+    output = Output(DRAWN, "line" if shapes is None else "shape")
+    with warnings.catch_warnings():
+        warnings.simplefilter("ignore")  # Names and address ranges aren't drawn.
+        try:
+            return county_texts(program, ALL_SEGMENTS, County(CODE, path.parent, files), [output], interrupts).texts[0]
+        except Refused as refused:
+            raise OSError(f"{path.name}: {refused.text.splitlines()[0]}") from None
 
 
 def main(arguments: Sequence[str] | None = None) -> int:
