@@ -3,7 +3,7 @@ use Rattle.std.specs.Prelude.{ℕ, ℤ, pos, List, reverse, Option, Some, None, 
 use Rattle.std.specs.Ordering.{int_eq}
 use Rattle.tl_fields.specs.Coordinate.{coordinate_of}
 use Rattle.tl_fields.specs.Number.{is_blank, number_of, without_blanks_before}
-use Rattle.tl_records.specs.Layout.{field_at}
+use Rattle.tl_records.specs.Layout.{field_at, places}
 use Rattle.tl_records.specs.declared.layout.Places.{Places}
 use Rattle.tl_records.specs.declared.layout.TheConstants.Type1 as type1
 use Rattle.cql2.specs.declared.column.CoordinateColumn.{CoordinateColumn}
@@ -13,7 +13,7 @@ use Rattle.cql2.specs.declared.column.NumberColumn.TheVariants.{Tlid, Fraddl, To
 use Rattle.cql2.specs.declared.column.NumericColumn.{NumericColumn}
 use Rattle.cql2.specs.declared.column.NumericColumn.TheVariants.{Number, Coordinate}
 use Rattle.cql2.specs.declared.column.TextColumn.{TextColumn}
-use Rattle.cql2.specs.declared.column.TextColumn.TheVariants.{Rt, Version, Side1, Source, Fedirp, Fename, Fetype, Fedirs, Cfcc, Cousubl, Cousubr}
+use Rattle.cql2.specs.declared.column.TextColumn.TheVariants.{Rt, Version, Side1, Source, Fedirp, Fename, Fetype, Fedirs, Cfcc, Friaddl, Toiaddl, Friaddr, Toiaddr, Cousubl, Cousubr}
 
 abbrev pub number_places : NumberColumn → Places
 number_places Tlid = type1.TLID
@@ -50,6 +50,10 @@ text_places Fename = type1.FENAME
 text_places Fetype = type1.FETYPE
 text_places Fedirs = type1.FEDIRS
 text_places Cfcc = type1.CFCC
+text_places Friaddl = places 103 103
+text_places Toiaddl = places 104 104
+text_places Friaddr = places 105 105
+text_places Toiaddr = places 106 106
 text_places Cousubl = type1.COUSUBL
 text_places Cousubr = type1.COUSUBR
 

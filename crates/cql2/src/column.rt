@@ -54,6 +54,10 @@ pub enum TextColumn {
     Fetype,
     Fedirs,
     Cfcc,
+    Friaddl,
+    Toiaddl,
+    Friaddr,
+    Toiaddr,
     Cousubl,
     Cousubr,
 }
@@ -121,6 +125,11 @@ impl TextColumn {
             TextColumn::Fetype => Type1::FETYPE,
             TextColumn::Fedirs => Type1::FEDIRS,
             TextColumn::Cfcc => Type1::CFCC,
+            // The flags of imputed addresses, which `Type1` doesn't name.
+            TextColumn::Friaddl => Places(103, 103),
+            TextColumn::Toiaddl => Places(104, 104),
+            TextColumn::Friaddr => Places(105, 105),
+            TextColumn::Toiaddr => Places(106, 106),
             TextColumn::Cousubl => Type1::COUSUBL,
             TextColumn::Cousubr => Type1::COUSUBR,
         }
