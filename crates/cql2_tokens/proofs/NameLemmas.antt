@@ -6,7 +6,7 @@ use Rattle.cql2.specs.declared.column.CoordinateColumn.TheVariants.{Frlong, Frla
 use Rattle.cql2.specs.declared.column.NumberColumn.TheVariants.{Tlid, Fraddl, Toaddl, Fraddr, Toaddr, Zipl, Zipr, Statel, Stater}
 use Rattle.cql2.specs.declared.column.NumberColumn.TheVariants.{Countyl, Countyr, Placel, Placer, Tractl, Tractr, Blockl, Blockr}
 use Rattle.cql2.specs.declared.column.NumericColumn.TheVariants.{Number, Coordinate}
-use Rattle.cql2.specs.declared.column.TextColumn.TheVariants.{Rt, Version, Side1, Source, Fedirp, Fename, Fetype, Fedirs, Cfcc, Cousubl, Cousubr}
+use Rattle.cql2.specs.declared.column.TextColumn.TheVariants.{Rt, Version, Side1, Source, Fedirp, Fename, Fetype, Fedirs, Cfcc, Friaddl, Toiaddl, Friaddr, Toiaddr, Cousubl, Cousubr}
 use Rattle.cql2_tokens.specs.Name.{column_name, column_named, keyword_named, keyword_text}
 use Rattle.cql2_tokens.specs.declared.token.Keyword.{Keyword}
 use Rattle.cql2_tokens.specs.declared.token.Keyword.TheVariants.{And, Or, Not, True, False, Is, Null, Like, Between, In, Casei, HasNumber, HasName}
@@ -43,6 +43,10 @@ column-found (Text Fename) = refl
 column-found (Text Fetype) = refl
 column-found (Text Fedirs) = refl
 column-found (Text Cfcc) = refl
+column-found (Text Friaddl) = refl
+column-found (Text Toiaddl) = refl
+column-found (Text Friaddr) = refl
+column-found (Text Toiaddr) = refl
 column-found (Text Cousubl) = refl
 column-found (Text Cousubr) = refl
 
@@ -77,6 +81,10 @@ column-no_keyword (Text Fename) = refl
 column-no_keyword (Text Fetype) = refl
 column-no_keyword (Text Fedirs) = refl
 column-no_keyword (Text Cfcc) = refl
+column-no_keyword (Text Friaddl) = refl
+column-no_keyword (Text Toiaddl) = refl
+column-no_keyword (Text Friaddr) = refl
+column-no_keyword (Text Toiaddr) = refl
 column-no_keyword (Text Cousubl) = refl
 column-no_keyword (Text Cousubr) = refl
 

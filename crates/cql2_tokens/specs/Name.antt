@@ -11,7 +11,7 @@ use Rattle.cql2.specs.declared.column.NumberColumn.TheVariants.{Tlid, Fraddl, To
 use Rattle.cql2.specs.declared.column.NumberColumn.TheVariants.{Countyl, Countyr, Placel, Placer, Tractl, Tractr, Blockl, Blockr}
 use Rattle.cql2.specs.declared.column.NumericColumn.TheVariants.{Number, Coordinate}
 use Rattle.cql2.specs.declared.column.TextColumn.{TextColumn}
-use Rattle.cql2.specs.declared.column.TextColumn.TheVariants.{Rt, Version, Side1, Source, Fedirp, Fename, Fetype, Fedirs, Cfcc, Cousubl, Cousubr}
+use Rattle.cql2.specs.declared.column.TextColumn.TheVariants.{Rt, Version, Side1, Source, Fedirp, Fename, Fetype, Fedirs, Cfcc, Friaddl, Toiaddl, Friaddr, Toiaddr, Cousubl, Cousubr}
 use Rattle.cql2_tokens.specs.declared.name.TheConstants.{COLUMNS, KEYWORDS}
 use Rattle.cql2_tokens.specs.declared.token.Keyword.{Keyword}
 use Rattle.cql2_tokens.specs.declared.token.Keyword.TheVariants.{And, Or, Not, True, False, Is, Null, Like, Between, In, Casei, HasNumber, HasName}
@@ -69,6 +69,10 @@ text_name Fename = codes "FENAME"
 text_name Fetype = codes "FETYPE"
 text_name Fedirs = codes "FEDIRS"
 text_name Cfcc = codes "CFCC"
+text_name Friaddl = codes "FRIADDL"
+text_name Toiaddl = codes "TOIADDL"
+text_name Friaddr = codes "FRIADDR"
+text_name Toiaddr = codes "TOIADDR"
 text_name Cousubl = codes "COUSUBL"
 text_name Cousubr = codes "COUSUBR"
 
