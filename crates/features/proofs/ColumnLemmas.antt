@@ -15,7 +15,7 @@ use Rattle.cql2.specs.declared.column.Column.TheVariants.{Numeric, Text}
 use Rattle.cql2.specs.declared.column.CoordinateColumn.TheVariants.{Frlong, Frlat, Tolong, Tolat}
 use Rattle.cql2.specs.declared.column.NumberColumn.TheVariants.{Tlid, Fraddl, Toaddl, Fraddr, Toaddr, Zipl, Zipr, Statel, Stater, Countyl, Countyr, Placel, Placer, Tractl, Tractr, Blockl, Blockr}
 use Rattle.cql2.specs.declared.column.NumericColumn.TheVariants.{Number, Coordinate}
-use Rattle.cql2.specs.declared.column.TextColumn.TheVariants.{Rt, Version, Side1, Source, Fedirp, Fename, Fetype, Fedirs, Cfcc, Cousubl, Cousubr}
+use Rattle.cql2.specs.declared.column.TextColumn.TheVariants.{Rt, Version, Side1, Source, Fedirp, Fename, Fetype, Fedirs, Cfcc, Friaddl, Toiaddl, Friaddr, Toiaddr, Cousubl, Cousubr}
 use Rattle.cql2_tokens.specs.Name.{column_named}
 use Rattle.features.specs.Columns.{columns_after, columns_named, is_same, places_of, unless_fault, with_column}
 use Rattle.features.specs.declared.columns.TheConstants.{COLUMNS}
@@ -62,6 +62,10 @@ all_columns (Text Fename) = refl
 all_columns (Text Fetype) = refl
 all_columns (Text Fedirs) = refl
 all_columns (Text Cfcc) = refl
+all_columns (Text Friaddl) = refl
+all_columns (Text Toiaddl) = refl
+all_columns (Text Friaddr) = refl
+all_columns (Text Toiaddr) = refl
 all_columns (Text Cousubl) = refl
 all_columns (Text Cousubr) = refl
 
@@ -70,13 +74,13 @@ pub still_distinct : (before : List AColumn) (column : AColumn) → IsDistinct i
     → IsDistinct is_same (before ++ column ∷ [])
 still_distinct before column distinct new = IsDistinct-push same_equiv before column distinct new
 
--- there are no more columns than 32
-pub few_columns : (columns : List AColumn) → IsDistinct is_same columns → length columns ≤ 32
+-- there are no more columns than 36
+pub few_columns : (columns : List AColumn) → IsDistinct is_same columns → length columns ≤ 36
 few_columns columns distinct = length-le_from_is_member same_equiv columns COLUMNS distinct (λ column among. all_columns column)
 
 -- there is room for a new column
-pub room : (columns : List AColumn) (count : ℕ) (column : AColumn) → length columns ≡ 32 → count ≤ 32 → IsDistinct is_same (take count columns)
-    → list_any (is_same column) (take count columns) ≡ false → count < 32
+pub room : (columns : List AColumn) (count : ℕ) (column : AColumn) → length columns ≡ 36 → count ≤ 36 → IsDistinct is_same (take count columns)
+    → list_any (is_same column) (take count columns) ≡ false → count < 36
 room columns count column long few distinct new =
     omega (
       arith,
@@ -86,7 +90,7 @@ room columns count column long few distinct new =
     )
 
 -- the columns with one more put after them
-pub put_column : (columns : List AColumn) (count : ℕ) (column : AColumn) → length columns ≡ 32 → count < 32
+pub put_column : (columns : List AColumn) (count : ℕ) (column : AColumn) → length columns ≡ 36 → count < 36
     → take (count + 1) (set columns count column) ≡ take count columns ++ column ∷ []
 put_column columns count column long inside = take-set_at columns count (count + 1) column refl (omega arith)
 

@@ -6,7 +6,7 @@ use Rattle.cql2.specs.declared.column.Column.TheVariants.{Numeric, Text}
 use Rattle.cql2.specs.declared.column.CoordinateColumn.TheVariants.{Frlong, Frlat, Tolong, Tolat}
 use Rattle.cql2.specs.declared.column.NumberColumn.TheVariants.{Tlid, Fraddl, Toaddl, Fraddr, Toaddr, Zipl, Zipr, Statel, Stater, Countyl, Countyr, Placel, Placer, Tractl, Tractr, Blockl, Blockr}
 use Rattle.cql2.specs.declared.column.NumericColumn.TheVariants.{Number, Coordinate}
-use Rattle.cql2.specs.declared.column.TextColumn.TheVariants.{Rt, Version, Side1, Source, Fedirp, Fename, Fetype, Fedirs, Cfcc, Cousubl, Cousubr}
+use Rattle.cql2.specs.declared.column.TextColumn.TheVariants.{Rt, Version, Side1, Source, Fedirp, Fename, Fetype, Fedirs, Cfcc, Friaddl, Toiaddl, Friaddr, Toiaddr, Cousubl, Cousubr}
 use Rattle.cql2_tokens.specs.Name.{column_name}
 use Rattle.csv.specs.Writing.{default_writer, field_text}
 use Rattle.json.specs.Print.{escape, escape_byte}
@@ -42,6 +42,10 @@ field_text-column_name (Text Fename) = refl
 field_text-column_name (Text Fetype) = refl
 field_text-column_name (Text Fedirs) = refl
 field_text-column_name (Text Cfcc) = refl
+field_text-column_name (Text Friaddl) = refl
+field_text-column_name (Text Toiaddl) = refl
+field_text-column_name (Text Friaddr) = refl
+field_text-column_name (Text Toiaddr) = refl
 field_text-column_name (Text Cousubl) = refl
 field_text-column_name (Text Cousubr) = refl
 
@@ -76,6 +80,10 @@ name_short (Text Fename) = lit≤ tt
 name_short (Text Fetype) = lit≤ tt
 name_short (Text Fedirs) = lit≤ tt
 name_short (Text Cfcc) = lit≤ tt
+name_short (Text Friaddl) = lit≤ tt
+name_short (Text Toiaddl) = lit≤ tt
+name_short (Text Friaddr) = lit≤ tt
+name_short (Text Toiaddr) = lit≤ tt
 name_short (Text Cousubl) = lit≤ tt
 name_short (Text Cousubr) = lit≤ tt
 
@@ -111,6 +119,10 @@ escape-column_name (Text Fename) = refl
 escape-column_name (Text Fetype) = refl
 escape-column_name (Text Fedirs) = refl
 escape-column_name (Text Cfcc) = refl
+escape-column_name (Text Friaddl) = refl
+escape-column_name (Text Toiaddl) = refl
+escape-column_name (Text Friaddr) = refl
+escape-column_name (Text Toiaddr) = refl
 escape-column_name (Text Cousubl) = refl
 escape-column_name (Text Cousubr) = refl
 
@@ -145,5 +157,9 @@ flat-column_name (Text Fename) = refl
 flat-column_name (Text Fetype) = refl
 flat-column_name (Text Fedirs) = refl
 flat-column_name (Text Cfcc) = refl
+flat-column_name (Text Friaddl) = refl
+flat-column_name (Text Toiaddl) = refl
+flat-column_name (Text Friaddr) = refl
+flat-column_name (Text Toiaddr) = refl
 flat-column_name (Text Cousubl) = refl
 flat-column_name (Text Cousubr) = refl

@@ -12,7 +12,7 @@ use std::marker::Model;
 use tl_records::{Places, RECORD_LENGTH};
 
 /// The number of columns that a filter can name.
-pub const MAX_COLUMNS: usize = 32;
+pub const MAX_COLUMNS: usize = 36;
 
 /// The width of the widest field, FENAME.
 pub(crate) const MAX_FIELD_LENGTH: usize = 30;
@@ -33,6 +33,10 @@ pub const COLUMNS: [Column; MAX_COLUMNS] = [
     Column::Numeric(NumericColumn::Number(NumberColumn::Toaddl)),
     Column::Numeric(NumericColumn::Number(NumberColumn::Fraddr)),
     Column::Numeric(NumericColumn::Number(NumberColumn::Toaddr)),
+    Column::Text(TextColumn::Friaddl),
+    Column::Text(TextColumn::Toiaddl),
+    Column::Text(TextColumn::Friaddr),
+    Column::Text(TextColumn::Toiaddr),
     Column::Numeric(NumericColumn::Number(NumberColumn::Zipl)),
     Column::Numeric(NumericColumn::Number(NumberColumn::Zipr)),
     Column::Numeric(NumericColumn::Number(NumberColumn::Statel)),
@@ -68,7 +72,7 @@ impl Model for Columns {
 
     ghost view = { λ columns. take columns.count columns.columns };
 
-    ghost invariant = { λ columns. (0 < columns.count) × (columns.count ≤ 32) };
+    ghost invariant = { λ columns. (0 < columns.count) × (columns.count ≤ 36) };
 }
 
 impl Columns {

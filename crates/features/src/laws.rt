@@ -17,9 +17,10 @@ pub fn all_columns()
     ensures each { (column : Column) → list_any (is_same column) COLUMNS ≡ true }
     ensures names { map column_name COLUMNS ≡
         codes "RT" ∷ codes "VERSION" ∷ codes "TLID" ∷ codes "SIDE1" ∷ codes "SOURCE" ∷ codes "FEDIRP" ∷ codes "FENAME" ∷ codes "FETYPE"
-        ∷ codes "FEDIRS" ∷ codes "CFCC" ∷ codes "FRADDL" ∷ codes "TOADDL" ∷ codes "FRADDR" ∷ codes "TOADDR" ∷ codes "ZIPL" ∷ codes "ZIPR"
-        ∷ codes "STATEL" ∷ codes "STATER" ∷ codes "COUNTYL" ∷ codes "COUNTYR" ∷ codes "COUSUBL" ∷ codes "COUSUBR" ∷ codes "PLACEL" ∷ codes "PLACER"
-        ∷ codes "TRACTL" ∷ codes "TRACTR" ∷ codes "BLOCKL" ∷ codes "BLOCKR" ∷ codes "FRLONG" ∷ codes "FRLAT" ∷ codes "TOLONG" ∷ codes "TOLAT" ∷ [] }
+        ∷ codes "FEDIRS" ∷ codes "CFCC" ∷ codes "FRADDL" ∷ codes "TOADDL" ∷ codes "FRADDR" ∷ codes "TOADDR" ∷ codes "FRIADDL" ∷ codes "TOIADDL"
+        ∷ codes "FRIADDR" ∷ codes "TOIADDR" ∷ codes "ZIPL" ∷ codes "ZIPR" ∷ codes "STATEL" ∷ codes "STATER" ∷ codes "COUNTYL" ∷ codes "COUNTYR"
+        ∷ codes "COUSUBL" ∷ codes "COUSUBR" ∷ codes "PLACEL" ∷ codes "PLACER" ∷ codes "TRACTL" ∷ codes "TRACTR" ∷ codes "BLOCKL" ∷ codes "BLOCKR"
+        ∷ codes "FRLONG" ∷ codes "FRLAT" ∷ codes "TOLONG" ∷ codes "TOLAT" ∷ [] }
 {}
 
 /// States that columns that were named are different.
