@@ -10,7 +10,7 @@ use Rattle.cql2.specs.Column.{text_places, text_value, trim_end}
 use Rattle.cql2.specs.Truth.{is as is_truth}
 use Rattle.cql2.specs.declared.column.TextColumn.{TextColumn}
 use Rattle.cql2.specs.declared.column.TextColumn.TheVariants.{Rt, Version, Side1, Source, Fedirp, Fename, Fetype, Fedirs, Cfcc}
-use Rattle.cql2.specs.declared.column.TextColumn.TheVariants.{Cousubl, Cousubr}
+use Rattle.cql2.specs.declared.column.TextColumn.TheVariants.{Friaddl, Toiaddl, Friaddr, Toiaddr, Cousubl, Cousubr}
 use Rattle.cql2_code.specs.Lowering.{is_blank, is_null_text, offset_of, width_of}
 use Rattle.cql2_code.specs.Question.{answer}
 use Rattle.cql2_code.proofs.ByteLemmas.{blank_found}
@@ -27,6 +27,10 @@ column_within Fename = lit≤ tt
 column_within Fetype = lit≤ tt
 column_within Fedirs = lit≤ tt
 column_within Cfcc = lit≤ tt
+column_within Friaddl = lit≤ tt
+column_within Toiaddl = lit≤ tt
+column_within Friaddr = lit≤ tt
+column_within Toiaddr = lit≤ tt
 column_within Cousubl = lit≤ tt
 column_within Cousubr = lit≤ tt
 
@@ -44,6 +48,10 @@ field_at_is Fename segment = refl
 field_at_is Fetype segment = refl
 field_at_is Fedirs segment = refl
 field_at_is Cfcc segment = refl
+field_at_is Friaddl segment = refl
+field_at_is Toiaddl segment = refl
+field_at_is Friaddr segment = refl
+field_at_is Toiaddr segment = refl
 field_at_is Cousubl segment = refl
 field_at_is Cousubr segment = refl
 
