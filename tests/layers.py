@@ -4,16 +4,18 @@ sequence, with straight lines and with the points of record type 2.
 
     python3 layers.py COUNT [SEED]
 
-`extractd` and `ogr2ogr` are taken from the search path. The script makes a county of COUNT segments from the town in examples, with new TLIDs, and draws 0
-to 25 points for each. `extractd` reads its lines of type 2 in a random order; the driver takes the lines of a TLID as they follow each other.
+`extractd` and `ogr2ogr` are taken from the search path. The script makes a county of COUNT segments from the town in examples, with new TLIDs, and draws
+imputed flags and 0 to 25 points for each. `extractd` reads its lines of type 2 in a random order; the driver takes the lines of a TLID as they follow each
+other.
 
 Prints the first segment that differs in each layer, then how many agree and how many differ. Exits with 1 if any differs. SEED defaults to 1; the same
-seed draws the same points.
+seed draws the same flags and points.
 """
 # Needs only Python 3.11 or later, and GDAL's tools.
 
 import csv
 import io
+import re
 import subprocess
 import sys
 import tempfile
@@ -29,9 +31,10 @@ MOST_POINTS = 25
 FORMATS = {"csv": ["CSV:/vsistdin/", "-oo", "KEEP_GEOM_COLUMNS=NO"], "geojsonseq": ["/vsistdin?buffer_limit=-1"]}
 # The columns that the driver has, too. It makes integers of some.
 COLUMNS = (
-    "TLID SIDE1 SOURCE FEDIRP FENAME FETYPE FEDIRS CFCC FRADDL TOADDL FRADDR TOADDR ZIPL ZIPR STATEL STATER COUNTYL COUNTYR COUSUBL COUSUBR "
-    "PLACEL PLACER TRACTL TRACTR BLOCKL BLOCKR"
+    "TLID SIDE1 SOURCE FEDIRP FENAME FETYPE FEDIRS CFCC FRADDL TOADDL FRADDR TOADDR FRIADDL TOIADDL FRIADDR TOIADDR ZIPL ZIPR STATEL STATER "
+    "COUNTYL COUNTYR COUSUBL COUSUBR PLACEL PLACER TRACTL TRACTR BLOCKL BLOCKR"
 ).split()
+LEADING_ZEROS = re.compile("^0+(?=[0-9])")
 
 
 class Segment(NamedTuple):
@@ -40,12 +43,13 @@ class Segment(NamedTuple):
     points: list[int]
 
 
-def segments_with(tlids: range) -> Iterator[bytes]:
-    """Yields the town's lines with these TLIDs, one after the other and then from the start."""
+def segments_with(random: Random, tlids: range) -> Iterator[bytes]:
+    """Yields the town's lines with these TLIDs and any imputed flags, one after the other and then from the start."""
     lines = TOWN.read_bytes().splitlines()
     for index, tlid in enumerate(tlids):
         line = lines[index % len(lines)]
-        yield line[:5] + b"%10d" % tlid + line[15:]
+        flags = "".join(random.choices(" 01", k=4)).encode()
+        yield line[:5] + b"%10d" % tlid + line[15:102] + flags + line[106:]
 
 
 def shape(random: Random, tlid: int) -> Iterator[bytes]:
@@ -67,7 +71,7 @@ def write_lines(path: Path, lines: list[bytes]) -> None:
 def write_counties(folder: Path, count: int, random: Random) -> None:
     """Writes the county three times: for straight lines, for the driver, and for `extractd` with the lines of type 2 in a random order."""
     tlids = range(1_000_000, 1_000_000 + count)
-    segments = list(segments_with(tlids))
+    segments = list(segments_with(random, tlids))
     shapes = [line for tlid in tlids for line in shape(random, tlid)]
     for name in ("straight", "ordered", "shuffled"):
         write_lines(folder / name / f"TGR{CODE}.RT1", segments)
@@ -84,7 +88,7 @@ def points_of(wkt: str) -> list[int]:
 def read(table: bytes, encoding: str) -> Iterator[Segment]:
     """Yields the segments of GDAL's output. Numbers have no leading zeros, and texts no blanks, as in the driver's."""
     for row in csv.DictReader(io.StringIO(table.decode(encoding))):
-        yield Segment([row[name].strip().lstrip("0") for name in COLUMNS], points_of(row["WKT"]))
+        yield Segment([LEADING_ZEROS.sub("", row[name].strip()) for name in COLUMNS], points_of(row["WKT"]))
 
 
 def gdal(*source: str, given: bytes | None = None) -> bytes:

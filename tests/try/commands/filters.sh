@@ -7,6 +7,8 @@ while IFS='|' read -r arguments status size text; do
 done <<END
 select --where TRUE --data $county 01001|0|$rows|
 select --where "CFCC = 'A41'" --score TLID --data $county 01001|0|$((110 * 239))|
+select --where "FRIADDL = '1'" --data $county 01001|0|$((13 * 231))|
+select --where "FRIADDL IS NULL" --format csv --columns friaddl,TOIADDR --geometry none --data $county 01001|0|$((22 + 228 * 4 + 14 * 5))|
 select --where TRUE --data empty 01001|0|0|
 select --where TRUE --data faulty 01001 01003 01005|1|$rows|refused 1 rt1 line 1 WrongLength?county 01003
 select --where TRUE --data faulty 01001 01005|3|$rows|error: faulty/TGR01005.RT1: not found
