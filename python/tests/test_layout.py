@@ -35,9 +35,7 @@ def test_kinds_are_those_of_filters() -> None:
         for kind in by_kind.values()
     }
     for field in layout.FIELDS:
-        # Filters compare the imputed flags with texts.
-        kind = "text" if field.name[2:6] == "IADD" else by_kind[field.kind]
-        assert field.name in columns[kind]
+        assert field.name in columns[by_kind[field.kind]]
 
 
 def test_row_has_all_columns() -> None:
