@@ -113,7 +113,7 @@ class TestAgainstGdal:
         assert max(len(line.coords) for line in shapes.geometry) == 25
         for name in ("FENAME", "FETYPE", "CFCC", "SOURCE", "FEDIRP", "FEDIRS"):
             assert shapes[name].fillna("").tolist() == [row[name] for row in expected]
-        for name in ("FRADDL", "TOADDR"):
+        for name in ("FRADDL", "TOADDR", "FRIADDL", "TOIADDR"):
             assert shapes[name].fillna("").tolist() == [row[name].strip() for row in expected]
         for name in ("ZIPL", "TRACTR", "COUNTYL", "BLOCKL", "PLACER"):
             numbers = [
