@@ -15,7 +15,10 @@ from typing import NamedTuple
 
 import pytest
 import tigerline
-from counties import EXAMPLES, TOOLS
+from counties import EXAMPLES, TOOLS, TOP
+
+sys.path.append(str(TOP / "tests"))
+from addresses import Point, degrees, place_along, place_between, read_shapes  # noqa: E402
 
 ADDRESSES, SPOILT = 1000, 250  # per county
 PARTS = 12
@@ -43,6 +46,7 @@ class Segment(NamedTuple):
     names: list[tuple[str, str, str, str]]  # FEDIRP, FENAME, FETYPE, FEDIRS
     sides: list[tuple[str, int, int, str]]  # letter, first and last number, ZIP Code
     ends: tuple[int, int, int, int] | None
+    shape: list[Point] | None  # None if the county has no shapes
 
 
 class Found(NamedTuple):
@@ -69,6 +73,8 @@ class Index:
                     names[line[5:15]].append(features[int(line[at : at + 8])])
         for line in lines(6):
             sides[line[5:15]] += [("L", line[18:40], line[66:71]), ("R", line[40:62], line[71:76])]
+        path = folder / f"TGR{code}.RT2"
+        shapes = read_shapes(path) if path.exists() else None
         self.segments = []
         self.by_name = defaultdict(list)
         for line in lines(1):
@@ -80,6 +86,7 @@ class Index:
                 [tuple(part.strip() for part in name) for name in (own, *names[line[5:15]])],
                 [(side, int(both[:11]), int(both[11:]), code.strip()) for side, both, code in ranges if both.strip()],
                 tuple(map(int, ends)) if all(map(str.strip, ends)) else None,
+                None if shapes is None else shapes.get(int(line[5:15]), []),
             )
             self.segments.append(segment)
             for name in segment.names:
@@ -143,17 +150,14 @@ class Index:
 
 
 def place(segment: Segment, number: int, first: int, last: int) -> tuple[str, str] | None:
-    """Returns the place of a house number in degrees, calculated in integers and truncated towards zero."""
+    """Returns the place of a house number in degrees, along the shape if the county has shapes."""
     if segment.ends is None:
         return None
-
-    def along(start: int, end: int) -> str:
-        product, whole = (end - start) * (number - first), (last - first) or 1
-        cut = abs(product) // abs(whole) * (1 if (product < 0) == (whole < 0) else -1)
-        value = start + cut
-        return f"{'-' if value < 0 else ''}{abs(value) // 10**6}.{abs(value) % 10**6:06}"
-
-    return along(segment.ends[0], segment.ends[2]), along(segment.ends[1], segment.ends[3])
+    start, end = Point(*segment.ends[:2]), Point(*segment.ends[2:])
+    part, whole = abs(number - first), abs(last - first) or 1
+    if segment.shape is None:
+        return tuple(map(degrees, place_between(start, end, part, whole)))
+    return tuple(map(degrees, place_along([start, *segment.shape, end], part, whole)))
 
 
 class Drawn(NamedTuple):

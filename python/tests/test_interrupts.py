@@ -14,6 +14,7 @@ import pytest
 import tigerline
 from counties import CODE, EXAMPLES, TOP, program_of, records, zip_folder
 from tigerline._interrupts import Interrupts
+from tigerline._layout import NAMES
 
 SEED = 20061
 COPIES = 12
@@ -196,7 +197,7 @@ def test_ignored_signal_stays_ignored() -> None:
 
 @pytest.mark.usefixtures("scratch")
 def test_other_threads(tmp_path: Path) -> None:
-    program = program_of(tmp_path / "program", "exit 0")
+    program = program_of(tmp_path / "program", f"echo {','.join(('score', *NAMES))}")
     found: list[list[tigerline.Row]] = []
     thread = threading.Thread(
         target=lambda: found.append(list(tigerline.rows("TRUE", EXAMPLES, CODE, extractd=program)))
