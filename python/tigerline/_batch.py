@@ -19,6 +19,7 @@ from collections.abc import Callable, Generator, Iterable, Iterator, Sequence
 from contextlib import ExitStack, closing, contextmanager, suppress
 from dataclasses import asdict, astuple, dataclass, replace
 from functools import cache, partial
+from itertools import chain
 from pathlib import Path
 from typing import BinaryIO
 
@@ -170,7 +171,7 @@ def _write_part(path: Path, found: CountyTexts, form: Form, interrupts: Interrup
     content = MapContent(form.signed)
     content.add_county(*found.texts[1:])
     with rename_errors_to(path), open(path, "wb") as file:
-        for chunk in (part.header, *part.chunks):
+        for chunk in chain([part.header], part.chunks):
             interrupts.check()
             file.write(chunk)
         table = file.tell()

@@ -6,6 +6,7 @@ import shutil
 from collections.abc import Iterable, Iterator, Sequence
 from dataclasses import dataclass
 from functools import partial
+from itertools import chain
 from pathlib import Path
 
 from ._extract import CountyTexts, Geometry, Output
@@ -102,7 +103,7 @@ def write_table(file: PendingFile, parts: Iterable[TablePart], form: Form, inter
     count = 0
     with rename_errors_to(file.final), open(file.path, "wb") as output:
         for part in parts:
-            for chunk in part.chunks if count or output.tell() else (part.header, *part.chunks):
+            for chunk in part.chunks if output.tell() else chain([part.header], part.chunks):
                 interrupts.check()
                 output.write(chunk)
             count += part.segments
