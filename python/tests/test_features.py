@@ -1,8 +1,6 @@
-"""The OGC API as a WSGI application: pages, boxes, ids, bad input, and the number of runs of `extractd`."""
+"""The OGC API as a WSGI application: pages, shapes, ids, bad input, and the number of runs of `extractd`."""
 
 import json
-import random
-import sqlite3
 import threading
 import time
 from collections.abc import Callable, Iterator
@@ -13,14 +11,25 @@ from wsgiref.util import setup_testing_defaults
 from wsgiref.validate import validator
 
 import pytest
-from counties import CODE, EXAMPLES, SEGMENTS, copy_county, program_of, records, zip_folder
+from counties import (
+    CODE,
+    EXAMPLES,
+    SEGMENTS,
+    copy_county,
+    gdal_rows,
+    points_of,
+    program_of,
+    records,
+    write_shapes,
+    zip_folder,
+)
 from test_features_command import HANGING
 from test_interrupts import processes_with
+from tigerline._layout import FIELDS, Field, Kind
 from tigerline.features import Limits, Service, application
 
 BASE = "http://127.0.0.1"
 ITEMS = f"/collections/{CODE}/items"
-SEED = 2006
 
 pytestmark = pytest.mark.usefixtures("scratch")
 
@@ -73,6 +82,20 @@ def tlids(document: dict[str, Any]) -> list[int]:
 
 def ids(document: dict[str, Any]) -> list[int]:
     return [feature["id"] for feature in document["features"]]
+
+
+def points(feature: dict[str, Any]) -> list[tuple[float, float]]:
+    return [(longitude, latitude) for longitude, latitude in feature["geometry"]["coordinates"]]
+
+
+def value_of(field: Field, record: str) -> object:
+    """Returns the value of a field of an example, as docs/layers.md describes it."""
+    text = record[field.first - 1 : field.last].strip(" ")
+    if not text:
+        return None
+    if field.kind is Kind.COORDINATE:
+        return int(text) / 1e6
+    return int(text) if field.kind is Kind.NUMBER else text
 
 
 @pytest.fixture
@@ -169,6 +192,13 @@ class TestFeatures:
         numbers = [int(record[first:last]) / 1e6 for first, last in ((190, 200), (200, 209), (209, 219), (219, 228))]
         assert feature["geometry"] == {"type": "LineString", "coordinates": [numbers[:2], numbers[2:]]}
 
+    def test_all_properties(self, service: Service) -> None:
+        """They are the fields in the order of the record."""
+        features = ask(service, ITEMS).document["features"]
+        for record, feature in zip(records(EXAMPLES / "TGR01001.RT1"), features, strict=True):
+            expected = {field.name: value_of(field, record.decode("latin-1")) for field in FIELDS}
+            assert list(feature["properties"].items()) == list(expected.items())
+
     def test_any_byte(self, make: Make, extractd: str, tmp_path: Path) -> None:
         odd = bytes(byte for byte in range(256) if byte != 10)
         lines = []
@@ -179,7 +209,7 @@ class TestFeatures:
         (copy_county(tmp_path) / "TGR01001.RT1").write_bytes(b"\n".join(lines) + b"\n")
         features = ask(make(tmp_path), ITEMS).document["features"]
         for line, feature in zip(lines, features, strict=True):
-            assert feature["properties"]["FENAME"] == line[19:49].decode("latin-1").rstrip(" ")
+            assert feature["properties"]["FENAME"] == line[19:49].decode("latin-1").strip(" ")
 
     @pytest.mark.parametrize("limit", [1, 7, 100, 399, 400, 401, 10**30])
     def test_each_page_once(self, service: Service, limit: int) -> None:
@@ -218,6 +248,69 @@ class TestFeatures:
             assert ask(make(data), ITEMS).document["features"] == expected
 
 
+class TestShapes:
+    """The geometry of a segment has its shape points if its county has a file of type 2."""
+
+    @pytest.mark.usefixtures("gdal", "extractd")
+    @pytest.mark.parametrize("code", [CODE, "01007"])
+    def test_same_as_gdal(self, make: Make, tmp_path: Path, code: str) -> None:
+        if code == CODE:
+            write_shapes(copy_county(tmp_path))
+        data = tmp_path if code == CODE else EXAMPLES / "town"
+        expected = {int(row["TLID"]): points_of(row["WKT"]) for row in gdal_rows(data / f"TGR{code}.RT1")}
+        features = ask(make(data, code), f"/collections/{code}/items?limit=10000").document["features"]
+        assert {feature["id"]: points(feature) for feature in features} == expected
+        assert sum(len(line) > 2 for line in expected.values()) > len(expected) / 4
+
+    def test_forms_of_a_county(self, make: Make, extractd: str, tmp_path: Path) -> None:
+        """Of a county in other cases or in a zip file, and of one segment."""
+        write_shapes(copy_county(tmp_path / "plain"))
+        archive = zip_folder(tmp_path / "plain", tmp_path / "TGR01001.ZIP")
+        (tmp_path / "lower").mkdir()
+        for path in (tmp_path / "plain").iterdir():
+            (tmp_path / "lower" / path.name.lower()).write_bytes(path.read_bytes())
+        service = make(tmp_path / "plain")
+        expected = ask(service, ITEMS).document["features"]
+        for data in (tmp_path / "lower", archive):
+            assert ask(make(data), ITEMS).document["features"] == expected
+        single = ask(service, f"{ITEMS}/{expected[6]['id']}").document
+        assert points(single) == points(expected[6]) and len(points(single)) == 25
+
+    def test_one_county_without_file(self, make: Make, extractd: str, tmp_path: Path) -> None:
+        write_shapes(copy_county(tmp_path))
+        service = make(copy_county(tmp_path, code="01003"), "01")
+        for code, lengths in (("01001", {2, 3, 11, 12, 13, 22, 25}), ("01003", {2})):
+            features = ask(service, f"/collections/{code}/items").document["features"]
+            assert {len(points(feature)) for feature in features} == lengths
+
+    @pytest.mark.parametrize(
+        ("lines", "number", "text"),
+        [
+            (b"x\n", 1, "rt2 line 1 WrongLength"),
+            (b"20006 107000001  x" + b"+000000000+00000000" * 10 + b"\n", 120, "rt2 line 1 BadSequence"),
+            ((b"20006 107000001  1" + b"+000000000+00000000" * 10 + b"\n") * 2, 121, "rt2 line 2 RepeatedSequence"),
+        ],
+        ids=["length", "sequence", "twice"],
+    )
+    def test_faulty_file(
+        self,
+        make: Make,
+        extractd: str,
+        tmp_path: Path,
+        capfd: pytest.CaptureFixture[str],
+        lines: bytes,
+        number: int,
+        text: str,
+    ) -> None:
+        (copy_county(tmp_path) / "TGR01001.RT2").write_bytes(lines)
+        service = make(copy_county(tmp_path, code="01003"), "01")
+        for target in (ITEMS, f"{ITEMS}/107000001", query(filter="TRUE", bbox="-87,32,-86,33")):
+            answer = ask(service, target)
+            assert answer.status == 500 and answer.document["type"].endswith("#refused-county")
+            assert answer.document["refusal"] == number and text in answer.document["detail"]
+        assert ["extent" in item for item in ask(service, "/collections").document["collections"]] == [False, True]
+
+
 class TestIds:
     """Ids are unique, and the same in each selection, even if a file repeats a TLID."""
 
@@ -251,81 +344,6 @@ class TestIds:
     )
     def test_unknown(self, repeated: Service, name: str) -> None:
         assert ask(repeated, f"{ITEMS}/{name}").status == 404
-
-
-class TestBoxes:
-    """A box selects the segments whose bounding box of the ends intersects it; SQLite compares the same numbers."""
-
-    @pytest.fixture
-    def moved(self, make: Make, extractd: str, tmp_path: Path) -> tuple[Service, sqlite3.Connection]:
-        randoms = random.Random(SEED)
-        table = sqlite3.connect(":memory:")
-        table.execute("CREATE TABLE segments (tlid, x1, y1, x2, y2)")
-        lines = []
-        for number, line in enumerate(records(EXAMPLES / "TGR01001.RT1"), start=1):
-            longitude, latitude = randoms.choice([-179_999_000, 179_999_000, 0, -86_700_000]), randoms.choice(
-                [0, 32_400_000]
-            )
-            ends = [
-                base + randoms.randint(-3, 3) * step if randoms.random() < 0.95 else None
-                for base, step in ((longitude, 1), (latitude, 1), (longitude, 500), (latitude, 500))
-            ]
-            texts = [" " * width if end is None else f"{end:+0{width}d}" for end, width in zip(ends, (10, 9, 10, 9))]
-            lines.append(line[:5] + b"%10d" % number + line[15:190] + "".join(texts).encode())
-            degrees = [end / 1e6 if end else None for end in ends]  # 0 is the same as missing.
-            table.execute("INSERT INTO segments VALUES (?, ?, ?, ?, ?)", (number, *degrees))
-        (copy_county(tmp_path) / "TGR01001.RT1").write_bytes(b"\n".join(lines) + b"\n")
-        return make(tmp_path), table
-
-    def test_random_boxes(self, moved: tuple[Service, sqlite3.Connection]) -> None:
-        service, table = moved
-        randoms = random.Random(SEED)
-        sizes = set()
-        for _ in range(30):
-            west, east = (self.near(randoms, (-180, 180, 0, -86.7)) for _ in range(2))
-            south, north = sorted(self.near(randoms, (0, 32.4)) for _ in range(2))
-            joined = "OR" if west > east else "AND"
-            expected = table.execute(
-                f"SELECT tlid FROM segments WHERE (MAX(x1, x2) >= ? {joined} MIN(x1, x2) <= ?)"
-                " AND MAX(y1, y2) >= ? AND MIN(y1, y2) <= ?",
-                (west, east, south, north),
-            )
-            box = ",".join(randoms.choice(("%r", "%.17g", "%.16f")) % number for number in (west, south, east, north))
-            found = ask(service, query(bbox=box)).document
-            assert tlids(found) == [tlid for tlid, in expected], box
-            sizes.add(found["numberMatched"])
-        assert len(sizes) > 8
-
-    @staticmethod
-    def near(randoms: random.Random, numbers: tuple[float, ...]) -> float:
-        """Returns a number at, next to, or close to ends of segments, also between two millionths of a degree."""
-        largest, steps = randoms.choice(((4000, 1e6), (3, 1e6), (35, 1e7)))
-        return randoms.choice(numbers) + randoms.randint(-largest, largest) / steps
-
-    def test_without_coordinates(self, moved: tuple[Service, sqlite3.Connection]) -> None:
-        service, _ = moved
-        everything = ask(service, ITEMS).document["features"]
-        without = {feature["id"] for feature in everything if feature["geometry"] is None}
-        about_zero = ask(service, query(bbox="-1,-1,1,1")).document
-        assert without and not without & set(ids(about_zero))
-        assert not without & set(ids(ask(service, query(bbox="-180,-90,180,90")).document))
-
-    @pytest.mark.parametrize(
-        ("box", "same"),
-        [
-            ("-86.700000000000003,32.399999999999999,-86.599999999999994,32.5", "-86.7,32.4,-86.6,32.5"),
-            ("-86.7,32.4,-100,-86.6,32.5,1e3", "-86.7,32.4,-86.6,32.5"),
-            (" -86.7, 32.4, -86.6, 32.5", "-86.7,32.4,-86.6,32.5"),
-            ("-867e-1,+32.4,-86.6,.325e2", "-86.7,32.4,-86.6,32.5"),
-            ("-1e300,-1e300,1e300,1e300", "-180,-90,180,90"),
-            ("-86.69999999999999999999,32.4,-86.6,32.5", "-86.7,32.4,-86.6,32.5"),
-        ],
-    )
-    def test_forms(self, service: Service, box: str, same: str) -> None:
-        if box.count(",") == 5:
-            west, south, low, east, north, high = box.split(",")
-            box = ",".join((west, south, low, east, north, high))
-        assert tlids(ask(service, query(bbox=box)).document) == tlids(ask(service, query(bbox=same)).document)
 
 
 FILTERS = [
@@ -362,11 +380,12 @@ class TestBadInput:
         place = (problem["refusal"], problem["line"], problem["column"])
         assert place == (number, line, column) and problem["detail"].startswith(f"refused {number} line {line} column")
 
-    def test_deep_filter_and_box(self, service: Service) -> None:
-        """The box costs a filter one of its 64 levels of parentheses, and the place is in the filter as sent."""
+    def test_deep_filter_and_property(self, service: Service) -> None:
+        """A property costs a filter one of its 64 levels of parentheses, and the place is in the filter as sent."""
         given = {"filter": "(" * 64 + "TRUE" + ")" * 64}
         assert ask(service, query(**given)).status == 200
-        problem = ask(service, query(**given, bbox="-87,32,-86,33")).document
+        assert ask(service, query(**given, bbox="-87,32,-86,33")).status == 200
+        problem = ask(service, query(**given, CFCC="A41")).document
         assert (problem["refusal"], problem["column"]) == (95, 64)
 
     @pytest.mark.parametrize(
@@ -506,13 +525,17 @@ class TestRuns:
         list(pages(service, query(filter="CFCC LIKE 'A%'", limit=50)))
         list(pages(service, query(limit=50)))
         assert program.calls() == []
-        list(pages(service, query(filter="CFCC LIKE 'A%'", bbox="-87,32,-86,33", limit=50)))
+        # A box needs the segments of the filter, which are there.
+        for box in ("-87,32,-86,33", "-86.7,32.3,-86.5,32.6"):
+            assert len(list(pages(service, query(filter="CFCC LIKE 'A%'", bbox=box, limit=5)))) > 1
+        assert program.calls() == []
+        list(pages(service, query(filter="CFCC LIKE 'A%'", FETYPE="Ct", bbox="-87,32,-86,33", limit=5)))
         assert program.calls() == ["compile", "select"]
 
     def test_buffers_are_bounded(self, make: Make, extractd: str, tmp_path: Path) -> None:
         """A county with more bytes than all buffers may have is kept while it is read."""
         program = Counting(tmp_path, extractd)
-        service = make(extractd=program.path, limits=Limits(buffers=50_000))
+        service = make(extractd=program.path, limits=Limits(buffers=150_000))
         assert sum(len(page["features"]) for page in pages(service, query(limit=10))) == SEGMENTS
         assert program.calls() == ["select"]
         first, second = query(filter="CFCC = 'A41'"), query(filter="CFCC = 'A61'")
@@ -526,7 +549,7 @@ class TestRuns:
     def test_single_segments_take_no_room(
         self, make: Make, extractd: str, tmp_path: Path, monkeypatch: pytest.MonkeyPatch
     ) -> None:
-        monkeypatch.setattr("tigerline._features_rows.MOST_BUFFERS", 2)
+        monkeypatch.setattr("tigerline._features_selections.MOST_BUFFERS", 2)
         program = Counting(tmp_path, extractd)
         service = make(extractd=program.path)
         ask(service, query(filter="CFCC = 'A41'"))

@@ -44,10 +44,10 @@ def write_large_county(folder: Path) -> None:
 
 @pytest.fixture(scope="module")
 def data(tmp_path_factory: pytest.TempPathFactory) -> Path:
-    """Writes three counties without shape points, so that neither the service nor the TIGER driver reads any."""
+    """Writes three counties. The town has shape points, which the TIGER driver reads, too."""
     folder = tmp_path_factory.mktemp("counties")
-    for source, code in ((EXAMPLES, CODE), (EXAMPLES / "town", TOWN)):
-        for record_type in "1456":
+    for source, code, types in ((EXAMPLES, CODE, "1456"), (EXAMPLES / "town", TOWN, "12456")):
+        for record_type in types:
             shutil.copy(source / f"TGR{code}.RT{record_type}", folder)
     write_large_county(folder)
     return folder

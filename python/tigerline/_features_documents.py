@@ -2,8 +2,9 @@
 
 from typing import Any
 
+from ._features_boxes import Extent
 from ._features_query import CRS83, CRS84, DEFAULT_PAGE, LANGUAGES, PROPERTIES, SYSTEMS
-from ._features_rows import Limits, Summary
+from ._features_selections import Limits
 from ._layout import Field, Kind
 
 JSON = "application/json"
@@ -50,8 +51,8 @@ def landing(base: str) -> Document:
     }
 
 
-def county(base: str, code: str, summary: Summary | None) -> Document:
-    """Returns the description of a county. It has an extent if the summary is given and has one."""
+def county(base: str, code: str, extent: Extent | None) -> Document:
+    """Returns the description of a county, with its extent if that is known."""
     here = f"{base}/collections/{code}"
     document: Document = {
         "id": code,
@@ -66,8 +67,8 @@ def county(base: str, code: str, summary: Summary | None) -> Document:
             link(QUERYABLES, SCHEMA, f"{here}/queryables", "the columns that filters can name"),
         ],
     }
-    if summary is not None and summary.extent is not None:
-        document["extent"] = {"spatial": {"bbox": [list(summary.extent)], "crs": CRS84}}
+    if extent is not None:
+        document["extent"] = {"spatial": {"bbox": [list(extent)], "crs": CRS84}}
     return document
 
 

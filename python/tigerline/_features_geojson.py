@@ -1,72 +1,64 @@
-"""Writes records of type 1 as GeoJSON features (RFC 7946)."""
+"""Reads the features that `extractd` writes, one on each line, and makes GeoJSON (RFC 7946) of them."""
 
 import json
-from collections.abc import Callable, Iterable
-from functools import lru_cache
-from struct import Struct
+import re
+from collections.abc import Callable
 
-from . import _layout
-from ._layout import FIELDS, NAMES, RECORD_LENGTH, Field, Kind
+# Strings escape quotation marks, so this is at the start of each line and nowhere else. The score of a filter is 0.
+_START = re.compile(rb'\{"type":"Feature","properties":\{"score":0,(?=.*?"TLID":([0-9]+))')
+_NO_LINE = b"null"
 
-_READ: dict[Kind, Callable[[str], object]] = {
-    Kind.NUMBER: _layout.number,
-    Kind.TEXT: _layout.text,
-    Kind.CODE: _layout.code,
-    Kind.COORDINATE: _layout.coordinate,
-}
-KEPT_VALUES = 10_000
-ENDS = [NAMES.index(name) for name in ("FRLONG", "FRLAT", "TOLONG", "TOLAT")]
-MISSING = "null"
+# The longitudes and the latitudes of a line in millionths of a degree.
+Line = tuple[list[int], list[int]]
+# Returns the id of the feature that begins at a match, whose first group is the TLID.
+IdOf = Callable[[re.Match[bytes]], bytes]
 
 
-def _split() -> Struct:
-    """Returns the layout that unpacks a record: the fields, and unnamed bytes between them."""
-    form, place = "", 0
-    for field in FIELDS:
-        form += f"{field.first - 1 - place}x{field.last - field.first + 1}s"
-        place = field.last
-    return Struct(f"{form}{RECORD_LENGTH - place}x")
+class NotFeatures(OSError):
+    """The program wrote something else."""
+
+    def __init__(self) -> None:
+        super().__init__("extractd wrote something that isn't features")
 
 
-def _value(field: Field) -> Callable[[bytes], str]:
-    """Returns a function that writes the value of a field as JSON. Texts and codes recur, so they are cached."""
-    read = _READ[field.kind]
-
-    @lru_cache(KEPT_VALUES)
-    def text(raw: bytes) -> str:
-        return json.dumps(read(raw.decode("latin-1")))
-
-    def number(raw: bytes) -> str:
-        value = read(raw.decode("latin-1"))
-        return MISSING if value is None else repr(value)
-
-    if field.kind in (Kind.TEXT, Kind.CODE):
-        return text
-    return number
+def tlids(lines: bytes) -> list[bytes]:
+    """Returns the TLID of each line. Raises NotFeatures if one isn't a feature."""
+    found = _START.findall(lines)
+    if len(found) != lines.count(b"\n"):
+        raise NotFeatures
+    return found
 
 
-_RECORD = _split()
-_VALUES = [_value(field) for field in FIELDS]
-_PROPERTIES = "{" + ",".join(f'"{name}":%s' for name in NAMES) + "}"
+def line_of(feature: bytes) -> Line | None:
+    """Returns the geometry of a feature, whose coordinates have six decimals."""
+    coordinates = feature[feature.rindex(b":") + 1 :]
+    if coordinates.startswith(_NO_LINE):
+        return None
+    numbers = list(map(int, coordinates.translate(None, b"[.]}").split(b",")))
+    return numbers[::2], numbers[1::2]
 
 
-def feature(number: int, record: bytes, links: str = "") -> str:
-    """Returns the feature of a record: a line between its ends, or no geometry if one of them has no coordinates."""
-    values = [value(raw) for value, raw in zip(_VALUES, _RECORD.unpack(record))]
-    ends = [values[index] for index in ENDS]
-    geometry = MISSING
-    if MISSING not in ends:
-        geometry = '{"type":"LineString","coordinates":[[%s,%s],[%s,%s]]}' % tuple(ends)
-    properties = _PROPERTIES % tuple(values)
-    return f'{{"type":"Feature","id":{number},"geometry":{geometry},"properties":{properties}{links}}}'
-
-
-def collection(features: Iterable[str], members: dict[str, object]) -> bytes:
-    """Returns a collection of features with further members."""
+def collection(lines: bytes, count: int, id_of: IdOf, members: dict[str, object]) -> bytes:
+    """Returns a collection of the features of that many lines, with further members."""
     head = json.dumps({"type": "FeatureCollection", **members}, separators=(",", ":"))
-    return f'{head[:-1]},"features":[{",".join(features)}]}}'.encode()
+    features = _with_ids(lines, count, id_of)
+    return b"".join((head[:-1].encode(), b',"features":[', *features, b"]}"))
 
 
-def single(number: int, record: bytes, links: list[dict[str, str]]) -> bytes:
-    """Returns a feature with links."""
-    return feature(number, record, f',"links":{json.dumps(links)}').encode()
+def single(line: bytes, number: bytes, links: list[dict[str, str]]) -> bytes:
+    """Returns the feature of a line with an id and links."""
+    feature = b"".join(_with_ids(line, 1, lambda start: number))
+    return b'%b,"links":%b}' % (feature.removesuffix(b"}\n"), json.dumps(links).encode())
+
+
+def _with_ids(lines: bytes, count: int, id_of: IdOf) -> list[bytes]:
+    """Returns the pieces of the features with ids and without scores, with commas between the features."""
+    pieces: list[bytes] = []
+    end = found = 0
+    for found, start in enumerate(_START.finditer(lines), start=1):
+        comma = b"," if end else b""
+        pieces += lines[end : start.start()], comma, b'{"type":"Feature","id":', id_of(start), b',"properties":{'
+        end = start.end()
+    if found != count:
+        raise NotFeatures
+    return [*pieces, lines[end:]]

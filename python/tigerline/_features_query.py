@@ -1,12 +1,13 @@
-"""Reads the parameters of a request for features, and makes a filter of them for `extractd`."""
+"""Reads the parameters of a request for features, and makes a filter for `extractd` and a box of them."""
 
 import math
 import re
 from collections.abc import Collection
 from dataclasses import dataclass
-from decimal import ROUND_CEILING, ROUND_FLOOR, Decimal
+from fractions import Fraction
 from urllib.parse import parse_qsl
 
+from ._features_boxes import FAR, BBox
 from ._features_problems import Problem, bad_parameter
 from ._layout import FIELDS, Field, Kind
 
@@ -19,9 +20,6 @@ LANGUAGES = ("cql2-text", "cql-text")
 PROPERTIES = tuple(field for field in FIELDS if field.kind is not Kind.CODE)
 DEFAULT_PAGE = 1000
 LARGEST_NUMBER = 999_999_999_999_999_999
-# A coordinate of a filter has less than 1000 degrees and up to six decimals.
-LARGEST_DEGREES = Decimal("999.999999")
-MICRODEGREE = Decimal("0.000001")
 
 _NUMBER = re.compile(r"[-+]?([0-9]+\.?[0-9]*|\.[0-9]+)([eE][-+]?[0-9]{1,4})?")
 _LITERALS = {
@@ -33,41 +31,22 @@ _TIME = re.compile(rf"{_DAY}|({_DAY}|(\.\.)?)/({_DAY}|(\.\.)?)")
 
 
 @dataclass(frozen=True)
-class BBox:
-    """A box of longitudes and latitudes as literals of a filter. It crosses the 180th meridian if `west` > `east`."""
-
-    west: Decimal
-    south: Decimal
-    east: Decimal
-    north: Decimal
-
-    def filter(self) -> str:
-        """Returns the filter for segments with two known ends whose bounding box intersects this box."""
-        longitudes = [_either("LONG", ">=", self.west), _either("LONG", "<=", self.east)]
-        latitudes = [_either("LAT", ">=", self.south), _either("LAT", "<=", self.north)]
-        # These come last, so that they are evaluated for few segments.
-        known = [f"{name} IS NOT NULL" for name in ("FRLONG", "FRLAT", "TOLONG", "TOLAT")]
-        across = " OR " if self.west > self.east else " AND "
-        return " AND ".join((f"({across.join(longitudes)})", *latitudes, *known))
-
-
-def _either(axis: str, operator: str, value: Decimal) -> str:
-    return f"(FR{axis} {operator} {value:f} OR TO{axis} {operator} {value:f})"
-
-
-@dataclass(frozen=True)
 class FeatureSelection:
-    """The segments of a county that a request is about: those for which the filter and all conditions are true."""
+    """The segments of a county that a request is about.
+
+    The filter and all conditions are true for them, and their geometry meets the box.
+    """
 
     filter: str | None = None
     conditions: tuple[str, ...] = ()
+    box: BBox | None = None
 
     # The part of the text that precedes the filter.
     PREFIX = "("
 
     @property
     def text(self) -> str:
-        """The filter for `extractd`."""
+        """The filter for `extractd`, which has no box."""
         if not self.conditions:
             return "TRUE" if self.filter is None else self.filter
         filters = () if self.filter is None else (f"{self.PREFIX}{self.filter})",)
@@ -119,10 +98,8 @@ def items_query(given: dict[str, str], filter_length: int, largest_page: int) ->
     if limit < 1:
         raise bad_parameter("limit", "it is 1 or more")
     conditions = [equality(field, given[field.name]) for field in PROPERTIES if field.name in given]
-    if "bbox" in given:
-        conditions.append(box(given["bbox"]).filter())
     return ItemsQuery(
-        FeatureSelection(text, tuple(conditions)),
+        FeatureSelection(text, tuple(conditions), box(given["bbox"]) if "bbox" in given else None),
         min(limit, largest_page),
         whole_number(given, "offset", 0),
         system(given, "crs"),
@@ -175,21 +152,15 @@ def box(text: str) -> BBox:
         if numbers[2] > numbers[5]:
             raise bad_parameter("bbox", "its lower height is above its upper one")
         del numbers[5], numbers[2]
-    west, south, east, north = numbers
-    if south > north:
+    if numbers[1] > numbers[3]:
         raise bad_parameter("bbox", "its south is north of its north")
-    return BBox(
-        _literal(west, ROUND_CEILING),
-        _literal(south, ROUND_CEILING),
-        _literal(east, ROUND_FLOOR),
-        _literal(north, ROUND_FLOOR),
-    )
+    west, south, east, north = (_degrees(number) for number in numbers)
+    return BBox(west, south, east, north)
 
 
-def _literal(number: float, rounding: str) -> Decimal:
-    """Rounds a bound to six decimals. Coordinates have no more, so the same ones satisfy it.
+def _degrees(number: float) -> Fraction:
+    """Returns the shortest decimal number with this value: GDAL sends -86.700000000000003 for -86.7.
 
-    GDAL sends -86.7 as -86.700000000000003. Both are the same floating point number, and -86.7 is its shortest form.
+    A number further than all coordinates becomes FAR.
     """
-    degrees = min(max(Decimal(repr(number)), -LARGEST_DEGREES), LARGEST_DEGREES)
-    return degrees.quantize(MICRODEGREE, rounding=rounding) + 0
+    return min(max(Fraction(repr(number)), Fraction(-FAR)), Fraction(FAR))

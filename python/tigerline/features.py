@@ -1,6 +1,7 @@
 """Serves street segments as OGC API - Features 1.0, parts 1 and 3: the command `tigerline-features`, and a WSGI application.
 
-Each collection is a county, and `extractd select` selects the segments. Needs only the standard library.
+Each collection is a county. `extractd select` selects the segments and writes the features. Needs only the standard
+library.
 """
 
 import argparse
@@ -22,9 +23,10 @@ from urllib.parse import urlencode, urlsplit
 from . import _features_documents as documents
 from . import _features_geojson as geojson
 from ._features_documents import GEOJSON, JSON, OPENAPI, PROBLEM, SCHEMA, link
+from ._features_ids import REPEATED, id_of
 from ._features_problems import RETRY_SECONDS, ClientLeft, Problem, not_found
-from ._features_query import FeatureSelection, ItemsQuery, items_query, parameters, system
-from ._features_rows import ClientIsThere, Limits, Processes, Rows, Store, tlid_of
+from ._features_query import ItemsQuery, items_query, parameters, system
+from ._features_selections import ClientIsThere, Limits, Processes, Store
 from ._features_server import CLIENT_IS_THERE, serve
 from ._interrupts import Interrupts
 from ._program import PathLike, find_program
@@ -37,10 +39,8 @@ if TYPE_CHECKING:
 __all__ = ["Limits", "Service", "application", "main"]
 
 USAGE, FILES = 2, 3
-# The second segment with a TLID, which has up to ten digits, has the TLID plus this number as its id, and so on.
-REPEATED = 10**10
 MOST_BUILDING = 4
-# The most counties for which /collections has the extent. Each needs all rows of its county once.
+# The most counties for which /collections has the extent. Each needs all features of its county once.
 MOST_EXTENTS = 10
 
 _HOST = re.compile(r"[A-Za-z0-9.\-_:\[\]]+")
@@ -160,59 +160,43 @@ class Service:
     def _collection(self, county: County, base: str, client_is_there: ClientIsThere) -> dict[str, Any]:
         """Describes a county. One that can't be read has no extent, and the others are served anyway."""
         try:
-            summary = self._store.summary(county, client_is_there)
+            extent = self._store.extent(county, client_is_there)
         except (Problem, OSError, MemoryError) as error:
             _as_problem(error)
-            return documents.county(base, county.code, None)
-        return documents.county(base, county.code, summary)
+            extent = None
+        return documents.county(base, county.code, extent)
 
     def _items(self, county: County, query: str, base: str, client_is_there: ClientIsThere) -> Reply:
         given = parameters(query, documents.ITEMS_PARAMETERS)
         request = items_query(given, self.limits.filter_length, self.limits.page)
-        repeated = self._store.summary(county, client_is_there).repeated
-        rows = self._store.rows(county, request.selection, client_is_there)
+        repeated = self._store.repeated(county, client_is_there)
+        selected = self._store.lines(county, request.selection, client_is_there)
         here = f"{base}/collections/{county.code}"
         with self._building:
-            records = rows.records(request.offset, request.limit)
-            features = map(geojson.feature, _ids(records, rows, request.offset, repeated), records)
+            lines, count = selected.page(request.offset, request.limit)
             members = {
-                "numberMatched": rows.count,
-                "numberReturned": len(records),
+                "numberMatched": selected.count,
+                "numberReturned": count,
                 "timeStamp": time.strftime("%Y-%m-%dT%H:%M:%SZ", time.gmtime()),
-                "links": [*_page_links(f"{here}/items", given, request, rows.count), link("collection", JSON, here)],
+                "links": [
+                    *_page_links(f"{here}/items", given, request, selected.count),
+                    link("collection", JSON, here),
+                ],
             }
-            return GEOJSON, geojson.collection(features, members), [("Content-Crs", f"<{request.crs}>")]
+            numbers = id_of(repeated, lines, selected.parts(request.offset))
+            return GEOJSON, geojson.collection(lines, count, numbers, members), [("Content-Crs", f"<{request.crs}>")]
 
     def _item(self, county: County, text: str, query: str, base: str, client_is_there: ClientIsThere) -> Reply:
         crs = system(parameters(query, documents.ITEM_PARAMETERS), "crs")
         if not _FEATURE_ID.fullmatch(text):
             raise not_found(f"feature {text[:60]!r}")
         earlier, tlid = divmod(int(text), REPEATED)
-        rows = self._store.rows(county, FeatureSelection(f"TLID = {tlid}"), client_is_there, keep=False)
-        records = rows.records(earlier, 1)
-        if not records:
+        line, count = self._store.segments(county, tlid, client_is_there).page(earlier, 1)
+        if not count:
             raise not_found(f"feature {text}")
         here = f"{base}/collections/{county.code}"
         links = [link("self", GEOJSON, f"{here}/items/{text}"), link("collection", JSON, here)]
-        return GEOJSON, geojson.single(int(text), records[0], links), [("Content-Crs", f"<{crs}>")]
-
-
-def _ids(records: list[bytes], rows: Rows, offset: int, repeated: dict[int, list[bytes]]) -> Iterable[int]:
-    """Yields the id of each record of a page: its TLID, plus an offset for further segments with this TLID.
-
-    Lines that are equal byte for byte are selected together, so the n-th of them in the rows is the n-th in the file.
-    """
-    equal_before: dict[bytes, int] = {}
-    for record in records:
-        tlid = tlid_of(record)
-        if tlid not in repeated:
-            yield tlid
-            continue
-        places = [place for place, other in enumerate(repeated[tlid]) if other == record]
-        if record not in equal_before:
-            equal_before[record] = sum(other == record for other in rows.all_records(offset)) if len(places) > 1 else 0
-        yield tlid + REPEATED * places[equal_before[record]]
-        equal_before[record] += 1
+        return GEOJSON, geojson.single(line, text.encode(), links), [("Content-Crs", f"<{crs}>")]
 
 
 def _page_links(items: str, given: dict[str, str], request: ItemsQuery, matched: int) -> list[dict[str, str]]:
@@ -283,7 +267,7 @@ def parser() -> argparse.ArgumentParser:
     for name, metavar, default, text in (
         ("--processes", "N", limits.processes, "selections at once"),
         ("--seconds", "S", int(limits.seconds), "time of a selection"),
-        ("--buffers", "MIB", limits.buffers >> 20, "room for the rows of the latest selections, in temporary files"),
+        ("--buffers", "MIB", limits.buffers >> 20, "room for the latest selections, in temporary files"),
         ("--page", "N", limits.page, "features in a reply"),
         ("--connections", "N", limits.connections, "connections at once"),
     ):

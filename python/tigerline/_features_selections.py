@@ -1,33 +1,28 @@
-"""Has `extractd` select segments within limits, and caches the rows of the latest selections."""
+"""Has `extractd` select segments within limits, and caches the features of the latest selections."""
 
-import math
 import os
 import subprocess
 import tempfile
 import threading
 import time
-import weakref
 from collections import OrderedDict
 from collections.abc import Callable, Iterator
 from concurrent.futures import Future
 from contextlib import contextmanager, suppress
-from dataclasses import dataclass, field
+from dataclasses import dataclass, field, replace
 from typing import IO
 
-
+from ._features_boxes import Extent
+from ._features_ids import Repeated, repeated
+from ._features_lines import Lines
 from ._features_problems import ClientLeft, Problem, busy, late, refused_county, refused_filter
 from ._features_query import FeatureSelection
 from ._interrupts import Interrupts, kill_group
-from ._layout import FIELDS, RECORD_LENGTH, TLID, Field, Kind, coordinate, number
 from ._program import Refused, failure
-from ._sources import County, opened_county
+from ._sources import County, has_shapes, opened_county
 
-# A row is `0`, a tab, a record and LF: the score of a filter is always 0.
-SCORE = b"0\t"
-ROW_LENGTH = len(SCORE) + RECORD_LENGTH + 1
-CHUNK = 10_000  # rows
 POLL_SECONDS = 0.02
-SMALLEST_BUFFER = 4096  # bytes; a buffer without rows counts as this size
+SMALLEST_BUFFER = 4096  # bytes; a buffer without features counts as this size
 MOST_BUFFERS = 256  # each is an open file
 
 ClientIsThere = Callable[[], bool]
@@ -40,38 +35,10 @@ class Limits:
     processes: int = 2
     waiting: int = 32
     seconds: float = 30
-    buffers: int = 1 << 30
+    buffers: int = 4 << 30
     page: int = 10_000
     filter_length: int = 16_384
     connections: int = 500
-
-
-class Rows:
-    """The rows of a selection, in an unnamed temporary file that is deleted with this object."""
-
-    def __init__(self, file: IO[bytes]) -> None:
-        size = os.fstat(file.fileno()).st_size
-        self._descriptor = os.dup(file.fileno())
-        weakref.finalize(self, os.close, self._descriptor)
-        self.count, rest = divmod(size, ROW_LENGTH)
-        self.size = size
-        if rest:
-            raise OSError("extractd wrote something that isn't rows")
-
-    def records(self, offset: int, limit: int) -> list[bytes]:
-        """Returns the records of a page."""
-        first, last = min(offset, self.count), min(offset + limit, self.count)
-        page = os.pread(self._descriptor, (last - first) * ROW_LENGTH, first * ROW_LENGTH)
-        rows = [page[place : place + ROW_LENGTH] for place in range(0, len(page), ROW_LENGTH)]
-        if len(rows) != last - first or not all(row.startswith(SCORE) and row.endswith(b"\n") for row in rows):
-            raise OSError("extractd wrote something that isn't rows")
-        return [row[len(SCORE) : -1] for row in rows]
-
-    def all_records(self, end: int | None = None) -> Iterator[bytes]:
-        """Yields the records, or those before `end`."""
-        end = self.count if end is None else min(end, self.count)
-        for offset in range(0, end, CHUNK):
-            yield from self.records(offset, min(CHUNK, end - offset))
 
 
 class Watch(Interrupts):
@@ -89,14 +56,6 @@ class Watch(Interrupts):
             raise ClientLeft
         if time.monotonic() > self._deadline:
             raise late(self._seconds)
-
-
-@dataclass(frozen=True)
-class Summary:
-    """A county's west, south, east and north, and the records of each repeated TLID."""
-
-    extent: tuple[float, float, float, float] | None
-    repeated: dict[int, list[bytes]]
 
 
 class Processes:
@@ -118,17 +77,21 @@ class Processes:
                 if process.returncode is None:
                     kill_group(process)
 
-    def select(self, county: County, selection: FeatureSelection, client_is_there: ClientIsThere) -> Rows:
-        """Returns the rows of a selection. Raises Problem if it has none to return."""
+    def watch(self, client_is_there: ClientIsThere) -> Watch:
+        """Returns what ends a selection that begins now."""
+        return Watch(self._limits.seconds, lambda: client_is_there() and not self._closed)
+
+    def select(self, county: County, selection: FeatureSelection, client_is_there: ClientIsThere) -> Lines:
+        """Returns the features of a selection, whose box is ignored. Raises Problem if it has none to return."""
         with self._slot(client_is_there), tempfile.TemporaryFile() as output:
-            watch = Watch(self._limits.seconds, lambda: client_is_there() and not self._closed)
+            watch = self.watch(client_is_there)
             if selection.filter is not None and selection.conditions:
                 self._compile(selection.filter, watch)
             try:
                 self._run_select(county, selection.text, output, watch)
             except Refused as refused:
                 raise _problem(refused, county.code, selection) from None
-            return Rows(output)
+            return Lines(output)
 
     def _compile(self, text: str, watch: Watch) -> None:
         """Raises Problem if a filter is refused.
@@ -142,8 +105,10 @@ class Processes:
                 raise refused_filter(refused) from None
 
     def _run_select(self, county: County, text: str, output: IO[bytes], watch: Watch) -> None:
-        with opened_county(county, "1456", watch) as files:
-            command = ["select", f"--where={text}", "--data", str(files["1"].parent), county.code]
+        types, geometry = ("12456", "shape") if has_shapes(county) else ("1456", "line")
+        with opened_county(county, types, watch) as files:
+            layer = ["--format", "geojsonseq", "--geometry", geometry]
+            command = ["select", f"--where={text}", "--data", str(files["1"].parent), *layer, county.code]
             self._run(command, output, watch, b"", county.code)
 
     @contextmanager
@@ -212,27 +177,42 @@ def _problem(refused: Refused, county: str, selection: FeatureSelection) -> Prob
 
 @dataclass
 class Store:
-    """The rows of the latest selections. Makes each selection only once, even if several clients request it at once."""
+    """The latest selections. Makes each only once, even if several clients request it at once."""
 
     processes: Processes
     limits: Limits
-    _buffers: OrderedDict[tuple[str, FeatureSelection], Rows] = field(default_factory=OrderedDict)
-    _pending: dict[tuple[str, FeatureSelection], "Future[Rows]"] = field(default_factory=dict)
-    _summaries: dict[str, Summary] = field(default_factory=dict)
+    _buffers: OrderedDict[tuple[str, FeatureSelection], Lines] = field(default_factory=OrderedDict)
+    _pending: dict[tuple[str, FeatureSelection], "Future[Lines]"] = field(default_factory=dict)
+    _extents: dict[str, Extent | None] = field(default_factory=dict)
+    _repeated: dict[str, Repeated] = field(default_factory=dict)
     _lock: threading.Lock = field(default_factory=threading.Lock)
     _size: int = 0
     _waiting: int = 0
 
-    def rows(
-        self, county: County, selection: FeatureSelection, client_is_there: ClientIsThere, *, keep: bool = True
-    ) -> Rows:
-        """Returns the rows of a selection. `extractd` runs only if they aren't cached."""
+    def lines(self, county: County, selection: FeatureSelection, client_is_there: ClientIsThere) -> Lines:
+        """Returns the features of a selection. `extractd` runs only if they aren't cached."""
         key = (county.code, selection)
+        if selection.box is None:
+            return self._once(key, lambda: self.processes.select(county, selection, client_is_there), keep=True)
+        with self._lock:
+            cached = self._cached(key)
+        if cached is not None:
+            return cached
+        box, everywhere = selection.box, self.lines(county, replace(selection, box=None), client_is_there)
+        return self._once(key, lambda: everywhere.in_box(box, self.processes.watch(client_is_there).check), keep=True)
+
+    def segments(self, county: County, tlid: int, client_is_there: ClientIsThere) -> Lines:
+        """Returns the features of the segments with a TLID, which aren't cached."""
+        selection = FeatureSelection(f"TLID = {tlid}")
+        key = (county.code, selection)
+        return self._once(key, lambda: self.processes.select(county, selection, client_is_there), keep=False)
+
+    def _once(self, key: tuple[str, FeatureSelection], make: Callable[[], Lines], keep: bool) -> Lines:
+        """Returns the features of a selection. Makes them if they are neither cached nor being made."""
         while True:
             with self._lock:
-                if key in self._buffers:
-                    self._buffers.move_to_end(key)
-                    return self._buffers[key]
+                if (cached := self._cached(key)) is not None:
+                    return cached
                 if self._waiting >= self.limits.processes + self.limits.waiting:
                     raise busy()
                 self._waiting += 1
@@ -240,7 +220,7 @@ class Store:
                 mine = self._pending.setdefault(key, Future()) if pending is None else None
             try:
                 if mine is not None:
-                    return self._fill(mine, county, selection, client_is_there, keep)
+                    return self._fill(mine, key, make, keep)
                 if pending is not None:
                     return pending.result()
             except ClientLeft:
@@ -251,17 +231,17 @@ class Store:
                 with self._lock:
                     self._waiting -= 1
 
+    def _cached(self, key: tuple[str, FeatureSelection]) -> Lines | None:
+        """Returns the features of a selection if they are cached. The caller has the lock."""
+        if key in self._buffers:
+            self._buffers.move_to_end(key)
+        return self._buffers.get(key)
+
     def _fill(
-        self,
-        pending: "Future[Rows]",
-        county: County,
-        selection: FeatureSelection,
-        client_is_there: ClientIsThere,
-        keep: bool,
-    ) -> Rows:
-        key = (county.code, selection)
+        self, pending: "Future[Lines]", key: tuple[str, FeatureSelection], make: Callable[[], Lines], keep: bool
+    ) -> Lines:
         try:
-            rows = self.processes.select(county, selection, client_is_there)
+            lines = make()
         except BaseException as error:
             with self._lock:
                 del self._pending[key]
@@ -270,63 +250,30 @@ class Store:
         with self._lock:
             del self._pending[key]
             if keep:
-                self._keep(key, rows)
-        pending.set_result(rows)
-        return rows
+                self._keep(key, lines)
+        pending.set_result(lines)
+        return lines
 
-    def _keep(self, key: tuple[str, FeatureSelection], rows: Rows) -> None:
-        """Caches rows and drops those that were requested longest ago. The latest are always cached."""
-        self._buffers[key] = rows
-        self._size += _size(key, rows)
+    def _keep(self, key: tuple[str, FeatureSelection], lines: Lines) -> None:
+        """Caches features and drops those that were requested longest ago. The latest are always cached."""
+        self._buffers[key] = lines
+        self._size += _size(key, lines)
         while len(self._buffers) > 1 and (self._size > self.limits.buffers or len(self._buffers) > MOST_BUFFERS):
             self._size -= _size(*self._buffers.popitem(last=False))
 
-    def summary(self, county: County, client_is_there: ClientIsThere) -> Summary:
-        """Returns the summary of a county."""
-        if county.code not in self._summaries:
-            rows = self.rows(county, FeatureSelection(), client_is_there)
-            self._summaries[county.code] = Summary(_extent(rows), _repeated(rows))
-        return self._summaries[county.code]
+    def extent(self, county: County, client_is_there: ClientIsThere) -> Extent | None:
+        """Returns the extent of a county, or None if no feature has a geometry."""
+        if county.code not in self._extents:
+            lines = self.lines(county, FeatureSelection(), client_is_there)
+            self._extents[county.code] = lines.bounds(self.processes.watch(client_is_there).check).extent()
+        return self._extents[county.code]
+
+    def repeated(self, county: County, client_is_there: ClientIsThere) -> Repeated:
+        """Returns the repeated TLIDs of a county."""
+        if county.code not in self._repeated:
+            self._repeated[county.code] = repeated(self.lines(county, FeatureSelection(), client_is_there).parts)
+        return self._repeated[county.code]
 
 
-def _size(key: tuple[str, FeatureSelection], rows: Rows) -> int:
-    return max(rows.size, SMALLEST_BUFFER) + len(key[1].text)
-
-
-def tlid_of(record: bytes) -> int:
-    """Returns the TLID of a record; `extractd` refuses records without one."""
-    return number(record[TLID.bytes].decode("latin-1")) or 0
-
-
-def _repeated(rows: Rows) -> dict[int, list[bytes]]:
-    """Returns the records of each TLID that several segments have, in the file's order."""
-    seen: set[int] = set()
-    twice: set[int] = set()
-    for record in rows.all_records():
-        tlid = tlid_of(record)
-        (twice if tlid in seen else seen).add(tlid)
-    found: dict[int, list[bytes]] = {}
-    for record in rows.all_records() if twice else ():
-        if (tlid := tlid_of(record)) in twice:
-            found.setdefault(tlid, []).append(record)
-    return found
-
-
-def _extent(rows: Rows) -> tuple[float, float, float, float] | None:
-    """Returns the west, south, east and north of all ends with coordinates."""
-    fields = {field.name: field for field in FIELDS if field.kind is Kind.COORDINATE}
-    longitudes = _range(rows, fields["FRLONG"], fields["TOLONG"])
-    latitudes = _range(rows, fields["FRLAT"], fields["TOLAT"])
-    if longitudes is None or latitudes is None:
-        return None
-    return longitudes[0], latitudes[0], longitudes[1], latitudes[1]
-
-
-def _range(rows: Rows, *fields: Field) -> tuple[float, float] | None:
-    low, high = math.inf, -math.inf
-    for record in rows.all_records():
-        for field in fields:
-            value = coordinate(record[field.bytes].decode("latin-1"))
-            if value is not None:
-                low, high = min(low, value), max(high, value)
-    return None if low > high else (low, high)
+def _size(key: tuple[str, FeatureSelection], lines: Lines) -> int:
+    return max(lines.size, SMALLEST_BUFFER) + len(key[1].text)

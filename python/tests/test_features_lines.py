@@ -1,0 +1,85 @@
+"""Pages of lines of different lengths, at the borders of the chunks in which they are read, and boxes."""
+
+import random
+import tempfile
+from collections.abc import Iterator
+from itertools import product
+
+import pytest
+from tigerline._features_geojson import NotFeatures, tlids
+from tigerline._features_lines import Lines
+from tigerline._features_problems import ClientLeft
+from tigerline._features_query import box
+
+pytestmark = pytest.mark.usefixtures("scratch")
+
+CHUNK = 8
+
+
+def texts() -> Iterator[list[bytes]]:
+    """Yields lines: all of up to two of them around a chunk, and random ones."""
+    yield []
+    for lengths in product(range(1, 2 * CHUNK + 2), repeat=2):
+        yield [b"%c" % (97 + number) * (length - 1) + b"\n" for number, length in enumerate(lengths)]
+    randoms = random.Random(2006)
+    for _ in range(100):
+        count = randoms.randint(1, 12)
+        yield [b"%c" % (97 + number) * randoms.choice((0, 1, 6, 7, 8, 15, 16, 40)) + b"\n" for number in range(count)]
+
+
+def stored(text: bytes) -> Lines:
+    with tempfile.TemporaryFile() as file:
+        file.write(text)
+        file.flush()
+        return Lines(file)
+
+
+@pytest.mark.parametrize("chunk", [1, CHUNK, 1 << 20])
+def test_pages(monkeypatch: pytest.MonkeyPatch, chunk: int) -> None:
+    monkeypatch.setattr("tigerline._features_lines.CHUNK", chunk)
+    for expected in texts():
+        lines = stored(b"".join(expected))
+        assert (lines.count, lines.size) == (len(expected), sum(map(len, expected)))
+        assert b"".join(lines.parts()) == b"".join(expected)
+        for offset, limit in product(range(len(expected) + 2), (0, 1, 2, 5, 100)):
+            page = expected[offset : offset + limit]
+            assert lines.page(offset, limit) == (b"".join(page), len(page))
+            assert b"".join(lines.parts(offset)) == b"".join(expected[:offset])
+
+
+def feature(number: int) -> bytes:
+    """Returns a line as `extractd` writes it. Every third feature has no geometry."""
+    start = b'{"type":"Feature","properties":{"score":0,"RT":"1","VERSION":"0006","TLID":%d},"geometry":' % number
+    if number % 3 == 0:
+        return start + b"null}\n"
+    return start + b'{"type":"LineString","coordinates":[[-0.00000%d,0.000000],[1.000000,1.000000]]}}\n' % (number % 10)
+
+
+def test_box_of_a_client_that_leaves(monkeypatch: pytest.MonkeyPatch) -> None:
+    """It ends at each check, and the next client gets all that it requests."""
+    monkeypatch.setattr("tigerline._features_lines.CHUNK", 1000)
+    area = box("0,0,0.00001,0.00001")
+    expected = b"".join(feature(number) for number in range(40) if number % 3), 26
+    for checks in range(100):
+        lines = stored(b"".join(map(feature, range(40))))
+        left = [ClientLeft()] + [None] * checks
+        try:
+            found = lines.in_box(area, lambda: raise_error(left.pop()))
+        except ClientLeft:
+            assert lines.in_box(area, lambda: None).page(0, 100) == expected
+        else:
+            assert found.page(0, 100) == expected and checks == 2 * (lines.size // 1000 + 1)
+            return
+    raise AssertionError("it doesn't end")
+
+
+def raise_error(error: Exception | None) -> None:
+    if error is not None:
+        raise error
+
+
+@pytest.mark.parametrize("text", ["x", "x\n", '{"type":"Feature","properties":{"score":1,"TLID":1},"geometry":null}\n'])
+def test_other_output(text: str) -> None:
+    """Lines that aren't features and a line without an end are refused."""
+    with pytest.raises(NotFeatures):
+        tlids(stored(text.encode()).page(0, 1)[0])
