@@ -7,8 +7,10 @@ use Rattle.tl_segments.specs.declared.county_files.CountyFiles.{CountyFiles}
 use Rattle.tl_segments.specs.declared.county_files.JoinedFiles.{JoinedFiles}
 use Rattle.tl_segments.specs.declared.fault.CountyFile.{CountyFile}
 use Rattle.tl_segments.specs.declared.fault.CountyFile.TheVariants.{Rt1, Rt2, Rt4, Rt5, Rt6}
-use Rattle.named_files.specs.Files.{CountsClose, IsNotMissing, IsOpenFault, IsUnread, OpenResults, input_failed_reads, input_remaining}
+use Rattle.named_files.specs.Files.{CountsClose, IsNotMissing, IsOpenFault, IsUnread, OpenResults, ReadCounts, input_failed_reads, input_remaining}
 use Rattle.named_files.specs.declared.county.CountyFileFault.{CountyFileFault}
+use Rattle.named_files.specs.declared.open_file.FileName.{FileName}
+use Rattle.named_files.specs.declared.open_file.FileName.TheVariants.{Path, OfCounty}
 use Rattle.named_files.specs.declared.files.Input.{Input}
 use Rattle.named_files.specs.declared.files.Input.TheVariants as input
 
@@ -23,6 +25,11 @@ name_end Rt6 = codes ".RT6"
 -- the name of a county's file in the folder of the data (TIGER/Line 2006: `TGR`, the state, the county, and the record type)
 abbrev pub file_name : List ℕ → List ℕ → CountyFile → List ℕ
 file_name folder code file = folder ++ codes "/TGR" ++ code ++ name_end file
+
+-- the path of the file of a name
+abbrev pub path_of : FileName → List ℕ
+path_of (Path path) = path.now
+path_of (OfCounty folder code file) = file_name folder.now code.now file
 
 -- a county is loaded from this file: from all of its files but that of type 2
 abbrev pub IsLoaded : CountyFile → Type 0
@@ -61,15 +68,15 @@ abbrev pub IsOpened : {R : Type 0} → Input R → Type 0
 IsOpened (input.Opened reader) = ⊤
 IsOpened input.Nothing = ⊥
 
--- what closing the county's readers counts, one after the other
-pub record ClosesCounty (readers : CountyReaders) (failed failed' : ℕ) : Type 0 where
-  pub after_rt1 : ℕ
-  pub rt1 : CountsClose readers.rt1.failed failed after_rt1
-  pub after_rt4 : ℕ
-  pub rt4 : CountsClose readers.joined.rt4.failed after_rt1 after_rt4
-  pub after_rt5 : ℕ
-  pub rt5 : CountsClose readers.joined.rt5.failed after_rt4 after_rt5
-  pub rt6 : CountsClose readers.joined.rt6.failed after_rt5 failed'
+-- what closing the readers of the county of this code counts, one after the other, each by the name of its file
+pub record ClosesCounty (folder code : List ℕ) (readers : CountyReaders) (failed failed' : ReadCounts) : Type 0 where
+  pub after_rt1 : ReadCounts
+  pub rt1 : CountsClose (file_name folder code Rt1) readers.rt1.failed failed after_rt1
+  pub after_rt4 : ReadCounts
+  pub rt4 : CountsClose (file_name folder code Rt4) readers.joined.rt4.failed after_rt1 after_rt4
+  pub after_rt5 : ReadCounts
+  pub rt5 : CountsClose (file_name folder code Rt5) readers.joined.rt5.failed after_rt4 after_rt5
+  pub rt6 : CountsClose (file_name folder code Rt6) readers.joined.rt6.failed after_rt5 failed'
 
 -- Why this file of a county can't be opened: an open of it failed with this error, or memory ran out. Unless the file must exist, it isn't refused for
 -- not existing.

@@ -23,9 +23,17 @@ CountsOpen (Ok reader) failed failed' = failed' ≡ failed
 CountsOpen (Err error) failed failed' =
     (error_kind error ≡ OutOfMemory → failed' ≡ failed) × (error_kind error ≢ OutOfMemory → failed' ≢ failed)
 
--- closing a reader changes the count if any of its reads failed, and leaves it otherwise
-abbrev pub CountsClose : ℕ → ℕ → ℕ → Type 0
-CountsClose reads failed failed' = (reads ≡ 0 → failed' ≡ failed) × (reads ≢ 0 → failed' ≢ failed)
+-- the counts of failed reads, by the name of the file
+abbrev pub ReadCounts : Type 0
+ReadCounts = List ℕ → ℕ
+
+-- the count of each name stays the same
+abbrev pub KeepsCounts : ReadCounts → ReadCounts → Type 0
+KeepsCounts failed failed' = (name : List ℕ) → failed' name ≡ failed name
+
+-- closing a reader of the file of this name changes the count of the name if any of its reads failed, and leaves all counts otherwise
+abbrev pub CountsClose : List ℕ → ℕ → ReadCounts → ReadCounts → Type 0
+CountsClose name reads failed failed' = (reads ≡ 0 → KeepsCounts failed failed') × (reads ≢ 0 → failed' name ≢ failed name)
 
 -- An opened reader reads from the file that the system opened. If there is no reader, the system's open failed with this error, or there was no
 -- memory for the reader.
@@ -75,47 +83,51 @@ pub record IsUnread (known : Option (List ℕ)) (reader : Reader) : Type 0 where
   pub left : Keeps known reader.left
   pub failed : reader.failed ≡ 0
 
--- the files: what is known of their bytes, by name, and the counts of failed opens and of closed readers with a failed read
+-- the files: what is known of their bytes, by name; the count of failed opens; and the counts of closed readers with a failed read, by name
 pub record Disk : Type 0 where
   pub known : List ℕ → Option (List ℕ)
   pub failed_opens : ℕ
-  pub failed_reads : ℕ
+  pub failed_reads : ReadCounts
 
 -- the value of the files, from the members of their trait
-abbrev pub disk : {F : Type 0} → (F → List ℕ → Option (List ℕ)) → (F → ℕ) → (F → ℕ) → F → Disk
+abbrev pub disk : {F : Type 0} → (F → List ℕ → Option (List ℕ)) → (F → ℕ) → (F → ReadCounts) → F → Disk
 disk bytes failed_opens failed_reads files =
     record { known = bytes files; failed_opens = failed_opens files; failed_reads = failed_reads files }
 
 -- no open and no read failed
 pub record IsUnfailed (disk disk' : Disk) : Type 0 where
   pub opens : disk'.failed_opens ≡ disk.failed_opens
-  pub reads : disk'.failed_reads ≡ disk.failed_reads
+  pub reads : KeepsCounts disk.failed_reads disk'.failed_reads
 
--- an open or a read failed
-abbrev pub IsFailed : Disk → Disk → Type 0
-IsFailed disk disk' = (disk'.failed_opens ≢ disk.failed_opens) ⊎ (disk'.failed_reads ≢ disk.failed_reads)
+-- a read of the file of this name failed
+abbrev pub HasFailedRead : List ℕ → Disk → Disk → Type 0
+HasFailedRead name disk disk' = disk'.failed_reads name ≢ disk.failed_reads name
+
+-- an open failed, or a read of the file of this name
+abbrev pub IsFailed : List ℕ → Disk → Disk → Type 0
+IsFailed name disk disk' = (disk'.failed_opens ≢ disk.failed_opens) ⊎ HasFailedRead name disk disk'
 
 -- What is known of the files stays the same. A failed open is counted if it makes a file unusable; nothing else is counted.
 pub record Opens {T E : Type 0} (result : Result T E) (fault_of : E → FileFault) (disk disk' : Disk) : Type 0 where
   pub stays : (name : List ℕ) → disk'.known name ≡ disk.known name
   pub opens : MatchResult result (λ _. disk'.failed_opens ≡ disk.failed_opens)
       (λ fault. CountsFileFault (fault_of fault) disk.failed_opens disk'.failed_opens)
-  pub reads : disk'.failed_reads ≡ disk.failed_reads
+  pub reads : KeepsCounts disk.failed_reads disk'.failed_reads
 
 -- What is known of the files stays the same. Closing readers counts those with a failed read as `CountsReads` says, and counts no open.
-pub record Closes (CountsReads : ℕ → ℕ → Type 0) (disk disk' : Disk) : Type 0 where
+pub record Closes (CountsReads : ReadCounts → ReadCounts → Type 0) (disk disk' : Disk) : Type 0 where
   pub stays : (name : List ℕ) → disk'.known name ≡ disk.known name
   pub opens : disk'.failed_opens ≡ disk.failed_opens
   pub reads : CountsReads disk.failed_reads disk'.failed_reads
 
--- a file is unusable if its open or a read of it failed
-abbrev pub CountsUse : FileFault → Disk → Disk → Type 0
-CountsUse (Unusable error) disk disk' = IsFailed disk disk'
-CountsUse Memory disk disk' = IsUnfailed disk disk'
+-- the file of this name is unusable if its open or a read of it failed
+abbrev pub CountsUse : List ℕ → FileFault → Disk → Disk → Type 0
+CountsUse name (Unusable error) disk disk' = IsFailed name disk disk'
+CountsUse name Memory disk disk' = IsUnfailed disk disk'
 
-abbrev pub CountsUseResult : {T : Type 0} → Result T FileFault → Disk → Disk → Type 0
-CountsUseResult (Ok value) disk disk' = IsUnfailed disk disk'
-CountsUseResult (Err fault) disk disk' = CountsUse fault disk disk'
+abbrev pub CountsUseResult : {T : Type 0} → List ℕ → Result T FileFault → Disk → Disk → Type 0
+CountsUseResult name (Ok value) disk disk' = IsUnfailed disk disk'
+CountsUseResult name (Err fault) disk disk' = CountsUse name fault disk disk'
 
 -- These are the first `limit` bytes of a file, or all if it has fewer, consistent with what is known of its bytes.
 pub record IsPrefix (limit : ℕ) (known : Option (List ℕ)) (prefix : List ℕ) : Type 0 where
@@ -141,10 +153,10 @@ abbrev pub CountsProgramFault : ProgramInputFault → ℕ → ℕ → Type 0
 CountsProgramFault (File fault) failed failed' = CountsFileFault fault failed failed'
 CountsProgramFault (Code fault) failed failed' = failed' ≡ failed
 
-abbrev pub CountsProgramUse : {T : Type 0} → Result T ProgramInputFault → Disk → Disk → Type 0
-CountsProgramUse (Ok program) disk disk' = IsUnfailed disk disk'
-CountsProgramUse (Err (File fault)) disk disk' = CountsUse fault disk disk'
-CountsProgramUse (Err (Code fault)) disk disk' = IsUnfailed disk disk'
+abbrev pub CountsProgramUse : {T : Type 0} → List ℕ → Result T ProgramInputFault → Disk → Disk → Type 0
+CountsProgramUse name (Ok program) disk disk' = IsUnfailed disk disk'
+CountsProgramUse name (Err (File fault)) disk disk' = CountsUse name fault disk disk'
+CountsProgramUse name (Err (Code fault)) disk disk' = IsUnfailed disk disk'
 
 -- which results an open of the file of a name has, as far as is known
 abbrev pub OpenResults : Type 0 → Type 1
@@ -158,10 +170,10 @@ unknown_opens name result = ⊤
 abbrev pub FailsToOpen : {R : Type 0} → (Result R Error → Type 0) → Error → Disk → Disk → Type 0
 FailsToOpen HasResult error disk disk' = HasResult (Err error) × (disk'.failed_opens ≢ disk.failed_opens)
 
--- a file can't be used: an open of it failed with this error; or it was opened, and then a read failed
-abbrev pub FailsToUse : {R : Type 0} → (Result R Error → Type 0) → Error → Disk → Disk → Type 0
-FailsToUse {R} HasResult error disk disk' =
-    FailsToOpen HasResult error disk disk' ⊎ ((reader : R) × HasResult (Ok reader) × (disk'.failed_reads ≢ disk.failed_reads))
+-- the file of this name can't be used: an open of it failed with this error; or it was opened, and then a read of it failed
+abbrev pub FailsToUse : {R : Type 0} → OpenResults R → List ℕ → Error → Disk → Disk → Type 0
+FailsToUse {R} opens name error disk disk' =
+    FailsToOpen (opens name) error disk disk' ⊎ ((reader : R) × opens name (Ok reader) × HasFailedRead name disk disk')
 
 -- why a file can't be opened: an open of it failed with this error, or memory ran out
 abbrev pub IsOpenFault : {R : Type 0} → (Result R Error → Type 0) → FileFault → Type 0
@@ -173,12 +185,12 @@ abbrev pub IsNotMissing : FileFault → Type 0
 IsNotMissing (Unusable error) = error_kind error ≢ NotFound
 IsNotMissing Memory = ⊤
 
--- why a file can't be read: it can't be used, with this error; or memory ran out
-abbrev pub IsUseFault : {R : Type 0} → (Result R Error → Type 0) → Disk → Disk → FileFault → Type 0
-IsUseFault HasResult disk disk' (Unusable error) = FailsToUse HasResult error disk disk'
-IsUseFault HasResult disk disk' Memory = ⊤
+-- why the file of this name can't be read: it can't be used, with this error; or memory ran out
+abbrev pub IsUseFault : {R : Type 0} → OpenResults R → List ℕ → Disk → Disk → FileFault → Type 0
+IsUseFault opens name disk disk' (Unusable error) = FailsToUse opens name error disk disk'
+IsUseFault opens name disk disk' Memory = ⊤
 
 -- the same for a program, unless it is refused for its length
-abbrev pub IsProgramUseFault : {R : Type 0} → (Result R Error → Type 0) → Disk → Disk → ProgramInputFault → Type 0
-IsProgramUseFault HasResult disk disk' (File fault) = IsUseFault HasResult disk disk' fault
-IsProgramUseFault HasResult disk disk' (Code fault) = ⊤
+abbrev pub IsProgramUseFault : {R : Type 0} → OpenResults R → List ℕ → Disk → Disk → ProgramInputFault → Type 0
+IsProgramUseFault opens name disk disk' (File fault) = IsUseFault opens name disk disk' fault
+IsProgramUseFault opens name disk disk' (Code fault) = ⊤

@@ -1,10 +1,11 @@
 //! The files of a county (TIGER/Line 2006, record types 1, 2, 4, 5 and 6), opened by name.
 ghost use Rattle.std.specs.Prelude.{◌≡◌, IfErr, IfOk, string_bytes};
 ghost use Rattle.named_files.specs.County.{ClosesCounty, HoldCounty, HoldJoined, IsCountyOpenFault, IsFileOpenFault, IsOpened, MustExist, county_readers, file_name, joined_readers, name_end};
-ghost use Rattle.named_files.specs.Files.{Closes, IsUnread, Opens, disk, input_reader};
+ghost use Rattle.named_files.specs.Files.{Closes, CountsClose, IsUnread, Opens, disk, input_failed_reads, input_reader};
 ghost use Rattle.named_files.specs.declared.files.FileFault.TheVariants.{Memory};
 
-use crate::files::{FileFault, Files, Input, close, open, open_optional};
+use crate::files::{FileFault, Files, Input, open, open_optional};
+use crate::open_file::{FileName, OpenFile};
 use std::alloc::{AllocError, Allocator};
 use tl_segments::{CountyFile, CountyFiles, JoinedFiles};
 
@@ -43,7 +44,7 @@ pub fn open_county<A: Allocator + Copy, F: Files>(
     match open_joined(alloc, files, folder, code) {
         Ok(joined) => Ok(CountyFiles { rt1, joined }),
         Err(fault) => {
-            close(files, rt1);
+            close_file(files, folder, code, CountyFile::Rt1, rt1);
             Err(fault)
         }
     }
@@ -86,15 +87,15 @@ fn open_joined<A: Allocator + Copy, F: Files>(
     let rt5 = match open_file(alloc, files, folder, code, CountyFile::Rt5) {
         Ok(input) => input,
         Err(fault) => {
-            close(files, rt4);
+            close_file(files, folder, code, CountyFile::Rt4, rt4);
             return Err(fault);
         }
     };
     match open_file(alloc, files, folder, code, CountyFile::Rt6) {
         Ok(rt6) => Ok(JoinedFiles { rt4, rt5, rt6 }),
         Err(fault) => {
-            close(files, rt4);
-            close(files, rt5);
+            close_file(files, folder, code, CountyFile::Rt4, rt4);
+            close_file(files, folder, code, CountyFile::Rt5, rt5);
             Err(fault)
         }
     }
@@ -121,7 +122,7 @@ fn open_file<A: Allocator + Copy, F: Files>(
     };
     match file {
         CountyFile::Rt1 | CountyFile::Rt2 => match open(files, name.as_str()) {
-            Ok(reader) => Ok(Input::Opened(reader)),
+            Ok(OpenFile { name: _, reader }) => Ok(Input::Opened(reader)),
             Err(fault) => Err(CountyFileFault { file, fault }),
         },
         CountyFile::Rt4 | CountyFile::Rt5 | CountyFile::Rt6 => match open_optional(
@@ -134,17 +135,50 @@ fn open_file<A: Allocator + Copy, F: Files>(
     }
 }
 
-/// Closes the inputs of a county.
-pub fn close_county<F: Files>(files: &mut F, inputs: CountyInputs<F::Reader>)
-    ensures { Closes (ClosesCounty (county_readers F.Reader.remaining F.Reader.failed_reads inputs))
+/// Closes the inputs of a county that [`open_county`] opened with this folder and code.
+pub fn close_county<F: Files>(
+    files: &mut F,
+    folder: &str,
+    code: &str,
+    inputs: CountyInputs<F::Reader>,
+)
+    ensures { Closes (ClosesCounty folder.now code.now (county_readers F.Reader.remaining F.Reader.failed_reads inputs))
         (disk F.bytes F.failed_opens F.failed_reads files.old) (disk F.bytes F.failed_opens F.failed_reads files.new) }
 {
     let CountyFiles { rt1, joined } = inputs;
     let JoinedFiles { rt4, rt5, rt6 } = joined;
-    close(files, rt1);
-    close(files, rt4);
-    close(files, rt5);
-    close(files, rt6);
+    close_file(files, folder, code, CountyFile::Rt1, rt1);
+    close_file(files, folder, code, CountyFile::Rt4, rt4);
+    close_file(files, folder, code, CountyFile::Rt5, rt5);
+    close_file(files, folder, code, CountyFile::Rt6, rt6);
+}
+
+/// Closes the input that [`open_shapes`] opened with this folder and code.
+pub fn close_shapes<F: Files>(files: &mut F, folder: &str, code: &str, input: Input<F::Reader>)
+    ensures { Closes (CountsClose (file_name folder.now code.now CountyFile.Rt2) (input_failed_reads F.Reader.failed_reads input))
+        (disk F.bytes F.failed_opens F.failed_reads files.old) (disk F.bytes F.failed_opens F.failed_reads files.new) }
+{
+    close_file(files, folder, code, CountyFile::Rt2, input);
+}
+
+/// Closes the input for a county's file.
+fn close_file<F: Files>(
+    files: &mut F,
+    folder: &str,
+    code: &str,
+    file: CountyFile,
+    input: Input<F::Reader>,
+)
+    ensures { Closes (CountsClose (file_name folder.now code.now file) (input_failed_reads F.Reader.failed_reads input))
+        (disk F.bytes F.failed_opens F.failed_reads files.old) (disk F.bytes F.failed_opens F.failed_reads files.new) }
+{
+    match input {
+        Input::Opened(reader) => {
+            let name = FileName::OfCounty { folder, code, file };
+            files.close(OpenFile { name, reader });
+        }
+        Input::Nothing => {}
+    }
 }
 
 /// Returns the path of a county's file in the data folder.

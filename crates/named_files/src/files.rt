@@ -6,12 +6,14 @@ ghost use Rattle.std.specs.Io.KnownBytes.{Keeps, ReadConsumes};
 ghost use Rattle.std.specs.declared.io.Error.{Error};
 ghost use Rattle.counted_io.specs.Counting.{CountsFailure};
 ghost use Rattle.counted_io.specs.ReaderWriter.{reader};
-ghost use Rattle.named_files.specs.Files.{Closes, CountsClose, CountsOpen, CountsProgramFault, IsNotMissing, IsOpenFault, IsPrefix, IsProgramUseFault, IsTooLong, IsUseFault, IsUnread, Opens, OpensOptional, OpensReader, CountsFileResult, IsProgramInputFault, CountsProgramUse, CountsUseResult, disk, input_failed_reads, input_reader, input_remaining};
+ghost use Rattle.named_files.specs.County.{path_of};
+ghost use Rattle.named_files.specs.Files.{CountsOpen, CountsProgramFault, IsNotMissing, IsOpenFault, IsPrefix, IsProgramUseFault, IsTooLong, IsUseFault, IsUnread, Opens, OpensOptional, OpensReader, CountsFileResult, IsProgramInputFault, CountsProgramUse, CountsUseResult, disk, input_reader};
 ghost use Rattle.named_files.specs.declared.files.FileFault.TheVariants.{Memory};
 ghost use Rattle.named_files.specs.declared.files.ProgramInputFault.TheVariants.{File};
 ghost use Rattle.named_files.specs.declared.files.TheConstants.{MAX_STORED_BYTES};
 ghost use Rattle.bpf_insn.specs.declared.code.TheConstants.{MAX_WORDS};
 
+use crate::open_file::{FileName, OpenFile};
 use arrayvec::ArrayVec;
 use bpf_insn::{CodeFault, MAX_WORDS};
 use counted_io::{Buffered, CountedRead, MAX_CONTENT_LENGTH, Stop, count_one};
@@ -55,7 +57,8 @@ impl From<AllocError> for ProgramInputFault {
 
 /// Files, opened by name.
 pub trait Files {
-    ghost use Rattle.named_files.specs.Files.{CountsClose, CountsOpen, OpensOptional, optional_failed_reads, optional_remaining};
+    ghost use Rattle.named_files.specs.County.{path_of};
+    ghost use Rattle.named_files.specs.Files.{CountsClose, CountsOpen, KeepsCounts, OpensOptional, ReadCounts, optional_failed_reads, optional_remaining};
 
     // It can't be dropped: each opened reader must be closed, so no failed read goes unnoticed.
     type Reader: CountedRead;
@@ -69,8 +72,8 @@ pub trait Files {
     // The number of failed opens, except those that ran out of memory, modulo 2^64.
     ghost failed_opens: { Self → ℕ };
 
-    // The number of closed readers with a failed read, modulo 2^64.
-    ghost failed_reads: { Self → ℕ };
+    // The number of closed readers with a failed read, by the name of their file, modulo 2^64.
+    ghost failed_reads: { Self → ReadCounts };
 
     /// Opens a file for reading and returns a reader with its own buffer.
     fn open(&mut self, name: &str) -> io::Result<Self::Reader>
@@ -79,7 +82,7 @@ pub trait Files {
         ensures unread { IfOk result (λ reader. Self.Reader.failed_reads reader ≡ 0) }
         ensures stay { (other : List ℕ) → bytes self.new other ≡ bytes self.old other }
         ensures failures { CountsOpen result (failed_opens self.old) (failed_opens self.new) }
-        ensures reads { failed_reads self.new ≡ failed_reads self.old };
+        ensures reads { KeepsCounts (failed_reads self.old) (failed_reads self.new) };
 
     /// Opens a file for reading. Returns `None` if it doesn't exist; any other failure is an error.
     fn open_optional(&mut self, name: &str) -> io::Result<Option<Self::Reader>>
@@ -88,13 +91,13 @@ pub trait Files {
         ensures unread { IfOk result (λ opened. optional_failed_reads Self.Reader.failed_reads opened ≡ 0) }
         ensures stay { (other : List ℕ) → bytes self.new other ≡ bytes self.old other }
         ensures failures { CountsOpen result (failed_opens self.old) (failed_opens self.new) }
-        ensures reads { failed_reads self.new ≡ failed_reads self.old };
+        ensures reads { KeepsCounts (failed_reads self.old) (failed_reads self.new) };
 
-    /// Closes a file's reader.
-    fn close(&mut self, reader: Self::Reader)
+    /// Closes a file.
+    fn close(&mut self, file: OpenFile<'_, Self::Reader>)
         ensures stay { (other : List ℕ) → bytes self.new other ≡ bytes self.old other }
         ensures opens { failed_opens self.new ≡ failed_opens self.old }
-        ensures reads { CountsClose (Self.Reader.failed_reads reader) (failed_reads self.old) (failed_reads self.new) };
+        ensures reads { CountsClose (path_of file.entry.name) (Self.Reader.failed_reads file.entry.reader) (failed_reads self.old) (failed_reads self.new) };
 }
 
 /// A file system, which opens files by name. No contract says which bytes a file has, but this one says which name was opened.
@@ -117,7 +120,7 @@ impl<R: rt::Files> FileSystem for R {
     }
 }
 
-/// The system's files.
+/// The system's files. Counts failed reads in one number, which is the count of each name: counts by name would need memory for each name.
 #[derive(Drop)]
 pub struct SystemFiles<'a, S> {
     system: &'a S,
@@ -151,13 +154,16 @@ impl<'a, S> SystemFiles<'a, S> {
 }
 
 impl<S: FileSystem + AllocGlobal> Files for SystemFiles<'_, S> {
+    ghost use Rattle.named_files.specs.County.{path_of};
+    ghost use Rattle.named_files.specs.Files.{CountsClose};
+
     type Reader = Buffered<BufReader<S::File>>;
 
     ghost opens = { λ name. OpensReader (S.opens name) (λ reader. reader_inner reader.reader) };
 
     ghost failed_opens = { λ files. files.failed_opens };
 
-    ghost failed_reads = { λ files. files.failed_reads };
+    ghost failed_reads = { λ files name. files.failed_reads };
 
     fn open(&mut self, name: &str) -> io::Result<Buffered<BufReader<S::File>>> {
         match open_buffered(self.system, name) {
@@ -179,7 +185,11 @@ impl<S: FileSystem + AllocGlobal> Files for SystemFiles<'_, S> {
         }
     }
 
-    fn close(&mut self, reader: Buffered<BufReader<S::File>>) {
+    fn close(&mut self, file: OpenFile<'_, Buffered<BufReader<S::File>>>)
+        ensures opens { self.new.failed_opens ≡ self.old.failed_opens }
+        ensures reads { CountsClose (path_of file.entry.name) file.entry.reader.failed_reads (λ _. self.old.failed_reads) (λ _. self.new.failed_reads) }
+    {
+        let (_name, reader) = file.into_parts();
         if reader.failed_reads() != 0 {
             count_one(&mut self.failed_reads);
         }
@@ -210,16 +220,23 @@ fn not_found_as_none<T>(opened: io::Result<T>) -> io::Result<Option<T>>
 }
 
 /// Opens a file.
-pub fn open<F: Files>(files: &mut F, name: &str) -> Result<F::Reader, FileFault>
-    ensures known { IfOk result (λ opened. IsUnread (F.bytes files.old name.now)
-        (reader F.Reader.remaining F.Reader.failed_reads opened)) }
-    ensures opened { IfOk result (λ reader. F.opens name.now (Ok reader)) }
+pub fn open<'a, F: Files>(
+    files: &mut F,
+    name: &'a str,
+) -> Result<OpenFile<'a, F::Reader>, FileFault>
+    ensures known { IfOk result (λ file. IsUnread (F.bytes files.old name.now)
+        (reader F.Reader.remaining F.Reader.failed_reads file.reader)) }
+    ensures name { IfOk result (λ file. path_of file.name ≡ name.now) }
+    ensures opened { IfOk result (λ file. F.opens name.now (Ok file.reader)) }
     ensures fault { IfErr result (IsOpenFault (F.opens name.now)) }
     ensures opens { Opens result (λ fault. fault) (disk F.bytes F.failed_opens F.failed_reads files.old)
         (disk F.bytes F.failed_opens F.failed_reads files.new) }
 {
     match files.open(name) {
-        Ok(reader) => Ok(reader),
+        Ok(reader) => Ok(OpenFile {
+            name: FileName::Path(name),
+            reader,
+        }),
         Err(error) if error.kind() == ErrorKind::OutOfMemory => Err(FileFault::Memory),
         Err(error) => Err(FileFault::Unusable(error)),
     }
@@ -239,17 +256,6 @@ pub fn open_optional<F: Files>(files: &mut F, name: &str) -> Result<Input<F::Rea
         Ok(None) => Ok(Input::Nothing),
         Err(error) if error.kind() == ErrorKind::OutOfMemory => Err(FileFault::Memory),
         Err(error) => Err(FileFault::Unusable(error)),
-    }
-}
-
-/// Closes an input's reader.
-pub fn close<F: Files>(files: &mut F, input: Input<F::Reader>)
-    ensures { Closes (CountsClose (input_failed_reads F.Reader.failed_reads input))
-        (disk F.bytes F.failed_opens F.failed_reads files.old) (disk F.bytes F.failed_opens F.failed_reads files.new) }
-{
-    match input {
-        Input::Opened(reader) => files.close(reader),
-        Input::Nothing => {}
     }
 }
 
@@ -285,15 +291,15 @@ pub fn read_file<A: Allocator, F: Files>(
 ) -> Result<Vec<u8, A>, FileFault>
     ensures known { IfOk result (λ bytes. Keeps (F.bytes files.old name.now) (Some bytes.items)) }
     ensures stay { (other : List ℕ) → F.bytes files.new other ≡ F.bytes files.old other }
-    ensures fault { IfErr result (IsUseFault (F.opens name.now) (disk F.bytes F.failed_opens F.failed_reads files.old)
+    ensures fault { IfErr result (IsUseFault F.opens name.now (disk F.bytes F.failed_opens F.failed_reads files.old)
         (disk F.bytes F.failed_opens F.failed_reads files.new)) }
-    ensures uses { CountsUseResult result (disk F.bytes F.failed_opens F.failed_reads files.old)
+    ensures uses { CountsUseResult name.now result (disk F.bytes F.failed_opens F.failed_reads files.old)
         (disk F.bytes F.failed_opens F.failed_reads files.new) }
 {
     match open(files, name) {
-        Ok(mut reader) => {
-            let read = read_to_end(alloc, &mut reader);
-            files.close(reader);
+        Ok(mut file) => {
+            let read = read_to_end(alloc, &mut file.reader);
+            files.close(file);
             read
         }
         Err(fault) => Err(fault),
@@ -350,15 +356,15 @@ pub fn read_file_prefix<A: Allocator, F: Files>(
 ) -> Result<Vec<u8, A>, FileFault>
     ensures prefix { IfOk result (λ prefix. IsPrefix limit (F.bytes files.old name.now) prefix.items) }
     ensures stay { (other : List ℕ) → F.bytes files.new other ≡ F.bytes files.old other }
-    ensures fault { IfErr result (IsUseFault (F.opens name.now) (disk F.bytes F.failed_opens F.failed_reads files.old)
+    ensures fault { IfErr result (IsUseFault F.opens name.now (disk F.bytes F.failed_opens F.failed_reads files.old)
         (disk F.bytes F.failed_opens F.failed_reads files.new)) }
-    ensures uses { CountsUseResult result (disk F.bytes F.failed_opens F.failed_reads files.old)
+    ensures uses { CountsUseResult name.now result (disk F.bytes F.failed_opens F.failed_reads files.old)
         (disk F.bytes F.failed_opens F.failed_reads files.new) }
 {
     match open(files, name) {
-        Ok(mut reader) => {
-            let read = read_prefix(alloc, &mut reader, limit);
-            files.close(reader);
+        Ok(mut file) => {
+            let read = read_prefix(alloc, &mut file.reader, limit);
+            files.close(file);
             read
         }
         Err(fault) => Err(fault),
@@ -420,6 +426,20 @@ pub fn read_program<A: Allocator, R: CountedRead>(
     Err(ProgramInputFault::File(FileFault::Memory))
 }
 
+impl<R: CountedRead> OpenFile<'_, R> {
+    /// Reads a program from the file's position to its end, as [`read_program`] does.
+    pub fn read_program<A: Allocator>(&mut self, alloc: A) -> Result<Vec<u8, A>, ProgramInputFault>
+        ensures name { self.new.name ≡ self.old.name }
+        ensures program { IfOk result (λ program. Keeps (R.remaining self.old.reader) (Some program.items)
+            × (length program.items ≤ 8 * MAX_WORDS)) }
+        ensures refused { IfErr result (IsProgramInputFault (R.remaining self.old.reader)) }
+        ensures reads { MatchResult result (λ _. R.failed_reads self.new.reader ≡ R.failed_reads self.old.reader)
+            (λ fault. CountsProgramFault fault (R.failed_reads self.old.reader) (R.failed_reads self.new.reader)) }
+    {
+        read_program(alloc, &mut self.reader)
+    }
+}
+
 /// Opens a program's file and reads it to its end.
 pub fn read_program_file<A: Allocator, F: Files>(
     alloc: A,
@@ -429,15 +449,15 @@ pub fn read_program_file<A: Allocator, F: Files>(
     ensures known { IfOk result (λ program. Keeps (F.bytes files.old name.now) (Some program.items)) }
     ensures stay { (other : List ℕ) → F.bytes files.new other ≡ F.bytes files.old other }
     ensures refused { IfErr result (IsProgramInputFault (F.bytes files.old name.now)) }
-    ensures fault { IfErr result (IsProgramUseFault (F.opens name.now) (disk F.bytes F.failed_opens F.failed_reads files.old)
+    ensures fault { IfErr result (IsProgramUseFault F.opens name.now (disk F.bytes F.failed_opens F.failed_reads files.old)
         (disk F.bytes F.failed_opens F.failed_reads files.new)) }
-    ensures uses { CountsProgramUse result (disk F.bytes F.failed_opens F.failed_reads files.old)
+    ensures uses { CountsProgramUse name.now result (disk F.bytes F.failed_opens F.failed_reads files.old)
         (disk F.bytes F.failed_opens F.failed_reads files.new) }
 {
     match open(files, name) {
-        Ok(mut reader) => {
-            let read = read_program(alloc, &mut reader);
-            files.close(reader);
+        Ok(mut file) => {
+            let read = file.read_program(alloc);
+            files.close(file);
             read
         }
         Err(fault) => Err(ProgramInputFault::File(fault)),

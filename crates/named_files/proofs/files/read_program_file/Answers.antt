@@ -1,15 +1,19 @@
-use Rattle.std.proofs.Common.{◌∙◌}
+use Rattle.std.proofs.Common.{ap, ◌∙◌}
+use Rattle.named_files.specs.County.{path_of}
 use Rattle.named_files.specs.Files.{disk}
-use Rattle.named_files.proofs.FileLemmas.{read_program_fault, used_program}
+use Rattle.named_files.proofs.FileLemmas.{read_program_fault, used_program, named_close}
 use Rattle.named_files.proofs.files.read_program_file.Goals as goal
 
 pub returns-in-Ok-clause-uses : goal.returns-in-Ok-clause-uses
 returns-in-Ok-clause-uses g c =
-    used_program _ _ (c.close.ensures.opens ∙ c.in-Ok.ensures.opens.opens) c.in-Ok.ensures.known.failed c.in-Ok.ensures.opens.reads
-    c.read_program-read.result c.read_program-read.ensures.reads c.close.ensures.reads
+    used_program c.args.name.now _ _ (c.close.ensures.opens ∙ c.in-Ok.ensures.opens.opens) c.in-Ok.ensures.known.failed c.in-Ok.ensures.opens.reads
+    (named_close (ap path_of c.read_program-read.ensures.name ∙ c.in-Ok.ensures.name) c.close.ensures.reads)
+    c.read_program-read.result c.read_program-read.ensures.reads
 
 pub returns-in-Ok-clause-fault : goal.returns-in-Ok-clause-fault
 returns-in-Ok-clause-fault g c =
-    read_program_fault (g.F.Files.opens c.args.name.now) (disk g.F.Files.bytes g.F.Files.failed_opens g.F.Files.failed_reads c.args.files.now)
-    (disk g.F.Files.bytes g.F.Files.failed_opens g.F.Files.failed_reads c.close.new.self) c.in-Ok.ensures.known.failed c.in-Ok.ensures.opens.reads c.in-Ok.reader
-    c.in-Ok.ensures.opened c.read_program-read.result c.read_program-read.ensures.reads c.close.ensures.reads
+    read_program_fault c.args.name.now (disk g.F.Files.bytes g.F.Files.failed_opens g.F.Files.failed_reads c.args.files.now)
+    (disk g.F.Files.bytes g.F.Files.failed_opens g.F.Files.failed_reads c.close.new.self)
+    (c.close.ensures.opens ∙ c.in-Ok.ensures.opens.opens) c.in-Ok.ensures.known.failed c.in-Ok.ensures.opens.reads
+    (named_close (ap path_of c.read_program-read.ensures.name ∙ c.in-Ok.ensures.name) c.close.ensures.reads)
+    g.F.Files.opens c.in-Ok.file.reader c.in-Ok.ensures.opened c.read_program-read.result c.read_program-read.ensures.reads
