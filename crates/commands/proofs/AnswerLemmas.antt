@@ -70,7 +70,7 @@ before_flush failure written usage = tt
 -- what was written was flushed, and then a library's refusal was reported
 module _ {of : ℕ} {request : Request} (known : List ℕ → Option (List ℕ)) {out out' errors errors' : Writer} (unflushed : Writer)
     (flushed : IsFlushed unflushed out') where
-  refusal_reported : (failure : Failure) → IsRefusedWith request known failure out unflushed → Reports failure errors errors'
+  abbrev refusal_reported : (failure : Failure) → IsRefusedWith request known failure out unflushed → Reports failure errors errors'
       → status failure ≡ of → IsRefusalOf of request known out out' errors errors'
   refusal_reported failure refused reported is = record {
     failure = failure;
@@ -93,9 +93,9 @@ module _ {R : Type 0} {opens : OpenResults R} {request : Request} {disk disk' : 
   unusable_flushed : (failure : Failure) → CarriesOut opens request (Err failure) disk disk' out unflushed → Reports failure errors errors'
       → status failure ≡ 3 → IsUnusable opens request disk disk' out out' errors errors'
   unusable_flushed (Refusal refusal) carried reported three =
-      of_county (carried.outcome.1 three) (refusal_reported disk.known unflushed flush (Refusal refusal) carried.outcome.0 reported three)
+      of_county (refusal_reported disk.known unflushed flush (Refusal refusal) carried.outcome.0 reported three) (carried.outcome.1 three)
   unusable_flushed (County code refusal) carried reported three =
-      of_county (carried.outcome.1 three) (refusal_reported disk.known unflushed flush (County code refusal) carried.outcome.0 reported three)
+      of_county (refusal_reported disk.known unflushed flush (County code refusal) carried.outcome.0 reported three) (carried.outcome.1 three)
   unusable_flushed (Noted refusal note) carried reported three = absurd (text_usable request disk.known refusal carried.outcome.0 three)
   unusable_flushed (Write fault) carried reported three =
       of_write fault unflushed carried.outcome (write_counts request disk.known fault out unflushed carried.outcome) reported

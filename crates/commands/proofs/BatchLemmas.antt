@@ -21,7 +21,7 @@ use Rattle.counted_io.specs.ReaderWriter.{WriteCounts, Writer}
 use Rattle.counted_io.specs.Writing.{WritesText}
 use Rattle.tl_segments.specs.County.{CountyParts}
 use Rattle.commands.specs.Command.{CarriesOut}
-use Rattle.commands.specs.Counties.{AreCountiesOf, HaveRefusedCounty, IsFileOfCounties, IsLoadFailure}
+use Rattle.commands.specs.Counties.{AreCountiesOf, HaveRefusedCounty, IsFileOfCounties, IsLoadFailure, IsRefusedFileOfOne}
 use Rattle.commands.specs.CountyShapes.{HaveRefusedShapes, HaveShapeLinesIf, IsShapesFile}
 use Rattle.commands.specs.Failure.{IsOfAddresses, NamesFile, IsUnfailedUnlessUnusable, WritesAs, refusal_status, status}
 use Rattle.named_files.specs.County.{file_name}
@@ -34,7 +34,7 @@ use Rattle.commands.specs.declared.geocode_batch.GeocodeBatch.{GeocodeBatch}
 use Rattle.commands.specs.declared.request.Request.TheVariants as request
 use Rattle.commands.proofs.ClassLemmas.{address_status}
 use Rattle.commands.proofs.CarriedLemmas.{fault_unflushed, refused_carried, refusal_not_usage}
-use Rattle.commands.proofs.CountiesLemmas.{texts}
+use Rattle.commands.proofs.CountiesLemmas.{read_after, texts}
 use Rattle.named_files.proofs.FileLemmas.{unfailed_both}
 use Rattle.commands.proofs.PieceLemmas.{stopped_further, written_further}
 use Rattle.commands.proofs.ReadLemmas.{sound}
@@ -220,13 +220,14 @@ addresses_fault file (At line flaw) is_failure other = is_failure
 
 -- The files before were read, and then those of the counties, or those with their shapes, can't be loaded.
 module _ {R : Type 0} (opens : OpenResults R) (batch : GeocodeBatch) {disk later disk' : Disk} {out : Writer} (before : IsUnfailed disk later)
-    {IsRefusedSo : RefusalParts → Type 0} {IsFile : List ℕ → Type 0}
+    {IsRefusedSo : RefusalParts → Type 0} {IsFile : List ℕ → Type 0} {IsRead : RefusalParts → List ℕ → Type 0}
     (refused : (refusal : RefusalParts) → IsRefusedSo refusal → IsRefused batch disk.known refusal out out)
+    (read : (refusal : RefusalParts) (name : List ℕ) → IsRead refusal name → IsRefusedFileOfOne batch.«data».now (codes_of batch) refusal name)
     (named : (name : List ℕ) → IsFile name → IsFileOf batch name) where
-  load_failed : (failure : Failure) → IsLoadFailure opens IsRefusedSo later disk' failure → NamesFile IsFile failure
+  load_failed : (failure : Failure) → IsLoadFailure opens IsRefusedSo IsRead later disk' failure → NamesFile IsFile failure
       → IsUnfailedUnlessUnusable {T = ℕ} (Err failure) later disk' → CarriesOut opens (request.GeocodeBatch batch) (Err failure) disk disk' out out
   load_failed (failure.Refusal refusal) is_failure names counts = record {
-    outcome = (refused refusal is_failure.0, λ three as_before. is_failure.1 three (as_before ∙ sym before.reads));
+    outcome = (refused refusal is_failure.0, λ three. read_after disk later disk' before (read refusal) (is_failure.1 three));
     names = tt;
     counts = λ other. unfailed_both before (counts other);
     unflushed = refl;
@@ -270,6 +271,10 @@ module _ (batch : GeocodeBatch) {known later : List ℕ → Option (List ℕ)} (
       → HaveRefusedShapes known batch.«data».now (codes_of batch) refusal
   shapes_refused refusal = of_request (λ known codes. HaveRefusedShapes known batch.«data».now codes refusal)
 
+  refused_named : (refusal : RefusalParts) (name : List ℕ) → IsRefusedFileOfOne batch.«data».now (texts codes) refusal name
+      → IsRefusedFileOfOne batch.«data».now (codes_of batch) refusal name
+  refused_named refusal name = of_request (λ known codes. IsRefusedFileOfOne batch.«data».now codes refusal name)
+
   county_named : (name : List ℕ) → IsFileOfCounties batch.«data».now (texts codes) name → IsFileOfCounties batch.«data».now (codes_of batch) name
   county_named name = of_request (λ known codes. IsFileOfCounties batch.«data».now codes name)
 
@@ -280,16 +285,18 @@ module _ {R : Type 0} (opens : OpenResults R) (batch : GeocodeBatch) {disk later
     (same : (name : List ℕ) → later.known name ≡ disk.known name) (codes : List (Bor (List ℕ))) (lent : codes ≡ batch.codes.items)
     (failure : Failure) where
   -- the file of addresses was read, and then the counties can't be loaded
-  pub counties_failed : IsLoadFailure opens (HaveRefusedCounty later.known batch.«data».now (texts codes)) later disk' failure
+  pub counties_failed : IsLoadFailure opens (HaveRefusedCounty later.known batch.«data».now (texts codes))
+      (IsRefusedFileOfOne batch.«data».now (texts codes)) later disk' failure
       → NamesFile (IsFileOfCounties batch.«data».now (texts codes)) failure → IsUnfailedUnlessUnusable {T = ℕ} (Err failure) later disk'
       → CarriesOut opens (request.GeocodeBatch batch) (Err failure) disk disk' out out
   counties_failed =
-      load_failed opens batch before (λ refusal is. of_county (county_refused batch same lent refusal is) refl)
+      load_failed opens batch before (λ refusal is. of_county (county_refused batch same lent refusal is) refl) (refused_named batch same lent)
       (λ name is. inr (inl (county_named batch same lent name is))) failure
 
   -- the counties were loaded too, and then their shapes can't be loaded
   pub shapes_failed : IsTrue batch.shape → (counties : List CountyParts) → AreCountiesOf disk.known batch.«data».now (codes_of batch) counties
-      → IsLoadFailure opens (HaveRefusedShapes later.known batch.«data».now (texts codes)) later disk' failure
+      → IsLoadFailure opens (HaveRefusedShapes later.known batch.«data».now (texts codes))
+      (IsRefusedFileOfOne batch.«data».now (texts codes)) later disk' failure
       → NamesFile (IsShapesFile batch.«data».now (texts codes)) failure → IsUnfailedUnlessUnusable {T = ℕ} (Err failure) later disk'
       → CarriesOut opens (request.GeocodeBatch batch) (Err failure) disk disk' out out
   shapes_failed wanted counties are =
@@ -298,7 +305,7 @@ module _ {R : Type 0} (opens : OpenResults R) (batch : GeocodeBatch) {disk later
         counties = counties;
         are_counties = are;
         refused = shapes_refused batch same lent refusal is;
-      }) refl)
+      }) refl) (refused_named batch same lent)
       (λ name is. inr (inr (wanted, shapes_named batch same lent name is))) failure
 
 -- The file of addresses, the counties and their shapes are loaded.

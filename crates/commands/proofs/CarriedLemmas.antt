@@ -1,5 +1,5 @@
 -- How any request is carried out: if a file can't be used, if a library refuses it, and if its text is written.
-use Rattle.std.proofs.Common.{◌≡◌, ◌≢◌, ℕ, List, Option, Bor, Result, Ok, Err, refl, ap, sym, subst, ◌∙◌, arith}
+use Rattle.std.proofs.Common.{◌≡◌, ◌≢◌, ℕ, List, Option, Bor, Result, Ok, Err, IsErrAnd, refl, ap, sym, subst, ◌∙◌, arith}
 use Rattle.bpf_insn.specs.CodeFault as code_fault
 use Rattle.bpf_insn.specs.declared.fault.CodeFault.{CodeFault}
 use Rattle.refusals.specs.Refusal.{RefusalParts}
@@ -7,7 +7,7 @@ use Rattle.counted_io.specs.Counting.{CountsFault}
 use Rattle.counted_io.specs.ReaderWriter.{WriteCounts, Writer}
 use Rattle.counted_io.specs.Writing.{WritesText}
 use Rattle.counted_io.specs.declared.writing.WriteFault.{WriteFault}
-use Rattle.commands.specs.Command.{CarriesOut, IsFileOf, IsRefused, Writes, WritesBefore}
+use Rattle.commands.specs.Command.{CarriesOut, IsFileOf, IsRefused, IsRefusedFileOf, Writes, WritesBefore}
 use Rattle.commands.specs.Failure.{IsUnchangedOnUsage, NamesFile, IsUnfailedUnlessUnusable, WritesAs, of_file, of_program, refusal_status}
 use Rattle.named_files.specs.Files.{CountsProgramUse, CountsUse, Disk, IsProgramInputFault, IsProgramUseFault, IsTooLong, IsUnfailed, IsUseFault, OpenResults}
 use Rattle.commands.specs.Inputs.{HoldTooLong, IsInputsFailure}
@@ -38,7 +38,7 @@ fault_unflushed fault counts counts' is = grind (arith, is)
 module _ {R : Type 0} {opens : OpenResults R} {request : Request} {disk disk' : Disk} {out out' : Writer} where
   -- a library refuses the request
   pub refused_carried : (refusal : RefusalParts) → IsRefused request disk.known refusal out out' → disk'.failed_opens ≡ disk.failed_opens
-      → ReadsAs (refusal_status refusal) disk.failed_reads disk'.failed_reads → out'.counts.flushes ≡ out.counts.flushes
+      → ReadsAs (IsRefusedFileOf request) refusal disk.failed_reads disk'.failed_reads → out'.counts.flushes ≡ out.counts.flushes
       → CarriesOut opens request (Err (Refusal refusal)) disk disk' out out'
   refused_carried refusal refused opens reads unflushed = record {
     outcome = (refused, reads.fails);
@@ -67,15 +67,23 @@ module _ {R : Type 0} {opens : OpenResults R} {request : Request} {disk disk' : 
 
 module _ {R : Type 0} (opens : OpenResults R) {request : Request} {disk disk' : Disk} {out : Writer} where
   -- a file can't be used
-  pub file_carried : (name : Bor (List ℕ)) (of : FileFault) → IsFileOf request name.now → IsUseFault (opens name.now) disk disk' of
-      → CountsUse of disk disk' → CarriesOut opens request (Err (of_file name of)) disk disk' out out
+  pub file_carried : (name : Bor (List ℕ)) (of : FileFault) → IsFileOf request name.now → IsUseFault opens name.now disk disk' of
+      → CountsUse name.now of disk disk' → CarriesOut opens request (Err (of_file name of)) disk disk' out out
   file_carried name (fault.Unusable error) is fails uses =
       record { outcome = (refl, fails); names = is; counts = λ other. absurd (other refl); unflushed = refl }
   file_carried name fault.Memory is fails uses = record { outcome = refl; names = tt; counts = λ other. uses; unflushed = refl }
 
+  -- an allocation fails
+  pub memory_carried : (result : Result (Unit {0}) Failure) → IsErrAnd result (λ failure. failure ≡ Memory) → IsUnfailed disk disk'
+      → CarriesOut opens request result disk disk' out out
+  memory_carried (Ok done) is counts = absurd is
+  memory_carried (Err failure) is counts =
+      subst (λ (failure : Failure). CarriesOut opens request (Err failure) disk disk' out out) (sym is)
+      (record { outcome = refl; names = tt; counts = λ other. counts; unflushed = refl })
+
   -- a program can't be read or is too long
   pub program_carried : (name : Bor (List ℕ)) (known : Option (List ℕ)) (of : ProgramInputFault) → IsFileOf request name.now
-      → IsProgramInputFault known of → IsProgramUseFault (opens name.now) disk disk' of → CountsProgramUse {T = ℕ} (Err of) disk disk'
+      → IsProgramInputFault known of → IsProgramUseFault opens name.now disk disk' of → CountsProgramUse {T = ℕ} name.now (Err of) disk disk'
       → ((code : CodeFault) → IsTooLong known code → IsRefused request disk.known (code_fault.refusal code) out out)
       → CarriesOut opens request (Err (of_program name of)) disk disk' out out
   program_carried name known (input.File of) is is_failure fails uses each = file_carried name of is fails uses

@@ -1,22 +1,25 @@
 -- Counties loaded one after the other: what is known of the files stays the same.
-use Rattle.std.proofs.Common.{◌≡◌, ℕ, ◌+◌, ◌<◌, suc, List, [], ◌∷◌, ◌++◌, length, get_or, take, drop, map, Option, Bor, Result}
+use Rattle.std.proofs.Common.{◌≡◌, ℕ, ◌+◌, ◌<◌, suc, List, [], ◌∷◌, ◌++◌, length, get_or, take, drop, map, Option, Bor, Result, Ok, Err}
 use Rattle.std.proofs.Common.{IsErrAnd, IfErr, refl, ap, sym, subst, ◌≢◌, ◌∙◌, arith}
 use Rattle.std.proofs.Math.Path.{fun_ext}
 use Rattle.std.proofs.Math.Seq.{drop-cons}
 use Rattle.std.proofs.lemmas.List.{map-append, map_more, take-append-drop}
 use Rattle.std.proofs.lemmas.Slice.Zip.{all_zipped_more}
-use Rattle.tl_segments.specs.County.{CountyParts}
+use Rattle.tl_segments.specs.County.{CountyParts, CountyReaders, IsCountyFault}
+use Rattle.tl_segments.specs.LoadFault as load_fault
+use Rattle.tl_segments.specs.declared.fault.LoadFault.{LoadFault}
 use Rattle.refusals.specs.Refusal.{RefusalParts}
-use Rattle.commands.specs.Counties.{AreCountiesOf, HaveRefusedCounty, IsCountyOf, IsFileOfOne, IsRefusedCounty, IsLoadFailure}
-use Rattle.named_files.specs.County.{IsFileOfCounty, IsLoaded, file_name}
-use Rattle.commands.specs.Failure.{NamesFile, of_county_file, status}
-use Rattle.named_files.specs.Files.{CountsFileFault, Disk, IsOpenFault, IsUnfailed, OpenResults}
+use Rattle.commands.specs.Counties.{AreCountiesOf, FailsToRead, HaveRefusedCounty, IsCountyOf, IsFileOfOne, IsLoadFailure, IsRefusedCounty, IsRefusedFile}
+use Rattle.named_files.specs.County.{ClosesCounty, HoldCounty, IsFileOfCounty, IsLoaded, file_name}
+use Rattle.commands.specs.Failure.{IsUnfailedUnlessUnusable, NamesFile, of_county_file, status}
+use Rattle.named_files.specs.Files.{CountsFileFault, Disk, IsOpenFault, IsUnfailed, KeepsCounts, OpenResults}
 use Rattle.tl_segments.specs.declared.fault.CountyFile as county_file
 use Rattle.named_files.specs.declared.files.FileFault.{FileFault}
 use Rattle.named_files.specs.declared.files.FileFault.TheVariants as fault
 use Rattle.commands.specs.declared.failure.Failure.{Failure}
 use Rattle.commands.specs.declared.failure.Failure.TheVariants.{Refusal, Memory, File, CountyFile}
 use Rattle.commands.proofs.CarriedLemmas.{refusal_not_usage}
+use Rattle.commands.proofs.ReadLemmas.{county_closed, then_reads}
 
 abbrev pub texts : List (Bor (List ℕ)) → List (List ℕ)
 texts codes = map (λ code. code.now) codes
@@ -56,7 +59,7 @@ module _ {known later : List ℕ → Option (List ℕ)} (same : (name : List ℕ
 
 -- a file named in the failure of one code
 module _ (IsFile : List ℕ → List ℕ → Type 0) (codes : List (Bor (List ℕ))) (i : ℕ) (d : Bor (List ℕ)) (inside : i < length codes) where
-  file_after : (name : List ℕ) → IsFile (get_or codes i d).now name → IsFileOfOne IsFile (texts codes) name
+  pub file_after : (name : List ℕ) → IsFile (get_or codes i d).now name → IsFileOfOne IsFile (texts codes) name
   file_after name is = record {
     before = texts (take i codes);
     code = (get_or codes i d).now;
@@ -71,28 +74,49 @@ module _ (IsFile : List ℕ → List ℕ → Type 0) (codes : List (Bor (List �
   named_after (CountyFile of_folder of_code file error) is = file_after (file_name of_folder.now of_code.now file) is
   named_after failure is = tt
 
+-- a failed read of a file of one code
+pub read_after : {IsFile IsFileSo : List ℕ → Type 0} (disk later disk' : Disk) → IsUnfailed disk later
+    → ((name : List ℕ) → IsFile name → IsFileSo name) → FailsToRead IsFile later disk' → FailsToRead IsFileSo disk disk'
+read_after disk later disk' unfailed so fails =
+    (fails.0, so fails.0 fails.1, λ as_before. fails.2 (as_before ∙ sym (unfailed.reads fails.0)))
+
 -- the same failure, counted from an earlier point since which no open and no read failed
-pub earlier_load_failure : {R : Type 0} (opens : OpenResults R) {IsRefusedNow IsRefusedSo : RefusalParts → Type 0} (disk later disk' : Disk)
-    (failure : Failure) → IsUnfailed disk later → ((refusal : RefusalParts) → IsRefusedNow refusal → IsRefusedSo refusal)
-    → IsLoadFailure opens IsRefusedNow later disk' failure → IsLoadFailure opens IsRefusedSo disk disk' failure
-earlier_load_failure opens disk later disk' (Refusal refusal) unfailed so is =
-    (so refusal is.0, λ three as_before. is.1 three (as_before ∙ sym unfailed.reads))
-earlier_load_failure opens disk later disk' (CountyFile folder code file error) unfailed so is =
-    (is.0, λ as_before. is.1 (as_before ∙ sym unfailed.opens))
-earlier_load_failure opens disk later disk' Memory unfailed so is = tt
-earlier_load_failure opens disk later disk' failure unfailed so is = absurd is
+module _ {R : Type 0} (opens : OpenResults R) {IsRefusedNow IsRefusedSo : RefusalParts → Type 0} {IsFile IsFileSo : RefusalParts → List ℕ → Type 0}
+    (disk later disk' : Disk) where
+  pub earlier_load_failure : (failure : Failure) → IsUnfailed disk later → ((refusal : RefusalParts) → IsRefusedNow refusal → IsRefusedSo refusal)
+      → ((refusal : RefusalParts) (name : List ℕ) → IsFile refusal name → IsFileSo refusal name)
+      → IsLoadFailure opens IsRefusedNow IsFile later disk' failure → IsLoadFailure opens IsRefusedSo IsFileSo disk disk' failure
+  earlier_load_failure (Refusal refusal) unfailed so file_so is =
+      (so refusal is.0, λ three. read_after disk later disk' unfailed (file_so refusal) (is.1 three))
+  earlier_load_failure (CountyFile folder code file error) unfailed so file_so is =
+      (is.0, λ as_before. is.1 (as_before ∙ sym unfailed.opens))
+  earlier_load_failure Memory unfailed so file_so is = tt
+  earlier_load_failure failure unfailed so file_so is = absurd is
+
+-- a county is refused, and its readers are closed
+pub refused_failure : {R : Type 0} (opens : OpenResults R) (folder code : List ℕ) (disk between disk' : Disk) {old new : CountyReaders}
+    (fault : LoadFault) → HoldCounty disk.known folder code old → KeepsCounts disk.failed_reads between.failed_reads
+    → ClosesCounty folder code new between.failed_reads disk'.failed_reads → IsCountyFault fault old new
+    → IsLoadFailure opens (IsRefusedCounty disk.known folder code) (IsRefusedFile folder code) disk disk' (Refusal (load_fault.refusal fault))
+refused_failure opens folder code disk between disk' {old} {new} fault hold before closes is = (
+  record { old = old; hold = hold; new = new; fault = fault; is_fault = is; is_refusal = refl },
+  (then_reads before (county_closed hold closes fault is)).fails,
+)
 
 -- a county's file can't be opened
-pub open_failure : {R : Type 0} (opens : OpenResults R) (IsRefusedSo : RefusalParts → Type 0) (disk disk' : Disk) (folder code : Bor (List ℕ))
-    (file : county_file.CountyFile) (of : FileFault) → IsOpenFault (opens (file_name folder.now code.now file)) of
-    → CountsFileFault of disk.failed_opens disk'.failed_opens → IsLoadFailure opens IsRefusedSo disk disk' (of_county_file folder code file of)
-open_failure opens IsRefusedSo disk disk' folder code file (fault.Unusable error) is counts = (is, counts)
-open_failure opens IsRefusedSo disk disk' folder code file fault.Memory is counts = tt
+module _ {R : Type 0} (opens : OpenResults R) (IsRefusedSo : RefusalParts → Type 0) (IsFile : RefusalParts → List ℕ → Type 0)
+    (disk disk' : Disk) where
+  pub open_failure : (folder code : Bor (List ℕ)) (file : county_file.CountyFile) (of : FileFault)
+      → IsOpenFault (opens (file_name folder.now code.now file)) of → CountsFileFault of disk.failed_opens disk'.failed_opens
+      → IsLoadFailure opens IsRefusedSo IsFile disk disk' (of_county_file folder code file of)
+  open_failure folder code file (fault.Unusable error) is counts = (is, counts)
+  open_failure folder code file fault.Memory is counts = tt
 
 pub open_counts : {disk disk' : Disk} (folder code : Bor (List ℕ)) (file : county_file.CountyFile) (of : FileFault)
-    → CountsFileFault of disk.failed_opens disk'.failed_opens → disk'.failed_reads ≡ disk.failed_reads
+    → CountsFileFault of disk.failed_opens disk'.failed_opens → KeepsCounts disk.failed_reads disk'.failed_reads
     → status (of_county_file folder code file of) ≢ 3 → IsUnfailed disk disk'
-open_counts folder code file of opens reads other = grind (arith, opens)
+open_counts folder code file (fault.Unusable error) opens reads other = absurd (other refl)
+open_counts folder code file fault.Memory opens reads other = record { opens = opens; reads = reads }
 
 pub open_named : (folder code : Bor (List ℕ)) (file : county_file.CountyFile) (of : FileFault) → IsLoaded file
     → NamesFile (IsFileOfCounty folder.now code.now) (of_county_file folder code file of)
@@ -100,11 +124,17 @@ open_named folder code file (fault.Unusable error) loaded = (file, loaded, refl)
 open_named folder code file fault.Memory loaded = tt
 
 -- none of these is a usage error
-pub load_usage : {R : Type 0} (opens : OpenResults R) (IsRefusedSo : RefusalParts → Type 0) (disk disk' : Disk) (failure : Failure)
-    → IsLoadFailure opens IsRefusedSo disk disk' failure → status failure ≢ 2
-load_usage opens IsRefusedSo disk disk' failure is_failure two = grind (arith, refusal_not_usage, is_failure, two)
+module _ {R : Type 0} (opens : OpenResults R) (IsRefusedSo : RefusalParts → Type 0) (IsFile : RefusalParts → List ℕ → Type 0)
+    (disk disk' : Disk) where
+  pub load_usage : (failure : Failure) → IsLoadFailure opens IsRefusedSo IsFile disk disk' failure → status failure ≢ 2
+  load_usage failure is_failure two = grind (arith, refusal_not_usage, is_failure, two)
 
--- running out of memory implies nothing about the counties
-pub memory_failure : {T R : Type 0} (opens : OpenResults R) (result : Result T Failure) (IsRefusedSo : RefusalParts → Type 0) (disk disk' : Disk)
-    → IsErrAnd result (λ failure. failure ≡ Memory) → IfErr result (IsLoadFailure opens IsRefusedSo disk disk')
-memory_failure opens result IsRefusedSo disk disk' is = grind (arith, is)
+  -- running out of memory implies nothing about the counties
+  pub memory_failure : {T : Type 0} (result : Result T Failure) → IsErrAnd result (λ failure. failure ≡ Memory)
+      → IfErr result (IsLoadFailure opens IsRefusedSo IsFile disk disk')
+  memory_failure result is = grind (arith, is)
+
+-- it leaves no failed open and no failed read
+pub memory_counts : {T : Type 0} (result : Result T Failure) (disk disk' : Disk) → IsUnfailed disk disk' → IsUnfailedUnlessUnusable result disk disk'
+memory_counts (Ok value) disk disk' counts = counts
+memory_counts (Err failure) disk disk' counts = λ other. counts

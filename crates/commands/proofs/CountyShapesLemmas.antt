@@ -6,27 +6,33 @@ use Rattle.std.proofs.lemmas.List.{map_more}
 use Rattle.std.proofs.lemmas.Slice.Zip.{all_zipped_more}
 use Rattle.batch.specs.ShapedLookup.{AreShapesOf}
 use Rattle.refusals.specs.Refusal.{RefusalParts}
+use Rattle.counted_io.specs.ReaderWriter.{Reader}
+use Rattle.tl_segments.specs.LoadFault as load_fault
+use Rattle.tl_segments.specs.Loading.{IsFileFault}
 use Rattle.tl_segments.specs.Shapes.{IsShapesOf}
+use Rattle.tl_segments.specs.declared.fault.LoadFault.{LoadFault}
 use Rattle.tl_segments.specs.declared.fault.CountyFile as county_file
 use Rattle.tl_segments.specs.declared.fault.CountyFile.TheVariants.{Rt2}
 use Rattle.tl_segments.specs.declared.shapes.Shapes.{Shapes}
 use Rattle.named_files.specs.County.{IsFileOpenFault, file_name}
-use Rattle.named_files.specs.Files.{CountsFileFault, Disk, IsOpenFault, OpenResults}
+use Rattle.named_files.specs.Files.{CountsClose, CountsFileFault, Disk, IsOpenFault, IsUnread, KeepsCounts, OpenResults}
 use Rattle.named_files.specs.declared.county.CountyFileFault.{CountyFileFault}
 use Rattle.named_files.specs.declared.files.FileFault.{FileFault}
 use Rattle.named_files.specs.declared.files.FileFault.TheVariants as fault
-use Rattle.commands.specs.Counties.{IsLoadFailure}
+use Rattle.commands.specs.Counties.{IsLoadFailure, IsRefusedFile}
 use Rattle.commands.specs.CountyShapes.{AreRefusedShapes, AreShapeLinesOf, HaveRefusedShapes, HaveShapeLines, HaveShapeLinesIf}
 use Rattle.commands.specs.Failure.{NamesFile, of_county_file}
+use Rattle.commands.specs.declared.failure.Failure.TheVariants.{Refusal}
 use Rattle.commands.proofs.CountiesLemmas.{codes_at, open_failure, texts}
+use Rattle.commands.proofs.ReadLemmas.{fault_close, then_reads}
 
 -- a type 2 file can't be opened
 module _ (folder code : Bor (List ℕ)) (of : CountyFileFault) where
-  pub shapes_open_failure : {R : Type 0} (opens : OpenResults R) (IsRefusedSo : RefusalParts → Type 0) (disk disk' : Disk)
-      → IsFileOpenFault opens folder.now code.now Rt2 of → CountsFileFault of.fault disk.failed_opens disk'.failed_opens
-      → IsLoadFailure opens IsRefusedSo disk disk' (of_county_file folder code of.file of.fault)
-  shapes_open_failure opens IsRefusedSo disk disk' is =
-      open_failure opens IsRefusedSo disk disk' folder code of.file of.fault
+  pub shapes_open_failure : {R : Type 0} (opens : OpenResults R) (IsRefusedSo : RefusalParts → Type 0) (IsFile : RefusalParts → List ℕ → Type 0)
+      (disk disk' : Disk) → IsFileOpenFault opens folder.now code.now Rt2 of → CountsFileFault of.fault disk.failed_opens disk'.failed_opens
+      → IsLoadFailure opens IsRefusedSo IsFile disk disk' (of_county_file folder code of.file of.fault)
+  shapes_open_failure opens IsRefusedSo IsFile disk disk' is =
+      open_failure opens IsRefusedSo IsFile disk disk' folder code of.file of.fault
       (subst (λ file. IsOpenFault (opens (file_name folder.now code.now file)) of.fault) (sym is.of_file) is.is_fault)
 
   named_as : (file : county_file.CountyFile) (why : FileFault) → file ≡ Rt2
@@ -36,6 +42,16 @@ module _ (folder code : Bor (List ℕ)) (of : CountyFileFault) where
 
   pub shapes_open_named : of.file ≡ Rt2 → NamesFile (λ name. name ≡ file_name folder.now code.now Rt2) (of_county_file folder code of.file of.fault)
   shapes_open_named is = named_as of.file of.fault is
+
+-- a type 2 file is refused, and its reader is closed
+pub shapes_refused_failure : {R : Type 0} (opens : OpenResults R) (folder code : List ℕ) (disk between disk' : Disk) (old new : Reader)
+    (fault : LoadFault) → IsUnread (disk.known (file_name folder code Rt2)) old → KeepsCounts disk.failed_reads between.failed_reads
+    → CountsClose (file_name folder code Rt2) new.failed between.failed_reads disk'.failed_reads → IsFileFault Rt2 fault old new
+    → IsLoadFailure opens (AreRefusedShapes disk.known folder code) (IsRefusedFile folder code) disk disk' (Refusal (load_fault.refusal fault))
+shapes_refused_failure opens folder code disk between disk' old new fault hold before closes is = (
+  record { old = old; hold = hold; new = new; fault = fault; is_fault = is; is_refusal = refl },
+  (then_reads before (fault_close folder code Rt2 fault old new hold.failed closes is)).fails,
+)
 
 -- the shapes of one more county
 shapes_of-more : {A : Type 0} → (shapes : List (Shapes A)) (rt2 : List (List (List ℕ))) (one : Shapes A) (lines : List (List ℕ)) → AreShapesOf shapes rt2

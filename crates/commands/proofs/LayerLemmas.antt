@@ -1,6 +1,7 @@
 -- A county's layer is written: what closing its readers then counts, and that nothing was flushed.
 use Rattle.std.proofs.Common.{◌≡◌, ℕ, Bool, true, false, IsTrue, List, Option, Some, None, Result, Ok, Err}
-use Rattle.std.proofs.Common.{inl, inr, ap, sym, subst, ◌∙◌, arith}
+use Rattle.std.proofs.Common.{inl, inr, ap, sym, subst, ◌∙◌}
+use Rattle.std.proofs.Math.Path.{fun_ext}
 use Rattle.std.specs.Prelude.{⊤}
 use Rattle.bpf_insn.specs.declared.instruction.Insn.{Insn}
 use Rattle.bpf_meaning.specs.Extract.{TextFormat}
@@ -22,12 +23,13 @@ use Rattle.tl_segments.specs.Shape.{shape_parts}
 use Rattle.tl_segments.specs.declared.fault.CountyFile.TheVariants.{Rt2}
 use Rattle.tl_segments.specs.declared.fault.LoadFault.{LoadFault}
 use Rattle.tl_segments.specs.declared.fault.LoadFault.TheVariants as load
-use Rattle.named_files.specs.County.{ClosesCounty, HoldCounty}
-use Rattle.commands.specs.Failure.{refusal_status}
+use Rattle.named_files.specs.County.{ClosesCounty, HoldCounty, file_name}
+use Rattle.named_files.specs.Files.{KeepsCounts, ReadCounts}
+use Rattle.commands.specs.Counties.{IsRefusedFile}
 use Rattle.commands.specs.LayerInputs.{ClosesLayer, ClosesShapes, HoldLayer, HoldsShapes, IsLayerFile}
-use Rattle.named_files.proofs.FileLemmas.{sound_close}
+use Rattle.named_files.proofs.FileLemmas.{keeps_both, sound_close}
 use Rattle.commands.proofs.CarriedLemmas.{fault_unflushed}
-use Rattle.commands.proofs.ReadLemmas.{ReadsAs, county_closed, file_reads, load_refusal, loads_closed, reads_close, reads_then, sound, sound_closed}
+use Rattle.commands.proofs.ReadLemmas.{ReadsAs, county_closed, fault_close, load_refusal, loads_closed, reads_then, sound, sound_closed}
 use Rattle.commands.proofs.ReadLemmas.{then_reads, unread_closed}
 
 -- a layer with shapes is made from the file of type 2
@@ -37,93 +39,103 @@ shapes_file false wanted = let no : ⊥ = cc wanted in no
 
 -- Closing the reader of type 2, if there is one: nothing was read, or it was read to its end, or its file has a fault.
 
-unread_shapes : (shapes : Bool) (known : Option (List ℕ)) (old : Option Reader) {failed failed' : ℕ} → HoldsShapes shapes known old
-    → ClosesShapes old failed failed' → failed' ≡ failed
-unread_shapes true known (Some reader) hold closes = closes.0 hold.failed
-unread_shapes false known None hold closes = closes
-unread_shapes shapes known old hold closes = absurd hold
+unread_shapes : (shapes : Bool) (known : Option (List ℕ)) (name : List ℕ) (old : Option Reader) (failed failed' : ReadCounts)
+    → HoldsShapes shapes known old → ClosesShapes name old failed failed' → KeepsCounts failed failed'
+unread_shapes true known name (Some reader) failed failed' hold closes = closes.0 hold.failed
+unread_shapes false known name None failed failed' hold closes = closes
+unread_shapes shapes known name old failed failed' hold closes = absurd hold
 
-read_shapes : (shapes : Bool) (known : Option (List ℕ)) (old new : Option Reader) {failed failed' : ℕ} → HoldsShapes shapes known old
-    → ClosesShapes new failed failed' → (rt2 : List (List ℕ)) → ReadsShapes rt2 old new → failed' ≡ failed
-read_shapes true known (Some old) (Some new) hold closes rt2 reads = sound_close hold.failed closes reads.reads
-read_shapes false known None None hold closes rt2 reads = closes
-read_shapes true known (Some old) None hold closes rt2 reads = absurd reads
-read_shapes true known None new hold closes rt2 reads = absurd hold
-read_shapes false known None (Some new) hold closes rt2 reads = absurd reads
-read_shapes false known (Some old) new hold closes rt2 reads = absurd hold
+read_shapes : (shapes : Bool) (known : Option (List ℕ)) (name : List ℕ) (old new : Option Reader) (failed failed' : ReadCounts)
+    → HoldsShapes shapes known old → ClosesShapes name new failed failed' → (rt2 : List (List ℕ)) → ReadsShapes rt2 old new
+    → KeepsCounts failed failed'
+read_shapes true known name (Some old) (Some new) failed failed' hold closes rt2 reads = sound_close name hold.failed closes reads.reads
+read_shapes false known name None None failed failed' hold closes rt2 reads = closes
+read_shapes true known name (Some old) None failed failed' hold closes rt2 reads = absurd reads
+read_shapes true known name None new failed failed' hold closes rt2 reads = absurd hold
+read_shapes false known name None (Some new) failed failed' hold closes rt2 reads = absurd reads
+read_shapes false known name (Some old) new failed failed' hold closes rt2 reads = absurd hold
 
-faulty_shapes : (shapes : Bool) (known : Option (List ℕ)) (old new : Option Reader) {failed failed' : ℕ} → HoldsShapes shapes known old
-    → ClosesShapes new failed failed' → (fault : LoadFault) → IsShapesFault fault old new
-    → ReadsAs (refusal_status (load_fault.refusal fault)) failed failed'
-faulty_shapes true known (Some old) (Some new) hold closes fault is =
-    reads_close hold.failed closes (file_reads Rt2 fault old new is)
-faulty_shapes true known (Some old) None hold closes fault is = absurd is
-faulty_shapes true known None new hold closes fault is = absurd hold
-faulty_shapes false known None new hold closes fault is = absurd is
-faulty_shapes false known (Some old) new hold closes fault is = absurd hold
+faulty_shapes : (shapes : Bool) (known : Option (List ℕ)) (folder code : List ℕ) (old new : Option Reader) {failed failed' : ReadCounts}
+    → HoldsShapes shapes known old → ClosesShapes (file_name folder code Rt2) new failed failed' → (fault : LoadFault)
+    → IsShapesFault fault old new → ReadsAs (IsRefusedFile folder code) (load_fault.refusal fault) failed failed'
+faulty_shapes true known folder code (Some old) (Some new) hold closes fault is = fault_close folder code Rt2 fault old new hold.failed closes is
+faulty_shapes true known folder code (Some old) None hold closes fault is = absurd is
+faulty_shapes true known folder code None new hold closes fault is = absurd hold
+faulty_shapes false known folder code None new hold closes fault is = absurd is
+faulty_shapes false known folder code (Some old) new hold closes fault is = absurd hold
 
--- a count of failed reads changes if the status is 3, and only then; it may do anything if a write failed
-abbrev pub ClosesAs : Result ℕ ExtractFault → ℕ → ℕ → Type 0
-ClosesAs (Ok count) failed failed' = failed' ≡ failed
-ClosesAs (Err (extract.Write fault)) failed failed' = ⊤
-ClosesAs (Err fault) failed failed' = ReadsAs (refusal_status (extract_fault.refusal fault)) failed failed'
+-- if the status is 3, a read failed of the file that the refusal is for, and otherwise all counts stay; they may do anything if a write failed
+abbrev pub ClosesAs : List ℕ → List ℕ → Result ℕ ExtractFault → ReadCounts → ReadCounts → Type 0
+ClosesAs folder code (Ok count) failed failed' = KeepsCounts failed failed'
+ClosesAs folder code (Err (extract.Write fault)) failed failed' = ⊤
+ClosesAs folder code (Err fault) failed failed' = ReadsAs (IsRefusedFile folder code) (extract_fault.refusal fault) failed failed'
 
-closes_then : (a b c : ℕ) (result : Result ℕ ExtractFault) → ClosesAs result a b → c ≡ b → ClosesAs result a c
-closes_then a b c (Ok count) is same = same ∙ is
-closes_then a b c (Err (extract.Write fault)) is same = tt
-closes_then a b c (Err (extract.Program fault)) is same = reads_then is same
-closes_then a b c (Err (extract.Load fault)) is same = reads_then is same
-closes_then a b c (Err extract.Memory) is same = reads_then is same
+module _ (folder code : List ℕ) where
+  closes_then : (a b c : ReadCounts) (result : Result ℕ ExtractFault) → ClosesAs folder code result a b → KeepsCounts b c
+      → ClosesAs folder code result a c
+  closes_then a b c (Ok count) is same = keeps_both is same
+  closes_then a b c (Err (extract.Write fault)) is same = tt
+  closes_then a b c (Err (extract.Program fault)) is same = reads_then is same
+  closes_then a b c (Err (extract.Load fault)) is same = reads_then is same
+  closes_then a b c (Err extract.Memory) is same = reads_then is same
 
-load_closes : (a b : ℕ) (fault : LoadFault) → ReadsAs (refusal_status (load_fault.refusal fault)) a b → ClosesAs (Err (of_load fault)) a b
-load_closes a b load.Memory is = is
-load_closes a b (load.Line file fault) is = is
-load_closes a b (load.TooManyNames line) is = is
-load_closes a b (load.TooManyRanges line) is = is
-load_closes a b (load.RepeatedSequence line) is = is
-load_closes a b (load.TooManyPoints line) is = is
+  load_closes : (a b : ReadCounts) (fault : LoadFault) → ReadsAs (IsRefusedFile folder code) (load_fault.refusal fault) a b
+      → ClosesAs folder code (Err (of_load fault)) a b
+  load_closes a b load.Memory is = is
+  load_closes a b (load.Line file fault) is = is
+  load_closes a b (load.TooManyNames line) is = is
+  load_closes a b (load.TooManyRanges line) is = is
+  load_closes a b (load.RepeatedSequence line) is = is
+  load_closes a b (load.TooManyPoints line) is = is
 
 -- the county's readers are closed after its extract
-county_closes : {known : List ℕ → Option (List ℕ)} {folder code : List ℕ} {old new : CountyReaders} {failed failed' : ℕ}
-    → HoldCounty known folder code old → ClosesCounty new failed failed' → (text_of : TextFormat) (program : List Insn)
+county_closes : {known : List ℕ → Option (List ℕ)} {folder code : List ℕ} {old new : CountyReaders} {failed failed' : ReadCounts}
+    → HoldCounty known folder code old → ClosesCounty folder code new failed failed' → (text_of : TextFormat) (program : List Insn)
     (result : Result ℕ ExtractFault) (out out' : Writer) → IsOutcomeOfCodeIn text_of program result old new out out'
-    → ClosesAs result failed failed'
+    → ClosesAs folder code result failed failed'
 county_closes hold closes text_of program (Ok count) out out' is = loads_closed hold closes is.county is.loads
 county_closes hold closes text_of program (Err (extract.Program fault)) out out' is = absurd is
 county_closes {old = old} {new = new} hold closes text_of program (Err (extract.Load fault)) out out' is =
     county_closed hold closes fault (load_refusal text_of fault program old new out out' is)
 county_closes hold closes text_of program (Err (extract.Write fault)) out out' is = tt
 county_closes hold closes text_of program (Err extract.Memory) out out' is =
-    sound (λ three. omega (arith, three)) (sound_closed hold closes is.reads)
+    sound (λ three. let no : ⊥ = cc three in no) (sound_closed hold closes is.reads)
 
-module _ {shapes : Bool} {known : List ℕ → Option (List ℕ)} {folder code : List ℕ} {old new : LayerReaders} {failed failed' : ℕ}
-    (hold : HoldLayer shapes known folder code old) (closes : ClosesLayer new failed failed') where
+-- the layer's readers are closed, starting from equal counts
+pub layer_from : {folder code : List ℕ} {readers : LayerReaders} {before failed failed' : ReadCounts} → KeepsCounts before failed
+    → ClosesLayer folder code readers failed failed' → ClosesLayer folder code readers before failed'
+layer_from {folder} {code} {readers} {failed' = failed'} same =
+    subst (λ (failed : ReadCounts). ClosesLayer folder code readers failed failed') (fun_ext same)
+
+module _ {shapes : Bool} {known : List ℕ → Option (List ℕ)} {folder code : List ℕ} {old new : LayerReaders} {failed failed' : ReadCounts}
+    (hold : HoldLayer shapes known folder code old) (closes : ClosesLayer folder code new failed failed') where
   -- nothing was read
-  pub unread_parts : new.county ≡ old.county → new.rt2 ≡ old.rt2 → failed' ≡ failed
+  pub unread_parts : new.county ≡ old.county → new.rt2 ≡ old.rt2 → KeepsCounts failed failed'
   unread_parts county rt2 =
-      unread_shapes shapes _ old.rt2 hold.rt2 (subst (λ (rt2 : Option Reader). ClosesShapes rt2 closes.between failed') rt2 closes.rt2)
-      ∙ unread_closed hold.county closes.county county
+      keeps_both (unread_closed hold.county closes.county county)
+      (unread_shapes shapes _ (file_name folder code Rt2) old.rt2 closes.between failed' hold.rt2
+      (subst (λ (rt2 : Option Reader). ClosesShapes (file_name folder code Rt2) rt2 closes.between failed') rt2 closes.rt2))
 
-  pub unread_layer : new ≡ old → failed' ≡ failed
+  pub unread_layer : new ≡ old → KeepsCounts failed failed'
   unread_layer same =
       unread_parts (ap (λ (readers : LayerReaders). readers.county) same) (ap (λ (readers : LayerReaders). readers.rt2) same)
 
   -- the layer was written, or why it wasn't
   pub layer_closes : (layer : LayerParts) (program : List Insn) (result : Result ℕ ExtractFault) {out out' : Writer}
-      → IsLayerOutcome layer program result old new out out' → ClosesAs result failed failed'
+      → IsLayerOutcome layer program result old new out out' → ClosesAs folder code result failed failed'
   layer_closes layer program result (inl is) =
-      subst (λ (result : Result ℕ ExtractFault). ClosesAs result failed failed') (sym is.is_result)
-      (load_closes failed failed' is.fault (then_reads (unread_closed hold.county closes.county is.unread)
-      (faulty_shapes shapes _ old.rt2 new.rt2 hold.rt2 closes.rt2 is.fault is.is_fault)))
+      subst (λ (result : Result ℕ ExtractFault). ClosesAs folder code result failed failed') (sym is.is_result)
+      (load_closes folder code failed failed' is.fault (then_reads (unread_closed hold.county closes.county is.unread)
+      (faulty_shapes shapes _ folder code old.rt2 new.rt2 hold.rt2 closes.rt2 is.fault is.is_fault)))
   layer_closes layer program result (inr is) =
-      closes_then failed closes.between failed' result
+      closes_then folder code failed closes.between failed' result
       (county_closes hold.county closes.county (layer_format layer (shape_parts is.rt2)) program result _ _ is.outcome)
-      (read_shapes shapes _ old.rt2 new.rt2 hold.rt2 closes.rt2 is.rt2 is.reads)
+      (read_shapes shapes _ (file_name folder code Rt2) old.rt2 new.rt2 closes.between failed' hold.rt2 closes.rt2 is.rt2 is.reads)
 
   pub headed_closes : (layer : LayerParts) (program : List Insn) (result : Result ℕ ExtractFault) {out out' : Writer}
-      → IsHeadedOutcome layer program result old new out out' → ClosesAs result failed failed'
+      → IsHeadedOutcome layer program result old new out out' → ClosesAs folder code result failed failed'
   headed_closes layer program result (in_header fault is_result written unread) =
-      subst (λ (result : Result ℕ ExtractFault). ClosesAs result failed failed') (sym is_result) tt
+      subst (λ (result : Result ℕ ExtractFault). ClosesAs folder code result failed failed') (sym is_result) tt
   headed_closes layer program result (after_header headed header is) = layer_closes layer program result is
 
 -- the result is that of a refusal for a county's file

@@ -15,7 +15,7 @@ module _ {R : Type 0} (opens : OpenResults R) (disk disk' : Disk) where
       → FailsToOpen (unknown_opens name) error disk disk'
   open_forgotten name error fails = (tt, fails.1)
 
-  use_forgotten : (name : List ℕ) (error : Error) → FailsToUse (opens name) error disk disk' → FailsToUse (unknown_opens name) error disk disk'
+  use_forgotten : (name : List ℕ) (error : Error) → FailsToUse opens name error disk disk' → FailsToUse unknown_opens name error disk disk'
   use_forgotten name error (inl fails) = inl (open_forgotten name error fails)
   use_forgotten name error (inr fails) = inr (tt, tt, fails.2)
 
@@ -32,7 +32,7 @@ unusable_forgotten {opens} {disk} {disk'} (of_file name error is fails flushed r
     of_file name error is (use_forgotten opens disk disk' name error fails) flushed reported
 unusable_forgotten {opens} {disk} {disk'} (of_county_file name error is fails unflushed before flushed reported) =
     of_county_file name error is (open_forgotten opens disk disk' name error fails) unflushed before flushed reported
-unusable_forgotten (of_county reads refused) = of_county reads refused
+unusable_forgotten (of_county refused reads) = of_county refused reads
 unusable_forgotten (of_source name is flushed reported) = of_source name is flushed reported
 unusable_forgotten (of_write fault unflushed writes counts reported unchanged flush flushes) =
     of_write fault unflushed writes counts reported unchanged flush flushes

@@ -1,5 +1,5 @@
 -- How `run` is carried out, by its outcome.
-use Rattle.std.proofs.Common.{◌≡◌, ℕ, Bool, true, false, List, Option, Some, None, Result, Ok, Err, inl, inr, refl, sym, subst, arith, ◌∙◌}
+use Rattle.std.proofs.Common.{◌≡◌, ℕ, Bool, true, false, List, Option, Some, None, Result, Ok, Err, inl, inr, refl, sym, subst, ◌∙◌}
 use Rattle.std.specs.Prelude.{⊤}
 use Rattle.bpf_insn.specs.declared.instruction.Insn.{Insn}
 use Rattle.bpf_meaning.specs.Extract.{TextFormat}
@@ -32,7 +32,7 @@ use Rattle.named_files.specs.County.{IsFileOfCounty, file_name}
 use Rattle.named_files.specs.Files.{Closes, Disk, IsUnfailed, IsUnread, OpenResults}
 use Rattle.commands.proofs.CarriedLemmas.{refused_carried}
 use Rattle.commands.proofs.ClassLemmas.{program_status}
-use Rattle.commands.proofs.LayerLemmas.{ClosesAs, IsOfLoad, headed_closes, headed_unflushed, shapes_result, unread_layer, unread_parts, unwritten_flushes}
+use Rattle.commands.proofs.LayerLemmas.{ClosesAs, IsOfLoad, headed_closes, headed_unflushed, layer_from, shapes_result, unread_layer, unread_parts, unwritten_flushes}
 use Rattle.commands.proofs.ReadLemmas.{sound}
 
 -- a reader of unread bytes, if shapes are wanted
@@ -125,7 +125,7 @@ input_named run failure is = tt
 module _ (run : Run) (disk between disk' : Disk) (out out' : Writer) (program bytes : List ℕ) (old new : LayerReaders)
     (hold : HoldInputs disk.known run.program.now run.«data».now run.code.now program old.county)
     (shapes : HoldsShapes (wants_shapes run) (disk.known (file_name run.«data».now run.code.now Rt2)) old.rt2)
-    (before : IsUnfailed disk between) (closes : Closes (ClosesLayer new) between disk') (same : bytes ≡ program) where
+    (before : IsUnfailed disk between) (closes : Closes (ClosesLayer run.«data».now run.code.now new) between disk') (same : bytes ≡ program) where
   outcome_of : (result : Result ℕ ExtractFault) → IsProgramOutcome (parts_of run.layer) bytes result old new out out'
       → IsOutcomeOf run disk.known result out out'
   outcome_of result is = record {
@@ -140,18 +140,18 @@ module _ (run : Run) (disk between disk' : Disk) (out out' : Writer) (program by
   layer_held : HoldLayer (wants_shapes run) disk.known run.«data».now run.code.now old
   layer_held = record { county = hold.county; rt2 = shapes }
 
-  layer_closed : ClosesLayer new disk.failed_reads disk'.failed_reads
-  layer_closed = subst (λ (failed : ℕ). ClosesLayer new failed disk'.failed_reads) before.reads closes.reads
+  layer_closed : ClosesLayer run.«data».now run.code.now new disk.failed_reads disk'.failed_reads
+  layer_closed = layer_from before.reads closes.reads
 
   program_closes : (result : Result ℕ ExtractFault) → IsProgramOutcome (parts_of run.layer) bytes result old new out out'
-      → ClosesAs result disk.failed_reads disk'.failed_reads
+      → ClosesAs run.«data».now run.code.now result disk.failed_reads disk'.failed_reads
   program_closes (Ok count) is = headed_closes layer_held layer_closed (parts_of run.layer) is.0 (Ok count) is.2
   program_closes (Err (extract.Program fault)) is = sound (program_status fault) (unread_parts layer_held layer_closed is.0.unread is.1)
   program_closes (Err (extract.Load fault)) is =
       headed_closes layer_held layer_closed (parts_of run.layer) is.0 (Err (extract.Load fault)) is.2
   program_closes (Err (extract.Write fault)) is = tt
   program_closes (Err extract.Memory) (inl is) =
-      sound (λ three. omega (arith, three)) (unread_layer layer_held layer_closed is.0)
+      sound (λ three. let no : ⊥ = cc three in no) (unread_layer layer_held layer_closed is.0)
   program_closes (Err extract.Memory) (inr is) =
       headed_closes layer_held layer_closed (parts_of run.layer) is.0 (Err extract.Memory) is.2
 

@@ -1,6 +1,6 @@
 -- How `select` is carried out: the filter first, and then the header and the counties.
 use Rattle.std.proofs.Common.{◌≡◌, ◌≢◌, ◌<◌, ◌+◌, ℕ, suc, Bool, true, false, List, length, get_or, take, drop, Option, Bor, Result, Ok, Err, IfErr}
-use Rattle.std.proofs.Common.{inl, inr, refl, sym, subst, ◌∙◌, arith}
+use Rattle.std.proofs.Common.{inl, inr, refl, sym, subst, ◌∙◌}
 use Rattle.std.proofs.Math.Path.{fun_ext}
 use Rattle.std.proofs.lemmas.List.{map_more}
 use Rattle.std.specs.Io.KnownBytes.{Appends}
@@ -22,16 +22,13 @@ use Rattle.refusals.specs.Refusal.{RefusalParts}
 use Rattle.tl_segments.specs.Shape.{shape_parts}
 use Rattle.tl_segments.specs.declared.fault.CountyFile.{CountyFile as CountyFileType}
 use Rattle.tl_segments.specs.declared.fault.LoadFault.{LoadFault}
-use Rattle.named_files.specs.County.{IsLoaded, file_name}
-use Rattle.named_files.specs.Files.{CountsFileFault, Disk, IsOpenFault, IsUnfailed, OpenResults}
-use Rattle.named_files.specs.declared.county.CountyFileFault.{CountyFileFault}
-use Rattle.named_files.specs.declared.files.FileFault.{FileFault}
-use Rattle.named_files.specs.declared.files.FileFault.TheVariants as fault
+use Rattle.named_files.specs.County.{IsLoaded}
+use Rattle.named_files.specs.Files.{Disk, IsUnfailed, OpenResults}
 use Rattle.commands.specs.Command.{CarriesOut, IsCarriedOut, IsTextRefused}
 use Rattle.commands.specs.Counties.{IsFileOfOne}
-use Rattle.commands.specs.Failure.{NamesFile, IsUnfailedUnlessUnusable, of_county_extract, of_opening, status}
+use Rattle.commands.specs.Failure.{NamesFile, IsUnfailedUnlessUnusable, of_county_extract, status}
 use Rattle.commands.specs.Filter.{IsCodeOfText, IsFilterFailure, IsFilterRefusal}
-use Rattle.commands.specs.LayerInputs.{HoldLayer, IsFileOfLayer, IsLayerFile, IsLayerOpenFault}
+use Rattle.commands.specs.LayerInputs.{HoldLayer, IsFileOfLayer, IsLayerFile}
 use Rattle.commands.specs.Select.{FailsAs, IsCountyOutcome, IsCountyRefusal, IsFileOf, Selection, SelectsCounties, SelectsCounty, SelectsLayer, StopsAt}
 use Rattle.commands.specs.Select as select
 use Rattle.commands.specs.Select.{WritesAllTexts, WritesCounties, WritesCounty, WritesTexts, codes_of, more, none, selection}
@@ -40,8 +37,8 @@ use Rattle.commands.specs.declared.request.Request.TheVariants as request
 use Rattle.commands.specs.declared.select.Select.{Select}
 use Rattle.commands.specs.declared.failure.Failure.{Failure}
 use Rattle.commands.specs.declared.failure.Failure.TheVariants.{Memory, Write, CountyFile, Noted, County}
-use Rattle.commands.proofs.CountiesLemmas.{codes_at, texts}
-use Rattle.commands.proofs.LayerLemmas.{ClosesAs, shapes_file}
+use Rattle.commands.proofs.CountiesLemmas.{codes_at, read_after, texts}
+use Rattle.commands.proofs.LayerLemmas.{ClosesAs}
 
 -- a file that a county is loaded from is among those that its layer is made from
 loaded_file : (shapes : Bool) (file : CountyFileType) → IsLoaded file → IsLayerFile shapes file
@@ -132,11 +129,13 @@ module _ (known later : List ℕ → Option (List ℕ)) (same : (name : List ℕ
   counties_stopped out' failure is = absurd is
 
 -- the same failure, counted from an earlier point since which no open and no read failed
-pub fails_after : {R : Type 0} (opens : OpenResults R) (failure : Failure) (disk later disk' : Disk) → IsUnfailed disk later
-    → FailsAs opens failure later disk' → FailsAs opens failure disk disk'
-fails_after opens (County code refusal) disk later disk' unfailed is = λ three as_before. is three (as_before ∙ sym unfailed.reads)
-fails_after opens (CountyFile folder code file error) disk later disk' unfailed is = (is.0, λ as_before. is.1 (as_before ∙ sym unfailed.opens))
-fails_after opens failure disk later disk' unfailed is = tt
+pub fails_after : {R : Type 0} (opens : OpenResults R) (folder : List ℕ) (failure : Failure) (disk later disk' : Disk) → IsUnfailed disk later
+    → FailsAs opens folder failure later disk' → FailsAs opens folder failure disk disk'
+fails_after opens folder (County code refusal) disk later disk' unfailed is =
+    λ three. read_after disk later disk' unfailed (λ _ is. is) (is three)
+fails_after opens folder (CountyFile of_folder code file error) disk later disk' unfailed is =
+    (is.0, λ as_before. is.1 (as_before ∙ sym unfailed.opens))
+fails_after opens folder failure disk later disk' unfailed is = tt
 
 -- a filter is refused
 pub filter_carried : {R : Type 0} {opens : OpenResults R} {request : Request} {disk disk' : Disk} {out : Writer} (text : List ℕ)
@@ -162,19 +161,27 @@ is_write : (failure : Failure) (fault : WriteFault) → failure ≡ Write fault 
 is_write failure fault is = subst IsWrite (sym is) tt
 
 -- what closing the readers of a county counts if its layer isn't written completely
-pub stopped_counts : (disk disk' : Disk) (code : Bor (List ℕ)) (fault : ExtractFault)
-    → ClosesAs (Err fault) disk.failed_reads disk'.failed_reads → disk'.failed_opens ≡ disk.failed_opens
+pub stopped_counts : (disk disk' : Disk) (folder : List ℕ) (code : Bor (List ℕ)) (fault : ExtractFault)
+    → ClosesAs folder code.now (Err fault) disk.failed_reads disk'.failed_reads → disk'.failed_opens ≡ disk.failed_opens
     → status (of_county_extract code fault) ≢ 3 → IsUnfailed disk disk'
-stopped_counts disk disk' code (extract.Write fault) closes same other = absurd (other refl)
-stopped_counts disk disk' code (extract.Program fault) closes same other = record { opens = same; reads = closes.stays other }
-stopped_counts disk disk' code (extract.Load fault) closes same other = record { opens = same; reads = closes.stays other }
-stopped_counts disk disk' code extract.Memory closes same other = record { opens = same; reads = closes.stays other }
+stopped_counts disk disk' folder code (extract.Write fault) closes same other = absurd (other refl)
+stopped_counts disk disk' folder code (extract.Program fault) closes same other = record { opens = same; reads = closes.stays other }
+stopped_counts disk disk' folder code (extract.Load fault) closes same other = record { opens = same; reads = closes.stays other }
+stopped_counts disk disk' folder code extract.Memory closes same other = record { opens = same; reads = closes.stays other }
+
+-- if it is refused, a read failed of the file that the refusal is for
+pub stopped_fails : {R : Type 0} (opens : OpenResults R) (disk disk' : Disk) (folder : List ℕ) (code : Bor (List ℕ)) (fault : ExtractFault)
+    → ClosesAs folder code.now (Err fault) disk.failed_reads disk'.failed_reads → FailsAs opens folder (of_county_extract code fault) disk disk'
+stopped_fails opens disk disk' folder code (extract.Write fault) closes = tt
+stopped_fails opens disk disk' folder code (extract.Program fault) closes = closes.fails
+stopped_fails opens disk disk' folder code (extract.Load fault) closes = closes.fails
+stopped_fails opens disk disk' folder code extract.Memory closes = closes.fails
 
 -- the layer of its program
 module _ {R : Type 0} (opens : OpenResults R) (disk disk' : Disk) (out out' : Writer) (arguments : Select) {program : List Insn}
     (is_program : IsCodeOfText arguments.filter.now arguments.filter_options.score program) where
   outcome_carried : (failure : Failure) → SelectsLayer (selection disk.known arguments.«data».now (parts_of arguments.layer) program)
-      (codes_of arguments) (Err failure) out out' → FailsAs opens failure disk disk'
+      (codes_of arguments) (Err failure) out out' → FailsAs opens arguments.«data».now failure disk disk'
       → IsCarriedOut opens (request.Select arguments) (Err failure) disk disk' out out'
   outcome_carried (Write fault) (inl is) fails = (
     program,
@@ -191,7 +198,7 @@ module _ {R : Type 0} (opens : OpenResults R) (disk disk' : Disk) (out out' : Wr
 
   pub select_carried : (result : Result (Unit {0}) Failure)
       → SelectsLayer (selection disk.known arguments.«data».now (parts_of arguments.layer) program) (codes_of arguments) result out out'
-      → IfErr result (λ failure. FailsAs opens failure disk disk') → IfErr result (NamesFile (IsFileOf arguments))
+      → IfErr result (λ failure. FailsAs opens arguments.«data».now failure disk disk') → IfErr result (NamesFile (IsFileOf arguments))
       → IsUnfailedUnlessUnusable result disk disk' → out'.counts.flushes ≡ out.counts.flushes
       → CarriesOut opens (request.Select arguments) result disk disk' out out'
   select_carried (Ok done) is fails names counts unflushed = record {
@@ -215,7 +222,7 @@ module _ {R : Type 0} (opens : OpenResults R) (disk disk' : Disk) (out out' : Wr
   pub select_lent : (result : Result (Unit {0}) Failure) → text ≡ arguments.filter.now → codes ≡ arguments.codes.items
       → IsCodeOfText text arguments.filter_options.score program
       → SelectsLayer (selection disk.known arguments.«data».now (parts_of arguments.layer) program) (texts codes) result out out'
-      → IfErr result (λ failure. FailsAs opens failure disk disk')
+      → IfErr result (λ failure. FailsAs opens arguments.«data».now failure disk disk')
       → IfErr result (NamesFile (IsFileOfOne (IsFileOfLayer (has_shapes (parts_of arguments.layer)) arguments.«data».now) (texts codes)))
       → IsUnfailedUnlessUnusable result disk disk' → out'.counts.flushes ≡ out.counts.flushes
       → CarriesOut opens (request.Select arguments) result disk disk' out out'

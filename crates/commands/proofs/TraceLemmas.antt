@@ -5,9 +5,10 @@ use Rattle.refusals.specs.Refusal.{RefusalParts}
 use Rattle.counted_io.specs.ReaderWriter.{Writer}
 use Rattle.tl_segments.specs.County.{CountyReaders}
 use Rattle.commands.specs.Command.{CarriesOut}
+use Rattle.commands.specs.Counties.{IsRefusedFile}
 use Rattle.named_files.specs.County.{ClosesCounty, HoldCounty}
 use Rattle.commands.specs.Failure.{WritesAs, refusal_status}
-use Rattle.named_files.specs.Files.{Closes, Disk, IsUnfailed, OpenResults}
+use Rattle.named_files.specs.Files.{Closes, Disk, IsUnfailed, OpenResults, ReadCounts}
 use Rattle.commands.specs.Inputs.{HoldTooLong}
 use Rattle.commands.specs.Trace.{IsTraceResult, HoldRequested, IsOutcomeOn, IsRefused, IsTraceFault, of_code, of_county, outcome_line}
 use Rattle.commands.specs.declared.failure.Failure.{Failure}
@@ -31,16 +32,18 @@ trace_too_long trace known out refusal is = record {
 }
 
 -- what closing the county's readers counts if there is no outcome
-fault_closed : {known : List ℕ → Option (List ℕ)} {folder code program : List ℕ} {old new : CountyReaders} {failed failed' : ℕ}
-    → HoldCounty known folder code old → ClosesCounty new failed failed' → (refusal : RefusalParts) → IsTraceFault program old new refusal
-    → ReadsAs (refusal_status refusal) failed failed'
+fault_closed : {known : List ℕ → Option (List ℕ)} {folder code program : List ℕ} {old new : CountyReaders} {failed failed' : ReadCounts}
+    → HoldCounty known folder code old → ClosesCounty folder code new failed failed' → (refusal : RefusalParts)
+    → IsTraceFault program old new refusal → ReadsAs (IsRefusedFile folder code) refusal failed failed'
 fault_closed hold closes refusal (of_code fault first is same) =
     sound (λ three. code_status fault (ap refusal_status (sym is) ∙ three)) (unread_closed hold closes same)
-fault_closed {failed = failed} {failed' = failed'} hold closes refusal (of_county code has fault loads is) =
-    subst (λ (refusal : RefusalParts). ReadsAs (refusal_status refusal) failed failed') (sym is) (county_closed hold closes fault loads)
+fault_closed {folder = folder} {code = county_code} {failed = failed} {failed' = failed'} hold closes refusal (of_county code has fault loads is) =
+    subst (λ (refusal : RefusalParts). ReadsAs (IsRefusedFile folder county_code) refusal failed failed') (sym is)
+    (county_closed hold closes fault loads)
 
 module _ {R : Type 0} {opens : OpenResults R} {trace : Trace} {disk between disk' : Disk} {program bytes : List ℕ} {old new : CountyReaders}
-    (hold : HoldRequested trace disk.known program old) (before : IsUnfailed disk between) (closes : Closes (ClosesCounty new) between disk')
+    (hold : HoldRequested trace disk.known program old) (before : IsUnfailed disk between)
+    (closes : Closes (ClosesCounty trace.«data».now trace.code.now new) between disk')
     (same : bytes ≡ program) where
   -- the outcome was passed to the output
   pub outcome_written : {outcome : Outcome} (result : Result (Unit {0}) Failure) {out out' : Writer}

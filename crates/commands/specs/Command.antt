@@ -9,7 +9,7 @@ use Rattle.counted_io.specs.Writing as write_fault
 use Rattle.counted_io.specs.declared.writing.WriteFault.{WriteFault}
 use Rattle.commands.specs.Assemble as assemble
 use Rattle.commands.specs.Compile as compile
-use Rattle.commands.specs.Counties.{IsFileOfCounties}
+use Rattle.commands.specs.Counties.{FailsToRead, IsFileOfCounties, IsRefusedFile, IsRefusedFileOfOne}
 use Rattle.commands.specs.Disassemble as disassemble
 use Rattle.commands.specs.Explain as explain
 use Rattle.commands.specs.Failure.{IsFailureBeforeFlush, NamesFile, Reports, ReportsFile, ReportsLine, ReportsMemory, ReportsNotUtf8, ReportsOutput, ReportsText, IsUnfailedUnlessUnusable, refusal_status}
@@ -113,18 +113,38 @@ IsFileOf (Disassemble arguments) name = name ≡ arguments.program.now
 IsFileOf (Compile arguments) name = name ≡ arguments.filter.now
 IsFileOf (Select arguments) name = select.IsFileOf arguments name
 
+-- this is the name of the county's file that a refusal of the request is for
+abbrev pub IsRefusedFileOf : Request → RefusalParts → List ℕ → Type 0
+IsRefusedFileOf (Run arguments) = IsRefusedFile arguments.«data».now arguments.code.now
+IsRefusedFileOf (Trace arguments) = IsRefusedFile arguments.«data».now arguments.code.now
+IsRefusedFileOf (Geocode arguments) = IsRefusedFileOfOne arguments.«data».now (geocode.codes_of arguments)
+IsRefusedFileOf (GeocodeBatch arguments) = IsRefusedFileOfOne arguments.«data».now (geocode_batch.codes_of arguments)
+IsRefusedFileOf request = λ refusal name. ⊥
+
+-- the same for a refusal of one of several counties, the one of this code
+abbrev pub IsRefusedFileAt : Request → List ℕ → RefusalParts → List ℕ → Type 0
+IsRefusedFileAt (Select arguments) code = IsRefusedFile arguments.«data».now code
+IsRefusedFileAt request code = λ refusal name. ⊥
+
+-- the request fails with a refusal, and a read failed of the county's file that this refusal is for
+abbrev pub FailsToReadFor : Request → Failure → Disk → Disk → Type 0
+FailsToReadFor request (Refusal refusal) disk disk' = FailsToRead (IsRefusedFileOf request refusal) disk disk'
+FailsToReadFor request (County code refusal) disk disk' = FailsToRead (IsRefusedFileAt request code.now refusal) disk disk'
+FailsToReadFor request failure disk disk' = ⊥
+
 -- The outcome of a request. Its output was written, completely or until the output failed. Or a library refuses it; if the status is 3, a read
--- failed. Or an open of the file that the failure names failed, or the file was opened and then a read failed. Or memory ran out or the requested
--- line doesn't exist, and nothing was written. The output isn't flushed.
+-- failed of the file that the refusal is for. Or an open of the file that the failure names failed, or the file was opened and then a read of it
+-- failed. Or memory ran out or the requested line doesn't exist, and nothing was written. The output isn't flushed.
 abbrev pub IsCarriedOut : {R : Type 0} → OpenResults R → Request → Result (Unit {0}) Failure → Disk → Disk → Writer → Writer → Type 0
 IsCarriedOut opens request (Ok done) disk disk' out out' = Writes request disk.known (Ok done) out out'
 IsCarriedOut opens request (Err (Write fault)) disk disk' out out' = Writes request disk.known (Err fault) out out'
 IsCarriedOut opens request (Err (Refusal refusal)) disk disk' out out' =
-    IsRefused request disk.known refusal out out' × (refusal_status refusal ≡ 3 → disk'.failed_reads ≢ disk.failed_reads)
+    IsRefused request disk.known refusal out out' × (refusal_status refusal ≡ 3 → FailsToReadFor request (Refusal refusal) disk disk')
 IsCarriedOut opens request (Err (Noted refusal note)) disk disk' out out' = IsTextRefused request disk.known refusal × (out' ≡ out)
 IsCarriedOut opens request (Err (County code refusal)) disk disk' out out' =
-    IsCountyRefused request disk.known code.now refusal out out' × (refusal_status refusal ≡ 3 → disk'.failed_reads ≢ disk.failed_reads)
-IsCarriedOut opens request (Err (File name error)) disk disk' out out' = (out' ≡ out) × FailsToUse (opens name.now) error disk disk'
+    IsCountyRefused request disk.known code.now refusal out out'
+    × (refusal_status refusal ≡ 3 → FailsToReadFor request (County code refusal) disk disk')
+IsCarriedOut opens request (Err (File name error)) disk disk' out out' = (out' ≡ out) × FailsToUse opens name.now error disk disk'
 IsCarriedOut opens request (Err (CountyFile folder code file error)) disk disk' out out' =
     WritesBefore request disk.known out out' × FailsToOpen (opens (file_name folder.now code.now file)) error disk disk'
 IsCarriedOut opens request (Err (NotUtf8 name)) disk disk' out out' = (out' ≡ out) × IsNotUtf8 request disk.known name.now
@@ -205,19 +225,19 @@ pub data Ends (failure : Failure) (status : ℕ) (out out' errors errors' : Writ
   after_failed_flush : IsFailureBeforeFlush failure → status ≡ 3 → (between : Writer) → Reports failure errors between
       → FailsFlush out out' between errors' → Ends failure status out out' errors errors'
 
--- Why a request fails with status 3. An open of one of the request's files failed, or the file was opened and then a read failed, and nothing was
--- written. Or an open of a county's file failed, and only the header and the counties before it were written. Or a read of a county's file failed,
--- and a library refused the request. Or a source isn't UTF-8, and nothing was written. In all of these the output was flushed. Or a write failed or
--- wrote 0 bytes: a prefix was written, and a flush was attempted. Or everything was written, but the flush failed. Each of these was reported. Or
--- the request failed otherwise, and so did the flush, and both were reported.
+-- Why a request fails with status 3. An open of one of the request's files failed, or the file was opened and then a read of it failed, and nothing
+-- was written. Or an open of a county's file failed, and only the header and the counties before it were written. Or a library refused the request,
+-- and a read failed of the county's file that the refusal is for. Or a source isn't UTF-8, and nothing was written. In all of these the output was
+-- flushed. Or a write failed or wrote 0 bytes: a prefix was written, and a flush was attempted. Or everything was written, but the flush failed. Each
+-- of these was reported. Or the request failed otherwise, and so did the flush, and both were reported.
 pub data IsUnusable {R : Type 0} (opens : OpenResults R) (request : Request) (disk disk' : Disk) (out out' errors errors' : Writer)
     : Type 0 where
-  of_file : (name : List ℕ) (error : Error) → IsFileOf request name → FailsToUse (opens name) error disk disk' → IsFlushed out out'
+  of_file : (name : List ℕ) (error : Error) → IsFileOf request name → FailsToUse opens name error disk disk' → IsFlushed out out'
       → ReportsFile name error errors errors' → IsUnusable opens request disk disk' out out' errors errors'
   of_county_file : (name : List ℕ) (error : Error) → IsFileOf request name → FailsToOpen (opens name) error disk disk' → (unflushed : Writer)
       → WritesBefore request disk.known out unflushed → IsFlushed unflushed out' → ReportsFile name error errors errors'
       → IsUnusable opens request disk disk' out out' errors errors'
-  of_county : disk'.failed_reads ≢ disk.failed_reads → IsRefusalOf 3 request disk.known out out' errors errors'
+  of_county : (refused : IsRefusalOf 3 request disk.known out out' errors errors') → FailsToReadFor request refused.failure disk disk'
       → IsUnusable opens request disk disk' out out' errors errors'
   of_source : (name : List ℕ) → IsNotUtf8 request disk.known name → IsFlushed out out' → ReportsNotUtf8 name errors errors'
       → IsUnusable opens request disk disk' out out' errors errors'

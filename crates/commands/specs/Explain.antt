@@ -40,7 +40,7 @@ IsLinesFile (Some lines) name = name ≡ lines.now
 
 -- why the file of source lines can't be read: it can't be used, or an allocation fails
 abbrev pub IsLinesFailure : {R : Type 0} → OpenResults R → Option (Bor (List ℕ)) → Disk → Disk → Failure → Type 0
-IsLinesFailure opens lines disk disk' (failure.File name error) = IsLinesFile lines name.now × FailsToUse (opens name.now) error disk disk'
+IsLinesFailure opens lines disk disk' (failure.File name error) = IsLinesFile lines name.now × FailsToUse opens name.now error disk disk'
 IsLinesFailure opens lines disk disk' failure.Memory = ⊤
 IsLinesFailure opens lines disk disk' failure = ⊥
 

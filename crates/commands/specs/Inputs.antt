@@ -30,7 +30,7 @@ pub record HoldTooLong (name folder code : List ℕ) (known : List ℕ → Optio
 -- why a program and a county can't be read: the program is too long, a file can't be used, or an allocation fails
 abbrev pub IsInputsFailure : {R : Type 0} → OpenResults R → List ℕ → List ℕ → List ℕ → Disk → Disk → Failure → Type 0
 IsInputsFailure opens name folder code disk disk' (Refusal refusal) = HoldTooLong name folder code disk.known refusal
-IsInputsFailure opens name folder code disk disk' (File of error) = FailsToUse (opens of.now) error disk disk'
+IsInputsFailure opens name folder code disk disk' (File of error) = FailsToUse opens of.now error disk disk'
 IsInputsFailure opens name folder code disk disk' (CountyFile of_folder of_code file error) =
     FailsToOpen (opens (file_name of_folder.now of_code.now file)) error disk disk'
 IsInputsFailure opens name folder code disk disk' Memory = ⊤

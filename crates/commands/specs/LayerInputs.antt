@@ -5,7 +5,7 @@ use Rattle.layers.specs.Writing as layers
 use Rattle.layers.specs.Writing.{LayerReaders}
 use Rattle.layers.specs.declared.writing.LayerFiles.{LayerFiles}
 use Rattle.named_files.specs.County.{ClosesCounty, HoldCounty, IsCountyOpenFault, IsFileOpenFault, IsLoaded, IsOpened, file_name}
-use Rattle.named_files.specs.Files.{CountsClose, IsUnread, OpenResults, input_failed_reads, input_remaining}
+use Rattle.named_files.specs.Files.{CountsClose, IsUnread, KeepsCounts, OpenResults, ReadCounts, input_failed_reads, input_remaining}
 use Rattle.named_files.specs.declared.county.CountyFileFault.{CountyFileFault}
 use Rattle.named_files.specs.declared.files.Input.{Input}
 use Rattle.tl_segments.specs.County.{CountyReaders}
@@ -49,16 +49,16 @@ IsShapesOpenFault shapes opens folder code fault = IsTrue shapes × IsFileOpenFa
 abbrev pub IsLayerOpenFault : {R : Type 0} → Bool → OpenResults R → List ℕ → List ℕ → CountyFileFault → Type 0
 IsLayerOpenFault shapes opens folder code fault = IsCountyOpenFault opens folder code fault ⊎ IsShapesOpenFault shapes opens folder code fault
 
--- what closing the reader of type 2 counts, if there is one
-abbrev pub ClosesShapes : Option Reader → ℕ → ℕ → Type 0
-ClosesShapes (Some reader) failed failed' = CountsClose reader.failed failed failed'
-ClosesShapes None failed failed' = failed' ≡ failed
+-- what closing the reader of the type 2 file of this name counts, if there is one
+abbrev pub ClosesShapes : List ℕ → Option Reader → ReadCounts → ReadCounts → Type 0
+ClosesShapes name (Some reader) failed failed' = CountsClose name reader.failed failed failed'
+ClosesShapes name None failed failed' = KeepsCounts failed failed'
 
--- what closing the layer's readers counts, one after the other
-pub record ClosesLayer (readers : LayerReaders) (failed failed' : ℕ) : Type 0 where
-  pub between : ℕ
-  pub county : ClosesCounty readers.county failed between
-  pub rt2 : ClosesShapes readers.rt2 between failed'
+-- what closing the readers of a county's layer counts, one after the other, each by the name of its file
+pub record ClosesLayer (folder code : List ℕ) (readers : LayerReaders) (failed failed' : ReadCounts) : Type 0 where
+  pub between : ReadCounts
+  pub county : ClosesCounty folder code readers.county failed between
+  pub rt2 : ClosesShapes (file_name folder code Rt2) readers.rt2 between failed'
 
 -- no read of the county's readers has failed
 pub record AreUnread (readers : CountyReaders) : Type 0 where

@@ -1,6 +1,6 @@
 -- What `select` writes, and why it is refused.
 use Rattle.std.specs.Io.KnownBytes.{Appends}
-use Rattle.std.specs.Prelude.{◌≡◌, ◌⊎◌, ℕ, List, [], ◌∷◌, ◌++◌, map, Option, Result, Ok, Err, ◌≢◌, ⊤}
+use Rattle.std.specs.Prelude.{◌≡◌, ◌⊎◌, ℕ, List, [], ◌∷◌, ◌++◌, map, Option, Result, Ok, Err, ⊤}
 use Rattle.extract.specs.ExtractFault as extract_fault
 use Rattle.bpf_insn.specs.declared.instruction.Insn.{Insn}
 use Rattle.extract.specs.declared.fault.ExtractFault.{ExtractFault}
@@ -22,7 +22,7 @@ use Rattle.tl_segments.specs.Shape.{shape_parts}
 use Rattle.named_files.specs.County.{file_name}
 use Rattle.commands.specs.Failure.{refusal_status}
 use Rattle.named_files.specs.Files.{Disk, FailsToOpen, OpenResults}
-use Rattle.commands.specs.Counties.{IsFileOfOne}
+use Rattle.commands.specs.Counties.{FailsToRead, IsFileOfOne, IsRefusedFile}
 use Rattle.commands.specs.Filter.{IsCodeOfText}
 use Rattle.commands.specs.LayerInputs.{HoldLayer, IsFileOfLayer}
 use Rattle.commands.specs.declared.select.Select.{Select}
@@ -130,11 +130,13 @@ SelectsLayer over codes (Err failure) out out' =
     ((fault : WriteFault) × (failure ≡ Write fault) × WritesHeader over.layer (Err fault) out out')
     ⊎ ((headed : Writer) × WritesHeader over.layer (Ok tt) out headed × SelectsCounties over codes (Err failure) headed out')
 
--- a refusal for a failed read means that a read failed, and a file that can't be opened means that an open of it failed
-abbrev pub FailsAs : {R : Type 0} → OpenResults R → Failure → Disk → Disk → Type 0
-FailsAs opens (County code refusal) disk disk' = refusal_status refusal ≡ 3 → disk'.failed_reads ≢ disk.failed_reads
-FailsAs opens (CountyFile folder code file error) disk disk' = FailsToOpen (opens (file_name folder.now code.now file)) error disk disk'
-FailsAs opens failure disk disk' = ⊤
+-- if the status of a refusal is 3, a read failed of the file that it is for; if a file can't be opened, an open of it failed
+abbrev pub FailsAs : {R : Type 0} → OpenResults R → List ℕ → Failure → Disk → Disk → Type 0
+FailsAs opens folder (County code refusal) disk disk' =
+    refusal_status refusal ≡ 3 → FailsToRead (IsRefusedFile folder code.now refusal) disk disk'
+FailsAs opens folder (CountyFile of_folder code file error) disk disk' =
+    FailsToOpen (opens (file_name of_folder.now code.now file)) error disk disk'
+FailsAs opens folder failure disk disk' = ⊤
 
 -- the filter has a program, and its run over the requested counties is as `Selects` describes
 abbrev pub SelectsSo : Select → (List ℕ → Option (List ℕ)) → (Selection → Type 0) → Type 0

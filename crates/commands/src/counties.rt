@@ -1,6 +1,6 @@
 //! Counties, loaded one after the other.
 ghost use Rattle.std.specs.Prelude.{◌≡◌, ◌≢◌, ℕ, List, map, IfErr, IfOk};
-ghost use Rattle.commands.specs.Counties.{AreCountiesOf, HaveRefusedCounty, IsCountyOf, IsFileOfCounties, IsRefusedCounty, IsLoadFailure};
+ghost use Rattle.commands.specs.Counties.{AreCountiesOf, HaveRefusedCounty, IsCountyOf, IsFileOfCounties, IsLoadFailure, IsRefusedCounty, IsRefusedFile, IsRefusedFileOfOne};
 ghost use Rattle.named_files.specs.County.{IsFileOfCounty};
 ghost use Rattle.commands.specs.Failure.{NamesFile, IsUnfailedUnlessUnusable, status};
 ghost use Rattle.named_files.specs.Files.{disk};
@@ -21,6 +21,7 @@ pub fn load_counties<'a, A: Allocator + Copy, F: Files>(
     ensures ok { IfOk result (λ counties.
         AreCountiesOf (F.bytes files.old) folder.now (map (λ code. code.now) codes.now) counties.items) }
     ensures err { IfErr result (IsLoadFailure F.opens (HaveRefusedCounty (F.bytes files.old) folder.now (map (λ code. code.now) codes.now))
+        (IsRefusedFileOfOne folder.now (map (λ code. code.now) codes.now))
         (disk F.bytes F.failed_opens F.failed_reads files.old) (disk F.bytes F.failed_opens F.failed_reads files.new)) }
     ensures names { IfErr result (NamesFile (IsFileOfCounties folder.now (map (λ code. code.now) codes.now))) }
     ensures stay { (other : List ℕ) → F.bytes files.new other ≡ F.bytes files.old other }
@@ -46,7 +47,7 @@ fn load_county<'a, A: Allocator + Copy, F: Files>(
     code: &'a str,
 ) -> Result<County<A>, Failure<'a>>
     ensures ok { IfOk result (IsCountyOf (F.bytes files.old) folder.now code.now) }
-    ensures err { IfErr result (IsLoadFailure F.opens (IsRefusedCounty (F.bytes files.old) folder.now code.now)
+    ensures err { IfErr result (IsLoadFailure F.opens (IsRefusedCounty (F.bytes files.old) folder.now code.now) (IsRefusedFile folder.now code.now)
         (disk F.bytes F.failed_opens F.failed_reads files.old) (disk F.bytes F.failed_opens F.failed_reads files.new)) }
     ensures names { IfErr result (NamesFile (IsFileOfCounty folder.now code.now)) }
     ensures stay { (other : List ℕ) → F.bytes files.new other ≡ F.bytes files.old other }
@@ -58,7 +59,7 @@ fn load_county<'a, A: Allocator + Copy, F: Files>(
         Err(fault) => return Err(Failure::of_county_file(folder, code, fault)),
     };
     let loaded = CountyFiles::load(&mut inputs, alloc);
-    close_county(files, inputs);
+    close_county(files, folder, code, inputs);
     match loaded {
         Ok(county) => Ok(county),
         Err(fault) => Err(Failure::Refusal(fault.refusal())),

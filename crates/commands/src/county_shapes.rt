@@ -2,7 +2,7 @@
 ghost use Rattle.std.specs.Prelude.{◌≡◌, ◌≢◌, ℕ, List, Option, map, option_map, IfErr, IfOk};
 ghost use Rattle.std.specs.Bool.{IsTrue};
 ghost use Rattle.batch.specs.ShapedLookup.{AreShapesOf};
-ghost use Rattle.commands.specs.Counties.{IsLoadFailure};
+ghost use Rattle.commands.specs.Counties.{IsLoadFailure, IsRefusedFile, IsRefusedFileOfOne};
 ghost use Rattle.commands.specs.CountyShapes.{AreRefusedShapes, AreShapeLinesOf, AreShapesIfAny, HaveRefusedShapes, HaveShapeLines, HaveShapeLinesIf, IsShapesFile};
 ghost use Rattle.commands.specs.Failure.{NamesFile, IsUnfailedUnlessUnusable, status};
 ghost use Rattle.named_files.specs.County.{file_name};
@@ -11,7 +11,7 @@ ghost use Rattle.tl_segments.specs.Shapes.{IsShapesOf};
 ghost use Rattle.tl_segments.specs.declared.fault.CountyFile.TheVariants.{Rt2};
 
 use crate::failure::Failure;
-use named_files::{Files, close, open_shapes};
+use named_files::{Files, close_shapes, open_shapes};
 use refusals::Fault;
 use std::alloc::Allocator;
 use tl_segments::Shapes;
@@ -28,6 +28,7 @@ pub(crate) fn load_shapes_if<'a, A: Allocator + Copy, F: Files>(
         × HaveShapeLinesIf wanted (F.bytes files.old) folder.now (map (λ code. code.now) codes.now) rt2) }
     ensures wanted { IfErr result (λ failure. IsTrue wanted) }
     ensures err { IfErr result (IsLoadFailure F.opens (HaveRefusedShapes (F.bytes files.old) folder.now (map (λ code. code.now) codes.now))
+        (IsRefusedFileOfOne folder.now (map (λ code. code.now) codes.now))
         (disk F.bytes F.failed_opens F.failed_reads files.old) (disk F.bytes F.failed_opens F.failed_reads files.new)) }
     ensures names { IfErr result (NamesFile (IsShapesFile folder.now (map (λ code. code.now) codes.now))) }
     ensures usage { IfErr result (λ failure. status failure ≢ 2) }
@@ -53,6 +54,7 @@ fn load_shapes<'a, A: Allocator + Copy, F: Files>(
     ensures ok { IfOk result (λ shapes. (rt2 : List (List (List ℕ))) × AreShapesOf shapes.items rt2
         × HaveShapeLines (F.bytes files.old) folder.now (map (λ code. code.now) codes.now) rt2) }
     ensures err { IfErr result (IsLoadFailure F.opens (HaveRefusedShapes (F.bytes files.old) folder.now (map (λ code. code.now) codes.now))
+        (IsRefusedFileOfOne folder.now (map (λ code. code.now) codes.now))
         (disk F.bytes F.failed_opens F.failed_reads files.old) (disk F.bytes F.failed_opens F.failed_reads files.new)) }
     ensures names { IfErr result (NamesFile (IsShapesFile folder.now (map (λ code. code.now) codes.now))) }
     ensures usage { IfErr result (λ failure. status failure ≢ 2) }
@@ -78,7 +80,7 @@ fn load_county_shapes<'a, A: Allocator + Copy, F: Files>(
 ) -> Result<Shapes<A>, Failure<'a>>
     ensures ok { IfOk result (λ shapes. (lines : List (List ℕ)) × IsShapesOf shapes lines
         × AreShapeLinesOf (F.bytes files.old) folder.now code.now lines) }
-    ensures err { IfErr result (IsLoadFailure F.opens (AreRefusedShapes (F.bytes files.old) folder.now code.now)
+    ensures err { IfErr result (IsLoadFailure F.opens (AreRefusedShapes (F.bytes files.old) folder.now code.now) (IsRefusedFile folder.now code.now)
         (disk F.bytes F.failed_opens F.failed_reads files.old) (disk F.bytes F.failed_opens F.failed_reads files.new)) }
     ensures names { IfErr result (NamesFile (λ name. name ≡ file_name folder.now code.now Rt2)) }
     ensures stay { (other : List ℕ) → F.bytes files.new other ≡ F.bytes files.old other }
@@ -90,7 +92,7 @@ fn load_county_shapes<'a, A: Allocator + Copy, F: Files>(
         Err(fault) => return Err(Failure::of_county_file(folder, code, fault)),
     };
     let loaded = Shapes::load(alloc, &mut input);
-    close(files, input);
+    close_shapes(files, folder, code, input);
     match loaded {
         Ok(shapes) => Ok(shapes),
         Err(fault) => Err(Failure::Refusal(fault.refusal())),

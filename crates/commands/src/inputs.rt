@@ -6,7 +6,7 @@ ghost use Rattle.named_files.specs.Files.{disk};
 ghost use Rattle.commands.specs.Inputs.{HoldInputs, IsInput, IsInputsFailure};
 
 use crate::failure::Failure;
-use named_files::{CountyInputs, Files, close_county, open, open_county, read_program};
+use named_files::{CountyInputs, Files, close_county, open, open_county};
 use std::alloc::Allocator;
 
 /// A program's bytes and a county's inputs.
@@ -33,23 +33,23 @@ pub fn open_inputs<'a, A: Allocator + Copy, F: Files>(
     ensures counts { IsUnfailedUnlessUnusable result (disk F.bytes F.failed_opens F.failed_reads files.old)
         (disk F.bytes F.failed_opens F.failed_reads files.new) }
 {
-    let mut reader = match open(files, name) {
-        Ok(reader) => reader,
+    let mut file = match open(files, name) {
+        Ok(file) => file,
         Err(fault) => return Err(Failure::of_file(name, fault)),
     };
     let county = match open_county(alloc, files, folder, code) {
         Ok(county) => county,
         Err(fault) => {
-            files.close(reader);
+            files.close(file);
             return Err(Failure::of_county_file(folder, code, fault));
         }
     };
-    let read = read_program(alloc, &mut reader);
-    files.close(reader);
+    let read = file.read_program(alloc);
+    files.close(file);
     match read {
         Ok(program) => Ok(Inputs { program, county }),
         Err(fault) => {
-            close_county(files, county);
+            close_county(files, folder, code, county);
             Err(Failure::of_program(name, fault))
         }
     }

@@ -9,7 +9,7 @@ ghost use Rattle.tl_segments.specs.declared.fault.CountyFile.TheVariants.{Rt2};
 
 use layers::{Layer, LayerFiles};
 use named_files::{
-    CountyFileFault, CountyInput, CountyInputs, Files, close, close_county, open_county,
+    CountyFileFault, CountyInput, CountyInputs, Files, close_county, close_shapes, open_county,
     open_shapes,
 };
 use std::alloc::Allocator;
@@ -65,21 +65,26 @@ pub(crate) fn with_shapes<A: Allocator + Copy, F: Files>(
             rt2: Some(rt2),
         }),
         Err(fault) => {
-            close_county(files, county);
+            close_county(files, folder, code, county);
             Err(fault)
         }
     }
 }
 
-/// Closes the inputs of a layer.
-pub(crate) fn close_layer<F: Files>(files: &mut F, inputs: LayerInputs<F::Reader>)
-    ensures { Closes (ClosesLayer (layer_readers F.Reader.remaining F.Reader.failed_reads inputs))
+/// Closes the inputs of the layer of the county with this code.
+pub(crate) fn close_layer<F: Files>(
+    files: &mut F,
+    folder: &str,
+    code: &str,
+    inputs: LayerInputs<F::Reader>,
+)
+    ensures { Closes (ClosesLayer folder.now code.now (layer_readers F.Reader.remaining F.Reader.failed_reads inputs))
         (disk F.bytes F.failed_opens F.failed_reads files.old) (disk F.bytes F.failed_opens F.failed_reads files.new) }
 {
     let LayerFiles { county, rt2 } = inputs;
-    close_county(files, county);
+    close_county(files, folder, code, county);
     match rt2 {
-        Some(rt2) => close(files, rt2),
+        Some(rt2) => close_shapes(files, folder, code, rt2),
         None => {}
     }
 }

@@ -3,7 +3,7 @@ ghost use Rattle.std.specs.Prelude.{◌≡◌, ◌≢◌, ◌≤◌, ◌⊎◌};
 ghost use Rattle.counted_io.specs.ReaderWriter.{writer};
 ghost use Rattle.commands.specs.Command.{CarriesOut, Ends, FailsFlush, IsDone, IsFlushed, ReportsMissingLine, IsOutOfMemory, IsRefusal, IsUnusable};
 ghost use Rattle.commands.specs.Failure.{IsUnchangedOnUsage, status};
-ghost use Rattle.named_files.specs.Files.{disk};
+ghost use Rattle.named_files.specs.Files.{KeepsCounts, disk};
 
 use crate::assemble::Assemble;
 use crate::compile::Compile;
@@ -70,7 +70,7 @@ impl<'a> Request<'a> {
         ensures flushed_last { result ≢ 2 → result ≢ 3 → W.is_flushed out.new }
         // No failed open or read is ignored.
         ensures opens { result ≢ 3 → F.failed_opens files.new ≡ F.failed_opens files.old }
-        ensures reads { result ≢ 3 → F.failed_reads files.new ≡ F.failed_reads files.old }
+        ensures reads { result ≢ 3 → KeepsCounts (F.failed_reads files.old) (F.failed_reads files.new) }
     {
         match self.carry_out(alloc, files, out) {
             Ok(()) => flush(out, errors),

@@ -62,7 +62,7 @@ impl<'a> Run<'a> {
             Err(fault) => return Err(Failure::of_county_file(data, code, fault)),
         };
         let written = write_selected(alloc, program.as_slice(), &mut county, &layer, out);
-        close_layer(files, county);
+        close_layer(files, data, code, county);
         match written {
             Ok(_) => Ok(()),
             Err(fault) => Err(Failure::of_extract(fault)),

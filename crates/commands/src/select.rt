@@ -75,7 +75,7 @@ fn select_layer<'a, A: Allocator + Copy, F: Files, W: CountedWrite>(
 ) -> Result<(), Failure<'a>>
     ensures outcome { SelectsLayer (selection (F.bytes files.old) folder.now (parts_of layer.now) program.now.code)
         (map (λ code. code.now) codes.now) result (writer W.contents W.counts out.old) (writer W.contents W.counts out.new) }
-    ensures fails { IfErr result (λ failure. FailsAs F.opens failure
+    ensures fails { IfErr result (λ failure. FailsAs F.opens folder.now failure
         (disk F.bytes F.failed_opens F.failed_reads files.old) (disk F.bytes F.failed_opens F.failed_reads files.new)) }
     ensures names { IfErr result (NamesFile (IsFileOfOne (IsFileOfLayer (has_shapes (parts_of layer.now)) folder.now)
         (map (λ code. code.now) codes.now))) }
@@ -101,7 +101,7 @@ fn select_counties<'a, A: Allocator + Copy, F: Files, W: CountedWrite>(
 ) -> Result<(), Failure<'a>>
     ensures outcome { SelectsCounties (selection (F.bytes files.old) folder.now (parts_of layer.now) program.now.code)
         (map (λ code. code.now) codes.now) result (writer W.contents W.counts out.old) (writer W.contents W.counts out.new) }
-    ensures fails { IfErr result (λ failure. FailsAs F.opens failure
+    ensures fails { IfErr result (λ failure. FailsAs F.opens folder.now failure
         (disk F.bytes F.failed_opens F.failed_reads files.old) (disk F.bytes F.failed_opens F.failed_reads files.new)) }
     ensures names { IfErr result (NamesFile (IsFileOfOne (IsFileOfLayer (has_shapes (parts_of layer.now)) folder.now)
         (map (λ code. code.now) codes.now))) }
@@ -130,7 +130,7 @@ fn select_county<'a, A: Allocator + Copy, F: Files, W: CountedWrite>(
 ) -> Result<(), Failure<'a>>
     ensures outcome { SelectsCounty (selection (F.bytes files.old) folder.now (parts_of layer.now) program.now.code) code.now result
         (writer W.contents W.counts out.old) (writer W.contents W.counts out.new) }
-    ensures fails { IfErr result (λ failure. FailsAs F.opens failure
+    ensures fails { IfErr result (λ failure. FailsAs F.opens folder.now failure
         (disk F.bytes F.failed_opens F.failed_reads files.old) (disk F.bytes F.failed_opens F.failed_reads files.new)) }
     ensures names { IfErr result (NamesFile (IsFileOfLayer (has_shapes (parts_of layer.now)) folder.now code.now)) }
     ensures stay { (other : List ℕ) → F.bytes files.new other ≡ F.bytes files.old other }
@@ -143,7 +143,7 @@ fn select_county<'a, A: Allocator + Copy, F: Files, W: CountedWrite>(
         Err(fault) => return Err(Failure::of_opening(folder, code, fault)),
     };
     let written = write_county(alloc, program, &mut inputs, layer, out);
-    close_layer(files, inputs);
+    close_layer(files, folder, code, inputs);
     match written {
         Ok(_) => Ok(()),
         Err(fault) => Err(Failure::of_county_extract(code, fault)),

@@ -57,7 +57,7 @@ impl<'a> Trace<'a> {
             mut county,
         } = inputs;
         let traced = self.outcome(alloc, program.as_slice(), &mut county);
-        close_county(files, county);
+        close_county(files, self.data, self.code, county);
         match traced {
             Ok(outcome) => write(out, outcome_line(outcome).as_bytes()),
             Err(failure) => Err(failure),

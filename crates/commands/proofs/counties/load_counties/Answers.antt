@@ -1,8 +1,8 @@
 use Rattle.std.proofs.Common.{◌∙◌, subst, sym}
-use Rattle.commands.specs.Counties.{AreCountiesOf}
+use Rattle.commands.specs.Counties.{AreCountiesOf, IsRefusedFile}
 use Rattle.named_files.specs.County.{IsFileOfCounty}
 use Rattle.named_files.specs.Files.{disk}
-use Rattle.commands.proofs.CountiesLemmas.{counties_more, earlier_load_failure, load_usage, memory_failure, named_after, refused_after}
+use Rattle.commands.proofs.CountiesLemmas.{counties_more, earlier_load_failure, file_after, load_usage, memory_counts, memory_failure, named_after, refused_after}
 use Rattle.named_files.proofs.FileLemmas.{unfailed_both}
 use Rattle.commands.proofs.counties.load_counties.Goals as goal
 
@@ -14,11 +14,12 @@ returns-in-Err-clause-err g c =
     (disk g.F.Files.bytes g.F.Files.failed_opens g.F.Files.failed_reads c.load_county.new.files) c.in-Err.failure so_far.counts
     (λ _. refused_after so_far.stay c.args.codes.now c.loop-code.code-index _ c.loop-code.counties.items c.loop-code-test.true
     so_far.loaded)
+    (λ refusal. file_after (λ code. IsRefusedFile c.args.folder.now code refusal) c.args.codes.now c.loop-code.code-index _ c.loop-code-test.true)
     c.in-Err.ensures.err
 
 pub returns-in-Err-clause-usage : goal.returns-in-Err-clause-usage
 returns-in-Err-clause-usage g c =
-    load_usage g.F.Files.opens _ (disk g.F.Files.bytes g.F.Files.failed_opens g.F.Files.failed_reads c.loop-code.files)
+    load_usage g.F.Files.opens _ _ (disk g.F.Files.bytes g.F.Files.failed_opens g.F.Files.failed_reads c.loop-code.files)
     (disk g.F.Files.bytes g.F.Files.failed_opens g.F.Files.failed_reads c.load_county.new.files) c.in-Err.failure c.in-Err.ensures.err
 
 pub returns-in-Err-clause-names : goal.returns-in-Err-clause-names
@@ -30,8 +31,8 @@ returns-in-Err-clause-counts g c = λ other. unfailed_both c.loop-code.invariant
 
 pub returns-in_err-push-in-Ok-clause-err : goal.returns-in_err-push-in-Ok-clause-err
 returns-in_err-push-in-Ok-clause-err g c =
-    memory_failure g.F.Files.opens c.from_residual.result _ (disk g.F.Files.bytes g.F.Files.failed_opens g.F.Files.failed_reads c.args.files.now)
-    (disk g.F.Files.bytes g.F.Files.failed_opens g.F.Files.failed_reads c.load_county.new.files) c.from_residual.ensures.1
+    memory_failure g.F.Files.opens _ _ (disk g.F.Files.bytes g.F.Files.failed_opens g.F.Files.failed_reads c.args.files.now)
+    (disk g.F.Files.bytes g.F.Files.failed_opens g.F.Files.failed_reads c.load_county.new.files) c.from_residual.result c.from_residual.ensures.1
 
 pub loop-code-preserved : goal.loop-code-preserved
 loop-code-preserved g c = let so_far = c.loop-code.invariant in record {
@@ -41,3 +42,7 @@ loop-code-preserved g c = let so_far = c.loop-code.invariant in record {
   stay = λ name. c.in-Ok.ensures.stay name ∙ so_far.stay name;
   counts = unfailed_both so_far.counts c.in-Ok.ensures.counts;
 }
+
+pub returns-in_err-push-in-Ok-clause-counts : goal.returns-in_err-push-in-Ok-clause-counts
+returns-in_err-push-in-Ok-clause-counts g c =
+    memory_counts c.from_residual.result _ _ (unfailed_both c.loop-code.invariant.counts c.in-Ok.ensures.counts)

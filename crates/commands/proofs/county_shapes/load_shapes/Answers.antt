@@ -1,11 +1,19 @@
-use Rattle.std.proofs.Common.{◌≡◌, ◌∙◌, subst, sym}
+use Rattle.std.proofs.Common.{◌≡◌, ◌∙◌, [], refl, rules, subst, sym}
 use Rattle.named_files.specs.County.{file_name}
 use Rattle.named_files.specs.Files.{disk}
 use Rattle.tl_segments.specs.declared.fault.CountyFile.TheVariants.{Rt2}
-use Rattle.commands.proofs.CountiesLemmas.{earlier_load_failure, load_usage, memory_failure, named_after}
+use Rattle.commands.specs.Counties.{IsRefusedFile}
+use Rattle.commands.proofs.CountiesLemmas.{earlier_load_failure, file_after, load_usage, memory_counts, memory_failure, named_after}
 use Rattle.commands.proofs.CountyShapesLemmas.{LoadShapes, shapes_more, shapes_refused_after}
 use Rattle.named_files.proofs.FileLemmas.{unfailed_both}
 use Rattle.commands.proofs.county_shapes.load_shapes.Goals as goal
+
+pub loop-code-init : goal.loop-code-init
+loop-code-init g c = record {
+  loaded = ([], rw c.new-shapes.ensures.items refl, search rules);
+  stay = λ name. refl;
+  counts = record { opens = refl; reads = λ name. refl };
+}
 
 pub returns-in-Err-clause-err : goal.returns-in-Err-clause-err
 returns-in-Err-clause-err g c =
@@ -15,11 +23,12 @@ returns-in-Err-clause-err g c =
     (disk g.F.Files.bytes g.F.Files.failed_opens g.F.Files.failed_reads c.load_county_shapes.new.files) c.in-Err.failure so_far.counts
     (λ _. shapes_refused_after so_far.stay c.args.codes.now c.loop-code.code-index _ c.loop-code.shapes.items c.loop-code-test.true
     so_far.loaded)
+    (λ refusal. file_after (λ code. IsRefusedFile c.args.folder.now code refusal) c.args.codes.now c.loop-code.code-index _ c.loop-code-test.true)
     c.in-Err.ensures.err
 
 pub returns-in-Err-clause-usage : goal.returns-in-Err-clause-usage
 returns-in-Err-clause-usage g c =
-    load_usage g.F.Files.opens _ (disk g.F.Files.bytes g.F.Files.failed_opens g.F.Files.failed_reads c.loop-code.files)
+    load_usage g.F.Files.opens _ _ (disk g.F.Files.bytes g.F.Files.failed_opens g.F.Files.failed_reads c.loop-code.files)
     (disk g.F.Files.bytes g.F.Files.failed_opens g.F.Files.failed_reads c.load_county_shapes.new.files) c.in-Err.failure c.in-Err.ensures.err
 
 pub returns-in-Err-clause-names : goal.returns-in-Err-clause-names
@@ -31,8 +40,9 @@ returns-in-Err-clause-counts g c = λ other. unfailed_both c.loop-code.invariant
 
 pub returns-in_err-push-in-Ok-clause-err : goal.returns-in_err-push-in-Ok-clause-err
 returns-in_err-push-in-Ok-clause-err g c =
-    memory_failure g.F.Files.opens c.from_residual.result _ (disk g.F.Files.bytes g.F.Files.failed_opens g.F.Files.failed_reads c.args.files.now)
-    (disk g.F.Files.bytes g.F.Files.failed_opens g.F.Files.failed_reads c.load_county_shapes.new.files) c.from_residual.ensures.1
+    memory_failure g.F.Files.opens _ _ (disk g.F.Files.bytes g.F.Files.failed_opens g.F.Files.failed_reads c.args.files.now)
+    (disk g.F.Files.bytes g.F.Files.failed_opens g.F.Files.failed_reads c.load_county_shapes.new.files) c.from_residual.result
+    c.from_residual.ensures.1
 
 pub loop-code-preserved : goal.loop-code-preserved
 loop-code-preserved g c = let so_far = c.loop-code.invariant in record {
@@ -42,3 +52,7 @@ loop-code-preserved g c = let so_far = c.loop-code.invariant in record {
   stay = λ name. c.in-Ok.ensures.stay name ∙ so_far.stay name;
   counts = unfailed_both so_far.counts c.in-Ok.ensures.counts;
 }
+
+pub returns-in_err-push-in-Ok-clause-counts : goal.returns-in_err-push-in-Ok-clause-counts
+returns-in_err-push-in-Ok-clause-counts g c =
+    memory_counts c.from_residual.result _ _ (unfailed_both c.loop-code.invariant.counts c.in-Ok.ensures.counts)

@@ -1,15 +1,15 @@
-use Rattle.std.proofs.Common.{◌∙◌, ℕ, List, Option, Bor, Err, inl, refl, subst}
+use Rattle.std.proofs.Common.{ap, ◌∙◌, ℕ, List, Option, Bor, Err, inl, refl, subst}
 use Rattle.std.specs.Io.KnownBytes.{Keeps}
 use Rattle.std.proofs.Math.Path.{fun_ext}
 use Rattle.tl_segments.specs.County.{CountyReaders}
-use Rattle.named_files.specs.County.{HoldCounty, county_readers}
+use Rattle.named_files.specs.County.{HoldCounty, county_readers, path_of}
 use Rattle.commands.specs.Failure.{NamesFile, of_program}
 use Rattle.named_files.specs.Files.{Disk, IsProgramInputFault, IsProgramUseFault, OpenResults, disk}
 use Rattle.commands.specs.Inputs.{IsInput, IsInputsFailure}
 use Rattle.named_files.specs.declared.files.FileFault.TheVariants as fault
 use Rattle.named_files.specs.declared.files.ProgramInputFault.{ProgramInputFault}
 use Rattle.named_files.specs.declared.files.ProgramInputFault.TheVariants as input
-use Rattle.named_files.proofs.FileLemmas.{read_program_fault}
+use Rattle.named_files.proofs.FileLemmas.{close_then, keeps_both, named_close, read_program_fault}
 use Rattle.named_files.proofs.ProgramLemmas.{too_long_as}
 use Rattle.commands.proofs.ReadLemmas.{fresh_closed}
 use Rattle.commands.proofs.inputs.open_inputs.Goals as goal
@@ -17,7 +17,7 @@ use Rattle.commands.proofs.inputs.open_inputs.Goals as goal
 -- the program's file can't be read, or the program is too long
 module _ {R : Type 0} (opens : OpenResults R) (disk disk' : Disk) (name folder code : Bor (List ℕ)) (left : Option (List ℕ)) {readers : CountyReaders} where
   program_failure : (of : ProgramInputFault) → Keeps (disk.known name.now) left → IsProgramInputFault left of
-      → IsProgramUseFault (opens name.now) disk disk' of → HoldCounty disk.known folder.now code.now readers
+      → IsProgramUseFault opens name.now disk disk' of → HoldCounty disk.known folder.now code.now readers
       → IsInputsFailure opens name.now folder.now code.now disk disk' (of_program name of)
   program_failure (input.File (fault.Unusable error)) unchanged is_failure fails hold = fails
   program_failure (input.File fault.Memory) unchanged is_failure fails hold = tt
@@ -44,10 +44,13 @@ returns-in-Err-read-clause-err g c =
     rw c.of_program.ensures (program_failure g.F.Files.opens (disk g.F.Files.bytes g.F.Files.failed_opens g.F.Files.failed_reads c.args.files.now)
     (disk g.F.Files.bytes g.F.Files.failed_opens g.F.Files.failed_reads c.close_county.new.files) c.args.name c.args.folder c.args.code _
     c.in-Err-read.fault opened.known.left c.in-Err-read.ensures.refused
-    (read_program_fault (g.F.Files.opens c.args.name.now) (disk g.F.Files.bytes g.F.Files.failed_opens g.F.Files.failed_reads c.args.files.now)
-    (disk g.F.Files.bytes g.F.Files.failed_opens g.F.Files.failed_reads c.close_county.new.files) opened.known.failed
-    (county.opens.reads ∙ opened.opens.reads) c.in-Ok.reader opened.opened {T = ℕ} (Err c.in-Err-read.fault) c.in-Err-read.ensures.reads
-    (rw (fresh_closed county.hold closed.reads) c.close-2.ensures.reads))
+    (read_program_fault c.args.name.now (disk g.F.Files.bytes g.F.Files.failed_opens g.F.Files.failed_reads c.args.files.now)
+    (disk g.F.Files.bytes g.F.Files.failed_opens g.F.Files.failed_reads c.close_county.new.files)
+    (closed.opens ∙ c.close-2.ensures.opens ∙ county.opens.opens ∙ opened.opens.opens) opened.known.failed
+    (keeps_both opened.opens.reads county.opens.reads)
+    (close_then (named_close (ap path_of c.read_program-read.ensures.name ∙ opened.name) c.close-2.ensures.reads)
+    (fresh_closed county.hold closed.reads))
+    g.F.Files.opens c.in-Ok.file.reader opened.opened {T = ℕ} (Err c.in-Err-read.fault) c.in-Err-read.ensures.reads)
     (subst (λ (known : List ℕ → Option (List ℕ)). HoldCounty known c.args.folder.now c.args.code.now
     (county_readers g.F.Reader.Read.remaining g.F.Reader.CountedRead.failed_reads c.in-Ok-open_county.county))
     (fun_ext opened.opens.stays) county.hold))

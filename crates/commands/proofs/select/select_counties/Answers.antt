@@ -11,7 +11,7 @@ use Rattle.commands.proofs.SelectLemmas.{counties_counts, counties_stopped, fail
 use Rattle.commands.proofs.select.select_counties.Goals as goal
 
 pub loop-code-init : goal.loop-code-init
-loop-code-init g c = record { written = none; stay = λ name. refl; counts = record { opens = refl; reads = refl } }
+loop-code-init g c = record { written = none; stay = λ name. refl; counts = record { opens = refl; reads = λ name. refl } }
 
 pub returns-in-Err-clause-outcome : goal.returns-in-Err-clause-outcome
 returns-in-Err-clause-outcome g c = let so_far = c.loop-code.invariant in
@@ -21,7 +21,7 @@ returns-in-Err-clause-outcome g c = let so_far = c.loop-code.invariant in
 
 pub returns-in-Err-clause-fails : goal.returns-in-Err-clause-fails
 returns-in-Err-clause-fails g c =
-    fails_after g.F.Files.opens c.in-Err.failure (disk g.F.Files.bytes g.F.Files.failed_opens g.F.Files.failed_reads c.args.files.now)
+    fails_after g.F.Files.opens c.args.folder.now c.in-Err.failure (disk g.F.Files.bytes g.F.Files.failed_opens g.F.Files.failed_reads c.args.files.now)
     (disk g.F.Files.bytes g.F.Files.failed_opens g.F.Files.failed_reads c.loop-code.files)
     (disk g.F.Files.bytes g.F.Files.failed_opens g.F.Files.failed_reads c.select_county.new.files) c.loop-code.invariant.counts
     c.in-Err.ensures.fails

@@ -2,6 +2,7 @@ use Rattle.std.proofs.Common.{ℕ, List, ap, map, subst, sym, ◌∙◌}
 use Rattle.counted_io.specs.ReaderWriter.{writer}
 use Rattle.commands.specs.GeocodeBatch.{AreAddressesOf, Inputs, IsAddressesFault}
 use Rattle.commands.proofs.BatchLemmas.{addresses_failed, addresses_usage, batch_lent, batch_usage, counties_failed, counties_lent, lines_lent, shapes_failed}
+use Rattle.commands.proofs.CarriedLemmas.{memory_carried}
 use Rattle.named_files.proofs.FileLemmas.{unfailed_both}
 use Rattle.commands.proofs.geocode_batch.GeocodeBatch.carry_out.Goals as goal
 
@@ -74,3 +75,8 @@ returns-clause-usage g c =
 
 pub returns-in-Err-check_addresses-clause-usage : goal.returns-in-Err-check_addresses-clause-usage
 returns-in-Err-check_addresses-clause-usage g c = addresses_usage c.in-Err-check_addresses.fault c.of_addresses.result c.of_addresses.ensures
+
+pub returns-in_err-batch-clause-carried : goal.returns-in_err-batch-clause-carried
+returns-in_err-batch-clause-carried g c =
+    memory_carried g.F.Files.opens c.from_residual.result c.from_residual.ensures.1
+    (unfailed_both (unfailed_both c.in-Ok.ensures.uses c.in-Ok-load_counties.ensures.counts) c.in-Ok-load_shapes_if.ensures.counts)

@@ -7,7 +7,7 @@ pub returns-in-Err-clause-carried : goal.returns-in-Err-clause-carried
 returns-in-Err-clause-carried g c =
     filter_carried c.as_bytes.result.now c.args.self.filter_options.score c.in-Err.failure c.in-Err.ensures.err
     (λ refusal. subst (λ (text : List ℕ). IsFilterRefusal text c.args.self.filter_options.score refusal) c.as_bytes.ensures.value)
-    (record { opens = refl; reads = refl })
+    (record { opens = refl; reads = λ name. refl })
 
 pub returns-clause-carried : goal.returns-clause-carried
 returns-clause-carried g c =
