@@ -11,7 +11,7 @@ use tl_segments::{RECORD_LENGTH, Segment};
 
 // A filter, a segment's record, and whether the filter selects the segment, worked out by hand.
 const FILTERS: Table = Table {
-    rows: 53,
+    rows: 61,
     text: "\
 TRUE; {rt1}; 1
 FALSE; {rt1}; 0
@@ -58,6 +58,14 @@ FENAME > 'Main'; {rt1}; 0
 FENAME <= 'Main'; {rt1}; 1
 FENAME >= 'Maine'; {rt1}; 0
 FETYPE IS NULL; {rt1}; 1
+FRIADDL = '1'; {rt1 FRIADDL=1}; 1
+FRIADDL = '1'; {rt1 FRIADDL=0 TOIADDL=1 FRIADDR=1 TOIADDR=1}; 0
+FRIADDL <> '1'; {rt1}; 0
+FRIADDL IS NULL; {rt1 TOIADDL=0 FRIADDR=0 TOIADDR=0}; 1
+FRIADDL IS NULL; {rt1 FRIADDL=0}; 0
+TOIADDL = '1'; {rt1 TOIADDL=1}; 1
+FRIADDR = '1'; {rt1 FRIADDR=1}; 1
+TOIADDR = '1'; {rt1 TOIADDR=1}; 1
 CASEI(FENAME) = CASEI('mAIN'); {rt1}; 1
 HAS_NUMBER(150); {rt1}; 1
 HAS_NUMBER(99); {rt1}; 0
