@@ -9,7 +9,7 @@ use std::test::Fail;
 // A text and the filter it is read as, in prefix notation. A coordinate is in millionths, and a text in Latin-1. In a pattern, `?` is any byte,
 // `~x` an x in either case, and `*` anything that follows.
 const READ: Table = Table {
-    rows: 119,
+    rows: 122,
     text: r#"
 ZIPL = 36067; (= ZIPL 36067)
 zipl=+36067; (= ZIPL 36067)
@@ -36,6 +36,9 @@ CFCC = 'A410'; 1 8 LongText
 RT = '1' AND VERSION = '1006' AND SIDE1 = '1' AND SOURCE = 'A';
   (and (and (and (= RT 1) (= VERSION 1006)) (= SIDE1 1)) (= SOURCE A))
 COUSUBL = '92000' OR COUSUBR < '9'; (or (= COUSUBL 92000) (< COUSUBR 9))
+FRIADDL = '1' OR toiaddl = '0' OR "Friaddr" IS NULL OR TOIADDR <> '1'; (or (or (or (= FRIADDL 1) (= TOIADDL 0)) (null FRIADDR)) (<> TOIADDR 1))
+FRIADDL = 1; 1 11 WrongType
+TOIADDR = '10'; 1 11 LongText
 CFCC = 5; 1 8 WrongType
 ZIPL = '5'; 1 8 WrongType
 ZIPL = ZIPR; 1 8 Syntax
@@ -136,9 +139,10 @@ ZIPL=5AND ZIPR=6; (and (= ZIPL 5) (= ZIPR 6))
 };
 
 // The columns of these filters.
-const COLUMNS: [&str; 18] = [
+const COLUMNS: [&str; 22] = [
     "TLID", "FRADDL", "ZIPL", "ZIPR", "FRLONG", "FRLAT", "TOLONG", "TOLAT", "RT", "VERSION",
-    "SIDE1", "SOURCE", "FEDIRP", "FENAME", "FETYPE", "CFCC", "COUSUBL", "COUSUBR",
+    "SIDE1", "SOURCE", "FEDIRP", "FENAME", "FETYPE", "CFCC", "FRIADDL", "TOIADDL", "FRIADDR",
+    "TOIADDR", "COUSUBL", "COUSUBR",
 ];
 
 fn column_name(column: Column) -> &'static str {
@@ -332,7 +336,7 @@ fn bad_bytes(rt: HostRuntime) {
 
 // A text, and the column name nearest to the unknown one in it.
 const NEAREST: Table = Table {
-    rows: 8,
+    rows: 9,
     text: r#"
 fenam = 1; FENAME
 NAME = 1; FENAME
@@ -341,6 +345,7 @@ ZIPL = 1 AND \n FENAME = 'é' OR "zip" = 2; ZIPL
 TLIDD=1; TLID
 TRUE AND (frlon > 2); FRLONG
 CFC; CFCC
+FRIADD = '1'; FRIADDL
 ZIPL = 'x'; none
 "#,
 };
