@@ -4,7 +4,7 @@ ghost use Rattle.counted_io.specs.ReaderWriter.{writer};
 ghost use Rattle.clap.specs.Walk.{texts};
 ghost use Rattle.commands.specs.Command.{IsDone, IsOutOfMemory, IsRefusal, IsUnusable, ReportsMissingLine};
 ghost use Rattle.commands.specs.Failure.{ReportsMemory};
-ghost use Rattle.named_files.specs.Files.{disk};
+ghost use Rattle.named_files.specs.Files.{KeepsCounts, disk};
 ghost use Rattle.commands.specs.declared.request.Request.{Request};
 ghost use Rattle.command_line.specs.Request.{HasNoRequest, IsRequestOf};
 
@@ -50,7 +50,7 @@ pub fn command<F: Files, W: FlushedWrite, E: CountedWrite>(
     ensures flushed_last { (result ≡ 0) ⊎ (result ≡ 1) → W.is_flushed out.new }
     // No failed open or read is ignored.
     ensures opens { result ≢ 3 → F.failed_opens files.new ≡ F.failed_opens files.old }
-    ensures reads { result ≢ 3 → F.failed_reads files.new ≡ F.failed_reads files.old }
+    ensures reads { result ≢ 3 → KeepsCounts (F.failed_reads files.old) (F.failed_reads files.new) }
 {
     match read_request(alloc, arguments) {
         Ok(request) => request.answer(alloc, files, out, errors),
