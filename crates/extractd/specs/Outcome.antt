@@ -5,7 +5,7 @@ use Rattle.counted_io.specs.ReaderWriter.{Writer}
 use Rattle.commands.specs.Command.{IsDone, IsOutOfMemory, IsRefusal, IsUnusable, ReportsMissingLine}
 use Rattle.commands.specs.Failure.{ReportsMemory}
 use Rattle.commands.specs.declared.request.Request.{Request}
-use Rattle.named_files.specs.Files.{Disk, unknown_opens}
+use Rattle.named_files.specs.Files.{Disk, KeepsCounts, unknown_opens}
 use Rattle.command_line.specs.Fault.{ReportsNotUtf8}
 use Rattle.command_line.specs.Request.{HasNoRequest, IsRequestOf, IsServeOf}
 use Rattle.command_line.specs.declared.serve.Serve.{Serve}
@@ -25,7 +25,7 @@ pub record Answers (words : List Text) (status : ℕ) (out out' errors errors' :
   pub memory : status ≡ 4 → ((out' ≡ out) × ReportsMemory errors errors')
       ⊎ ((request : Request) × IsRequestOf words request × IsOutOfMemory request files.known out out' errors errors')
   pub opens : status ≢ 3 → files'.failed_opens ≡ files.failed_opens
-  pub reads : status ≢ 3 → files'.failed_reads ≡ files.failed_reads
+  pub reads : status ≢ 3 → KeepsCounts files.failed_reads files'.failed_reads
 
 -- a writer that was never called; it holds this, if that is known
 abbrev pub unused : Option (List ℕ) → Writer

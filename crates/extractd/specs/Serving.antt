@@ -1,7 +1,7 @@
 -- Serving counties on a port.
 use Rattle.std.specs.Prelude.{◌≡◌, ◌≢◌, ℕ, List, Option, ⊤}
 use Rattle.counted_io.specs.ReaderWriter.{Writer}
-use Rattle.commands.specs.Counties.{AreCountiesOf, HaveRefusedCounty, IsLoadFailure}
+use Rattle.commands.specs.Counties.{AreCountiesOf, HaveRefusedCounty, IsLoadFailure, IsRefusedFileOfOne}
 use Rattle.commands.specs.Failure.{Reports, ReportsOutput}
 use Rattle.commands.specs.Failure.{status as status_of}
 use Rattle.extractd.specs.Listening.{Outside, PortRules, ServesPort}
@@ -58,5 +58,6 @@ pub record ServesLoaded {N L C : Type 0} (rules : PortRules N L C StateParts) (s
 -- how serving ends: a county can't be loaded, and then the port isn't bound; or the counties were served until a fault
 abbrev pub ServesCounties : {R N L C : Type 0} → OpenResults R → PortRules N L C StateParts → Served → ServeFault → Host N → Host N → Type 0
 ServesCounties opens rules served (Counties failure) old new =
-    IsLoadFailure opens (HaveRefusedCounty served.known served.folder served.codes) old.disk new.disk failure × (new.outside ≡ old.outside)
+    IsLoadFailure opens (HaveRefusedCounty served.known served.folder served.codes) (IsRefusedFileOfOne served.folder served.codes)
+    old.disk new.disk failure × (new.outside ≡ old.outside)
 ServesCounties opens rules served (Listen port fault) old new = ServesLoaded rules served port fault old.outside new.outside

@@ -1,6 +1,6 @@
 //! `serve`: serves counties over HTTP.
 ghost use Rattle.std.specs.Prelude.{◌≡◌, ◌≢◌, IfErr, IfOk, map};
-ghost use Rattle.commands.specs.Counties.{AreCountiesOf, HaveRefusedCounty, IsLoadFailure};
+ghost use Rattle.commands.specs.Counties.{AreCountiesOf, HaveRefusedCounty, IsLoadFailure, IsRefusedFileOfOne};
 ghost use Rattle.commands.specs.Failure.{status};
 ghost use Rattle.named_files.specs.Files.{disk};
 ghost use Rattle.server.specs.State.{HasServed, HasTurned};
@@ -132,6 +132,7 @@ fn load_state<'a, F: Files>(
         options.now.«data».now (map (λ code. code.now) options.now.codes.items) (counties_of state)) }
     ensures err { IfErr result (IsLoadFailure F.opens
         (HaveRefusedCounty (F.bytes files.old) options.now.«data».now (map (λ code. code.now) options.now.codes.items))
+        (IsRefusedFileOfOne options.now.«data».now (map (λ code. code.now) options.now.codes.items))
         (disk F.bytes F.failed_opens F.failed_reads files.old) (disk F.bytes F.failed_opens F.failed_reads files.new)) }
     ensures usage { IfErr result (λ failure. status failure ≢ 2) }
 {
