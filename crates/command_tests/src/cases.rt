@@ -167,6 +167,7 @@ pub fn ended(
         access: faults.access,
         failed_opens: 0,
         failed_reads: 0,
+        other_failed_reads: 0,
         opened: ArrayString::new(),
     };
     let mut out = writer(alloc, faults.out);

@@ -1,13 +1,14 @@
 //! Files in memory.
-ghost use Rattle.std.specs.Prelude.{◌≡◌, ℕ, [], Err, IfErr, IfOk, MatchOption, Some};
+ghost use Rattle.std.specs.Prelude.{◌≡◌, ◌≢◌, ℕ, List, [], Err, IfErr, IfOk, IfSome, MatchOption, Some};
 ghost use Rattle.std.specs.IoError.{error_kind};
-ghost use Rattle.named_files.specs.Files.{CountsOpen};
-ghost use Rattle.command_tests.specs.Memory.{bytes_named};
+ghost use Rattle.named_files.specs.County.{path_of};
+ghost use Rattle.named_files.specs.Files.{CountsOpen, KeepsCounts};
+ghost use Rattle.command_tests.specs.Memory.{bytes_named, read_counts};
 
 use arrayvec::ArrayString;
 use counted_io::count_one;
 use fixtures::{FaultPlan, Reader, TableFault, error_kind, reader, size};
-use named_files::Files;
+use named_files::{FileName, Files, OpenFile, name_end};
 use std::io;
 use std::io::ErrorKind;
 
@@ -70,7 +71,10 @@ pub struct MemoryFiles<'a> {
     pub name: &'a str,
     pub access: Access,
     pub failed_opens: u64,
+    /// The number of closed readers with a failed read, of the file `name`.
     pub failed_reads: u64,
+    /// The same, of all other files.
+    pub other_failed_reads: u64,
     /// The names that were requested to be opened, each followed by a blank.
     pub opened: ArrayString<128>,
 }
@@ -83,7 +87,7 @@ impl<'a> MemoryFiles<'a> {
         ensures missing { IfErr result (λ error. error_kind error ≡ ErrorKind.NotFound → bytes_named self.old.files.now name.now ≡ []) }
         ensures files { self.new.files ≡ self.old.files }
         ensures opens { self.new.failed_opens ≡ self.old.failed_opens }
-        ensures reads { self.new.failed_reads ≡ self.old.failed_reads }
+        ensures reads { KeepsCounts (read_counts self.old) (read_counts self.new) }
     {
         let _ = self.opened.try_push_str(name);
         let _ = self.opened.try_push_str(" ");
@@ -105,23 +109,60 @@ impl<'a> MemoryFiles<'a> {
 
     fn count_open(&mut self, error: io::Error)
         ensures opens { CountsOpen {R = ℕ} (Err error) self.old.failed_opens self.new.failed_opens }
-        ensures reads { self.new.failed_reads ≡ self.old.failed_reads }
+        ensures reads { KeepsCounts (read_counts self.old) (read_counts self.new) }
         ensures files { self.new.files ≡ self.old.files }
     {
         if error.kind() != ErrorKind::OutOfMemory {
             count_one(&mut self.failed_opens);
         }
     }
+
+    /// Counts a failed read of the file of this name. If the name is longer than 128 bytes, changes both counts.
+    fn count_read(&mut self, name: FileName<'_>)
+        ensures reads { read_counts self.new (path_of name.entry) ≢ read_counts self.old (path_of name.entry) }
+        ensures opens { self.new.failed_opens ≡ self.old.failed_opens }
+        ensures files { self.new.files ≡ self.old.files }
+    {
+        match path(name) {
+            Some(path) if self.name == path.as_str() => count_one(&mut self.failed_reads),
+            Some(_) => count_one(&mut self.other_failed_reads),
+            None => {
+                count_one(&mut self.failed_reads);
+                count_one(&mut self.other_failed_reads);
+            }
+        }
+    }
+}
+
+/// Returns the path of a file of this name, unless it is longer than 128 bytes.
+fn path(name: FileName<'_>) -> Option<ArrayString<128>>
+    ensures { IfSome result (λ path. path.bytes ≡ path_of name.entry) }
+{
+    let mut path = ArrayString::new();
+    match name {
+        FileName::Path(text) => path.try_push_str(text).ok()?,
+        FileName::OfCounty { folder, code, file } => {
+            path.try_push_str(folder).ok()?;
+            path.try_push_str("/TGR").ok()?;
+            path.try_push_str(code).ok()?;
+            path.try_push_str(name_end(file)).ok()?;
+        }
+    }
+    Some(path)
 }
 
 impl<'a> Files for MemoryFiles<'a> {
+    ghost use Rattle.command_tests.specs.Memory.{read_counts};
+    ghost use Rattle.named_files.specs.County.{path_of};
+    ghost use Rattle.named_files.specs.Files.{CountsClose};
+
     type Reader = Reader<'a>;
 
     ghost bytes = { λ files name. Some (bytes_named files.files.now name) };
 
     ghost failed_opens = { λ files. files.failed_opens };
 
-    ghost failed_reads = { λ files. files.failed_reads };
+    ghost failed_reads = { read_counts };
 
     fn open(&mut self, name: &str) -> io::Result<Reader<'a>> {
         match self.open_file(name) {
@@ -144,9 +185,14 @@ impl<'a> Files for MemoryFiles<'a> {
         }
     }
 
-    fn close(&mut self, reader: Reader<'a>) {
+    fn close(&mut self, file: OpenFile<'_, Reader<'a>>)
+        ensures stay { (other : List ℕ) → Some (bytes_named self.new.files.now other) ≡ Some (bytes_named self.old.files.now other) }
+        ensures opens { self.new.failed_opens ≡ self.old.failed_opens }
+        ensures reads { CountsClose (path_of file.entry.name) file.entry.reader.failed_reads (read_counts self.old) (read_counts self.new) }
+    {
+        let (name, reader) = file.into_parts();
         if reader.failed_reads() != 0 {
-            count_one(&mut self.failed_reads);
+            self.count_read(name);
         }
     }
 }

@@ -68,6 +68,7 @@ fn answers(rt: HostRuntime) -> Result<(), Fail> {
         access: Access::Sound,
         failed_opens: 0,
         failed_reads: 0,
+        other_failed_reads: 0,
         opened: ArrayString::new(),
     };
     let (verify, run) = (
