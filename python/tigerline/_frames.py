@@ -10,7 +10,7 @@ from . import _cluster, _columns
 from ._extract import ROWS, CountyTexts, Output, Request, extract
 from ._layout import TLID, chosen_names
 from ._program import PathLike
-from ._rows import wkt_lines
+from ._rows import read_lines
 
 if TYPE_CHECKING:
     import distributed
@@ -167,7 +167,21 @@ def _frame(county: CountyTexts, names: tuple[str, ...], signed: bool) -> Any:
         return frame
     import geopandas  # An optional package: only geometry needs it.
 
-    return geopandas.GeoDataFrame(frame, geometry=geopandas.GeoSeries.from_wkt(wkt_lines(lines[0], LINES), crs=CRS))
+    found = geopandas.array.GeometryArray(_lines(lines[0], len(records)), crs=CRS)
+    return geopandas.GeoDataFrame(frame, geometry=found)
+
+
+def _lines(table: bytes, count: int) -> Any:
+    """Returns the lines of a table, or None for segments without coordinates. GEOS takes longer to read texts."""
+    from shapely.geometry import LineString  # An optional package, as above.
+
+    found = [line for _, _, line in read_lines(table, LINES)]
+    if len(found) != count:
+        raise OSError("a file of the county has changed while it was read")
+    lines = np.empty(count, object)
+    for index, line in enumerate(found):
+        lines[index] = None if line is None else LineString(line)
+    return lines
 
 
 def _joined(frames: list[Any]) -> Any:

@@ -113,12 +113,6 @@ def read_lines(table: bytes, names: tuple[str, ...]) -> Iterator[tuple[int, list
         yield score, cells, _points(points) if points else None
 
 
-def wkt_lines(table: bytes, names: tuple[str, ...]) -> list[str | None]:
-    """Returns the line of each segment of a table with geometry as WKT, or None for one without coordinates."""
-    found = (_halves(text)[1] for text in _lines_of(table, (*names, LINE_COLUMN)))
-    return [f"LINESTRING ({points})" if points else None for points in found]
-
-
 def _lines_of(table: bytes, names: tuple[str, ...]) -> list[str]:
     """Returns the lines after the header. A cell has no line feed, which ends a record in the county's file."""
     header, *lines = table.decode().split("\n")
