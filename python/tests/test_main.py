@@ -362,6 +362,16 @@ class TestFaults:
         options = (EXAMPLES, out / "a.gpkg", "--where", "TRUE", "--counties", CODE)
         self.refused(out, 3, "there is no program ogr2ogr", *options, environment={"PATH": str(tmp_path / "bin")})
 
+    def test_gdal_that_ends_early(self, out: Path, tmp_path: Path) -> None:
+        """A process that doesn't read its table to the end has failed, whatever its status is."""
+        (tmp_path / "bin").mkdir()
+        program_of(tmp_path / "bin/ogr2ogr", "exit 0")
+        program_of(tmp_path / "bin/ogrinfo", "echo '  features (Integer) = 0'")
+        options = (EXAMPLES, out / "a.gpkg", "--where", "TRUE", "--counties", CODE)
+        path = f"{tmp_path / 'bin'}{os.pathsep}{os.environ['PATH']}"
+        said = "a.gpkg: ogr2ogr can't write it: it ended early with status 0\n"
+        self.refused(out, 3, said, *options, environment={"PATH": path})
+
     def test_no_outputs(self, out: Path) -> None:
         """Standard output or standard error is closed."""
         close = ["sh", "-c", 'exec "$@" >&-', "sh"]

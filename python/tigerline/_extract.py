@@ -120,7 +120,8 @@ def _straight_lines(counties: Sequence[County]) -> str:
     code, others = counties[0].code, len(counties) - 1
     if not others:
         return f"county {code} has no TGR{code}.RT2: its segments are straight lines"
-    return f"county {code} and {others} other{'s' if others > 1 else ''} have no file of type 2: their segments are straight lines"
+    named = f"county {code} and {others} other{'s' if others > 1 else ''}"
+    return f"{named} have no file of type 2: their segments are straight lines"
 
 
 def record_types(outputs: Iterable[Output]) -> str:

@@ -6,7 +6,6 @@ import shutil
 import subprocess
 import tempfile
 from collections.abc import Iterable, Sequence
-from contextlib import suppress
 from pathlib import Path
 
 from ._interrupts import Interrupts, kill_group
@@ -94,17 +93,18 @@ def run_process(command: Sequence[str], interrupts: Interrupts, standard_input: 
         return status, output, errors.read().decode("utf-8", "replace").strip()
 
 
-def feed_process(command: Sequence[str], chunks: Iterable[bytes], interrupts: Interrupts) -> tuple[int, str]:
-    """Runs a process that reads chunks from a pipe, and returns its status and what it wrote to standard error.
+def feed_process(command: Sequence[str], chunks: Iterable[bytes], interrupts: Interrupts) -> tuple[int, bool, str]:
+    """Runs a process that reads chunks from a pipe.
 
-    It is killed if the chunks raise an exception. Chunks are small, since a signal waits until one is written.
+    Returns its status, whether it has taken all chunks, and what it wrote to standard error. It is killed if the chunks
+    raise an exception. Chunks are small, since a signal waits until one is written.
     """
     with tempfile.TemporaryFile() as errors:
         with subprocess.Popen(
             command, stdin=subprocess.PIPE, stdout=errors, stderr=errors, process_group=0, restore_signals=False
         ) as process:
             try:
-                _feed(process, chunks, interrupts)
+                has_taken_all = _feed(process, chunks, interrupts)
                 status = process.wait()
             finally:
                 interrupts.watch(None)
@@ -112,18 +112,23 @@ def feed_process(command: Sequence[str], chunks: Iterable[bytes], interrupts: In
                     kill_group(process)
         interrupts.check()
         errors.seek(0)
-        return status, errors.read().decode("utf-8", "replace").strip()
+        return status, has_taken_all, errors.read().decode("utf-8", "replace").strip()
 
 
-def _feed(process: subprocess.Popen[bytes], chunks: Iterable[bytes], interrupts: Interrupts) -> None:
-    """Writes the chunks, until the process ends."""
+def _feed(process: subprocess.Popen[bytes], chunks: Iterable[bytes], interrupts: Interrupts) -> bool:
+    """Writes the chunks, and returns whether the process has taken all of them before its end."""
     assert process.stdin is not None
-    with suppress(BrokenPipeError), process.stdin as pipe:
-        for chunk in chunks:
-            interrupts.check()
-            interrupts.watch(process)  # While a chunk was made, another process was watched.
-            pipe.write(chunk)
-    interrupts.watch(process)
+    try:
+        with process.stdin as pipe:
+            for chunk in chunks:
+                interrupts.check()
+                interrupts.watch(process)  # While a chunk was made, another process was watched.
+                pipe.write(chunk)
+        return True
+    except BrokenPipeError:
+        return False
+    finally:
+        interrupts.watch(process)
 
 
 def failure(program: str, status: int, said: str, county: str | None) -> Exception:

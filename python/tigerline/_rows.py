@@ -115,7 +115,10 @@ def read_lines(table: bytes, names: tuple[str, ...]) -> Iterator[tuple[int, list
 
 def _lines_of(table: bytes, names: tuple[str, ...]) -> list[str]:
     """Returns the lines after the header. A cell has no line feed, which ends a record in the county's file."""
-    header, *lines = table.decode().split("\n")
+    try:
+        header, *lines = table.decode().split("\n")
+    except UnicodeDecodeError as error:
+        raise no_table(str(error)) from None
     if header != ",".join((SCORE, *names)) or lines[-1:] != [""]:
         raise no_table(header)
     return lines[:-1]

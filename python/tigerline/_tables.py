@@ -119,7 +119,8 @@ def _write_by_gdal(file: PendingFile, parts: Iterable[TablePart], form: Form, in
     counts: list[int] = []
     with scratch_folder() as scratch:
         source = scratch / "segments.vrt"
-        source.write_text(_source(form))
+        with rename_errors_to(source):
+            source.write_text(_source(form))
         convert(ogr2ogr, source, file, (), interrupts, _fed(parts, suffix == ".fgb", counts))
     count = sum(counts)
     written = _features_of_geojson(file.path) if suffix == ".geojson" else None
@@ -181,10 +182,11 @@ def convert(
 ) -> None:
     """Has ogr2ogr write a file in the format of its suffix, and feeds it chunks. Raises OSError with what it says."""
     command = [ogr2ogr, "-f", DRIVERS[file.path.suffix], str(file.path), str(source), *options]
-    status, said = feed_process(command, chunks, interrupts)
+    status, has_taken_all, said = feed_process(command, chunks, interrupts)
     error = re.search(r"^ERROR [0-9]+: (.*)", said, re.MULTILINE)
-    if status != 0 or error:
-        raise OSError(f"{file.final}: ogr2ogr can't write it: {error[1][:200] if error else f'status {status}'}")
+    if status != 0 or error or not has_taken_all:
+        reason = error[1][:200] if error else f"it ended early with status {status}"
+        raise OSError(f"{file.final}: ogr2ogr can't write it: {reason}")
 
 
 def _features_of_geojson(path: Path) -> int | None:
