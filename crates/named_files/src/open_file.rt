@@ -15,7 +15,8 @@ pub enum FileName<'a> {
     },
 }
 
-/// An opened file. Only this crate makes one, so its reader is closed under the name under which it was opened.
+/// An opened file. Only this crate makes one: [`open`](crate::open), with the name that it opens, and what closes the files of a county, with the
+/// folder and the code that it is given.
 pub struct OpenFile<'a, R> {
     pub(crate) name: FileName<'a>,
     pub(crate) reader: R,
