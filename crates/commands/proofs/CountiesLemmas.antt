@@ -1,5 +1,6 @@
 -- Counties loaded one after the other: what is known of the files stays the same.
-use Rattle.std.proofs.Common.{◌≡◌, ℕ, ◌+◌, ◌<◌, suc, List, [], ◌∷◌, ◌++◌, length, get_or, take, drop, map, Option, Bor, Result, Ok, Err}
+use Rattle.std.proofs.Common.{◌≡◌, ℕ, ◌+◌, ◌<◌, suc, List, [], ◌∷◌, ◌++◌, length, get_or, take, drop, map}
+use Rattle.std.proofs.Common.{Option, Bor, Result, Ok, Err}
 use Rattle.std.proofs.Common.{IsErrAnd, IfErr, refl, ap, sym, subst, ◌≢◌, ◌∙◌, arith}
 use Rattle.std.proofs.Math.Path.{fun_ext}
 use Rattle.std.proofs.Math.Seq.{drop-cons}

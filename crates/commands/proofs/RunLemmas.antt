@@ -32,7 +32,8 @@ use Rattle.named_files.specs.County.{IsFileOfCounty, file_name}
 use Rattle.named_files.specs.Files.{Closes, Disk, IsUnfailed, IsUnread, OpenResults}
 use Rattle.commands.proofs.CarriedLemmas.{refused_carried}
 use Rattle.commands.proofs.ClassLemmas.{program_status}
-use Rattle.commands.proofs.LayerLemmas.{ClosesAs, IsOfLoad, headed_closes, headed_unflushed, layer_from, shapes_result, unread_layer, unread_parts, unwritten_flushes}
+use Rattle.commands.proofs.LayerLemmas.{ClosesAs, IsOfLoad, headed_closes, headed_unflushed, layer_from, shapes_result}
+use Rattle.commands.proofs.LayerLemmas.{unread_layer, unread_parts, unwritten_flushes}
 use Rattle.commands.proofs.ReadLemmas.{sound}
 
 -- a reader of unread bytes, if shapes are wanted

@@ -75,7 +75,8 @@ FailsToRead IsFile disk disk' = (name : List ℕ) × IsFile name × HasFailedRea
 
 -- Why counties can't be loaded: one is refused with this refusal, and if the status is 3, a read failed of the file that the refusal is for, as
 -- `IsFile` describes; or one of their files can't be opened; or an allocation fails.
-abbrev pub IsLoadFailure : {R : Type 0} → OpenResults R → (RefusalParts → Type 0) → (RefusalParts → List ℕ → Type 0) → Disk → Disk → Failure → Type 0
+abbrev pub IsLoadFailure : {R : Type 0} → OpenResults R → (RefusalParts → Type 0) → (RefusalParts → List ℕ → Type 0) → Disk → Disk → Failure
+    → Type 0
 IsLoadFailure opens IsRefusedSo IsFile disk disk' (Refusal refusal) =
     IsRefusedSo refusal × (refusal_status refusal ≡ 3 → FailsToRead (IsFile refusal) disk disk')
 IsLoadFailure opens IsRefusedSo IsFile disk disk' (CountyFile folder code file error) =

@@ -6,7 +6,8 @@ use Rattle.cql2.specs.declared.column.CoordinateColumn.TheVariants.{Frlong, Frla
 use Rattle.cql2.specs.declared.column.NumberColumn.TheVariants.{Tlid, Fraddl, Toaddl, Fraddr, Toaddr, Zipl, Zipr, Statel, Stater}
 use Rattle.cql2.specs.declared.column.NumberColumn.TheVariants.{Countyl, Countyr, Placel, Placer, Tractl, Tractr, Blockl, Blockr}
 use Rattle.cql2.specs.declared.column.NumericColumn.TheVariants.{Number, Coordinate}
-use Rattle.cql2.specs.declared.column.TextColumn.TheVariants.{Rt, Version, Side1, Source, Fedirp, Fename, Fetype, Fedirs, Cfcc, Friaddl, Toiaddl, Friaddr, Toiaddr, Cousubl, Cousubr}
+use Rattle.cql2.specs.declared.column.TextColumn.TheVariants.{Rt, Version, Side1, Source, Fedirp, Fename, Fetype, Fedirs, Cfcc}
+use Rattle.cql2.specs.declared.column.TextColumn.TheVariants.{Friaddl, Toiaddl, Friaddr, Toiaddr, Cousubl, Cousubr}
 use Rattle.cql2_tokens.specs.Name.{column_name, column_named, keyword_named, keyword_text}
 use Rattle.cql2_tokens.specs.declared.token.Keyword.{Keyword}
 use Rattle.cql2_tokens.specs.declared.token.Keyword.TheVariants.{And, Or, Not, True, False, Is, Null, Like, Between, In, Casei, HasNumber, HasName}

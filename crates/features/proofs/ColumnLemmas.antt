@@ -15,7 +15,8 @@ use Rattle.cql2.specs.declared.column.Column.TheVariants.{Numeric, Text}
 use Rattle.cql2.specs.declared.column.CoordinateColumn.TheVariants.{Frlong, Frlat, Tolong, Tolat}
 use Rattle.cql2.specs.declared.column.NumberColumn.TheVariants.{Tlid, Fraddl, Toaddl, Fraddr, Toaddr, Zipl, Zipr, Statel, Stater, Countyl, Countyr, Placel, Placer, Tractl, Tractr, Blockl, Blockr}
 use Rattle.cql2.specs.declared.column.NumericColumn.TheVariants.{Number, Coordinate}
-use Rattle.cql2.specs.declared.column.TextColumn.TheVariants.{Rt, Version, Side1, Source, Fedirp, Fename, Fetype, Fedirs, Cfcc, Friaddl, Toiaddl, Friaddr, Toiaddr, Cousubl, Cousubr}
+use Rattle.cql2.specs.declared.column.TextColumn.TheVariants.{Rt, Version, Side1, Source, Fedirp, Fename, Fetype, Fedirs, Cfcc}
+use Rattle.cql2.specs.declared.column.TextColumn.TheVariants.{Friaddl, Toiaddl, Friaddr, Toiaddr, Cousubl, Cousubr}
 use Rattle.cql2_tokens.specs.Name.{column_named}
 use Rattle.features.specs.Columns.{columns_after, columns_named, is_same, places_of, unless_fault, with_column}
 use Rattle.features.specs.declared.columns.TheConstants.{COLUMNS}

@@ -2,7 +2,8 @@ use Rattle.std.proofs.Common.{◌∙◌, subst, sym}
 use Rattle.commands.specs.Counties.{AreCountiesOf, IsRefusedFile}
 use Rattle.named_files.specs.County.{IsFileOfCounty}
 use Rattle.named_files.specs.Files.{disk}
-use Rattle.commands.proofs.CountiesLemmas.{counties_more, earlier_load_failure, file_after, load_usage, memory_counts, memory_failure, named_after, refused_after}
+use Rattle.commands.proofs.CountiesLemmas.{counties_more, earlier_load_failure, file_after, load_usage, memory_counts}
+use Rattle.commands.proofs.CountiesLemmas.{memory_failure, named_after, refused_after}
 use Rattle.named_files.proofs.FileLemmas.{unfailed_both}
 use Rattle.commands.proofs.counties.load_counties.Goals as goal
 
