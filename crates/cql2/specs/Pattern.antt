@@ -1,27 +1,31 @@
 -- Patterns of LIKE (CQL2, 21-065r2, pattern matching).
-use Rattle.std.specs.Prelude.{ℕ, Bool, true, false, ◌&&◌, ◌||◌, ◌==◌, ◌-◌, nat_le, nat_lt, List, [], ◌∷◌}
-use Rattle.std.specs.List.{list_all}
-use Rattle.cql2.specs.declared.pattern.PatternByte.{PatternByte}
-use Rattle.cql2.specs.declared.pattern.PatternByte.TheVariants.{Exactly, EitherCase, Any}
+use Rattle.std.specs.Prelude.{ℕ, Bool, true, false, ◌&&◌, ◌==◌, nat_lt, List, [], ◌∷◌}
+use Rattle.std.specs.List.{list_all, list_any}
+use Rattle.cql2.specs.Folding.{is_alike}
+use Rattle.cql2.specs.declared.pattern.PatternPart.{PatternPart}
+use Rattle.cql2.specs.declared.pattern.PatternPart.TheVariants.{Exactly, Alike, One, Many}
 
--- a byte matches a pattern byte; an upper-case letter is 32 below the lower-case one
-abbrev pub is_wanted : PatternByte → ℕ → Bool
-is_wanted (Exactly wanted) byte = byte == wanted
-is_wanted (EitherCase letter) byte = byte == letter || byte == letter - 32
-is_wanted Any byte = true
+-- the text from each byte on, and its end
+abbrev pub rests_of : List ℕ → List (List ℕ)
+rests_of [] = [] ∷ []
+rests_of (byte ∷ text) = (byte ∷ text) ∷ rests_of text
 
--- a text matches a pattern: it has the wanted bytes, followed by more only if the pattern is open
-abbrev pub is_like : List PatternByte → Bool → List ℕ → Bool
-is_like [] is_open [] = true
-is_like [] is_open (byte ∷ text) = is_open
-is_like (wanted ∷ pattern) is_open [] = false
-is_like (wanted ∷ pattern) is_open (byte ∷ text) = is_wanted wanted byte && is_like pattern is_open text
+-- a text matches a pattern: `_` takes one byte, and `%` any number of them
+abbrev pub is_like : List PatternPart → List ℕ → Bool
+is_like [] [] = true
+is_like [] (byte ∷ text) = false
+is_like (Many ∷ pattern) text = list_any (λ rest. is_like pattern rest) (rests_of text)
+is_like (One ∷ pattern) (byte ∷ text) = is_like pattern text
+is_like (Exactly wanted ∷ pattern) (byte ∷ text) = byte == wanted && is_like pattern text
+is_like (Alike folding wanted ∷ pattern) (byte ∷ text) = is_alike folding byte wanted && is_like pattern text
+is_like pattern [] = false
 
--- the pattern wants bytes and lower-case letters
-abbrev pub is_byte : PatternByte → Bool
+-- the pattern wants bytes
+abbrev pub is_byte : PatternPart → Bool
 is_byte (Exactly wanted) = nat_lt wanted 256
-is_byte (EitherCase letter) = nat_le 97 letter && nat_le letter 122
-is_byte Any = true
+is_byte (Alike folding wanted) = nat_lt wanted 256
+is_byte One = true
+is_byte Many = true
 
-abbrev pub are_bytes : List PatternByte → Bool
+abbrev pub are_bytes : List PatternPart → Bool
 are_bytes pattern = list_all is_byte pattern

@@ -7,12 +7,14 @@ use Rattle.tl_segments.specs.Range.{lies_on}
 use Rattle.tl_segments.specs.Segment.{SegmentParts, names_of, ranges_of}
 use Rattle.tl_segments.specs.declared.range.RangeFields.{RangeFields}
 use Rattle.cql2.specs.Column.{numeric_value, text_value}
+use Rattle.cql2.specs.Expression.{value_of}
 use Rattle.cql2.specs.Filter.{compares, compares_text}
 use Rattle.cql2.specs.Pattern.{is_like}
 use Rattle.cql2.specs.declared.column.Column.{Column}
 use Rattle.cql2.specs.declared.column.Column.TheVariants.{Numeric, Text}
 use Rattle.cql2.specs.declared.filter.Filter.{Filter}
-use Rattle.cql2.specs.declared.filter.Filter.TheVariants.{Constant, And', Or', Not', IsNull, CompareNumber, CompareText, Like, HasNumber, HasName}
+use Rattle.cql2.specs.declared.filter.Filter.TheVariants.{Constant, And', Or', Not', IsNull, CompareNumber, CompareNumbers, CompareText, CompareTexts, Like}
+use Rattle.cql2.specs.declared.filter.Filter.TheVariants.{HasNumber, HasName}
 
 -- the truth tables of AND, OR and NOT: false decides AND, and true decides OR, whatever the other operand is
 abbrev pub and : Option Bool → Option Bool → Option Bool
@@ -47,6 +49,11 @@ has_name text most segment =
     if list_any (λ name. name_equals name text) (take (1 + most) (names_of segment)) then Some true
     else (if nat_le (length segment.names) most then Some false else None)
 
+-- a comparison of two values is unknown if one of them is NULL
+abbrev pub if_both : {T : Type 0} → (T → T → Bool) → Option T → Option T → Option Bool
+if_both compare (Some x) (Some y) = Some (compare x y)
+if_both compare x y = None
+
 -- the truth of a filter; none if it is neither true nor false
 abbrev pub truth : {A : Type 0} → Filter A → SegmentParts → Option Bool
 truth (Constant value) segment = Some value
@@ -56,10 +63,14 @@ truth (Not' p inner) segment = negation (truth inner segment)
 truth (IsNull column) segment = Some (is_null column segment.bytes)
 truth (CompareNumber column comparison literal) segment =
     option_map (λ value. compares comparison value literal.number) (numeric_value column segment.bytes)
+truth (CompareNumbers first comparison second) segment =
+    if_both (compares comparison) (value_of first.expression segment.bytes) (value_of second.expression segment.bytes)
 truth (CompareText column comparison text) segment =
     option_map (λ value. compares_text comparison value text.bytes.items) (text_value column segment.bytes)
+truth (CompareTexts first comparison second) segment =
+    if_both (compares_text comparison) (text_value first segment.bytes) (text_value second segment.bytes)
 truth (Like column pattern) segment =
-    option_map (λ value. is_like pattern.wanted.items pattern.is_open value) (text_value column segment.bytes)
+    option_map (λ value. is_like pattern.parts.items value) (text_value column segment.bytes)
 truth (HasNumber house) segment = Some (list_any (has_number house.number) (ranges_of segment))
 truth (HasName text limit) segment = has_name text.bytes.items limit.number segment
 

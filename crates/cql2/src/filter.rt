@@ -1,5 +1,6 @@
 //! Filters.
 use crate::column::{Column, NumericColumn, TextColumn};
+use crate::expression::Number;
 use crate::number::{HouseNumber, Literal, NameLimit};
 use crate::pattern::Pattern;
 use crate::text::Text;
@@ -25,7 +26,11 @@ pub enum Filter<A: Allocator> {
     Not(Box<Filter<A>, A>),
     IsNull(Column),
     CompareNumber(NumericColumn, Comparison, Literal),
+    /// A comparison of two expressions, one of which is more than a column, or neither of which is a literal.
+    CompareNumbers(Number<A>, Comparison, Number<A>),
     CompareText(TextColumn, Comparison, Text<A>),
+    /// A comparison of two columns.
+    CompareTexts(TextColumn, Comparison, TextColumn),
     Like(TextColumn, Pattern<A>),
     /// The house number lies on some side of some range of the segment.
     HasNumber(HouseNumber),
@@ -44,7 +49,9 @@ impl<A: Allocator> Drop for Filter<A> {
                 Filter::Constant(_value) => return,
                 Filter::IsNull(_column) => return,
                 Filter::CompareNumber(_column, _comparison, _literal) => return,
+                Filter::CompareNumbers(_first, _comparison, _second) => return,
                 Filter::CompareText(_column, _comparison, _text) => return,
+                Filter::CompareTexts(_first, _comparison, _second) => return,
                 Filter::Like(_column, _pattern) => return,
                 Filter::HasNumber(_house) => return,
                 Filter::HasName(_name, _limit) => return,

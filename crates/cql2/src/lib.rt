@@ -2,13 +2,17 @@
 #![tactic(auto)]
 
 mod column;
+mod expression;
 mod filter;
+mod geometry;
 mod number;
 mod pattern;
 mod text;
 
 pub use column::{Column, CoordinateColumn, NumberColumn, NumericColumn, TextColumn};
+pub use expression::{Expression, Number, Operator};
 pub use filter::{Comparison, Filter};
+pub use geometry::{Bounds, Polygon, Polygons, Ring, Shape, Vertex};
 pub use number::{HouseNumber, Literal, NameLimit};
-pub use pattern::{Pattern, PatternByte};
+pub use pattern::{Folding, Pattern, PatternPart};
 pub use text::Text;

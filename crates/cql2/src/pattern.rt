@@ -4,22 +4,31 @@ ghost use Rattle.cql2.specs.Pattern.{are_bytes};
 
 use std::alloc::Allocator;
 
-/// A byte of a pattern.
+/// What a comparison of letters ignores.
 #[derive(Clone, Copy)]
-pub enum PatternByte {
-    /// This byte.
-    Exactly(u8),
-    /// This lower-case ASCII letter or its upper-case form.
-    EitherCase(u8),
-    /// Any byte: `_`.
-    Any,
+pub struct Folding {
+    /// CASEI: the case of the letters of Latin-1.
+    pub case: bool,
+    /// ACCENTI: the diacritics of the letters of Latin-1.
+    pub accents: bool,
 }
 
-/// A pattern. It matches a whole text, or a prefix of it if the pattern ends in `%`.
+/// A part of a pattern.
+#[derive(Clone, Copy)]
+pub enum PatternPart {
+    /// This byte.
+    Exactly(u8),
+    /// A byte that is this one but for what is ignored.
+    Alike(Folding, u8),
+    /// Any byte: `_`.
+    One,
+    /// Any number of bytes, or none: `%`.
+    Many,
+}
+
+/// A pattern, which matches whole texts.
 #[derive(Drop)]
 pub struct Pattern<A: Allocator> {
-    pub wanted: Vec<PatternByte, A>,
-    /// Whether more bytes may follow.
-    pub is_open: bool,
-    ghost are_bytes: { IsTrue (are_bytes wanted.items) },
+    pub parts: Vec<PatternPart, A>,
+    ghost are_bytes: { IsTrue (are_bytes parts.items) },
 }

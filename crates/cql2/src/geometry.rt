@@ -1,0 +1,50 @@
+//! Geometries in a filter, in millionths of a degree (NAD83).
+ghost use Rattle.std.specs.Prelude.{◌<◌, ◌^◌, ◌≤ℤ◌, unsigned_abs};
+
+use std::alloc::Allocator;
+
+/// A vertex of a geometry. Its coordinates have at most nine digits, as those of a record.
+#[derive(Clone, Copy)]
+pub struct Vertex {
+    pub longitude: i64,
+    pub latitude: i64,
+    ghost longitude_fits: { unsigned_abs longitude < 10 ^ 9 },
+    ghost latitude_fits: { unsigned_abs latitude < 10 ^ 9 },
+}
+
+/// A box, which doesn't cross the 180th meridian.
+#[derive(Clone, Copy)]
+pub struct Bounds {
+    pub southwest: Vertex,
+    pub northeast: Vertex,
+    ghost longitudes: { southwest.longitude ≤ℤ northeast.longitude },
+    ghost latitudes: { southwest.latitude ≤ℤ northeast.latitude },
+}
+
+/// A closed line through vertices: from each to the next, and from the last back to the first.
+#[derive(Drop)]
+pub struct Ring<A: Allocator> {
+    pub vertices: Vec<Vertex, A>,
+}
+
+/// A polygon, bounded by its rings: an outer one, and one around each hole.
+#[derive(Drop)]
+pub struct Polygon<A: Allocator> {
+    pub rings: Vec<Ring<A>, A>,
+}
+
+/// Polygons. A point lies in them if it lies in one of them.
+#[derive(Drop)]
+pub struct Polygons<A: Allocator> {
+    pub polygons: Vec<Polygon<A>, A>,
+}
+
+/// A shape that a segment's line may meet.
+#[derive(Drop)]
+pub enum Shape<A: Allocator> {
+    Point(Vertex),
+    /// A line through vertices, from each to the next.
+    Line(Vec<Vertex, A>),
+    Bounds(Bounds),
+    Polygons(Polygons<A>),
+}
