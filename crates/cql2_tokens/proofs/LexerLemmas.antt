@@ -1,6 +1,6 @@
 -- The tokens at the start of a text.
 use Rattle.std.proofs.Common.{◌≡◌, ℕ, ◌+◌, ◌-◌, ◌<◌, ◌≤◌, Bool, true, false, ◌||◌, ◌==◌, List, [], ◌∷◌, ◌++◌, length}
-use Rattle.std.proofs.Common.{take, drop, Option, Some, None, IfSome, refl}
+use Rattle.std.proofs.Common.{take, drop, refl}
 use Rattle.std.proofs.Common.{sym, ap, ◌∙◌, subst, arith, length-append}
 use Rattle.std.specs.Char.{is_ascii_digit}
 use Rattle.std.proofs.lemmas.Bool.Decides.{nat_tests}
@@ -8,11 +8,11 @@ use Rattle.std.proofs.lemmas.List.{take_all, length-drop}
 use denote.Ref.{Bor}
 use Rattle.cql2.specs.declared.filter.Comparison.{Comparison}
 use Rattle.cql2.specs.declared.filter.Comparison.TheVariants.{Equal, NotEqual, Less, LessOrEqual, Greater, GreaterOrEqual}
-use Rattle.cql2_tokens.specs.Lexed.{ArePaired, HasDecimals, IsClosingQuote, IsLongest, IsSign, IsToken, IsWord, begins}
+use Rattle.cql2_tokens.specs.Lexed.{ArePaired, HasDecimals, IsClosingQuote, IsLongest, IsToken, IsWord, begins}
 use Rattle.cql2_tokens.specs.Lexed.{is_name_byte, is_name_start, is_quote, sign_of}
-use Rattle.cql2_tokens.specs.Lexed.{no_point, no_decimals, decimals, left_paren, right_paren, comma}
+use Rattle.cql2_tokens.specs.Lexed.{no_point, no_decimals, decimals, left_paren, right_paren, comma, plus_sign, minus_sign, asterisk, percent_sign}
 use Rattle.cql2_tokens.specs.Lexed.{comparison_operator, keyword, property_name, unknown_name}
-use Rattle.cql2_tokens.specs.Lexed.{quoted_property_name, quoted_unknown_name, numeric_literal, character_literal}
+use Rattle.cql2_tokens.specs.Lexed.{quoted_property_name, quoted_unknown_name, unsigned_numeric_literal, character_literal}
 use Rattle.cql2_tokens.specs.Lexed.{Lexes, white_space, is_white_space}
 use Rattle.cql2_tokens.specs.declared.token.Token.{Token}
 use Rattle.cql2_tokens.specs.declared.token.Token.TheVariants.{Compared, Text}
@@ -93,6 +93,10 @@ pub token-shorter : (text rest : List ℕ) (token : Token) → IsToken text rest
 token-shorter _ _ _ (left_paren rest) = omega arith
 token-shorter _ _ _ (right_paren rest) = omega arith
 token-shorter _ _ _ (comma rest) = omega arith
+token-shorter _ _ _ (plus_sign rest) = omega arith
+token-shorter _ _ _ (minus_sign rest) = omega arith
+token-shorter _ _ _ (asterisk rest) = omega arith
+token-shorter _ _ _ (percent_sign rest) = omega arith
 token-shorter _ _ _ (comparison_operator comparison rest ends) =
     omega (arith, sign-some comparison, length-append (sign_of comparison) rest)
 token-shorter _ _ _ (keyword word rest named is known) = omega (arith, begins-some _ word is.starts, length-append word rest)
@@ -101,9 +105,8 @@ token-shorter _ _ _ (property_name word rest column is no_keyword known) =
 token-shorter _ _ _ (unknown_name word rest is no_keyword unknown) = omega (arith, begins-some _ word is.starts, length-append word rest)
 token-shorter _ _ _ (quoted_property_name word rest column names known) = omega (arith, length-append word (34 ∷ rest))
 token-shorter _ _ _ (quoted_unknown_name word rest names unknown) = omega (arith, length-append word (34 ∷ rest))
-token-shorter _ _ _ (numeric_literal numeral sign after rest signs are fraction) =
-    let whole = numeral.whole.now in
-    omega (arith, are.some, decimals-le _ _ _ fraction, length-append sign (whole ++ after), length-append whole after)
+token-shorter _ _ _ (unsigned_numeric_literal numeral after rest unsigned are fraction) =
+    omega (arith, are.some, decimals-le _ _ _ fraction, length-append numeral.whole.now after)
 token-shorter _ _ _ (character_literal spelling rest paired single) = omega (arith, length-append spelling.now (39 ∷ rest))
 
 -- a text and one more token
@@ -119,15 +122,6 @@ text-after text rest first known is same = is ∙ ap (λ (b : ℕ). b ∷ rest) 
 module _ {text rest after : List ℕ} {first known : ℕ} {token : Token} where
   pub token-after : text ≡ first ∷ rest → first ≡ known → IsToken (known ∷ rest) after token → IsToken text after token
   token-after is same begun = subst (λ (t : List ℕ). IsToken t after token) (sym (text-after text rest first known is same)) begun
-
--- a number with or without a sign
-pub signed-number : (read : Option (Token × Bor (List ℕ))) (is_negative : Bool) (sign text rest : List ℕ) → text ≡ sign ++ rest
-    → IsSign is_negative sign
-    → IfSome read (λ found. (s : List ℕ) → IsSign is_negative s → IsToken (s ++ rest) found.1.now found.0)
-    → IfSome read (λ found. IsToken text found.1.now found.0)
-signed-number None is_negative sign text rest is signs read = tt
-signed-number (Some found) is_negative sign text rest is signs read =
-    subst (λ (t : List ℕ). IsToken t found.1.now found.0) (sym is) (read sign signs)
 
 -- a text, cut at its closing quote
 pub text-cut : (spelling : Bor (List ℕ)) (text : List ℕ) (index : ℕ) → spelling.now ≡ take index text → IsClosingQuote text index

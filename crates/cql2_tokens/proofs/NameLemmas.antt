@@ -11,7 +11,7 @@ use Rattle.cql2.specs.declared.column.TextColumn.TheVariants.{Friaddl, Toiaddl, 
 use Rattle.cql2_tokens.specs.Name.{column_name, column_named, keyword_named, keyword_text}
 use Rattle.cql2_tokens.specs.declared.token.Keyword.{Keyword}
 use Rattle.cql2_tokens.specs.declared.token.Keyword.TheVariants.{And, Or, Not, True, False, Is, Null, Like, Between, In, Casei, HasNumber, HasName}
-use Rattle.cql2_tokens.specs.declared.token.Keyword.TheVariants.{StartsIn, Bbox}
+use Rattle.cql2_tokens.specs.declared.token.Keyword.TheVariants.{Accenti, StartsIn, Bbox, Div}
 
 pub column-found : (column : AColumn) → column_named (column_name column) ≡ Some column
 column-found (Numeric (Number Tlid)) = refl
@@ -101,7 +101,9 @@ keyword-found Like = refl
 keyword-found Between = refl
 keyword-found In = refl
 keyword-found Casei = refl
+keyword-found Accenti = refl
 keyword-found HasNumber = refl
 keyword-found HasName = refl
 keyword-found StartsIn = refl
 keyword-found Bbox = refl
+keyword-found Div = refl

@@ -10,16 +10,17 @@ use Rattle.cql2.specs.declared.column.Column.{Column as AColumn}
 use Rattle.cql2.specs.declared.filter.Comparison.{Comparison}
 use Rattle.cql2.specs.declared.filter.Comparison.TheVariants.{Equal, NotEqual, Less, LessOrEqual, Greater, GreaterOrEqual}
 use Rattle.cql2_tokens.specs.Alike.{IsLike, numbers, same, texts}
-use Rattle.cql2_tokens.specs.Lexed.{AreDigits, ArePaired, none, other, pair, HasDecimals, IsLongest, IsSign, IsToken, IsWord, begins, continues, sign_of}
+use Rattle.cql2_tokens.specs.Lexed.{AreDigits, ArePaired, none, other, pair, HasDecimals, IsLongest, IsToken, IsWord, begins, continues, sign_of}
 use Rattle.cql2_tokens.specs.Lexed.{is_name_byte, is_name_start, is_quote, is_white_space}
-use Rattle.cql2_tokens.specs.Lexed.{no_point, no_decimals, decimals, left_paren, right_paren, comma}
+use Rattle.cql2_tokens.specs.Lexed.{no_point, no_decimals, decimals, left_paren, right_paren, comma, plus_sign, minus_sign, asterisk, percent_sign}
 use Rattle.cql2_tokens.specs.Lexed.{comparison_operator, keyword, property_name, unknown_name}
-use Rattle.cql2_tokens.specs.Lexed.{quoted_property_name, quoted_unknown_name, numeric_literal, character_literal}
+use Rattle.cql2_tokens.specs.Lexed.{quoted_property_name, quoted_unknown_name, unsigned_numeric_literal, character_literal}
 use Rattle.cql2_tokens.specs.Name.{column_named, keyword_named}
 use Rattle.cql2_tokens.specs.declared.token.Keyword.{Keyword as AKeyword}
 use Rattle.cql2_tokens.specs.declared.token.Numeral.{Numeral}
+use Rattle.cql2_tokens.specs.declared.token.Sign.TheVariants.{Plus, Minus, Asterisk, Percent}
 use Rattle.cql2_tokens.specs.declared.token.Token.{Token}
-use Rattle.cql2_tokens.specs.declared.token.Token.TheVariants.{Close, Column, Comma, Compared, Keyword, Number, Open, Text, UnknownColumn}
+use Rattle.cql2_tokens.specs.declared.token.Token.TheVariants.{Close, Column, Comma, Compared, Keyword, Number, Open, Sign, Text, UnknownColumn}
 
 -- the longest prefix of such bytes is unique
 pub longest-one : (p : ℕ → Bool) (front rest another after : List ℕ) → IsLongest p front rest → IsLongest p another after
@@ -59,14 +60,14 @@ pub record AreNumber (numeral : Numeral) (text rest : List ℕ) : Type 0 where
   pub fraction : HasDecimals after rest numeral.decimals.now
 
 pub data Kind : Type 0 where
-  NameKind DigitKind OpenKind CloseKind CommaKind EqualKind LessKind GreaterKind TextKind QuotedKind PlusKind MinusKind NoKind : Kind
+  NameKind DigitKind OpenKind CloseKind CommaKind EqualKind LessKind GreaterKind TextKind QuotedKind PlusKind MinusKind AsteriskKind PercentKind NoKind : Kind
 
 abbrev pub sign_kind : ℕ → Kind
 sign_kind byte =
     if byte == 40 then OpenKind else (if byte == 41 then CloseKind else (if byte == 44 then CommaKind
     else (if byte == 61 then EqualKind else (if byte == 60 then LessKind else (if byte == 62 then GreaterKind
     else (if byte == 39 then TextKind else (if byte == 34 then QuotedKind else (if byte == 43 then PlusKind
-    else (if byte == 45 then MinusKind else NoKind)))))))))
+    else (if byte == 45 then MinusKind else (if byte == 42 then AsteriskKind else (if byte == 37 then PercentKind else NoKind)))))))))))
 
 abbrev pub kind_of : ℕ → Kind
 kind_of byte = if is_name_start byte then NameKind else (if is_ascii_digit byte then DigitKind else sign_kind byte)
@@ -86,10 +87,10 @@ pub data View : Kind → ℕ → List ℕ → List ℕ → Token → Type 0 wher
       → begins is_quote rest ≡ false → View TextKind byte text rest (Text spelling)
   quoted : (byte : ℕ) (word text rest : List ℕ) (token : Token) → text ≡ word ++ 34 ∷ rest → list_all is_name_byte word ≡ true
       → token ≡ quoted_token (column_named word) → View QuotedKind byte text rest token
-  plus : (byte : ℕ) (numeral : Numeral) (text rest : List ℕ) → numeral.is_negative ≡ false → AreNumber numeral text rest
-      → View PlusKind byte text rest (Number numeral)
-  minus : (byte : ℕ) (numeral : Numeral) (text rest : List ℕ) → numeral.is_negative ≡ true → AreNumber numeral text rest
-      → View MinusKind byte text rest (Number numeral)
+  plus : (byte : ℕ) (rest : List ℕ) → View PlusKind byte rest rest (Sign Plus)
+  minus : (byte : ℕ) (rest : List ℕ) → View MinusKind byte rest rest (Sign Minus)
+  times : (byte : ℕ) (rest : List ℕ) → View AsteriskKind byte rest rest (Sign Asterisk)
+  percent : (byte : ℕ) (rest : List ℕ) → View PercentKind byte rest rest (Sign Percent)
   number : (byte : ℕ) (numeral : Numeral) (text rest : List ℕ) → numeral.is_negative ≡ false → AreNumber numeral (byte ∷ text) rest
       → View DigitKind byte text rest (Number numeral)
   named : (byte : ℕ) (word text rest : List ℕ) (token : Token) → byte ∷ text ≡ word ++ rest → IsLongest is_name_byte word rest
@@ -118,8 +119,8 @@ digit-kind byte digit = grind (arith, nat_tests)
 
 digits-view : (numeral : Numeral) (whole after rest : List ℕ) → numeral.whole.now ≡ whole → numeral.is_negative ≡ false
     → AreDigits numeral.whole.now after → HasDecimals after rest numeral.decimals.now → FirstByte (whole ++ after) rest (Number numeral)
-digits-view numeral [] after rest is plus_sign are fraction = absurd (omega (arith, are.some, ap length is))
-digits-view numeral (byte ∷ whole) after rest is plus_sign are fraction =
+digits-view numeral [] after rest is unsigned are fraction = absurd (omega (arith, are.some, ap length is))
+digits-view numeral (byte ∷ whole) after rest is unsigned are fraction =
     let such : list_all is_ascii_digit (byte ∷ whole) ≡ true = rw is at are.longest.such in
     let digit : is_ascii_digit byte ≡ true = (and_parts (is_ascii_digit byte) _ such).0 in
     record {
@@ -127,31 +128,9 @@ digits-view numeral (byte ∷ whole) after rest is plus_sign are fraction =
       after = whole ++ after;
       is = refl;
       view = rw (digit-kind byte digit, digit)
-          (number byte numeral (whole ++ after) rest plus_sign
+          (number byte numeral (whole ++ after) rest unsigned
           (record { after = after; is = ap (λ (w : List ℕ). w ++ after) (sym is); digits = are; fraction = fraction }));
     }
-
-module _ {after rest : List ℕ} where
-  number-view : (numeral : Numeral) (is_negative : Bool) (sign : List ℕ) → numeral.is_negative ≡ is_negative
-      → IsSign is_negative sign
-      → AreDigits numeral.whole.now after → HasDecimals after rest numeral.decimals.now
-      → FirstByte (sign ++ (numeral.whole.now ++ after)) rest (Number numeral)
-  number-view numeral true sign negative is are fraction =
-      rw is (record {
-        byte = 45;
-        after = numeral.whole.now ++ after;
-        is = refl;
-        view = minus 45 numeral _ rest negative (record { after = after; is = refl; digits = are; fraction = fraction });
-      })
-  number-view numeral false sign negative (inl is) are fraction =
-      rw is (digits-view numeral numeral.whole.now after rest refl negative are fraction)
-  number-view numeral false sign negative (inr is) are fraction =
-      rw is (record {
-        byte = 43;
-        after = numeral.whole.now ++ after;
-        is = refl;
-        view = plus 43 numeral _ rest negative (record { after = after; is = refl; digits = are; fraction = fraction });
-      })
 
 compared-view : (comparison : Comparison) (rest : List ℕ) → continues comparison rest ≡ false
     → FirstByte (sign_of comparison ++ rest) rest (Compared comparison)
@@ -167,6 +146,10 @@ pub first-byte : (text rest : List ℕ) (token : Token) → IsToken text rest to
 first-byte _ _ _ (left_paren rest) = record { byte = 40; after = rest; is = refl; view = opening 40 rest }
 first-byte _ _ _ (right_paren rest) = record { byte = 41; after = rest; is = refl; view = closing 41 rest }
 first-byte _ _ _ (comma rest) = record { byte = 44; after = rest; is = refl; view = commas 44 rest }
+first-byte _ _ _ (plus_sign rest) = record { byte = 43; after = rest; is = refl; view = plus 43 rest }
+first-byte _ _ _ (minus_sign rest) = record { byte = 45; after = rest; is = refl; view = minus 45 rest }
+first-byte _ _ _ (asterisk rest) = record { byte = 42; after = rest; is = refl; view = times 42 rest }
+first-byte _ _ _ (percent_sign rest) = record { byte = 37; after = rest; is = refl; view = percent 37 rest }
 first-byte _ _ _ (comparison_operator comparison rest ends) = compared-view comparison rest ends
 first-byte _ _ _ (keyword word rest known is found) = named-view word rest (Keyword known) is (rw found refl)
 first-byte _ _ _ (property_name word rest column is no_keyword found) =
@@ -186,8 +169,8 @@ first-byte _ _ _ (quoted_unknown_name word rest names missing) =
       is = refl;
       view = quoted 34 word _ rest UnknownColumn refl names (rw missing refl);
     }
-first-byte _ _ _ (numeric_literal numeral sign after rest signs are fraction) =
-    number-view numeral numeral.is_negative sign refl signs are fraction
+first-byte _ _ _ (unsigned_numeric_literal numeral after rest unsigned are fraction) =
+    digits-view numeral numeral.whole.now after rest refl unsigned are fraction
 first-byte _ _ _ (character_literal spelling rest paired single) =
     record { byte = 39; after = spelling.now ++ 39 ∷ rest; is = refl; view = literal 39 spelling _ rest refl paired single }
 
@@ -307,6 +290,10 @@ one-view : {kind : Kind} {byte : ℕ} (text rest after : List ℕ) (token anothe
 one-view _ _ _ _ _ (opening byte rest) (opening _ _) = (refl, same Open)
 one-view _ _ _ _ _ (closing byte rest) (closing _ _) = (refl, same Close)
 one-view _ _ _ _ _ (commas byte rest) (commas _ _) = (refl, same Comma)
+one-view _ _ _ _ _ (plus byte rest) (plus _ _) = (refl, same (Sign Plus))
+one-view _ _ _ _ _ (minus byte rest) (minus _ _) = (refl, same (Sign Minus))
+one-view _ _ _ _ _ (times byte rest) (times _ _) = (refl, same (Sign Asterisk))
+one-view _ _ _ _ _ (percent byte rest) (percent _ _) = (refl, same (Sign Percent))
 one-view _ _ _ _ _ (equal byte rest) (equal _ _) = (refl, same (Compared Equal))
 one-view _ _ _ _ _ (less byte rest ends) (less _ _ _) = (refl, same (Compared Less))
 one-view _ _ _ _ _ (less byte text ends) (less_or_equal _ _ rest is) = absurd (sign-ends text rest 61 Less ends is refl)
@@ -332,10 +319,6 @@ one-view _ _ _ _ _ (quoted byte word text rest token is names found) (quoted _ o
     let one = one-name word (34 ∷ rest) other_word (34 ∷ after) quotes quotes_too (sym is ∙ also) in
     let rests : rest ≡ after = cc (one.1) in
     (rests, like-by token another (found ∙ ap (λ (w : List ℕ). quoted_token (column_named w)) one.0 ∙ sym found_too))
-one-view _ _ _ _ _ (plus byte numeral text rest sign are) (plus _ another _ after sign_too also) =
-    one-number numeral another text rest after (sign ∙ sym sign_too) are also
-one-view _ _ _ _ _ (minus byte numeral text rest sign are) (minus _ another _ after sign_too also) =
-    one-number numeral another text rest after (sign ∙ sym sign_too) are also
 one-view _ _ _ _ _ (number byte numeral text rest sign are) (number _ another _ after sign_too also) =
     one-number numeral another (byte ∷ text) rest after (sign ∙ sym sign_too) are also
 one-view _ _ _ _ _ (named byte word text rest token is longest found) (named _ other_word _ after another also longest_too found_too) =
@@ -372,26 +355,6 @@ pub quoted-at : {rest : List ℕ} {token : Token} (text name after : List ℕ) �
 quoted-at text name after is same_text longest missing =
     quoted-by text name after (view-at 34 text QuotedKind is refl refl) same_text longest missing
 
--- a number has a digit after its sign
-number-begins : (numeral : Numeral) (text rest : List ℕ) → AreNumber numeral text rest → begins is_ascii_digit text ≡ false → ⊥
-number-begins numeral text rest are missing = digits-begin numeral.whole.now are.after text are.digits are.is missing
-
-plus-by : (byte : ℕ) (text rest : List ℕ) (token : Token) → View PlusKind byte text rest token → begins is_ascii_digit text ≡ false → ⊥
-plus-by _ _ _ _ (plus byte numeral text rest sign are) missing = number-begins numeral text rest are missing
-
-minus-by : (byte : ℕ) (text rest : List ℕ) (token : Token) → View MinusKind byte text rest token → begins is_ascii_digit text ≡ false → ⊥
-minus-by _ _ _ _ (minus byte numeral text rest sign are) missing = number-begins numeral text rest are missing
-
-pub plus-at : {text rest : List ℕ} {token : Token} (after : List ℕ) (byte : ℕ) → IsToken text rest token → text ≡ byte ∷ after → byte ≡ 43
-    → begins is_ascii_digit after ≡ false → ⊥
-plus-at {rest = rest} {token = token} after byte is begun known missing =
-    plus-by byte after rest token (view-at byte after PlusKind is begun (rw known refl)) missing
-
-pub minus-at : {text rest : List ℕ} {token : Token} (after : List ℕ) (byte : ℕ) → IsToken text rest token → text ≡ byte ∷ after → byte ≡ 45
-    → begins is_ascii_digit after ≡ false → ⊥
-minus-at {rest = rest} {token = token} after byte is begun known missing =
-    minus-by byte after rest token (view-at byte after MinusKind is begun (rw known refl)) missing
-
 no-view : (byte : ℕ) (text rest : List ℕ) (token : Token) → View NoKind byte text rest token → ⊥
 no-view byte text rest token is = elim is [ ]
 
@@ -425,6 +388,8 @@ pub record IsNoSign (byte : ℕ) : Type 0 where
   pub no_double : byte ≢ 34
   pub no_plus : byte ≢ 43
   pub no_minus : byte ≢ 45
+  pub no_asterisk : byte ≢ 42
+  pub no_percent : byte ≢ 37
 
 other-kind : (byte : ℕ) → IsNoSign byte → is_ascii_digit byte ≡ false → is_name_start byte ≡ false → kind_of byte ≡ NoKind
 other-kind byte none_of no_digit no_name = rw (no_name, no_digit) (grind (arith, nat_tests))

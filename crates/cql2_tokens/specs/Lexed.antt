@@ -1,5 +1,5 @@
 -- The tokens of a filter's text (CQL2, 21-065r2, Text encoding).
-use Rattle.std.specs.Prelude.{◌≡◌, ℕ, Bool, true, false, ◌||◌, ◌==◌, List, [], ◌∷◌, ◌++◌, length, Some, None, ◌⊎◌, ◌≤◌, ◌<◌, ◌+◌, take, drop}
+use Rattle.std.specs.Prelude.{◌≡◌, ℕ, Bool, true, false, ◌||◌, ◌==◌, List, [], ◌∷◌, ◌++◌, length, Some, None, ◌≤◌, ◌<◌, ◌+◌, take, drop}
 use Rattle.std.specs.Char.{is_ascii_alphabetic, is_ascii_alphanumeric, is_ascii_digit}
 use Rattle.std.specs.List.{list_all}
 use denote.Ref.{Bor}
@@ -9,8 +9,9 @@ use Rattle.cql2.specs.declared.filter.Comparison.TheVariants.{Equal, NotEqual, L
 use Rattle.cql2_tokens.specs.Name.{column_named, keyword_named}
 use Rattle.cql2_tokens.specs.declared.token.Keyword.{Keyword as AKeyword}
 use Rattle.cql2_tokens.specs.declared.token.Numeral.{Numeral}
+use Rattle.cql2_tokens.specs.declared.token.Sign.TheVariants.{Plus, Minus, Asterisk, Percent}
 use Rattle.cql2_tokens.specs.declared.token.Token.{Token}
-use Rattle.cql2_tokens.specs.declared.token.Token.TheVariants.{Keyword, Column, UnknownColumn, Compared, Open, Close, Comma, Number, Text}
+use Rattle.cql2_tokens.specs.declared.token.Token.TheVariants.{Keyword, Column, UnknownColumn, Compared, Sign, Open, Close, Comma, Number, Text}
 
 -- a space, a tab, a line feed or a carriage return
 abbrev pub is_white_space : ℕ → Bool
@@ -69,11 +70,6 @@ pub data HasDecimals : List ℕ → List ℕ → List ℕ → Type 0 where
   no_decimals : (rest : List ℕ) → begins is_ascii_digit rest ≡ false → HasDecimals (46 ∷ rest) (46 ∷ rest) []
   decimals : (digits rest : List ℕ) → AreDigits digits rest → HasDecimals (46 ∷ (digits ++ rest)) rest digits
 
--- the sign of a number
-abbrev pub IsSign : Bool → List ℕ → Type 0
-IsSign true sign = sign ≡ 45 ∷ []
-IsSign false sign = (sign ≡ []) ⊎ (sign ≡ 43 ∷ [])
-
 -- the quotes in a text come in pairs
 pub data ArePaired : List ℕ → Type 0 where
   none : ArePaired []
@@ -92,6 +88,10 @@ pub data IsToken : List ℕ → List ℕ → Token → Type 0 where
   left_paren : (rest : List ℕ) → IsToken (40 ∷ rest) rest Open
   right_paren : (rest : List ℕ) → IsToken (41 ∷ rest) rest Close
   comma : (rest : List ℕ) → IsToken (44 ∷ rest) rest Comma
+  plus_sign : (rest : List ℕ) → IsToken (43 ∷ rest) rest (Sign Plus)
+  minus_sign : (rest : List ℕ) → IsToken (45 ∷ rest) rest (Sign Minus)
+  asterisk : (rest : List ℕ) → IsToken (42 ∷ rest) rest (Sign Asterisk)
+  percent_sign : (rest : List ℕ) → IsToken (37 ∷ rest) rest (Sign Percent)
   comparison_operator : (comparison : Comparison) (rest : List ℕ) → continues comparison rest ≡ false
       → IsToken (sign_of comparison ++ rest) rest (Compared comparison)
   keyword : (word rest : List ℕ) (named : AKeyword) → IsWord word rest → keyword_named word ≡ Some named
@@ -104,8 +104,8 @@ pub data IsToken : List ℕ → List ℕ → Token → Type 0 where
       → IsToken (34 ∷ (word ++ 34 ∷ rest)) rest (Column column)
   quoted_unknown_name : (word rest : List ℕ) → list_all is_name_byte word ≡ true → column_named word ≡ None
       → IsToken (34 ∷ (word ++ 34 ∷ rest)) rest UnknownColumn
-  numeric_literal : (numeral : Numeral) (sign after rest : List ℕ) → IsSign numeral.is_negative sign → AreDigits numeral.whole.now after
-      → HasDecimals after rest numeral.decimals.now → IsToken (sign ++ (numeral.whole.now ++ after)) rest (Number numeral)
+  unsigned_numeric_literal : (numeral : Numeral) (after rest : List ℕ) → numeral.is_negative ≡ false → AreDigits numeral.whole.now after
+      → HasDecimals after rest numeral.decimals.now → IsToken (numeral.whole.now ++ after) rest (Number numeral)
   character_literal : (spelling : Bor (List ℕ)) (rest : List ℕ) → ArePaired spelling.now → begins is_quote rest ≡ false
       → IsToken (39 ∷ (spelling.now ++ 39 ∷ rest)) rest (Text spelling)
 

@@ -15,7 +15,7 @@ use Rattle.cql2.specs.declared.column.TextColumn.TheVariants.{Rt, Version, Side1
 use Rattle.cql2_tokens.specs.declared.name.TheConstants.{COLUMNS, KEYWORDS}
 use Rattle.cql2_tokens.specs.declared.token.Keyword.{Keyword}
 use Rattle.cql2_tokens.specs.declared.token.Keyword.TheVariants.{And, Or, Not, True, False, Is, Null, Like, Between, In, Casei, HasNumber, HasName}
-use Rattle.cql2_tokens.specs.declared.token.Keyword.TheVariants.{StartsIn, Bbox}
+use Rattle.cql2_tokens.specs.declared.token.Keyword.TheVariants.{Accenti, StartsIn, Bbox, Div}
 
 abbrev pub keyword_text : Keyword → List ℕ
 keyword_text And = codes "AND"
@@ -29,10 +29,12 @@ keyword_text Like = codes "LIKE"
 keyword_text Between = codes "BETWEEN"
 keyword_text In = codes "IN"
 keyword_text Casei = codes "CASEI"
+keyword_text Accenti = codes "ACCENTI"
 keyword_text HasNumber = codes "HAS_NUMBER"
 keyword_text HasName = codes "HAS_NAME"
 keyword_text StartsIn = codes "STARTS_IN"
 keyword_text Bbox = codes "BBOX"
+keyword_text Div = codes "DIV"
 
 abbrev pub number_name : NumberColumn → List ℕ
 number_name Tlid = codes "TLID"

@@ -4,11 +4,11 @@ ghost use Rattle.std.specs.Char.{is_ascii_digit};
 ghost use Rattle.std.specs.List.{position};
 ghost use Rattle.cql2_tokens.specs.declared.token.Token.{Token as AToken};
 ghost use Rattle.cql2_tokens.specs.Alike.{AreLike};
-ghost use Rattle.cql2_tokens.specs.Lexed.{ArePaired, is_white_space, is_name_start, is_name_byte, begins, is_quote, IsClosingQuote, IsSign};
+ghost use Rattle.cql2_tokens.specs.Lexed.{ArePaired, is_white_space, is_name_start, is_name_byte, begins, is_quote, IsClosingQuote};
 ghost use Rattle.cql2_tokens.specs.Lexed.{IsLongest, IsToken, Lexes, HasDecimals};
 
 use crate::name::{column_named, keyword_named};
-use crate::token::{Numeral, Token};
+use crate::token::{Numeral, Sign, Token};
 use cql2::Comparison;
 use std::alloc::{AllocError, Allocator};
 
@@ -92,9 +92,11 @@ fn first_token<'a>(text: &'a [u8]) -> Option<(Token<'a>, &'a [u8])>
         b'>' => Some(greater(rest)),
         b'\'' => text_token(rest),
         b'"' => quoted_name(rest),
-        b'+' => number(false, rest),
-        b'-' => number(true, rest),
-        b'0'..=b'9' => number(false, text),
+        b'+' => Some((Token::Sign(Sign::Plus), rest)),
+        b'-' => Some((Token::Sign(Sign::Minus), rest)),
+        b'*' => Some((Token::Sign(Sign::Asterisk), rest)),
+        b'%' => Some((Token::Sign(Sign::Percent), rest)),
+        b'0'..=b'9' => number(text),
         _ => word(text),
     }
 }
@@ -248,9 +250,9 @@ fn digits_end(text: &[u8]) -> Option<usize>
     text.iter().position(|byte| !byte.is_ascii_digit())
 }
 
-/// Reads a number after its sign.
-fn number<'a>(is_negative: bool, text: &'a [u8]) -> Option<(Token<'a>, &'a [u8])>
-    ensures is { IfSome result (λ read. (sign : List ℕ) → IsSign is_negative sign → IsToken (sign ++ text.now) read.1.now read.0) }
+/// Reads a number without a sign.
+fn number<'a>(text: &'a [u8]) -> Option<(Token<'a>, &'a [u8])>
+    ensures is { IfSome result (λ read. IsToken text.now read.1.now read.0) }
     ensures none { IfNone result (begins is_ascii_digit text.now ≡ false) }
 {
     let (whole, rest) = split_digits(text);
@@ -259,7 +261,7 @@ fn number<'a>(is_negative: bool, text: &'a [u8]) -> Option<(Token<'a>, &'a [u8])
     }
     let (decimals, rest) = fraction(rest);
     let numeral = Numeral {
-        is_negative,
+        is_negative: false,
         whole,
         decimals,
     };

@@ -11,5 +11,5 @@ mod token;
 pub use characters::character;
 pub use lexer::Tokens;
 pub use name::{column_name, column_named};
-pub use nearest::nearest_column;
-pub use token::{Keyword, Numeral, Token};
+pub use nearest::{leading_name, near_column, nearest_column};
+pub use token::{Keyword, Numeral, Sign, Token};

@@ -15,10 +15,21 @@ pub enum Keyword {
     Between,
     In,
     Casei,
+    Accenti,
     HasNumber,
     HasName,
     StartsIn,
     Bbox,
+    Div,
+}
+
+/// A sign of arithmetic. A minus or a plus before a number is a token of its own.
+#[derive(Clone, Copy)]
+pub enum Sign {
+    Plus,
+    Minus,
+    Asterisk,
+    Percent,
 }
 
 /// A number, split into its parts.
@@ -39,9 +50,11 @@ pub enum Token<'a> {
     /// A name that no column has.
     UnknownColumn,
     Compared(Comparison),
+    Sign(Sign),
     Open,
     Close,
     Comma,
+    /// A number without its sign.
     Number(Numeral<'a>),
     /// A string literal, without its quotes.
     Text(&'a [u8]),

@@ -1,12 +1,12 @@
-use Rattle.std.proofs.Common.{◌≡◌, ◌<◌, ℕ, List, [], ◌∷◌, true, false, inl, inr, length, ap, refl, arith, rules}
+use Rattle.std.proofs.Common.{◌≡◌, ◌<◌, ℕ, List, [], false, length, ap, refl, arith, rules}
 use Rattle.std.proofs.lemmas.Bool.Decides.{nat_tests}
 use Rattle.std.specs.Char.{is_ascii_digit}
 use Rattle.cql2_tokens.specs.Lexed.{IsToken}
 use Rattle.cql2_tokens.specs.declared.token.Token.{Token}
-use Rattle.cql2_tokens.proofs.ViewLemmas.{IsNoSign, minus-at, none-then, other-at, plus-at}
+use Rattle.cql2_tokens.proofs.ViewLemmas.{IsNoSign, none-then, other-at}
 use Rattle.cql2.specs.declared.filter.Comparison.TheVariants.{Equal}
-use Rattle.cql2_tokens.specs.Lexed.{comma, comparison_operator, left_paren, right_paren}
-use Rattle.cql2_tokens.proofs.LexerLemmas.{signed-number, text-after, token-after, token-shorter}
+use Rattle.cql2_tokens.specs.Lexed.{asterisk, comma, comparison_operator, left_paren, minus_sign, percent_sign, plus_sign, right_paren}
+use Rattle.cql2_tokens.proofs.LexerLemmas.{token-after, token-shorter}
 use Rattle.cql2_tokens.proofs.lexer.first_token.Goals as goal
 
 pub returns-in-40-clause-is : goal.returns-in-40-clause-is
@@ -22,15 +22,16 @@ pub returns-in-61-clause-is : goal.returns-in-61-clause-is
 returns-in-61-clause-is c = token-after c.in_ok-first.ensures.cases.0 c.in-61.is (comparison_operator Equal _ refl)
 
 pub returns-in-43-clause-is : goal.returns-in-43-clause-is
-returns-in-43-clause-is c =
-    signed-number _ false (43 ∷ []) _ _ (text-after _ _ _ _ c.in_ok-first.ensures.cases.0 c.in-43.is) (inr refl) c.number.ensures.is
+returns-in-43-clause-is c = token-after c.in_ok-first.ensures.cases.0 c.in-43.is (plus_sign _)
 
 pub returns-in-45-clause-is : goal.returns-in-45-clause-is
-returns-in-45-clause-is c =
-    signed-number _ true (45 ∷ []) _ _ (text-after _ _ _ _ c.in_ok-first.ensures.cases.0 c.in-45.is) refl c.number-in-45.ensures.is
+returns-in-45-clause-is c = token-after c.in_ok-first.ensures.cases.0 c.in-45.is (minus_sign _)
 
-pub returns-in-48-to-57-clause-is : goal.returns-in-48-to-57-clause-is
-returns-in-48-to-57-clause-is c = signed-number _ false [] _ _ refl (inl refl) c.number-in-48-to-57.ensures.is
+pub returns-in-42-clause-is : goal.returns-in-42-clause-is
+returns-in-42-clause-is c = token-after c.in_ok-first.ensures.cases.0 c.in-42.is (asterisk _)
+
+pub returns-in-37-clause-is : goal.returns-in-37-clause-is
+returns-in-37-clause-is c = token-after c.in_ok-first.ensures.cases.0 c.in-37.is (percent_sign _)
 
 pub returns-in_err-first-clause-none : goal.returns-in_err-first-clause-none
 returns-in_err-first-clause-none c =
@@ -41,16 +42,6 @@ returns-in_err-first-clause-none c =
     let e : text ≡ [] = search rules in
     absurd (omega (arith, ap length e)) in
     search rules
-
-pub returns-in-43-clause-none : goal.returns-in-43-clause-none
-returns-in-43-clause-none c =
-    none-then c.number.result c.number.ensures.none
-    (λ missing rest token is. plus-at _ _ is c.in_ok-first.ensures.cases.0 c.in-43.is missing)
-
-pub returns-in-45-clause-none : goal.returns-in-45-clause-none
-returns-in-45-clause-none c =
-    none-then c.number-in-45.result c.number-in-45.ensures.none
-    (λ missing rest token is. minus-at _ _ is c.in_ok-first.ensures.cases.0 c.in-45.is missing)
 
 pub returns-in_default-clause-none : goal.returns-in_default-clause-none
 returns-in_default-clause-none c =
@@ -66,6 +57,8 @@ returns-in_default-clause-none c =
       no_double = search rules;
       no_plus = search rules;
       no_minus = search rules;
+      no_asterisk = search rules;
+      no_percent = search rules;
     } in
     let no_digit : is_ascii_digit first ≡ false = grind (arith, nat_tests) in
     none-then c.word.result c.word.ensures.none
