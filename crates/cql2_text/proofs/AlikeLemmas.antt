@@ -1,9 +1,23 @@
 -- Tokens that differ only in where their bytes are in memory spell the same filter.
-use Rattle.std.proofs.Common.{◌≡◌, ℕ, Bool, true, false, List, [], ◌∷◌, refl, sym, ap, ◌∙◌, subst}
+use Rattle.std.proofs.Common.{◌≡◌, ℕ, zero, suc, Bool, true, false, List, [], ◌∷◌, Some, refl, sym, ap, ◌∙◌, subst}
 use denote.Ref.{Bor}
 use Rattle.tl_segments.specs.declared.name.TheConstants.{NAME_LENGTH}
-use Rattle.cql2.specs.declared.column.NumericColumn.{NumericColumn}
-use Rattle.cql2.specs.declared.column.NumericColumn.TheVariants as numeric
+use Rattle.std.specs.Prelude.{◌+◌, ◌-◌, nat_lt, not, if◌then◌else◌}
+use Rattle.cql2.specs.declared.column.Column.{Column as AColumn}
+use Rattle.cql2.specs.declared.column.Column.TheVariants as column
+use Rattle.cql2.specs.declared.expression.Expression.{Expression}
+use Rattle.cql2.specs.declared.expression.Number.{Number as ANumber}
+use Rattle.cql2.specs.declared.expression.Operator.{Operator}
+use Rattle.cql2_text.specs.Compared.{SpellsAmong, SpellsBetween, SpellsCompared, SpellsNumbers, SpellsOfNumber, among, comparison, not_among}
+use Rattle.cql2_text.specs.Compared as compared_of
+use Rattle.cql2_text.specs.Expression.{Chain, Factor, IsExpression, SpellsNumber, begins_number, goes_on, operator_of}
+use Rattle.cql2_text.specs.Expression.{Production as NumberProduction}
+use Rattle.cql2_text.specs.Expression.{combined, literal, one_part, opposite, property_name}
+use Rattle.cql2_text.specs.Expression as number
+use Rattle.cql2_text.specs.Parenthesis.{closing, follows_closing, follows_number, opens_filter}
+use Rattle.cql2_text.specs.Scan.{after_number}
+use Rattle.cql2_text.specs.declared.expression.Level.{Level}
+use Rattle.cql2_text.specs.declared.expression.Level.TheVariants.{Sum}
 use Rattle.cql2.specs.declared.column.TextColumn.{TextColumn}
 use Rattle.cql2.specs.declared.filter.Comparison.{Comparison}
 use Rattle.cql2.specs.declared.filter.Comparison.TheVariants.{Equal, NotEqual, Less, LessOrEqual, Greater, GreaterOrEqual}
@@ -11,25 +25,34 @@ use Rattle.cql2.specs.declared.filter.Filter.{Filter}
 use Rattle.cql2.specs.declared.number.HouseNumber.{HouseNumber}
 use Rattle.cql2.specs.declared.number.Literal.{Literal}
 use Rattle.cql2.specs.declared.number.NameLimit.{NameLimit}
+use Rattle.cql2.specs.declared.pattern.Folding.{Folding}
 use Rattle.cql2.specs.declared.pattern.Pattern.{Pattern}
 use Rattle.cql2.specs.declared.text.Text.{Text as AText}
 use Rattle.cql2_tokens.specs.Alike.{AreLike, IsLike, next, none, numbers, same, texts}
 use Rattle.cql2_text.specs.Text.{IsComparedText}
 use Rattle.cql2_text.specs.Number.{count_of, number_of, up_to_name_limit}
+use Rattle.cql2_text.specs.Clause.{IsClause, Opens, accenti, casei, closed, inside, nothing}
+use Rattle.cql2_text.specs.Numeral.{IsNumber, IsNumeral, below_zero, negative, positive, unsigned}
 use Rattle.cql2_text.specs.Pattern.{IsLikePattern}
-use Rattle.cql2_text.specs.Predicate.{IsCaseiText, IsLikeColumn, IsNumber, IsPoint, IsSubject, IsText, SpellsBetween, SpellsComparison}
+use Rattle.cql2_text.specs.Predicate.{IsFoldedText, IsLikeColumn, IsPoint, IsSubject, IsText, IsTextColumn, SpellsComparison, SpellsNull, SpellsRelation}
+use Rattle.cql2_text.specs.Predicate.{SpellsTextComparison}
 use Rattle.cql2_text.specs.Predicate.{SpellsHasName, SpellsHasNumber, SpellsLike, SpellsLimit, SpellsList, SpellsNegatable, SpellsOf}
-use Rattle.cql2_text.specs.Predicate.{SpellsPredicate, SpellsStartsIn, latitude, longitude, width_of}
-use Rattle.cql2_text.specs.Predicate.{one, more, is_like, is_between, is_in_list, binary_comparison}
-use Rattle.cql2_text.specs.Predicate.{negatable, negated, is_null, is_not_null}
-use Rattle.cql2_text.specs.Predicate.{given, usual, true_literal, false_literal, has_number, has_name, starts_in, of_subject}
+use Rattle.cql2_text.specs.Predicate.{SpellsPredicate, SpellsStartsIn, width_of}
+use Rattle.cql2_text.specs.Predicate.{one, more, is_like, is_in_list, binary_comparison, with_column, with_literal}
+use Rattle.cql2_text.specs.Predicate.{negatable, negated, null_test, is_null, is_not_null}
+use Rattle.cql2_text.specs.Predicate.{given, usual, true_literal, false_literal, has_number, has_name, starts_in, of_subject, of_number, number_null}
+use Rattle.cql2_text.specs.Predicate.{relation, text_first}
 use Rattle.cql2_text.specs.Spelled.{Production, Spells, one_term, either, one_factor, both, one_primary, not_primary, grouped, predicate}
+use Rattle.cql2_text.specs.declared.unit.Unit.{Unit}
+use Rattle.cql2_text.specs.declared.unit.Unit.TheVariants.{Degrees, Whole}
 use Rattle.cql2_text.specs.declared.predicate.Subject.{Subject}
 use Rattle.cql2_text.specs.declared.predicate.Subject.TheVariants as subject
 use Rattle.cql2_tokens.specs.declared.token.Keyword.TheVariants as word
 use Rattle.cql2_tokens.specs.declared.token.Numeral.{Numeral}
+use Rattle.cql2_tokens.specs.declared.token.Sign.TheVariants.{Minus, Plus}
 use Rattle.cql2_tokens.specs.declared.token.Token.{Token}
-use Rattle.cql2_tokens.specs.declared.token.Token.TheVariants.{Close, Comma, Compared, Keyword, Number, Open, Text}
+use Rattle.cql2_tokens.specs.declared.token.Token.TheVariants.{Close, Column, Comma, Compared, Keyword, Number, Open, Sign, Text}
+use Rattle.cql2_text.proofs.ScanLemmas.{expression-ends}
 
 -- a token that holds no bytes
 abbrev is_plain : Token → Bool
@@ -156,59 +179,313 @@ module _ {P Q : List Token → List Token → Type 0} where
       moved-at Q others _ rest first.is
       (record { after = moved.after; alike = moved.alike; is = whole first.later moved.after moved.is })
 
-number_of-like : (c : NumericColumn) (numeral another : Numeral) → numeral.is_negative ≡ another.is_negative
-    → numeral.whole.now ≡ another.whole.now → numeral.decimals.now ≡ another.decimals.now → number_of c numeral ≡ number_of c another
-number_of-like (numeric.Number column) numeral another sign whole decimals = rw (sign, whole, decimals) refl
-number_of-like (numeric.Coordinate column) numeral another sign whole decimals = rw (sign, whole, decimals) refl
+-- a number with or without a sign that is alike, and the tokens after it
+record SignedLike (numeral : Numeral) (rest others : List Token) : Type 0 where
+  another : Numeral
+  later : List Token
+  is : IsNumeral others later another
+  sign : numeral.is_negative ≡ another.is_negative
+  whole : numeral.whole.now ≡ another.whole.now
+  decimals : numeral.decimals.now ≡ another.decimals.now
+  alike : AreLike rest later
 
-moved-number : (c : NumericColumn) (words others rest : List Token) (literal : Literal) → AreLike words others
-    → IsNumber c words rest literal
-    → Moved (λ w r. IsNumber c w r literal) others rest
-moved-number c words others rest literal alike is =
-    let like = like-number-by words others is.numeral rest alike is.spelled in
+signed-like : (words others rest : List Token) (numeral : Numeral) → AreLike words others → IsNumeral words rest numeral
+    → SignedLike numeral rest others
+signed-like _ others rest numeral alike unsigned =
+    let like = like-number-by (Number numeral ∷ rest) others numeral rest alike refl in
+    record {
+      another = like.another;
+      later = like.later;
+      is = subst (λ (l : List Token). IsNumeral l like.later like.another) (sym like.is) unsigned;
+      sign = like.sign;
+      whole = like.whole;
+      decimals = like.decimals;
+      alike = like.alike;
+    }
+signed-like _ others rest numeral alike positive =
+    let first = same-first (Sign Plus) (Number numeral ∷ rest) others refl alike in
+    let like = like-number-by (Number numeral ∷ rest) first.later numeral rest first.alike refl in
+    let words_are = first.is ∙ ap (λ (l : List Token). Sign Plus ∷ l) like.is in
+    record {
+      another = like.another;
+      later = like.later;
+      is = subst (λ (l : List Token). IsNumeral l like.later like.another) (sym words_are) positive;
+      sign = like.sign;
+      whole = like.whole;
+      decimals = like.decimals;
+      alike = like.alike;
+    }
+signed-like _ others rest _ alike (negative {numeral = numeral}) =
+    let first = same-first (Sign Minus) (Number numeral ∷ rest) others refl alike in
+    let like = like-number-by (Number numeral ∷ rest) first.later numeral rest first.alike refl in
+    let words_are = first.is ∙ ap (λ (l : List Token). Sign Minus ∷ l) like.is in
+    record {
+      another = below_zero like.another;
+      later = like.later;
+      is = subst (λ (l : List Token). IsNumeral l like.later (below_zero like.another)) (sym words_are) negative;
+      sign = refl;
+      whole = like.whole;
+      decimals = like.decimals;
+      alike = like.alike;
+    }
+
+number_of-like : (unit : Unit) (numeral another : Numeral) → numeral.is_negative ≡ another.is_negative
+    → numeral.whole.now ≡ another.whole.now → numeral.decimals.now ≡ another.decimals.now → number_of unit numeral ≡ number_of unit another
+number_of-like Whole numeral another sign whole decimals = rw (sign, whole, decimals) refl
+number_of-like Degrees numeral another sign whole decimals = rw (sign, whole, decimals) refl
+
+moved-number : (unit : Unit) (words others rest : List Token) (value : Literal) → AreLike words others
+    → IsNumber unit words rest value → Moved (λ w r. IsNumber unit w r value) others rest
+moved-number unit words others rest value alike is =
+    let like = signed-like words others rest is.numeral alike is.spelled in
     record {
       after = like.later;
       alike = like.alike;
       is = record {
         numeral = like.another;
         spelled = like.is;
-        value = sym (number_of-like c is.numeral like.another like.sign like.whole like.decimals) ∙ is.value;
+        value = sym (number_of-like unit is.numeral like.another like.sign like.whole like.decimals) ∙ is.value;
       };
     }
 
 moved-point : (words others rest : List Token) (x y : Literal) → AreLike words others → IsPoint words rest x y
     → Moved (λ w r. IsPoint w r x y) others rest
 moved-point words others rest x y alike is =
-    let first = moved-number longitude words others (Comma ∷ is.middle) x alike is.first in
+    let first = moved-number Degrees words others (Comma ∷ is.middle) x alike is.first in
     let between = same-first Comma is.middle first.after refl first.alike in
-    let second = moved-number latitude is.middle between.later rest y between.alike is.second in
+    let second = moved-number Degrees is.middle between.later rest y between.alike is.second in
     record {
       after = second.after;
       alike = second.alike;
       is = record { middle = between.later; first = rw between.is at first.is; second = second.is };
     }
 
--- CASEI and an opening parenthesis
-casei-like : (words others inner : List Token) → AreLike words others → words ≡ Keyword word.Casei ∷ Open ∷ inner
-    → (later : List Token) × (others ≡ Keyword word.Casei ∷ Open ∷ later) × AreLike inner later
-casei-like words others inner alike is =
-    let first = first-by words others (Keyword word.Casei) (Open ∷ inner) alike is refl in
-    let second = same-first Open inner first.later refl first.alike in
-    (second.later, first.is ∙ ap (λ (l : List Token). Keyword word.Casei ∷ l) second.is, second.alike)
+-- an operator holds no bytes
+operator-plain : (token : Token) (operator : Operator) → operator_of token ≡ Some operator → is_plain token ≡ true
+operator-plain (Number numeral) operator known = cc
+operator-plain (Text spelling) operator known = cc
+operator-plain token operator known = refl
+
+begins-number-first : (token : Token) (left right : List Token) → begins_number (token ∷ left) ≡ begins_number (token ∷ right)
+begins-number-first (Number numeral) left right = refl
+begins-number-first token left right = refl
+
+begins-number-like : (words others : List Token) → AreLike words others → begins_number words ≡ begins_number others
+begins-number-like _ _ none = refl
+begins-number-like _ _ (next _ _ tokens later (same token) alike) = begins-number-first token tokens later
+begins-number-like _ _ (next _ _ tokens later (numbers numeral other sign whole decimals) alike) = refl
+begins-number-like _ _ (next _ _ tokens later (texts spelling other bytes) alike) = refl
+
+goes-like : (level : Level) (words others : List Token) → AreLike words others → goes_on level words ≡ goes_on level others
+goes-like level _ _ none = refl
+goes-like level _ _ (next _ _ tokens later (same token) alike) = refl
+goes-like level _ _ (next _ _ tokens later (numbers numeral other sign whole decimals) alike) = refl
+goes-like level _ _ (next _ _ tokens later (texts spelling other bytes) alike) = refl
+
+module _ {A : Type 0} {unit : Unit} where
+  moved-number-text : (depth : ℕ) (production : NumberProduction) (words others rest : List Token) (made : Expression A) → AreLike words others
+      → SpellsNumber unit depth production words rest made → Moved (λ w r. SpellsNumber unit depth production w r made) others rest
+  moved-number-text depth _ words others rest _ alike (literal {value = value} is) =
+      let moved = moved-number unit words others rest value alike is in
+      record { after = moved.after; alike = moved.alike; is = literal moved.is }
+  moved-number-text depth _ _ others rest _ alike (property_name {named = named} is) =
+      let first = same-first (Column (column.Numeric named)) rest others refl alike in
+      moved-at _ others _ rest first.is (record { after = first.later; alike = first.alike; is = property_name is })
+  moved-number-text _ _ _ others rest _ alike (opposite {depth = depth} {words = words} {inner = inner} stop few is) =
+      let first = same-first (Sign Minus) words others refl alike in
+      let moved = moved-number-text depth Factor words first.later rest inner first.alike is in
+      let stops = sym (begins-number-like words first.later first.alike) ∙ stop in
+      moved-at _ others _ rest first.is (record { after = moved.after; alike = moved.alike; is = opposite stops few moved.is })
+  moved-number-text _ _ _ others rest made alike (number.grouped {depth = depth} {words = words} is) =
+      let first = same-first Open words others refl alike in
+      let inner = moved-number-text depth (Chain Sum) words first.later (Close ∷ rest) made first.alike is in
+      let closed = same-first Close rest inner.after refl inner.alike in
+      moved-at _ others _ rest first.is
+      (record { after = closed.later; alike = closed.alike; is = number.grouped (rw closed.is at inner.is) })
+  moved-number-text depth _ words others rest made alike (one_part is) =
+      let moved = moved-number-text depth _ words others rest made alike is in
+      record { after = moved.after; alike = moved.alike; is = one_part moved.is }
+  moved-number-text depth _ words others rest _ alike
+      (combined {token = token} {operator = operator} {middle = middle} {first = first} {second = second} known at allowed left right fits) =
+      let before = moved-number-text depth _ words others (token ∷ middle) first alike left in
+      let between = same-first token middle before.after (operator-plain token operator known) before.alike in
+      let moved = moved-number-text depth _ middle between.later rest second between.alike right in
+      record { after = moved.after; alike = moved.alike; is = combined known at allowed (rw between.is at before.is) moved.is fits }
+
+  moved-expression : (words others rest : List Token) (made : ANumber A) → AreLike words others → IsExpression unit words rest made
+      → Moved (λ w r. IsExpression unit w r made) others rest
+  moved-expression words others rest made alike is =
+      let moved = moved-number-text _ _ words others rest made.expression alike is.spelled in
+      record {
+        after = moved.after;
+        alike = moved.alike;
+        is = record { spelled = moved.is; longest = sym (goes-like Sum rest moved.after moved.alike) ∙ is.longest };
+      }
+
+module _ {A : Type 0} (start others «end» : List Token) (alike : AreLike start others) where
+  -- the number at the start, moved
+  moved-operand : {unit : Unit} (made : ANumber A) → IsExpression unit start «end» made
+      → IsExpression unit others (after_number others) made × AreLike «end» (after_number others)
+  moved-operand {unit = unit} made is =
+      let moved = moved-expression start others «end» made alike is in
+      let ends = expression-ends others moved.after made moved.is in (
+        subst (λ (w : List Token). IsExpression unit others w made) (sym ends) moved.is,
+        subst (λ (w : List Token). AreLike «end» w) (sym ends) moved.alike,
+      )
+
+  moved-compared : (k : Comparison) (words later rest : List Token) (made : Filter A) → AreLike words later
+      → SpellsCompared start «end» k words rest made → Moved (λ w r. SpellsCompared others (after_number others) k w r made) later rest
+  moved-compared k words later rest made also is =
+      let first = moved-operand is.first is.is_first in
+      let second = moved-expression words later rest is.second also is.is_second in
+      record {
+        after = second.after;
+        alike = second.alike;
+        is = record {
+          first = is.first;
+          second = is.second;
+          unit = is.unit;
+          in_unit = is.in_unit;
+          is_first = first.0;
+          is_second = second.is;
+          is = is.is;
+        };
+      }
+
+  moved-between : (words later rest : List Token) (made : Filter A) → AreLike words later → SpellsBetween start «end» words rest made
+      → Moved (λ w r. SpellsBetween others (after_number others) w r made) later rest
+  moved-between words later rest made also is =
+      let low = moved-compared GreaterOrEqual words later (Keyword word.And ∷ is.middle) is.low also is.at_least in
+      let between = same-first (Keyword word.And) is.middle low.after refl low.alike in
+      let high = moved-compared LessOrEqual is.middle between.later rest is.high between.alike is.at_most in
+      record {
+        after = high.after;
+        alike = high.alike;
+        is = record {
+          low = is.low;
+          high = is.high;
+          middle = between.later;
+          at_least = rw between.is at low.is;
+          at_most = high.is;
+          both = is.both;
+        };
+      }
+
+  moved-numbers : (words later rest : List Token) (made : Filter A) → AreLike words later → SpellsNumbers start «end» words rest made
+      → Moved (λ w r. SpellsNumbers others (after_number others) w r made) later rest
+  moved-numbers words later rest made also (compared_of.one is) =
+      let item = moved-compared Equal words later rest made also is in
+      record { after = item.after; alike = item.alike; is = compared_of.one item.is }
+  moved-numbers words later rest made also (compared_of.more {middle = middle} {first = first} {second = second} front is joined) =
+      let before = moved-numbers words later (Comma ∷ middle) first also front in
+      let between = same-first Comma middle before.after refl before.alike in
+      let item = moved-compared Equal middle between.later rest second between.alike is in
+      record { after = item.after; alike = item.alike; is = compared_of.more (rw between.is at before.is) item.is joined }
+
+  moved-among : (words later rest : List Token) (made : Filter A) → AreLike words later → SpellsAmong start «end» words rest made
+      → Moved (λ w r. SpellsAmong others (after_number others) w r made) later rest
+  moved-among _ later rest made also (compared_of.is_between {words = words} is) =
+      moved-after (Keyword word.Between) words later rest refl also (λ l a. moved-between words l rest made a is)
+      (λ w r it. compared_of.is_between it)
+  moved-among _ later rest made also (compared_of.is_in_list {words = words} is) =
+      let first = same-first (Keyword word.In) (Open ∷ words) later refl also in
+      let second = same-first Open words first.later refl first.alike in
+      let inner = moved-numbers words second.later (Close ∷ rest) made second.alike is in
+      let closed = same-first Close rest inner.after refl inner.alike in
+      moved-at _ later _ rest (first.is ∙ ap (λ (l : List Token). Keyword word.In ∷ l) second.is)
+      (record { after = closed.later; alike = closed.alike; is = compared_of.is_in_list (rw closed.is at inner.is) })
+
+  moved-of-number : (words later rest : List Token) (made : Filter A) → AreLike words later → SpellsOfNumber start «end» words rest made
+      → Moved (λ w r. SpellsOfNumber others (after_number others) w r made) later rest
+  moved-of-number _ later rest made also (comparison {sign = k} {words = words} is) =
+      moved-after (Compared k) words later rest refl also (λ l a. moved-compared k words l rest made a is) (λ w r it. comparison it)
+  moved-of-number words later rest made also (among is) =
+      let inner = moved-among words later rest made also is in
+      record { after = inner.after; alike = inner.alike; is = among inner.is }
+  moved-of-number _ later rest made also (not_among {words = words} {inner = inner} is inverted) =
+      moved-after (Keyword word.Not) words later rest refl also (λ l a. moved-among words l rest inner a is)
+      (λ w r it. not_among it inverted)
+
+  numbers-alike : (words rest : List Token) (made : Filter A) → SpellsNumbers start «end» words rest made → AreLike «end» (after_number others)
+  numbers-alike words rest made (compared_of.one is) = (moved-operand is.first is.is_first).1
+  numbers-alike words rest made (compared_of.more {middle = middle} {first = first} front is joined) =
+      numbers-alike words (Comma ∷ middle) first front
+
+  among-alike : (words rest : List Token) (made : Filter A) → SpellsAmong start «end» words rest made → AreLike «end» (after_number others)
+  among-alike _ rest made (compared_of.is_between is) = (moved-operand is.at_least.first is.at_least.is_first).1
+  among-alike _ rest made (compared_of.is_in_list {words = words} is) = numbers-alike words (Close ∷ rest) made is
+
+  -- the tokens after the number are alike
+  operand-alike : (words rest : List Token) (made : Filter A) → SpellsOfNumber start «end» words rest made → AreLike «end» (after_number others)
+  operand-alike _ rest made (comparison is) = (moved-operand is.first is.is_first).1
+  operand-alike words rest made (among is) = among-alike words rest made is
+  operand-alike _ rest made (not_among {words = words} {inner = inner} is inverted) = among-alike words rest inner is
+
+-- the openings of CASEI and ACCENTI
+pub record LikeOpens (depth : ℕ) (folding : Folding) (inner others : List Token) : Type 0 where
+  pub later : List Token
+  pub opens : Opens depth folding others later
+  pub alike : AreLike inner later
+
+opens-at : {depth : ℕ} {folding : Folding} (others known inner : List Token) → others ≡ known → LikeOpens depth folding inner known
+    → LikeOpens depth folding inner others
+opens-at others known inner is like = rw is like
+
+like-opens : (depth : ℕ) (folding : Folding) (words others inner : List Token) → AreLike words others → Opens depth folding words inner
+    → LikeOpens depth folding inner others
+like-opens _ _ _ others inner alike (inside _) = record { later = others; opens = inside others; alike = alike }
+like-opens _ _ _ others inner alike (casei {depth = depth} {folding = folding} {words = words} is) =
+    let first = same-first (Keyword word.Casei) (Open ∷ words) others refl alike in
+    let second = same-first Open words first.later refl first.alike in
+    let more = like-opens depth folding words second.later inner second.alike is in
+    opens-at others _ inner (first.is ∙ ap (λ (l : List Token). Keyword word.Casei ∷ l) second.is)
+    (record { later = more.later; opens = casei more.opens; alike = more.alike })
+like-opens _ _ _ others inner alike (accenti {depth = depth} {folding = folding} {words = words} is) =
+    let first = same-first (Keyword word.Accenti) (Open ∷ words) others refl alike in
+    let second = same-first Open words first.later refl first.alike in
+    let more = like-opens depth folding words second.later inner second.alike is in
+    opens-at others _ inner (first.is ∙ ap (λ (l : List Token). Keyword word.Accenti ∷ l) second.is)
+    (record { later = more.later; opens = accenti more.opens; alike = more.alike })
+
+-- closing parentheses
+like-closed : (depth : ℕ) (rest others : List Token) → AreLike (closed depth rest) others
+    → (later : List Token) × (others ≡ closed depth later) × AreLike rest later
+like-closed zero rest others alike = (others, refl, alike)
+like-closed (suc depth) rest others alike =
+    let first = same-first Close (closed depth rest) others refl alike in
+    let more = like-closed depth rest first.later first.alike in
+    (more.0, first.is ∙ ap (λ (l : List Token). Close ∷ l) more.1, more.2)
+
+module _ (Inner : List Token → List Token → Type 0) where
+  moved-clause : (folding : Folding) (words others rest : List Token)
+      → ((w o r : List Token) → AreLike w o → Inner w r → Moved Inner o r)
+      → AreLike words others → IsClause Inner folding words rest → Moved (λ w r. IsClause Inner folding w r) others rest
+  moved-clause folding words others rest move alike is =
+      let opened = like-opens is.depth folding words others is.inner alike is.opened.opens in
+      let inner = move is.inner opened.later (closed is.depth rest) opened.alike is.inside in
+      let ends = like-closed is.depth rest inner.after inner.alike in
+      record {
+        after = ends.0;
+        alike = ends.2;
+        is = record {
+          depth = is.depth;
+          inner = opened.later;
+          opened = record { opens = opened.opens; some = is.opened.some; few = is.opened.few };
+          inside = rw ends.1 at inner.is;
+        };
+      }
+
+moved-column : (c : TextColumn) (words others rest : List Token) → AreLike words others → IsTextColumn c words rest
+    → Moved (IsTextColumn c) others rest
+moved-column c words others rest alike is =
+    let first = first-by words others _ rest alike is refl in
+    record { after = first.later; alike = first.alike; is = first.is }
 
 moved-subject : (s : Subject) (words others rest : List Token) → AreLike words others → IsSubject s words rest
     → Moved (λ w r. IsSubject s w r) others rest
-moved-subject (subject.Numeric c) words others rest alike is =
-    let first = first-by words others _ rest alike is refl in
-    record { after = first.later; alike = first.alike; is = first.is }
-moved-subject (subject.Text c) words others rest alike is =
-    let first = first-by words others _ rest alike is refl in
-    record { after = first.later; alike = first.alike; is = first.is }
-moved-subject (subject.Casei c) words others rest alike is =
-    let first = casei-like words others _ alike is in
-    let second = same-first _ (Close ∷ rest) first.0 refl first.2 in
-    let third = same-first Close rest second.later refl second.alike in
-    record { after = third.later; alike = third.alike; is = cc (first.1, second.is, third.is) }
+moved-subject (subject.Text c) words others rest alike is = moved-column c words others rest alike is
+moved-subject (subject.Folded folding c) words others rest alike is =
+    moved-clause (IsTextColumn c) folding words others rest (moved-column c) alike is
 
 module _ {A : Type 0} where
   moved-text : (width : ℕ) (words others rest : List Token) (text : AText A) → AreLike words others → IsText width words rest text
@@ -225,9 +502,9 @@ module _ {A : Type 0} where
         };
       }
 
-  moved-pattern : (c : TextColumn) (ignores_case : Bool) (words others rest : List Token) (pattern : Pattern A) → AreLike words others
-      → IsLikeColumn c ignores_case words rest pattern → Moved (λ w r. IsLikeColumn c ignores_case w r pattern) others rest
-  moved-pattern c ignores_case words others rest pattern alike is =
+  moved-pattern : (c : TextColumn) (folding : Folding) (words others rest : List Token) (pattern : Pattern A) → AreLike words others
+      → IsLikeColumn c folding words rest pattern → Moved (λ w r. IsLikeColumn c folding w r pattern) others rest
+  moved-pattern c folding words others rest pattern alike is =
       let like = like-text-by words others is.spelling rest alike is.spelled in
       record {
         after = like.later;
@@ -235,47 +512,41 @@ module _ {A : Type 0} where
         is = record {
           spelling = like.another;
           spelled = like.is;
-          like = subst (λ (s : List ℕ). IsLikePattern (width_of c) ignores_case s pattern) like.bytes is.like;
+          like = subst (λ (s : List ℕ). IsLikePattern (width_of c) folding s pattern) like.bytes is.like;
         };
       }
 
-  moved-casei : (c : TextColumn) (words others rest : List Token) (pattern : Pattern A) → AreLike words others
-      → IsCaseiText c words rest pattern → Moved (λ w r. IsCaseiText c w r pattern) others rest
-  moved-casei c words others rest pattern alike is =
-      let opened = casei-like words others is.inner alike is.spelled in
-      let text = moved-text (width_of c) is.inner opened.0 (Close ∷ rest) is.text opened.2 is.compared in
-      let closed = same-first Close rest text.after refl text.alike in
-      record {
-        after = closed.later;
-        alike = closed.alike;
-        is = record {
-          inner = opened.0;
-          text = is.text;
-          spelled = opened.1;
-          compared = rw closed.is at text.is;
-          letters = is.letters;
-          closed = is.closed;
-        };
-      }
+  moved-folded : (folding : Folding) (c : TextColumn) (words others rest : List Token) (pattern : Pattern A) → AreLike words others
+      → IsFoldedText folding c words rest pattern → Moved (λ w r. IsFoldedText folding c w r pattern) others rest
+  moved-folded folding c words others rest pattern alike is =
+      let Inner = λ (w r : List Token). IsText (width_of c) w r is.text in
+      let move : (w o r : List Token) → AreLike w o → Inner w r → Moved Inner o r =
+      λ w o r also it. moved-text (width_of c) w o r is.text also it in
+      let moved = moved-clause Inner folding words others rest move alike is.clause in
+      record { after = moved.after; alike = moved.alike; is = record { text = is.text; clause = moved.is; letters = is.letters } }
+
+  moved-text-comparison : (c : TextColumn) (k : Comparison) (words others rest : List Token) (made : Filter A) → AreLike words others
+      → SpellsTextComparison c k words rest made → Moved (λ w r. SpellsTextComparison c k w r made) others rest
+  moved-text-comparison c k words others rest _ alike (with_literal {text = text} is) =
+      let moved = moved-text (width_of c) words others rest text alike is in
+      record { after = moved.after; alike = moved.alike; is = with_literal moved.is }
+  moved-text-comparison c k _ others rest _ alike (with_column {other = other}) =
+      let first = same-first (Column (column.Text other)) rest others refl alike in
+      moved-at _ others _ rest first.is (record { after = first.later; alike = first.alike; is = with_column })
 
   moved-comparison : (s : Subject) (k : Comparison) (words others rest : List Token) (made : Filter A) → AreLike words others
       → SpellsComparison s k words rest made → Moved (λ w r. SpellsComparison s k w r made) others rest
-  moved-comparison (subject.Numeric c) k words others rest made alike is =
-      let number = moved-number c words others rest is.0 alike is.1 in
-      record { after = number.after; alike = number.alike; is = (is.0, number.is, is.2) }
-  moved-comparison (subject.Text c) k words others rest made alike is =
-      let text = moved-text (width_of c) words others rest is.0 alike is.1 in
+  moved-comparison (subject.Text c) k words others rest made alike is = moved-text-comparison c k words others rest made alike is
+  moved-comparison (subject.Folded folding c) Equal words others rest made alike is =
+      let text = moved-folded folding c words others rest is.0 alike is.1 in
       record { after = text.after; alike = text.alike; is = (is.0, text.is, is.2) }
-  moved-comparison (subject.Casei c) Equal words others rest made alike is =
-      let text = moved-casei c words others rest is.0 alike is.1 in
+  moved-comparison (subject.Folded folding c) NotEqual words others rest made alike is =
+      let text = moved-folded folding c words others rest is.0 alike is.1 in
       record { after = text.after; alike = text.alike; is = (is.0, text.is, is.2) }
-  moved-comparison (subject.Casei c) NotEqual words others rest made alike is =
-      let text = moved-casei c words others rest is.0 alike is.1 in
-      record { after = text.after; alike = text.alike; is = (is.0, text.is, is.2) }
-  moved-comparison (subject.Casei c) Less words others rest made alike is = absurd is
-  moved-comparison (subject.Casei c) LessOrEqual words others rest made alike is = absurd is
-  moved-comparison (subject.Casei c) Greater words others rest made alike is = absurd is
-  moved-comparison (subject.Casei c) GreaterOrEqual words others rest made alike is = absurd is
+  moved-comparison (subject.Folded folding c) Less words others rest made alike is = absurd is
+  moved-comparison (subject.Folded folding c) LessOrEqual words others rest made alike is = absurd is
+  moved-comparison (subject.Folded folding c) Greater words others rest made alike is = absurd is
+  moved-comparison (subject.Folded folding c) GreaterOrEqual words others rest made alike is = absurd is
 
   moved-list : (s : Subject) (words others rest : List Token) (made : Filter A) → AreLike words others → SpellsList s words rest made
       → Moved (λ w r. SpellsList s w r made) others rest
@@ -290,47 +561,21 @@ module _ {A : Type 0} where
 
   moved-like : (s : Subject) (words others rest : List Token) (made : Filter A) → AreLike words others → SpellsLike s words rest made
       → Moved (λ w r. SpellsLike s w r made) others rest
-  moved-like (subject.Numeric c) words others rest made alike is = absurd is
   moved-like (subject.Text c) words others rest made alike is =
-      let pattern = moved-pattern c false words others rest is.0 alike is.1 in
+      let pattern = moved-pattern c nothing words others rest is.0 alike is.1 in
       record { after = pattern.after; alike = pattern.alike; is = (is.0, pattern.is, is.2) }
-  moved-like (subject.Casei c) words others rest made alike is =
-      let opened = casei-like words others is.0 alike is.1.1 in
-      let pattern = moved-pattern c true is.0 opened.0 (Close ∷ rest) is.1.0 opened.2 is.1.2 in
-      let closed = same-first Close rest pattern.after refl pattern.alike in
-      record {
-        after = closed.later;
-        alike = closed.alike;
-        is = (opened.0, (is.1.0, opened.1, rw closed.is at pattern.is, is.1.3));
-      }
-
-  moved-between : (c : NumericColumn) (words others rest : List Token) (made : Filter A) → AreLike words others
-      → SpellsBetween c words rest made → Moved (λ w r. SpellsBetween c w r made) others rest
-  moved-between c words others rest made alike is =
-      let low = moved-number c words others (Keyword word.And ∷ is.middle) is.low alike is.first in
-      let between = same-first (Keyword word.And) is.middle low.after refl low.alike in
-      let high = moved-number c is.middle between.later rest is.high between.alike is.second in
-      record {
-        after = high.after;
-        alike = high.alike;
-        is = record {
-          low = is.low;
-          high = is.high;
-          middle = between.later;
-          first = rw between.is at low.is;
-          second = high.is;
-          within = is.within;
-        };
-      }
+  moved-like (subject.Folded folding c) words others rest made alike is =
+      let Inner = λ (w r : List Token). IsLikeColumn c folding w r is.0 in
+      let move : (w o r : List Token) → AreLike w o → Inner w r → Moved Inner o r =
+      λ w o r also it. moved-pattern c folding w o r is.0 also it in
+      let moved = moved-clause Inner folding words others rest move alike is.1 in
+      record { after = moved.after; alike = moved.alike; is = (is.0, moved.is, is.2) }
 
   moved-negatable : (s : Subject) (words others rest : List Token) (made : Filter A) → AreLike words others
       → SpellsNegatable s words rest made → Moved (λ w r. SpellsNegatable s w r made) others rest
   moved-negatable s _ others rest made alike (is_like {words = words} is) =
       moved-after (Keyword word.Like) words others rest refl alike (λ later also. moved-like s words later rest made also is)
       (λ w r it. is_like it)
-  moved-negatable _ _ others rest made alike (is_between {c = c} {words = words} is) =
-      moved-after (Keyword word.Between) words others rest refl alike (λ later also. moved-between c words later rest made also is)
-      (λ w r it. is_between it)
   moved-negatable s _ others rest made alike (is_in_list {words = words} is) =
       let first = same-first (Keyword word.In) (Open ∷ words) others refl alike in
       let second = same-first Open words first.later refl first.alike in
@@ -338,6 +583,17 @@ module _ {A : Type 0} where
       let closed = same-first Close rest inner.after refl inner.alike in
       moved-at _ others _ rest (first.is ∙ ap (λ (l : List Token). Keyword word.In ∷ l) second.is)
       (record { after = closed.later; alike = closed.alike; is = is_in_list (rw closed.is at inner.is) })
+
+  moved-null : (c : AColumn) (words others rest : List Token) (made : Filter A) → AreLike words others → SpellsNull c words rest made
+      → Moved (λ w r. SpellsNull c w r made) others rest
+  moved-null c _ others rest _ alike is_null =
+      let first = same-first (Keyword word.Null) rest others refl alike in
+      moved-at _ others _ rest first.is (record { after = first.later; alike = first.alike; is = is_null })
+  moved-null c _ others rest made alike (is_not_null inverted) =
+      let first = same-first (Keyword word.Not) (Keyword word.Null ∷ rest) others refl alike in
+      let second = same-first (Keyword word.Null) rest first.later refl first.alike in
+      moved-at _ others _ rest (first.is ∙ ap (λ (l : List Token). Keyword word.Not ∷ l) second.is)
+      (record { after = second.later; alike = second.alike; is = is_not_null inverted })
 
   moved-of : (s : Subject) (words others rest : List Token) (made : Filter A) → AreLike words others → SpellsOf s words rest made
       → Moved (λ w r. SpellsOf s w r made) others rest
@@ -347,21 +603,49 @@ module _ {A : Type 0} where
   moved-of s words others rest made alike (negatable is) =
       let inner = moved-negatable s words others rest made alike is in
       record { after = inner.after; alike = inner.alike; is = negatable inner.is }
-  moved-of s _ others rest made alike (negated {words = words} {inner = opposite} is inverted) =
-      moved-after (Keyword word.Not) words others rest refl alike (λ later also. moved-negatable s words later rest opposite also is)
+  moved-of s _ others rest made alike (negated {words = words} {inner = inner} is inverted) =
+      moved-after (Keyword word.Not) words others rest refl alike (λ later also. moved-negatable s words later rest inner also is)
       (λ w r it. negated it inverted)
-  moved-of s _ others rest _ alike (is_null known) =
-      let first = same-first (Keyword word.Is) (Keyword word.Null ∷ rest) others refl alike in
-      let second = same-first (Keyword word.Null) rest first.later refl first.alike in
-      moved-at _ others _ rest (first.is ∙ ap (λ (l : List Token). Keyword word.Is ∷ l) second.is)
-      (record { after = second.later; alike = second.alike; is = is_null known })
-  moved-of s _ others rest made alike (is_not_null known inverted) =
-      let first = same-first (Keyword word.Is) (Keyword word.Not ∷ Keyword word.Null ∷ rest) others refl alike in
-      let second = same-first (Keyword word.Not) (Keyword word.Null ∷ rest) first.later refl first.alike in
-      let third = same-first (Keyword word.Null) rest second.later refl second.alike in
-      let words_two = second.is ∙ ap (λ (l : List Token). Keyword word.Not ∷ l) third.is in
-      moved-at _ others _ rest (first.is ∙ ap (λ (l : List Token). Keyword word.Is ∷ l) words_two)
-      (record { after = third.later; alike = third.alike; is = is_not_null known inverted })
+  moved-of s _ others rest made alike (null_test {words = words} {c = c} known is) =
+      moved-after (Keyword word.Is) words others rest refl alike (λ later also. moved-null c words later rest made also is)
+      (λ w r it. null_test known it)
+
+-- what closes a parenthesis, and what follows it, is alike
+close-like : (d : ℕ) (test : Bool) (tokens others : List Token) → AreLike tokens others → AreLike (closing (d - 1) tokens) (closing (d - 1) others)
+    → AreLike (if test then closing (d - 1) tokens else Close ∷ tokens) (if test then closing (d - 1) others else Close ∷ others)
+close-like d true tokens others alike inner = inner
+close-like d false tokens others alike inner = next Close Close tokens others (same Close) alike
+
+closing-like : (words others : List Token) → AreLike words others → (d : ℕ) → AreLike (closing d words) (closing d others)
+closing-like _ _ none d = none
+closing-like _ _ (next _ _ tokens later (same Open) alike) d = closing-like tokens later alike (d + 1)
+closing-like _ _ (next _ _ tokens later (same Close) alike) d =
+    close-like d (nat_lt 0 d) tokens later alike (closing-like tokens later alike (d - 1))
+closing-like _ _ (next _ _ tokens later (same token) alike) d = closing-like tokens later alike d
+closing-like _ _ (next _ _ tokens later (numbers numeral other sign whole decimals) alike) d = closing-like tokens later alike d
+closing-like _ _ (next _ _ tokens later (texts spelling other bytes) alike) d = closing-like tokens later alike d
+
+follows-first : (token : Token) (left right : List Token) → follows_number (token ∷ left) ≡ follows_number (token ∷ right)
+follows-first (Keyword keyword) left right = refl
+follows-first token left right = refl
+
+follows-like : (words others : List Token) → AreLike words others → follows_number words ≡ follows_number others
+follows-like _ _ none = refl
+follows-like _ _ (next _ _ tokens later (same token) alike) = follows-first token tokens later
+follows-like _ _ (next _ _ tokens later (numbers numeral other sign whole decimals) alike) = refl
+follows-like _ _ (next _ _ tokens later (texts spelling other bytes) alike) = refl
+
+follows-closing-like : (words others : List Token) → AreLike words others → follows_closing words ≡ follows_closing others
+follows-closing-like _ _ none = refl
+follows-closing-like _ _ (next _ _ tokens later like alike) = follows-like tokens later alike
+
+opens-like : (words others : List Token) → AreLike words others → opens_filter words ≡ opens_filter others
+opens-like _ _ none = refl
+opens-like _ _ (next _ _ tokens later (same Open) alike) =
+    ap not (follows-closing-like (closing 0 tokens) (closing 0 later) (closing-like tokens later alike 0))
+opens-like _ _ (next _ _ tokens later (same token) alike) = refl
+opens-like _ _ (next _ _ tokens later (numbers numeral other sign whole decimals) alike) = refl
+opens-like _ _ (next _ _ tokens later (texts spelling other bytes) alike) = refl
 
 none-like : (others : List Token) → AreLike [] others → others ≡ []
 none-like _ none = refl
@@ -372,19 +656,19 @@ count_of-like most numeral another sign whole decimals = rw (sign, whole, decima
 
 moved-limit : (words others rest : List Token) (limit : NameLimit) → AreLike words others → SpellsLimit words rest limit
     → Moved (λ w r. SpellsLimit w r limit) others rest
-moved-limit _ others rest limit alike (given numeral value) =
-    let first = same-first Comma (Number numeral ∷ rest) others refl alike in
-    let like = like-number-by (Number numeral ∷ rest) first.later numeral rest first.alike refl in
+moved-limit _ others rest limit alike (given {words = words} numeral is value) =
+    let first = same-first Comma words others refl alike in
+    let like = signed-like words first.later rest numeral first.alike is in
     let counts = count_of-like 18 numeral like.another like.sign like.whole like.decimals in
-    moved-at _ others _ rest (first.is ∙ ap (λ (l : List Token). Comma ∷ l) like.is)
-    (record { after = like.later; alike = like.alike; is = given like.another (ap up_to_name_limit (sym counts) ∙ value) })
+    moved-at _ others _ rest first.is
+    (record { after = like.later; alike = like.alike; is = given like.another like.is (ap up_to_name_limit (sym counts) ∙ value) })
 moved-limit words others _ limit alike (usual value) = record { after = others; alike = alike; is = usual value }
 
 moved-has_number : (words others rest : List Token) (house : HouseNumber) → AreLike words others → SpellsHasNumber words rest house
     → Moved (λ w r. SpellsHasNumber w r house) others rest
 moved-has_number words others rest house alike is =
-    let first = first-by words others Open (Number is.numeral ∷ Close ∷ rest) alike is.spelled refl in
-    let like = like-number-by (Number is.numeral ∷ Close ∷ rest) first.later is.numeral (Close ∷ rest) first.alike refl in
+    let first = first-by words others Open is.inner alike is.opened refl in
+    let like = signed-like is.inner first.later (Close ∷ rest) is.numeral first.alike is.spelled in
     let closed = same-first Close rest like.later refl like.alike in
     let counts = count_of-like 11 is.numeral like.another like.sign like.whole like.decimals in
     record {
@@ -392,7 +676,9 @@ moved-has_number words others rest house alike is =
       alike = closed.alike;
       is = record {
         numeral = like.another;
-        spelled = first.is ∙ ap (λ (l : List Token). Open ∷ l) (like.is ∙ ap (λ (l : List Token). Number like.another ∷ l) closed.is);
+        inner = first.later;
+        opened = first.is;
+        spelled = rw closed.is at like.is;
         value = sym counts ∙ is.value;
       };
     }
@@ -450,6 +736,28 @@ module _ {A : Type 0} where
         };
       }
 
+  moved-relation : (words others rest : List Token) (made : Filter A) → AreLike words others → SpellsRelation words rest made
+      → Moved (λ w r. SpellsRelation w r made) others rest
+  moved-relation words others rest made alike (of_subject {s = s} {middle = middle} known is) =
+      let first = moved-subject s words others middle alike known in
+      let inner = moved-of s middle first.after rest made first.alike is in
+      record { after = inner.after; alike = inner.alike; is = of_subject first.is inner.is }
+  moved-relation words others rest _ alike (text_first {c = c} {k = k} {text = text} is) =
+      let moved = moved-text (width_of c) words others (Compared k ∷ Column (column.Text c) ∷ rest) text alike is in
+      let sign = same-first (Compared k) (Column (column.Text c) ∷ rest) moved.after refl moved.alike in
+      let named = same-first (Column (column.Text c)) rest sign.later refl sign.alike in
+      record { after = named.later; alike = named.alike; is = text_first (rw (sign.is, named.is) at moved.is) }
+  moved-relation words others rest made alike (of_number {middle = middle} is) =
+      let later = operand-alike words others middle alike middle rest made is in
+      let moved = moved-of-number words others middle alike middle (after_number others) rest made later is in
+      record { after = moved.after; alike = moved.alike; is = of_number moved.is }
+  moved-relation _ others rest made alike (number_null {words = words} {c = c} is) =
+      let first = same-first (Column (column.Numeric c)) (Keyword word.Is ∷ words) others refl alike in
+      let second = same-first (Keyword word.Is) words first.later refl first.alike in
+      let moved = moved-null (column.Numeric c) words second.later rest made second.alike is in
+      moved-at _ others _ rest (first.is ∙ ap (λ (l : List Token). Column (column.Numeric c) ∷ l) second.is)
+      (record { after = moved.after; alike = moved.alike; is = number_null moved.is })
+
   moved-predicate : (words others rest : List Token) (made : Filter A) → AreLike words others → SpellsPredicate words rest made
       → Moved (λ w r. SpellsPredicate w r made) others rest
   moved-predicate _ others rest _ alike true_literal =
@@ -469,10 +777,9 @@ module _ {A : Type 0} where
   moved-predicate _ others rest made alike (starts_in {words = words} is) =
       moved-after (Keyword word.StartsIn) words others rest refl alike (λ later also. moved-starts_in words later rest made also is)
       (λ w r it. starts_in it)
-  moved-predicate words others rest made alike (of_subject {s = s} {middle = middle} known is) =
-      let first = moved-subject s words others middle alike known in
-      let inner = moved-of s middle first.after rest made first.alike is in
-      record { after = inner.after; alike = inner.alike; is = of_subject first.is inner.is }
+  moved-predicate words others rest made alike (relation is) =
+      let moved = moved-relation words others rest made alike is in
+      record { after = moved.after; alike = moved.alike; is = relation moved.is }
 
   pub moved-spells : (depth : ℕ) (production : Production) (words others rest : List Token) (made : Filter A) → AreLike words others
       → Spells depth production words rest made → Moved (λ w r. Spells depth production w r made) others rest
@@ -495,18 +802,19 @@ module _ {A : Type 0} where
   moved-spells depth _ words others rest made alike (one_primary is) =
       let inner = moved-spells depth _ words others rest made alike is in
       record { after = inner.after; alike = inner.alike; is = one_primary inner.is }
-  moved-spells depth _ _ others rest made alike (not_primary {words = words} {inner = opposite} is inverted) =
-      moved-after (Keyword word.Not) words others rest refl alike (λ later also. moved-spells depth _ words later rest opposite also is)
+  moved-spells depth _ _ others rest made alike (not_primary {words = words} {inner = inner} is inverted) =
+      moved-after (Keyword word.Not) words others rest refl alike (λ later also. moved-spells depth _ words later rest inner also is)
       (λ w r it. not_primary it inverted)
-  moved-spells _ _ _ others rest made alike (grouped {depth = depth} {words = words} is) =
+  moved-spells _ _ _ others rest made alike (grouped {depth = depth} {words = words} opens is) =
       let first = same-first Open words others refl alike in
+      let opens_too = sym (opens-like (Open ∷ words) (Open ∷ first.later) (next Open Open words first.later (same Open) first.alike)) ∙ opens in
       let inner = moved-spells depth _ words first.later (Close ∷ rest) made first.alike is in
       let closed = same-first Close rest inner.after refl inner.alike in
       moved-at _ others _ rest first.is
-      (record { after = closed.later; alike = closed.alike; is = grouped (rw closed.is at inner.is) })
-  moved-spells depth _ words others rest made alike (predicate is) =
+      (record { after = closed.later; alike = closed.alike; is = grouped opens_too (rw closed.is at inner.is) })
+  moved-spells depth _ words others rest made alike (predicate opens is) =
       let inner = moved-predicate words others rest made alike is in
-      record { after = inner.after; alike = inner.alike; is = predicate inner.is }
+      record { after = inner.after; alike = inner.alike; is = predicate (sym (opens-like words others alike) ∙ opens) inner.is }
 
   -- the same for all tokens
   pub all-moved : (depth : ℕ) (production : Production) (words others : List Token) (made : Filter A) → AreLike words others

@@ -3,7 +3,8 @@ use Rattle.std.proofs.Common.{◌≡◌, ◌≢◌, ℕ, List, ◌∷◌, refl, 
 use Rattle.cql2.specs.declared.filter.Comparison.TheVariants.{Equal}
 use Rattle.cql2.specs.declared.filter.Filter.{Filter}
 use Rattle.cql2_text.specs.Content.{content}
-use Rattle.cql2_text.specs.Predicate.{IsBoth, IsEither, SpellsComparison, SpellsList, one, more}
+use Rattle.cql2_text.specs.Connective.{IsBoth, IsEither}
+use Rattle.cql2_text.specs.Predicate.{SpellsComparison, SpellsList, one, more}
 use Rattle.cql2_text.specs.Read.{IsNotNext}
 use Rattle.cql2_text.specs.Spelled.{Expression, Factor, Spells, Term, both, either, one_factor, one_term}
 use Rattle.cql2_text.specs.declared.predicate.Subject.{Subject}

@@ -1,8 +1,14 @@
 pub mod AlikeLemmas
 pub mod ChainLemmas
 pub mod CharacterLemmas
+pub mod ClauseLemmas
+pub mod ComparedLemmas
+pub mod NumberLemmas
+pub mod NumeralLemmas
 pub mod PatternLemmas
 pub mod PlaceLemmas
+pub mod RelationLemmas
+pub mod ScanLemmas
 pub mod ShorterLemmas
 pub mod SpelledLemmas
 pub mod TextLemmas

@@ -1,210 +1,171 @@
 -- Patterns.
-use Rattle.std.proofs.Common.{◌≡◌, ◌≢◌, ◌⊎◌, inl, inr, ◌≤◌, ℕ, Bool, true, false, List, [], ◌∷◌, ◌++◌, length, Result, Ok, Err, IfOk, IfErr}
-use Rattle.std.proofs.Common.{MatchResult, ◌<◌, refl, sym, ap, ◌∙◌, subst, arith, append_assoc, append-nil, length-append}
+use Rattle.std.proofs.Common.{◌≡◌, ◌⊎◌, inl, inr, ◌≤◌, ℕ, true, false, List, [], ◌∷◌, ◌++◌, length, refl, sym, ap, ◌∙◌, arith}
+use Rattle.std.proofs.Common.{append_assoc, append-nil, length-append}
 use Rattle.std.proofs.lemmas.Bool.Decides.{nat_tests}
 use Rattle.std.proofs.lemmas.List.Folds.{list_all-append}
 use Rattle.cql2.specs.Pattern.{are_bytes, is_byte}
-use Rattle.cql2.specs.declared.pattern.Pattern.{Pattern}
-use Rattle.cql2.specs.declared.pattern.PatternByte.{PatternByte}
-use Rattle.cql2_text.specs.declared.syntax_fault.TextFault.{TextFault}
-use Rattle.cql2_text.specs.declared.syntax_fault.TextFault.TheVariants as text_fault
-use Rattle.cql2.specs.declared.pattern.PatternByte.TheVariants.{Any}
+use Rattle.cql2.specs.declared.pattern.Folding.{Folding}
+use Rattle.cql2.specs.declared.pattern.PatternPart.{PatternPart}
+use Rattle.cql2.specs.declared.pattern.PatternPart.TheVariants.{Many, One}
 use Rattle.cql2_tokens.specs.Character.{IsCharacter, character_text}
 use Rattle.cql2_text.proofs.CharacterLemmas.{some-text}
-use Rattle.cql2_text.specs.Pattern.{IsPattern, IsPatternByte, IsSamePattern, ReadsPattern, any, escaped, is_special, next, ordinary, start, character_pattern}
+use Rattle.cql2_text.specs.Pattern.{IsPattern, IsPatternPart, after_percents, character_pattern, empty, escaped, is_special, longer, many, one, ordinary}
 
 -- a text that begins with an ASCII byte
 starts-with : (text rest : List ℕ) (byte known : ℕ) → IsCharacter text byte rest → byte ≡ known → text ≡ character_text known ++ rest
 starts-with text rest byte known is same = is.spelled ∙ ap (λ (b : ℕ). character_text b ++ rest) same
 
-pub byte-any : (ignores_case : Bool) (text rest : List ℕ) (byte : ℕ) → IsCharacter text byte rest → byte ≡ 95
-    → IsPatternByte ignores_case text Any rest
-byte-any ignores_case text rest byte is same =
-    subst (λ (t : List ℕ). IsPatternByte ignores_case t Any rest) (sym (starts-with text rest byte 95 is same)) (any rest)
+module _ {folding : Folding} {text rest : List ℕ} {byte : ℕ} where
+  pub part-many : {after : List ℕ} → IsCharacter text byte rest → byte ≡ 37 → after ≡ after_percents rest
+      → IsPatternPart folding text Many after
+  part-many is same after_is = rw (starts-with text rest byte 37 is same, after_is) (many rest)
 
-module _ {ignores_case : Bool} {text middle rest : List ℕ} {byte next : ℕ} {wanted : PatternByte} where
-  pub byte-escaped : IsCharacter text byte middle → byte ≡ 92 → IsCharacter middle next rest → wanted ≡ character_pattern ignores_case next
-      → IsPatternByte ignores_case text wanted rest
-  byte-escaped is same then made =
-      let first = starts-with text middle byte 92 is same in
-      let e : text ≡ 92 ∷ (character_text next ++ rest) = first ∙ ap (λ (l : List ℕ). 92 ∷ l) then.spelled in
-      rw (e, made) (escaped next rest then.is_one)
+  pub part-one : IsCharacter text byte rest → byte ≡ 95 → IsPatternPart folding text One rest
+  part-one is same = rw (starts-with text rest byte 95 is same) (one rest)
 
-pub byte-ordinary : (ignores_case : Bool) (text rest : List ℕ) (byte : ℕ) (wanted : PatternByte) → IsCharacter text byte rest
-    → is_special byte ≡ false → wanted ≡ character_pattern ignores_case byte → IsPatternByte ignores_case text wanted rest
-byte-ordinary ignores_case text rest byte wanted is plain made = rw (is.spelled, made) (ordinary byte rest is.is_one plain)
+  pub part-escaped : {after : List ℕ} {next : ℕ} {part : PatternPart} → IsCharacter text byte rest → byte ≡ 92 → IsCharacter rest next after
+      → part ≡ character_pattern folding next → IsPatternPart folding text part after
+  part-escaped {after = after} {next = next} is same then made =
+      let first = starts-with text rest byte 92 is same in
+      let e : text ≡ 92 ∷ (character_text next ++ after) = first ∙ ap (λ (l : List ℕ). 92 ∷ l) then.spelled in
+      rw (e, made) (escaped next after then.is_one)
 
-pub bytes-more : (pattern : List PatternByte) (byte : PatternByte) → are_bytes pattern ≡ true → is_byte byte ≡ true
-    → are_bytes (pattern ++ byte ∷ []) ≡ true
-bytes-more pattern byte all one = rw (list_all-append is_byte pattern (byte ∷ []), all, one) refl
+  pub part-ordinary : {part : PatternPart} → IsCharacter text byte rest → is_special byte ≡ false → part ≡ character_pattern folding byte
+      → IsPatternPart folding text part rest
+  part-ordinary is plain made = rw (is.spelled, made) (ordinary byte rest is.is_one plain)
 
--- the meaning of a pattern byte, by the character that the text begins with
-abbrev HasMeaning : Bool → ℕ → List ℕ → PatternByte → List ℕ → Type 0
-HasMeaning ignores_case byte after wanted rest =
-    ((byte ≡ 95) × (wanted ≡ Any) × (after ≡ rest))
-    ⊎ (((byte ≡ 92) × ((following : ℕ) × IsCharacter after following rest × (wanted ≡ character_pattern ignores_case following)))
-    ⊎ ((is_special byte ≡ false) × (wanted ≡ character_pattern ignores_case byte) × (after ≡ rest)))
+pub parts-more : (pattern : List PatternPart) (part : PatternPart) → are_bytes pattern ≡ true → is_byte part ≡ true
+    → are_bytes (pattern ++ part ∷ []) ≡ true
+parts-more pattern part all is = rw (list_all-append is_byte pattern (part ∷ []), all, is) refl
 
-pub record ByteView (ignores_case : Bool) (text : List ℕ) (wanted : PatternByte) (rest : List ℕ) : Type 0 where
+-- the meaning of a part, by the character that the text begins with
+abbrev HasMeaning : Folding → ℕ → List ℕ → PatternPart → List ℕ → Type 0
+HasMeaning folding byte after part rest =
+    ((byte ≡ 37) × (part ≡ Many) × (after_percents after ≡ rest))
+    ⊎ (((byte ≡ 95) × (part ≡ One) × (after ≡ rest))
+    ⊎ (((byte ≡ 92) × ((following : ℕ) × IsCharacter after following rest × (part ≡ character_pattern folding following)))
+    ⊎ ((is_special byte ≡ false) × (part ≡ character_pattern folding byte) × (after ≡ rest))))
+
+pub record PartView (folding : Folding) (text : List ℕ) (part : PatternPart) (rest : List ℕ) : Type 0 where
   pub byte : ℕ
   pub after : List ℕ
   pub is : IsCharacter text byte after
-  pub means : HasMeaning ignores_case byte after wanted rest
+  pub means : HasMeaning folding byte after part rest
 
-pub view : (ignores_case : Bool) (text : List ℕ) (wanted : PatternByte) (rest : List ℕ) → IsPatternByte ignores_case text wanted rest
-    → ByteView ignores_case text wanted rest
-view ignores_case _ _ _ (any rest) =
-    record { byte = 95; after = rest; is = record { spelled = refl; is_one = refl }; means = inl (refl, refl, refl) }
-view ignores_case _ _ _ (escaped byte rest is) =
+pub view : (folding : Folding) (text : List ℕ) (part : PatternPart) (rest : List ℕ) → IsPatternPart folding text part rest
+    → PartView folding text part rest
+view folding _ _ _ (many rest) =
+    record { byte = 37; after = rest; is = record { spelled = refl; is_one = refl }; means = inl (refl, refl, refl) }
+view folding _ _ _ (one rest) =
+    record { byte = 95; after = rest; is = record { spelled = refl; is_one = refl }; means = inr (inl (refl, refl, refl)) }
+view folding _ _ _ (escaped byte rest is) =
     record {
       byte = 92;
       after = character_text byte ++ rest;
       is = record { spelled = refl; is_one = refl };
-      means = inr (inl (refl, (byte, record { spelled = refl; is_one = is }, refl)));
+      means = inr (inr (inl (refl, (byte, record { spelled = refl; is_one = is }, refl))));
     }
-view ignores_case _ _ _ (ordinary byte rest is plain) =
-    record { byte = byte; after = rest; is = record { spelled = refl; is_one = is }; means = inr (inr (plain, refl, refl)) }
+view folding _ _ _ (ordinary byte rest is plain) =
+    record { byte = byte; after = rest; is = record { spelled = refl; is_one = is }; means = inr (inr (inr (plain, refl, refl))) }
 
-module _ (ignores_case : Bool) (byte : ℕ) (after rest : List ℕ) (wanted : PatternByte) where
-  means-escaped : HasMeaning ignores_case byte after wanted rest → byte ≡ 92
-      → (following : ℕ) × IsCharacter after following rest × (wanted ≡ character_pattern ignores_case following)
+module _ (folding : Folding) (byte : ℕ) (after rest : List ℕ) (part : PatternPart) where
+  means-many : HasMeaning folding byte after part rest → byte ≡ 37 → (part ≡ Many) × (after_percents after ≡ rest)
+  means-many (inl means) is = (means.1, means.2)
+  means-many (inr (inl means)) is = absurd (omega (arith, means.0))
+  means-many (inr (inr (inl means))) is = let e : byte ≡ 92 = means.0 in absurd (omega arith)
+  means-many (inr (inr (inr means))) is = absurd (grind (arith, nat_tests))
+
+  means-one : HasMeaning folding byte after part rest → byte ≡ 95 → (part ≡ One) × (after ≡ rest)
+  means-one (inl means) is = absurd (omega (arith, means.0))
+  means-one (inr (inl means)) is = (means.1, means.2)
+  means-one (inr (inr (inl means))) is = let e : byte ≡ 92 = means.0 in absurd (omega arith)
+  means-one (inr (inr (inr means))) is = absurd (grind (arith, nat_tests))
+
+  means-escaped : HasMeaning folding byte after part rest → byte ≡ 92
+      → (following : ℕ) × IsCharacter after following rest × (part ≡ character_pattern folding following)
   means-escaped (inl means) is = absurd (omega (arith, means.0))
-  means-escaped (inr (inl means)) is = means.1
-  means-escaped (inr (inr means)) is = absurd (grind (arith, nat_tests))
+  means-escaped (inr (inl means)) is = absurd (omega (arith, means.0))
+  means-escaped (inr (inr (inl means))) is = means.1
+  means-escaped (inr (inr (inr means))) is = absurd (grind (arith, nat_tests))
 
-  means-ordinary : HasMeaning ignores_case byte after wanted rest → is_special byte ≡ false
-      → (wanted ≡ character_pattern ignores_case byte) × (after ≡ rest)
+  means-ordinary : HasMeaning folding byte after part rest → is_special byte ≡ false
+      → (part ≡ character_pattern folding byte) × (after ≡ rest)
   means-ordinary (inl means) plain = absurd (grind (arith, nat_tests))
-  means-ordinary (inr (inl means)) plain = let e : byte ≡ 92 = means.0 in absurd (grind (arith, nat_tests))
-  means-ordinary (inr (inr means)) plain = (means.1, means.2)
+  means-ordinary (inr (inl means)) plain = absurd (grind (arith, nat_tests))
+  means-ordinary (inr (inr (inl means))) plain = let e : byte ≡ 92 = means.0 in absurd (grind (arith, nat_tests))
+  means-ordinary (inr (inr (inr means))) plain = (means.1, means.2)
 
-  means-other : HasMeaning ignores_case byte after wanted rest → is_special byte ≡ true → byte ≢ 95 → byte ≢ 92 → ⊥
-  means-other (inl means) special any_byte escape = any_byte means.0
-  means-other (inr (inl means)) special any_byte escape = escape means.0
-  means-other (inr (inr means)) special any_byte escape = let plain : is_special byte ≡ false = means.0 in cc
+module _ {folding : Folding} {text rest : List ℕ} {part : PatternPart} (v : PartView folding text part rest) where
+  pub is-many : v.byte ≡ 37 → (part ≡ Many) × (after_percents v.after ≡ rest)
+  is-many is = means-many folding v.byte v.after rest part v.means is
 
-module _ {ignores_case : Bool} {text rest : List ℕ} {wanted : PatternByte} (v : ByteView ignores_case text wanted rest) where
-  pub is-escaped : v.byte ≡ 92 → (following : ℕ) × IsCharacter v.after following rest × (wanted ≡ character_pattern ignores_case following)
-  is-escaped is = means-escaped ignores_case v.byte v.after rest wanted v.means is
+  pub is-one : v.byte ≡ 95 → (part ≡ One) × (v.after ≡ rest)
+  is-one is = means-one folding v.byte v.after rest part v.means is
 
-  pub is-ordinary : is_special v.byte ≡ false → (wanted ≡ character_pattern ignores_case v.byte) × (v.after ≡ rest)
-  is-ordinary plain = means-ordinary ignores_case v.byte v.after rest wanted v.means plain
+  pub is-escaped : v.byte ≡ 92 → (following : ℕ) × IsCharacter v.after following rest × (part ≡ character_pattern folding following)
+  is-escaped is = means-escaped folding v.byte v.after rest part v.means is
 
-  pub is-other : is_special v.byte ≡ true → v.byte ≢ 95 → v.byte ≢ 92 → ⊥
-  is-other special any_byte escape = means-other ignores_case v.byte v.after rest wanted v.means special any_byte escape
+  pub is-ordinary : is_special v.byte ≡ false → (part ≡ character_pattern folding v.byte) × (v.after ≡ rest)
+  is-ordinary plain = means-ordinary folding v.byte v.after rest part v.means plain
 
 no-character : (text : List ℕ) (byte : ℕ) (rest : List ℕ) → IsCharacter text byte rest → length text ≡ 0 → ⊥
 no-character text byte rest is none =
     omega (arith, some-text byte, ap length is.spelled, length-append (character_text byte) rest)
 
-percent-byte : (text : List ℕ) (byte : ℕ) (rest : List ℕ) → IsCharacter text byte rest → text ≡ 37 ∷ [] → byte ≡ 37
-percent-byte text byte rest is percent = grind (arith, nat_tests)
+-- the parts so far, and the remaining ones
+pub record MoreParts (folding : Folding) (so_far : List PatternPart) (text : List ℕ) (parts : List PatternPart) : Type 0 where
+  pub later : List PatternPart
+  pub joined : parts ≡ so_far ++ later
+  pub has : IsPattern folding text later
 
-no-percent : (ignores_case : Bool) (text : List ℕ) (wanted : PatternByte) (rest : List ℕ) → IsPatternByte ignores_case text wanted rest
-    → text ≡ 37 ∷ [] → ⊥
-no-percent ignores_case text wanted rest is percent =
-    let v = view ignores_case text wanted rest is in
-    let e : v.byte ≡ 37 = percent-byte text v.byte v.after v.is percent in
-    is-other v (rw e refl) (λ f. omega arith) (λ f. omega arith)
-
--- a text as the bytes of a pattern, with whether it is open
-pub data PatternOf (ignores_case : Bool) : List ℕ → List PatternByte → Bool → Type 0 where
-  closed : PatternOf ignores_case [] [] false
-  opened : PatternOf ignores_case (37 ∷ []) [] true
-  more : {text rest : List ℕ} {byte : PatternByte} {wanted : List PatternByte} {is_open : Bool}
-      → IsPatternByte ignores_case text byte rest → PatternOf ignores_case rest wanted is_open
-      → PatternOf ignores_case text (byte ∷ wanted) is_open
-
-pattern-joined : (ignores_case : Bool) (spelling text : List ℕ) (wanted later : List PatternByte) (is_open : Bool)
-    → ReadsPattern ignores_case spelling text wanted → PatternOf ignores_case text later is_open
-    → PatternOf ignores_case spelling (wanted ++ later) is_open
-pattern-joined ignores_case spelling _ _ later is_open start is = is
-pattern-joined ignores_case spelling _ _ later is_open (next {text = text} {byte = byte} {wanted = wanted} before is_byte) is =
-    rw append_assoc (pattern-joined ignores_case spelling text wanted (byte ∷ later) is_open before (more is_byte is))
-
--- the pattern bytes so far, and the remaining ones
-pub record MoreBytes (ignores_case : Bool) (so_far : List PatternByte) (text : List ℕ) (wanted : List PatternByte) (is_open : Bool)
-    : Type 0 where
-  pub later : List PatternByte
-  pub joined : wanted ≡ so_far ++ later
-  pub has : PatternOf ignores_case text later is_open
-
-pub all-bytes : (ignores_case : Bool) (spelling : List ℕ) (wanted : List PatternByte) (is_open : Bool)
-    → IsPattern ignores_case spelling wanted is_open → MoreBytes ignores_case [] spelling wanted is_open
-all-bytes ignores_case spelling wanted true is =
-    let has = pattern-joined ignores_case spelling (37 ∷ []) wanted [] true is opened in
-    record { later = wanted; joined = refl; has = rw append-nil at has }
-all-bytes ignores_case spelling wanted false is =
-    let has = pattern-joined ignores_case spelling [] wanted [] false is closed in
-    record { later = wanted; joined = refl; has = rw append-nil at has }
-
--- the next pattern byte
-pub record NextByte (ignores_case : Bool) (so_far : List PatternByte) (text : List ℕ) (wanted : List PatternByte) (is_open : Bool)
-    : Type 0 where
-  pub byte : PatternByte
+-- the next part
+pub record NextPart (folding : Folding) (so_far : List PatternPart) (text : List ℕ) (parts : List PatternPart) : Type 0 where
+  pub part : PatternPart
   pub after : List ℕ
-  pub is : IsPatternByte ignores_case text byte after
-  pub more_bytes : MoreBytes ignores_case (so_far ++ byte ∷ []) after wanted is_open
+  pub is : IsPatternPart folding text part after
+  pub more_parts : MoreParts folding (so_far ++ part ∷ []) after parts
 
-module _ (ignores_case : Bool) (so_far wanted : List PatternByte) where
-  next-by : (text : List ℕ) (later : List PatternByte) (is_open : Bool) → wanted ≡ so_far ++ later
-      → PatternOf ignores_case text later is_open
-      → 1 ≤ length text → text ≢ 37 ∷ [] → NextByte ignores_case so_far text wanted is_open
-  next-by _ _ _ joined closed some no_percent = absurd (omega arith)
-  next-by _ _ _ joined opened some no_percent = absurd (no_percent refl)
-  next-by _ _ is_open joined (more {rest = rest} {byte = byte} {wanted = later} is has) some no_percent =
+module _ (folding : Folding) (so_far parts : List PatternPart) where
+  next-by : (text : List ℕ) (later : List PatternPart) → parts ≡ so_far ++ later → IsPattern folding text later → 1 ≤ length text
+      → NextPart folding so_far text parts
+  next-by _ _ joined empty some = absurd (omega arith)
+  next-by _ _ joined (longer {rest = rest} {part = part} {parts = later} is has) some =
       record {
-        byte = byte;
+        part = part;
         after = rest;
         is = is;
-        more_bytes = record { later = later; joined = joined ∙ sym (append_assoc so_far (byte ∷ []) later); has = has };
+        more_parts = record { later = later; joined = joined ∙ sym (append_assoc so_far (part ∷ []) later); has = has };
       }
 
-  end-by : (text : List ℕ) (later : List PatternByte) (is_open : Bool) → wanted ≡ so_far ++ later
-      → PatternOf ignores_case text later is_open
-      → length text ≡ 0 → (so_far ≡ wanted) × (false ≡ is_open)
-  end-by _ _ _ joined closed none = (sym (joined ∙ append-nil so_far), refl)
-  end-by _ _ _ joined opened none = absurd (omega arith)
-  end-by text _ is_open joined (more {rest = rest} {byte = byte} is has) none =
-      absurd (no-character text _ _ (view ignores_case text byte rest is).is none)
+  end-by : (text : List ℕ) (later : List PatternPart) → parts ≡ so_far ++ later → IsPattern folding text later → length text ≡ 0
+      → so_far ≡ parts
+  end-by _ _ joined empty none = sym (joined ∙ append-nil so_far)
+  end-by text _ joined (longer {rest = rest} {part = part} is has) none =
+      absurd (no-character text _ _ (view folding text part rest is).is none)
 
-  percent-by : (text : List ℕ) (later : List PatternByte) (is_open : Bool) → wanted ≡ so_far ++ later
-      → PatternOf ignores_case text later is_open → text ≡ 37 ∷ [] → (so_far ≡ wanted) × (true ≡ is_open)
-  percent-by _ _ _ joined closed is_percent = cc
-  percent-by _ _ _ joined opened is_percent = (sym (joined ∙ append-nil so_far), refl)
-  percent-by text _ is_open joined (more {rest = rest} {byte = byte} is has) is_percent =
-      absurd (no-percent ignores_case text byte rest is is_percent)
+module _ {folding : Folding} {so_far : List PatternPart} {text : List ℕ} {parts : List PatternPart} where
+  pub next-part : MoreParts folding so_far text parts → 1 ≤ length text → NextPart folding so_far text parts
+  next-part are some = next-by folding so_far parts text are.later are.joined are.has some
 
-module _ {ignores_case : Bool} {so_far : List PatternByte} {text : List ℕ} {wanted : List PatternByte} {is_open : Bool} where
-  pub next-byte : MoreBytes ignores_case so_far text wanted is_open → 1 ≤ length text → text ≢ 37 ∷ []
-      → NextByte ignores_case so_far text wanted is_open
-  next-byte are some no_percent = next-by ignores_case so_far wanted text are.later is_open are.joined are.has some no_percent
+  pub at-end : MoreParts folding so_far text parts → length text ≡ 0 → so_far ≡ parts
+  at-end are none = end-by folding so_far parts text are.later are.joined are.has none
 
-  pub at-end : MoreBytes ignores_case so_far text wanted is_open → length text ≡ 0 → (so_far ≡ wanted) × (false ≡ is_open)
-  at-end are none = end-by ignores_case so_far wanted text are.later is_open are.joined are.has none
+  -- the parts so far, followed by the next one
+  pub pushed-part : {items : List PatternPart} {after : List ℕ} {part : PatternPart} (following : NextPart folding so_far text parts)
+      → part ≡ following.part → after ≡ following.after → items ≡ so_far ++ part ∷ [] → MoreParts folding items after parts
+  pushed-part following same rest pushed = rw (pushed, same, rest) following.more_parts
 
-  pub at-percent : MoreBytes ignores_case so_far text wanted is_open → text ≡ 37 ∷ [] → (so_far ≡ wanted) × (true ≡ is_open)
-  at-percent are percent = percent-by ignores_case so_far wanted text are.later is_open are.joined are.has percent
+-- a literal whose first parts are known is a pattern if the rest of it is one
+abbrev pub Continues : Folding → List ℕ → List PatternPart → List ℕ → Type 0
+Continues folding spelling so_far text = (later : List PatternPart) → IsPattern folding text later → IsPattern folding spelling (so_far ++ later)
 
-  -- the pattern bytes so far, followed by the next one
-  pub pushed-byte : {items : List PatternByte} {after : List ℕ} {byte : PatternByte}
-      (following : NextByte ignores_case so_far text wanted is_open)
-      → byte ≡ following.byte → after ≡ following.after → items ≡ so_far ++ byte ∷ []
-      → MoreBytes ignores_case items after wanted is_open
-  pushed-byte following same rest pushed = rw (pushed, same, rest) following.more_bytes
+module _ {folding : Folding} {spelling text rest : List ℕ} (so_far : List PatternPart) {items : List PatternPart} {part : PatternPart} where
+  pub continues-more : Continues folding spelling so_far text → IsPatternPart folding text part rest → items ≡ so_far ++ part ∷ []
+      → Continues folding spelling items rest
+  continues-more before is pushed later has =
+      rw (pushed, append_assoc so_far (part ∷ []) later) (before (part ∷ later) (longer is has))
 
--- the result of `short` for a literal whose pattern has these bytes
-module _ {A : Type 0} (result : Result (Pattern A) TextFault) (items : List PatternByte) (is_open : Bool) (width : ℕ)
-    (pattern : Pattern A) where
-  short-by : (r : Result (Pattern A) TextFault) → IfOk r (λ read. read.wanted.items ≡ items) → IfOk r (λ read. read.is_open ≡ is_open)
-      → IfErr r (λ flaw. width < length items) → items ≡ pattern.wanted.items → is_open ≡ pattern.is_open
-      → length pattern.wanted.items ≤ width
-      → MatchResult r (λ read. IsSamePattern read pattern) (λ fault. fault ≡ text_fault.Memory)
-  short-by (Ok read) wanted open_as long same alike few = record { wanted = wanted ∙ same; open_alike = open_as ∙ alike }
-  short-by (Err flaw) wanted open_as long same alike few = absurd (omega (arith, ap length same))
-
-  pub short-read : IfOk result (λ read. read.wanted.items ≡ items) → IfOk result (λ read. read.is_open ≡ is_open)
-      → IfErr result (λ flaw. width < length items) → items ≡ pattern.wanted.items → is_open ≡ pattern.is_open
-      → length pattern.wanted.items ≤ width
-      → MatchResult result (λ read. IsSamePattern read pattern) (λ fault. fault ≡ text_fault.Memory)
-  short-read wanted open_as long same alike few = short-by result wanted open_as long same alike few
+pub continues-to-end : (folding : Folding) (spelling text : List ℕ) (parts : List PatternPart) → Continues folding spelling parts text
+    → length text ≡ 0 → IsPattern folding spelling parts
+continues-to-end folding spelling [] parts before none = rw append-nil at (before [] empty)
+continues-to-end folding spelling (byte ∷ text) parts before none = absurd (omega arith)

@@ -1,30 +1,40 @@
 -- What is spelled if the first tokens are known.
-use Rattle.std.proofs.Common.{◌≡◌, ◌≢◌, ◌≤◌, ◌-◌, ℕ, suc, List, ◌∷◌, Some, refl, ap, ◌∙◌, subst, arith}
+use Rattle.std.proofs.Common.{◌≡◌, ◌≢◌, ◌≤◌, ◌-◌, ℕ, suc, true, false, sym, Result, Ok, Err, IfOk, [], List, ◌∷◌, Some, refl, ap, ◌∙◌, subst, arith}
 use Rattle.cql2.specs.declared.column.Column.{Column as AColumn}
+use Rattle.cql2.specs.declared.column.Column.TheVariants as column
 use Rattle.cql2.specs.declared.column.NumericColumn.{NumericColumn}
 use Rattle.cql2.specs.declared.filter.Comparison.{Comparison}
 use Rattle.cql2.specs.declared.filter.Comparison.TheVariants.{Equal, NotEqual, Less, LessOrEqual, Greater, GreaterOrEqual}
 use Rattle.cql2.specs.declared.column.TextColumn.{TextColumn}
 use Rattle.cql2.specs.declared.number.Literal.{Literal}
+use Rattle.cql2.specs.declared.pattern.Folding.{Folding}
 use Rattle.cql2.specs.declared.pattern.Pattern.{Pattern}
-use Rattle.cql2_text.specs.Pattern.{IsSamePattern}
 use Rattle.cql2.specs.declared.filter.Filter.{Filter}
 use Rattle.cql2.specs.declared.filter.Filter.TheVariants as filter
 use Rattle.cql2_text.specs.Content.{And, CompareNumber, Like, Not, Or, content}
-use Rattle.cql2_text.specs.Predicate.{IsBoth, IsWithin, IsEither, IsNot, IsSubject, IsText, SpellsComparison, SpellsLike, SpellsList, SpellsNegatable}
-use Rattle.cql2_text.specs.Predicate.{SpellsOf, SpellsPredicate, SpellsStartsIn, SpellsHasName}
-use Rattle.cql2_text.specs.Predicate.{binary_comparison, is_between, is_in_list, is_like, is_not_null, is_null, negatable, negated, column_of}
-use Rattle.cql2_text.specs.Predicate.{true_literal, false_literal, has_number, has_name, starts_in, of_subject}
+use Rattle.cql2_text.specs.Connective.{IsBoth, IsEither, IsNot}
+use Rattle.cql2_text.specs.Predicate.{IsSubject, IsWithin, IsText, SpellsComparison, SpellsLike, SpellsList, SpellsNegatable}
+use Rattle.cql2_text.specs.Predicate.{SpellsOf, SpellsPredicate, SpellsStartsIn, SpellsHasName, SpellsHasNumber, SpellsNull, SpellsRelation}
+use Rattle.cql2_text.specs.Predicate.{SpellsTextComparison, width_of, with_column, with_literal}
+use Rattle.cql2_text.specs.Predicate.{binary_comparison, is_in_list, is_like, is_not_null, is_null, negatable, negated, null_test, column_of}
+use Rattle.cql2_text.specs.Predicate.{true_literal, false_literal, has_number, has_name, starts_in, of_subject, of_number, relation, text_first}
+use Rattle.cql2.specs.declared.number.HouseNumber.{HouseNumber}
 use Rattle.cql2.specs.declared.number.NameLimit.{NameLimit}
 use Rattle.cql2.specs.declared.text.Text.{Text as AText}
+use denote.Ref.{Bor}
+use Rattle.cql2_text.specs.declared.syntax_fault.SyntaxFault.{SyntaxFault}
+use Rattle.cql2_text.specs.Parenthesis.{opens_filter}
+use Rattle.cql2_text.proofs.ClauseLemmas.{none-opens}
 use Rattle.cql2_text.specs.Read.{IsNotNext}
+use Rattle.cql2_text.specs.Scan.{begins_operand}
 use Rattle.cql2_text.specs.Spelled.{Expression, Factor, Primary, Spells, grouped, not_primary, one_primary, predicate}
 use Rattle.cql2_text.specs.declared.predicate.Subject.{Subject}
 use Rattle.cql2_text.specs.declared.predicate.Subject.TheVariants as subject
 use Rattle.cql2_tokens.specs.declared.token.Keyword.{Keyword as AKeyword}
 use Rattle.cql2_tokens.specs.declared.token.Keyword.TheVariants as word
 use Rattle.cql2_tokens.specs.declared.token.Token.{Token}
-use Rattle.cql2_tokens.specs.declared.token.Token.TheVariants.{Close, Compared, Keyword, Open}
+use Rattle.cql2_tokens.specs.declared.token.Token.TheVariants.{Close, Column, Compared, Keyword, Open}
+use Rattle.cql2_text.proofs.RelationLemmas.{operand-begins}
 
 module _ {A : Type 0} (one other made spelled : Filter A) where
   pub same-not : content one ≡ content other → IsNot one made → IsNot other spelled → content made ≡ content spelled
@@ -50,11 +60,9 @@ module _ {A : Type 0} (c : NumericColumn) (low high least most : Literal) (made 
 
 module _ {A : Type 0} where
   pub negatable-begins : {s : Subject} {words rest : List Token} {made : Filter A} → ((w : List Token) → words ≢ Keyword word.Like ∷ w)
-      → ((w : List Token) → words ≢ Keyword word.Between ∷ w)
       → ((w : List Token) → words ≢ Keyword word.In ∷ w) → SpellsNegatable s words rest made → ⊥
-  negatable-begins like between among (is_like is) = like _ refl
-  negatable-begins like between among (is_between is) = between _ refl
-  negatable-begins like between among (is_in_list is) = among _ refl
+  negatable-begins like members (is_like is) = like _ refl
+  negatable-begins like members (is_in_list is) = members _ refl
 
   pub like-of : {s : Subject} {words rest : List Token} {made : Filter A} → SpellsNegatable s (Keyword word.Like ∷ words) rest made
       → SpellsLike s words rest made
@@ -74,19 +82,27 @@ module _ {A : Type 0} where
   negated-of (negated {inner = inner} is opposite) = (inner, is, opposite)
   negated-of (negatable is) = elim is [ ]
 
-  pub not-null-of : {s : Subject} {words rest : List Token} {made : Filter A} → {c : AColumn} {read : Filter A}
-      → SpellsOf s (Keyword word.Is ∷ Keyword word.Not ∷ Keyword word.Null ∷ words) rest made
-      → column_of s ≡ Some c → IsNot (filter.IsNull c) read → (words ≡ rest) × (content read ≡ content made)
-  not-null-of {made = made} {c = c} {read = read} (is_not_null {c = k} known opposite) is is_read =
-      (refl, same-not (filter.IsNull c) (filter.IsNull k) read made (cc) is_read opposite)
-  not-null-of (negatable is) known is_read = elim is [ ]
+  pub text-comparison-of : {c : TextColumn} {k : Comparison} {words rest : List Token} {made : Filter A}
+      → ((other : TextColumn) (w : List Token) → words ≢ Column (column.Text other) ∷ w) → SpellsTextComparison c k words rest made
+      → (text : AText A) × IsText (width_of c) words rest text × (made ≡ filter.CompareText c k text)
+  text-comparison-of none (with_literal {text = text} is) = (text, is, refl)
+  text-comparison-of none with_column = absurd (none _ _ refl)
 
-  pub null-begins : {s : Subject} {words rest : List Token} {made : Filter A} → ((w : List Token) → words ≢ Keyword word.Null ∷ w)
-      → ((w : List Token) → words ≢ Keyword word.Not ∷ w)
-      → SpellsOf s (Keyword word.Is ∷ words) rest made → ⊥
-  null-begins null not (is_null known) = null _ refl
-  null-begins null not (is_not_null known opposite) = not _ refl
-  null-begins null not (negatable is) = elim is [ ]
+  pub null-of : {s : Subject} {words rest : List Token} {made : Filter A} → SpellsOf s (Keyword word.Is ∷ words) rest made
+      → (c : AColumn) × (column_of s ≡ Some c) × SpellsNull c words rest made
+  null-of (null_test {c = c} known is) = (c, known, is)
+  null-of (negatable is) = elim is [ ]
+
+  pub not-null-of : {c : AColumn} {words rest : List Token} {made read : Filter A}
+      → SpellsNull c (Keyword word.Not ∷ Keyword word.Null ∷ words) rest made → IsNot (filter.IsNull c) read
+      → (words ≡ rest) × (content read ≡ content made)
+  not-null-of {c = c} {made = made} {read = read} (is_not_null opposite) is_read =
+      (refl, same-not (filter.IsNull c) (filter.IsNull c) read made refl is_read opposite)
+
+  pub null-begins : {c : AColumn} {words rest : List Token} {made : Filter A} → ((w : List Token) → words ≢ Keyword word.Null ∷ w)
+      → ((w : List Token) → words ≢ Keyword word.Not ∷ w) → SpellsNull c words rest made → ⊥
+  null-begins null not is_null = null _ refl
+  null-begins null not (is_not_null opposite) = not _ refl
 
   pub operator-of : {s : Subject} {words rest : List Token} {made : Filter A} → ((k : Comparison) (w : List Token)
       → words ≢ Compared k ∷ w) → ((w : List Token) → words ≢ Keyword word.Is ∷ w)
@@ -94,25 +110,27 @@ module _ {A : Type 0} where
   operator-of compared is_word not (binary_comparison is) = absurd (compared _ _ refl)
   operator-of compared is_word not (negatable is) = is
   operator-of compared is_word not (negated is opposite) = absurd (not _ refl)
-  operator-of compared is_word not (is_null known) = absurd (is_word _ refl)
-  operator-of compared is_word not (is_not_null known opposite) = absurd (is_word _ refl)
+  operator-of compared is_word not (null_test known is) = absurd (is_word _ refl)
 
-no-keyword : (s : Subject) (k : AKeyword) (words middle : List Token) → k ≢ word.Casei → IsSubject s (Keyword k ∷ words) middle → ⊥
-no-keyword (subject.Numeric c) k words middle other is = cc
-no-keyword (subject.Text c) k words middle other is = cc
-no-keyword (subject.Casei c) k words middle other is = other (cc)
+no-subject : (s : Subject) (k : AKeyword) (words middle : List Token) → k ≢ word.Casei → k ≢ word.Accenti
+    → IsSubject s (Keyword k ∷ words) middle → ⊥
+no-subject (subject.Text c) k words middle no_casei no_accenti is = cc
+no-subject (subject.Folded folding c) k words middle no_casei no_accenti is =
+    let none = none-opens (λ w e. no_casei (cc)) (λ w e. no_accenti (cc)) is.opened.opens in omega (arith, none.1, is.opened.some)
 
 no-open : (s : Subject) (words middle : List Token) → IsSubject s (Open ∷ words) middle → ⊥
-no-open (subject.Numeric c) words middle is = cc
 no-open (subject.Text c) words middle is = cc
-no-open (subject.Casei c) words middle is = cc
+no-open (subject.Folded folding c) words middle is =
+    let none = none-opens (λ w e. cc) (λ w e. cc) is.opened.opens in omega (arith, none.1, is.opened.some)
 
--- a predicate that begins with a subject
-pub record IsOfSubject {A : Type 0} (words rest : List Token) (made : Filter A) : Type 0 where
-  pub s : Subject
-  pub middle : List Token
-  pub is_subject : IsSubject s words middle
-  pub is_of : SpellsOf s middle rest made
+module _ {A : Type 0} where
+  no-keyword : (k : AKeyword) (words rest : List Token) (made : Filter A) → k ≢ word.Casei → k ≢ word.Accenti
+      → SpellsRelation (Keyword k ∷ words) rest made → ⊥
+  no-keyword k words rest made no_casei no_accenti (of_subject {s = s} {middle = middle} known is) =
+      no-subject s k words middle no_casei no_accenti known
+  no-keyword k words rest _ no_casei no_accenti (text_first is) = let e = is.spelled in cc
+  no-keyword k words rest made no_casei no_accenti (of_number {middle = middle} is) =
+      let begins : begins_operand (Keyword k ∷ words) ≡ true = operand-begins (Keyword k ∷ words) middle middle rest made is in cc begins
 
 -- an expression in parentheses, after the first of them
 pub record IsGroup {A : Type 0} (depth : ℕ) (words rest : List Token) (made : Filter A) : Type 0 where
@@ -129,45 +147,58 @@ pub record BeginsNoFunction (words : List Token) : Type 0 where
   pub no_start : (w : List Token) → words ≢ Keyword word.StartsIn ∷ w
 
 module _ {A : Type 0} where
-  pub subject-of : {words rest : List Token} {made : Filter A} → BeginsNoFunction words → SpellsPredicate words rest made
-      → IsOfSubject words rest made
-  subject-of none true_literal = absurd (none.no_true _ refl)
-  subject-of none false_literal = absurd (none.no_false _ refl)
-  subject-of none (has_number is) = absurd (none.no_number _ refl)
-  subject-of none (has_name is) = absurd (none.no_name _ refl)
-  subject-of none (starts_in is) = absurd (none.no_start _ refl)
-  subject-of none (of_subject {s = s} {middle = middle} known is) = record { s = s; middle = middle; is_subject = known; is_of = is }
+  pub relation-of : {words rest : List Token} {made : Filter A} → BeginsNoFunction words → SpellsPredicate words rest made
+      → SpellsRelation words rest made
+  relation-of none true_literal = absurd (none.no_true _ refl)
+  relation-of none false_literal = absurd (none.no_false _ refl)
+  relation-of none (has_number is) = absurd (none.no_number _ refl)
+  relation-of none (has_name is) = absurd (none.no_name _ refl)
+  relation-of none (starts_in is) = absurd (none.no_start _ refl)
+  relation-of none (relation is) = is
+
+  pub true-of : {words rest : List Token} {made : Filter A} → SpellsPredicate (Keyword word.True ∷ words) rest made
+      → (words ≡ rest) × (filter.Constant true ≡ made)
+  true-of true_literal = (refl, refl)
+  true-of {words = words} (relation is) = absurd (no-keyword word.True words _ _ (λ e. cc) (λ e. cc) is)
+
+  pub false-of : {words rest : List Token} {made : Filter A} → SpellsPredicate (Keyword word.False ∷ words) rest made
+      → (words ≡ rest) × (filter.Constant false ≡ made)
+  false-of false_literal = (refl, refl)
+  false-of {words = words} (relation is) = absurd (no-keyword word.False words _ _ (λ e. cc) (λ e. cc) is)
 
   pub starts-of : {words rest : List Token} {made : Filter A} → SpellsPredicate (Keyword word.StartsIn ∷ words) rest made
       → SpellsStartsIn words rest made
   starts-of (starts_in is) = is
-  starts-of {words = words} (of_subject {s = s} {middle = middle} known is) =
-      absurd (no-keyword s word.StartsIn words middle (λ e. cc) known)
+  starts-of {words = words} (relation is) = absurd (no-keyword word.StartsIn words _ _ (λ e. cc) (λ e. cc) is)
+
+  pub has_number-of : {words rest : List Token} {made : Filter A} → SpellsPredicate (Keyword word.HasNumber ∷ words) rest made
+      → (house : HouseNumber) × SpellsHasNumber words rest house × (made ≡ filter.HasNumber house)
+  has_number-of (has_number {house = house} is) = (house, is, refl)
+  has_number-of {words = words} (relation is) = absurd (no-keyword word.HasNumber words _ _ (λ e. cc) (λ e. cc) is)
 
   pub has_name-of : {words rest : List Token} {made : Filter A} → SpellsPredicate (Keyword word.HasName ∷ words) rest made
       → (text : AText A) × (limit : NameLimit) × SpellsHasName words rest text limit × (made ≡ filter.HasName text limit)
   has_name-of (has_name {text = text} {limit = limit} is) = (text, limit, is, refl)
-  has_name-of {words = words} (of_subject {s = s} {middle = middle} known is) =
-      absurd (no-keyword s word.HasName words middle (λ e. cc) known)
+  has_name-of {words = words} (relation is) = absurd (no-keyword word.HasName words _ _ (λ e. cc) (λ e. cc) is)
 
-  pub same-like : (c : TextColumn) (read pattern : Pattern A) (made : Filter A) → IsSamePattern read pattern → made ≡ filter.Like c pattern
+  pub same-like : (c : TextColumn) (read pattern : Pattern A) (made : Filter A) → read.parts.items ≡ pattern.parts.items
+      → made ≡ filter.Like c pattern
       → content (filter.Like c read) ≡ content made
-  same-like c read pattern made same is =
-      rw is (ap (λ w. Like c w read.is_open) same.wanted ∙ ap (λ o. Like c pattern.wanted.items o) same.open_alike)
+  same-like c read pattern made same is = rw is (ap (Like c) same)
 
   pub text-at : {width : ℕ} (words rest : List Token) (text : AText A) (given : ℕ) (inner : List Token) → given ≡ width → inner ≡ words
       → IsText width inner rest text → IsText given words rest text
   text-at words rest text given inner same starts is = rw same (rw starts at is)
 
-  pub casei-of : (c : TextColumn) (k : Comparison) (words rest : List Token) (made : Filter A)
-      → SpellsComparison (subject.Casei c) k words rest made
-      → (inner : Filter A) × SpellsComparison (subject.Casei c) Equal words rest inner
-  casei-of c Equal words rest made is = (made, is)
-  casei-of c NotEqual words rest made is = (filter.Like c is.0, (is.0, is.1, refl))
-  casei-of c Less words rest made is = absurd is
-  casei-of c LessOrEqual words rest made is = absurd is
-  casei-of c Greater words rest made is = absurd is
-  casei-of c GreaterOrEqual words rest made is = absurd is
+  pub folded-of : (folding : Folding) (c : TextColumn) (k : Comparison) (words rest : List Token) (made : Filter A)
+      → SpellsComparison (subject.Folded folding c) k words rest made
+      → (inner : Filter A) × SpellsComparison (subject.Folded folding c) Equal words rest inner
+  folded-of folding c Equal words rest made is = (made, is)
+  folded-of folding c NotEqual words rest made is = (filter.Like c is.0, (is.0, is.1, refl))
+  folded-of folding c Less words rest made is = absurd is
+  folded-of folding c LessOrEqual words rest made is = absurd is
+  folded-of folding c Greater words rest made is = absurd is
+  folded-of folding c GreaterOrEqual words rest made is = absurd is
 
   pub of-at : {given s : Subject} {words middle rest : List Token} {made : Filter A} → given ≡ s → words ≡ middle
       → SpellsOf s middle rest made
@@ -175,14 +206,11 @@ module _ {A : Type 0} where
   of-at same starts is = rw (same, starts) is
 
   no-not : {words rest : List Token} {made : Filter A} → SpellsPredicate (Keyword word.Not ∷ words) rest made → ⊥
-  no-not {words = words} (of_subject {s = s} {middle = middle} known is) = no-keyword s word.Not words middle (λ e. cc) known
+  no-not {words = words} (relation is) = no-keyword word.Not words _ _ (λ e. cc) (λ e. cc) is
 
-  no-group : {words rest : List Token} {made : Filter A} → SpellsPredicate (Open ∷ words) rest made → ⊥
-  no-group {words = words} (of_subject {s = s} {middle = middle} known is) = no-open s words middle known
-
-  pub group-of : {depth : ℕ} {words rest : List Token} {made : Filter A} → Spells depth Primary (Open ∷ words) rest made
-      → IsGroup depth words rest made
-  group-of {words = words} {rest = rest} {made = made} (grouped {depth = inner} is) =
+  pub group-of : {depth : ℕ} {words rest : List Token} {made : Filter A} → opens_filter (Open ∷ words) ≡ true
+      → Spells depth Primary (Open ∷ words) rest made → IsGroup depth words rest made
+  group-of {words = words} {rest = rest} {made = made} opens (grouped {depth = inner} is_filter is) =
       let depth : inner ≡ suc inner - 1 = omega arith in
       record {
         some = omega arith;
@@ -190,19 +218,29 @@ module _ {A : Type 0} where
         no_and = λ w f. cc;
         no_or = λ w f. cc;
       }
-  group-of (predicate is) = absurd (no-group is)
+  group-of opens (predicate stop is) = let both : true ≡ false = sym opens ∙ stop in absurd (cc both)
 
-  pub predicate-of : {depth : ℕ} {words rest : List Token} {made : Filter A} → ((w : List Token) → words ≢ Open ∷ w)
+  pub predicate-of : {depth : ℕ} {words rest : List Token} {made : Filter A} → opens_filter words ≡ false
       → Spells depth Primary words rest made → SpellsPredicate words rest made
-  predicate-of no_group (grouped is) = absurd (no_group _ refl)
-  predicate-of no_group (predicate is) = is
+  predicate-of stop (grouped opens is) = let both : true ≡ false = sym opens ∙ stop in absurd (cc both)
+  predicate-of stop (predicate opens is) = is
 
   pub negation-of : {depth : ℕ} {words rest : List Token} {made : Filter A} → Spells depth Factor (Keyword word.Not ∷ words) rest made
       → (inner : Filter A) × Spells depth Primary words rest inner × IsNot inner made
   negation-of (not_primary {inner = inner} is opposite) = (inner, is, opposite)
-  negation-of (one_primary (predicate is)) = absurd (no-not is)
+  negation-of (one_primary (predicate opens is)) = absurd (no-not is)
 
   pub primary-of : {depth : ℕ} {words rest : List Token} {made : Filter A} → ((w : List Token) → words ≢ Keyword word.Not ∷ w)
       → Spells depth Factor words rest made → Spells depth Primary words rest made
   primary-of no_not (one_primary is) = is
   primary-of no_not (not_primary is opposite) = absurd (no_not _ refl)
+
+  pub predicate-spells : (depth : ℕ) (words : List Token) (result : Result (Filter A × Bor (List Token)) SyntaxFault) → opens_filter words ≡ false
+      → IfOk result (λ read. SpellsPredicate words read.1.now read.0) → IfOk result (λ read. Spells depth Primary words read.1.now read.0)
+  predicate-spells depth words (Ok read) stop is = predicate stop is
+  predicate-spells depth words (Err fault) stop is = tt
+
+pub opens-none : (words : List Token) → ((w : List Token) → words ≢ Open ∷ w) → opens_filter words ≡ false
+opens-none [] none = refl
+opens-none (Open ∷ words) none = absurd (none words refl)
+opens-none (token ∷ words) none = refl

@@ -6,7 +6,8 @@ use Rattle.cql2.specs.declared.column.TextColumn.{TextColumn}
 use Rattle.cql2.specs.declared.filter.Comparison.{Comparison}
 use Rattle.cql2.specs.declared.filter.Filter.{Filter}
 use Rattle.cql2.specs.declared.filter.Filter.TheVariants as filter
-use Rattle.cql2.specs.declared.pattern.PatternByte.{PatternByte}
+use Rattle.cql2.specs.declared.pattern.PatternPart.{PatternPart}
+use Rattle.cql2_text.specs.ExpressionContent.{ExpressionContent, expression_content}
 
 pub data Content : Type 0 where
   Constant : Bool → Content
@@ -15,8 +16,10 @@ pub data Content : Type 0 where
   Not : Content → Content
   IsNull : Column → Content
   CompareNumber : NumericColumn → Comparison → ℤ → Content
+  CompareNumbers : ExpressionContent → Comparison → ExpressionContent → Content
   CompareText : TextColumn → Comparison → List ℕ → Content
-  Like : TextColumn → List PatternByte → Bool → Content
+  CompareTexts : TextColumn → Comparison → TextColumn → Content
+  Like : TextColumn → List PatternPart → Content
   HasNumber : ℕ → Content
   HasName : List ℕ → ℕ → Content
 
@@ -27,7 +30,10 @@ content (filter.Or' p first q second) = Or (content first) (content second)
 content (filter.Not' p inner) = Not (content inner)
 content (filter.IsNull column) = IsNull column
 content (filter.CompareNumber column comparison literal) = CompareNumber column comparison literal.number
+content (filter.CompareNumbers first comparison second) =
+    CompareNumbers (expression_content first.expression) comparison (expression_content second.expression)
 content (filter.CompareText column comparison text) = CompareText column comparison text.bytes.items
-content (filter.Like column pattern) = Like column pattern.wanted.items pattern.is_open
+content (filter.CompareTexts first comparison second) = CompareTexts first comparison second
+content (filter.Like column pattern) = Like column pattern.parts.items
 content (filter.HasNumber house) = HasNumber house.number
 content (filter.HasName text limit) = HasName text.bytes.items limit.number

@@ -2,12 +2,13 @@
 use Rattle.std.specs.Prelude.{codes}
 use Rattle.refusals.specs.Refusal.{RefusalParts, refused}
 use Rattle.cql2_text.specs.declared.fault.FilterFaultKind.{FilterFaultKind}
-use Rattle.cql2_text.specs.declared.fault.FilterFaultKind.TheVariants.{Syntax, UnknownColumn, WrongType, NumberRange, LongText, TooDeep, TooLong}
+use Rattle.cql2_text.specs.declared.fault.FilterFaultKind.TheVariants.{Syntax, UnknownColumn, WrongType, Folded, NumberRange, LongText, TooDeep, TooLong}
 
 abbrev pub refusal : FilterFaultKind → RefusalParts
 refusal (Syntax expected) = refused 90 (codes "Syntax")
 refusal UnknownColumn = refused 91 (codes "UnknownColumn")
 refusal WrongType = refused 92 (codes "WrongType")
+refusal Folded = refused 92 (codes "WrongType")
 refusal NumberRange = refused 93 (codes "NumberRange")
 refusal LongText = refused 94 (codes "LongText")
 refusal TooDeep = refused 95 (codes "TooDeep")

@@ -1,11 +1,11 @@
 -- The column name that is suggested for an unknown one.
-use Rattle.std.specs.Prelude.{◌≡◌, ◌≢◌, ◌≤◌, ℕ, List, [], ◌++◌, length, Option, Some, None, ⊤}
+use Rattle.std.specs.Prelude.{◌≡◌, ◌≢◌, ◌≤◌, ℕ, List, [], ◌++◌, length, Option, None}
 use Rattle.cql2_text.specs.Position.{column_after, line_after}
 use Rattle.cql2_text.specs.declared.fault.FilterFault.{FilterFault}
 use Rattle.cql2_text.specs.declared.fault.FilterFault.TheVariants.{At}
 use Rattle.cql2_text.specs.declared.fault.FilterFaultKind.TheVariants.{UnknownColumn}
 use Rattle.cql2_text.specs.declared.reader.TheConstants.{MAX_TEXT_LENGTH}
-use Rattle.cql2_tokens.specs.Nearest.{IsNearest, LeadsText}
+use Rattle.cql2_tokens.specs.Nearest.{IsNear, LeadsText}
 
 -- this line and column follow this prefix of a text
 pub record IsAfter (line column : ℕ) (front : List ℕ) : Type 0 where
@@ -19,17 +19,15 @@ pub record IsRestFrom (text : List ℕ) (line column : ℕ) (rest : List ℕ) : 
   pub placed : rest ≢ [] → IsAfter line column front
   pub ends : rest ≡ [] → (before after : List ℕ) → text ≡ before ++ after → IsAfter line column before → after ≡ []
 
--- the column name nearest to the name at this line and column of a text that may be read
-pub record IsNearestAt (text : List ℕ) (line column : ℕ) (name : List ℕ) : Type 0 where
+-- the column name nearest to the name at this line and column of a text that may be read, if it is near
+pub record IsNearestAt (text : List ℕ) (line column : ℕ) (name : Option (List ℕ)) : Type 0 where
   pub rest : List ℕ
   pub is_rest : length text ≤ MAX_TEXT_LENGTH → IsRestFrom text line column rest
   pub word : List ℕ
   pub leads : LeadsText word rest
-  pub nearest : IsNearest word name
+  pub nearest : IsNear word name
 
--- a name is suggested for an unknown column, and only for one
+-- a name is suggested for an unknown column only
 abbrev pub Suggests : FilterFault → List ℕ → Option (List ℕ) → Type 0
-Suggests (At line column UnknownColumn) text (Some name) = IsNearestAt text line column name
-Suggests (At line column UnknownColumn) text None = ⊥
-Suggests fault text (Some name) = ⊥
-Suggests fault text None = ⊤
+Suggests (At line column UnknownColumn) text name = IsNearestAt text line column name
+Suggests fault text name = name ≡ None

@@ -3,16 +3,16 @@ use Rattle.std.specs.Prelude.{ℕ, ℤ, pos, neg_ℤ, ◌+◌, ◌-◌, ◌*◌,
 use Rattle.std.specs.Prelude.{Result, Ok, Err}
 use Rattle.decimal.specs.Numeral.{decimal_in}
 use Rattle.tl_segments.specs.declared.limits.TheConstants.{MAX_NAMES}
-use Rattle.cql2.specs.declared.column.NumericColumn.{NumericColumn}
-use Rattle.cql2.specs.declared.column.NumericColumn.TheVariants.{Number, Coordinate}
 use Rattle.cql2_text.specs.declared.fault.FilterFaultKind.{FilterFaultKind}
 use Rattle.cql2_text.specs.declared.fault.FilterFaultKind.TheVariants.{WrongType, NumberRange}
+use Rattle.cql2_text.specs.declared.unit.Unit.{Unit}
+use Rattle.cql2_text.specs.declared.unit.Unit.TheVariants.{Whole, Degrees}
 use Rattle.cql2_tokens.specs.declared.token.Numeral.{Numeral}
 
 abbrev pub signed : Bool → ℕ → ℤ
 signed is_negative amount = if is_negative then neg_ℤ (pos amount) else pos amount
 
--- the absolute value for a column of numbers, which has up to 18 digits and no fraction
+-- the absolute value of a whole number, which has up to 18 digits and no fraction
 abbrev pub in_range : Option ℕ → Result ℕ FilterFaultKind
 in_range (Some amount) = Ok amount
 in_range None = Err NumberRange
@@ -33,17 +33,17 @@ millionths (Some degrees) (Some parts) = if nat_lt degrees 1000 then Ok (degrees
 millionths (Some degrees) None = Err NumberRange
 millionths None parts = Err NumberRange
 
-abbrev pub amount_of : NumericColumn → Numeral → Result ℕ FilterFaultKind
-amount_of (Number column) numeral = whole_amount 18 numeral.whole.now numeral.decimals.now
-amount_of (Coordinate column) numeral = millionths (decimal_in 18 numeral.whole.now) (parts_of numeral.decimals.now)
+abbrev pub amount_of : Unit → Numeral → Result ℕ FilterFaultKind
+amount_of Whole numeral = whole_amount 18 numeral.whole.now numeral.decimals.now
+amount_of Degrees numeral = millionths (decimal_in 18 numeral.whole.now) (parts_of numeral.decimals.now)
 
 abbrev pub signed_by : Bool → Result ℕ FilterFaultKind → Result ℤ FilterFaultKind
 signed_by is_negative (Ok amount) = Ok (signed is_negative amount)
 signed_by is_negative (Err flaw) = Err flaw
 
--- the value of a numeral that is compared with a column
-abbrev pub number_of : NumericColumn → Numeral → Result ℤ FilterFaultKind
-number_of column numeral = signed_by numeral.is_negative (amount_of column numeral)
+-- the value of a numeral in a unit
+abbrev pub number_of : Unit → Numeral → Result ℤ FilterFaultKind
+number_of unit numeral = signed_by numeral.is_negative (amount_of unit numeral)
 
 -- a nonnegative numeral without a fraction and with a limited number of digits
 abbrev pub count_of : ℕ → Numeral → Result ℕ FilterFaultKind

@@ -1,45 +1,51 @@
 -- Patterns of LIKE (CQL2, 21-065r2, pattern matching).
-use Rattle.std.specs.Prelude.{◌≡◌, ℕ, Bool, true, false, ◌&&◌, ◌||◌, ◌==◌, if◌then◌else◌, List, [], ◌∷◌, ◌++◌, length, ◌≤◌}
-use Rattle.std.specs.Char.{is_ascii_alphabetic, to_ascii_lowercase}
+use Rattle.std.specs.Prelude.{◌≡◌, ℕ, ◌≤◌, Bool, true, false, ◌||◌, ◌==◌, if◌then◌else◌, List, [], ◌∷◌, ◌++◌}
+use Rattle.std.specs.List.{count_by}
+use Rattle.cql2.specs.declared.pattern.Folding.{Folding}
 use Rattle.cql2.specs.declared.pattern.Pattern.{Pattern}
-use Rattle.cql2.specs.declared.pattern.PatternByte.{PatternByte}
-use Rattle.cql2.specs.declared.pattern.PatternByte.TheVariants.{Exactly, EitherCase, Any}
+use Rattle.cql2.specs.declared.pattern.PatternPart.{PatternPart}
+use Rattle.cql2.specs.declared.pattern.PatternPart.TheVariants.{Exactly, Alike, One, Many}
 use Rattle.cql2_tokens.specs.Character.{character_text, is_character}
 
--- the pattern byte of a character: itself, or a letter in either case if case is ignored
-abbrev pub character_pattern : Bool → ℕ → PatternByte
-character_pattern ignores_case byte =
-    if ignores_case && is_ascii_alphabetic byte then EitherCase (to_ascii_lowercase byte) else Exactly byte
+-- the part of a pattern that a character is: this one, or one that is the same but for what is ignored
+abbrev pub character_pattern : Folding → ℕ → PatternPart
+character_pattern folding byte = if folding.case || folding.accents then Alike folding byte else Exactly byte
 
 -- `%`, `_` and `\`
 abbrev pub is_special : ℕ → Bool
 is_special byte = byte == 37 || byte == 95 || byte == 92
 
--- the pattern byte at the start of a text, and the text after it: `_` is any character, and `\` makes the next character an ordinary one
-pub data IsPatternByte (ignores_case : Bool) : List ℕ → PatternByte → List ℕ → Type 0 where
-  any : (rest : List ℕ) → IsPatternByte ignores_case (95 ∷ rest) Any rest
+-- the text after each `%` at its start
+abbrev pub after_percents : List ℕ → List ℕ
+after_percents [] = []
+after_percents (byte ∷ text) = if byte == 37 then after_percents text else byte ∷ text
+
+-- The part at the start of a text, and the text after it: `%` is any number of characters, as `%%` is, `_` is any character, and `\` makes the
+-- next character an ordinary one.
+pub data IsPatternPart (folding : Folding) : List ℕ → PatternPart → List ℕ → Type 0 where
+  many : (rest : List ℕ) → IsPatternPart folding (37 ∷ rest) Many (after_percents rest)
+  one : (rest : List ℕ) → IsPatternPart folding (95 ∷ rest) One rest
   escaped : (byte : ℕ) (rest : List ℕ) → is_character byte ≡ true
-      → IsPatternByte ignores_case (92 ∷ (character_text byte ++ rest)) (character_pattern ignores_case byte) rest
+      → IsPatternPart folding (92 ∷ (character_text byte ++ rest)) (character_pattern folding byte) rest
   ordinary : (byte : ℕ) (rest : List ℕ) → is_character byte ≡ true → is_special byte ≡ false
-      → IsPatternByte ignores_case (character_text byte ++ rest) (character_pattern ignores_case byte) rest
+      → IsPatternPart folding (character_text byte ++ rest) (character_pattern folding byte) rest
 
--- a literal, up to the rest of it, read as a pattern
-pub data ReadsPattern (ignores_case : Bool) (spelling : List ℕ) : List ℕ → List PatternByte → Type 0 where
-  start : ReadsPattern ignores_case spelling spelling []
-  next : {text rest : List ℕ} {byte : PatternByte} {wanted : List PatternByte} → ReadsPattern ignores_case spelling text wanted
-      → IsPatternByte ignores_case text byte rest → ReadsPattern ignores_case spelling rest (wanted ++ byte ∷ [])
+-- the whole literal, part by part
+pub data IsPattern (folding : Folding) : List ℕ → List PatternPart → Type 0 where
+  empty : IsPattern folding [] []
+  longer : {text rest : List ℕ} {part : PatternPart} {parts : List PatternPart} → IsPatternPart folding text part rest
+      → IsPattern folding rest parts → IsPattern folding text (part ∷ parts)
 
--- the whole literal is a pattern, which is open if it ends in `%`
-abbrev pub IsPattern : Bool → List ℕ → List PatternByte → Bool → Type 0
-IsPattern ignores_case spelling wanted true = ReadsPattern ignores_case spelling (37 ∷ []) wanted
-IsPattern ignores_case spelling wanted false = ReadsPattern ignores_case spelling [] wanted
+-- the part takes one byte
+abbrev pub takes_one : PatternPart → Bool
+takes_one Many = false
+takes_one part = true
 
--- two patterns have the same bytes, and both are open or neither is
-pub record IsSamePattern {A : Type 0} (pattern other : Pattern A) : Type 0 where
-  pub wanted : pattern.wanted.items ≡ other.wanted.items
-  pub open_alike : pattern.is_open ≡ other.is_open
+-- the number of bytes in the shortest text that matches
+abbrev pub least_length : List PatternPart → ℕ
+least_length parts = count_by takes_one parts
 
--- the literal's pattern, which is no longer than a column of this width
-pub record IsLikePattern {A : Type 0} (width : ℕ) (ignores_case : Bool) (spelling : List ℕ) (pattern : Pattern A) : Type 0 where
-  pub read : IsPattern ignores_case spelling pattern.wanted.items pattern.is_open
-  pub few : length pattern.wanted.items ≤ width
+-- the literal's pattern, which a text of a column of this width can match
+pub record IsLikePattern {A : Type 0} (width : ℕ) (folding : Folding) (spelling : List ℕ) (pattern : Pattern A) : Type 0 where
+  pub read : IsPattern folding spelling pattern.parts.items
+  pub few : least_length pattern.parts.items ≤ width

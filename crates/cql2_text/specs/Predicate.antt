@@ -1,7 +1,6 @@
 -- Predicates and functions in terms of their tokens (CQL2, 21-065r2, annex B).
 use Rattle.std.specs.Prelude.{◌≡◌, ◌+◌, ◌-◌, ℕ, Bool, true, false, List, ◌∷◌, map, Ok, Option, Some, None}
 use denote.Ref.{Bor}
-use Rattle.std.specs.declared.boxed.Box.{Box}
 use Rattle.tl_segments.specs.declared.name.TheConstants.{NAME_LENGTH}
 use Rattle.cql2.specs.Column.{text_places}
 use Rattle.cql2.specs.declared.column.Column.{Column as AColumn}
@@ -17,43 +16,36 @@ use Rattle.cql2.specs.declared.filter.Filter.TheVariants as filter
 use Rattle.cql2.specs.declared.number.HouseNumber.{HouseNumber}
 use Rattle.cql2.specs.declared.number.Literal.{Literal}
 use Rattle.cql2.specs.declared.number.NameLimit.{NameLimit}
+use Rattle.cql2.specs.declared.pattern.Folding.{Folding}
 use Rattle.cql2.specs.declared.pattern.Pattern.{Pattern}
 use Rattle.cql2.specs.declared.text.Text.{Text as AText}
+use Rattle.cql2_text.specs.Compared.{SpellsOfNumber, mirrored}
+use Rattle.cql2_text.specs.Connective.{IsBoth, IsEither, IsNot}
 use Rattle.cql2_text.specs.Text.{IsComparedText}
-use Rattle.cql2_text.specs.Number.{house_number_of, name_limit_of, number_of}
+use Rattle.cql2_text.specs.Numeral.{IsNumber, IsNumeral}
+use Rattle.cql2_text.specs.Number.{house_number_of, name_limit_of}
+use Rattle.cql2_text.specs.Clause.{IsClause, nothing}
 use Rattle.cql2_text.specs.Pattern.{IsLikePattern, character_pattern}
+use Rattle.cql2_text.specs.declared.unit.Unit.TheVariants.{Degrees}
 use Rattle.cql2_text.specs.declared.predicate.Subject.{Subject}
 use Rattle.cql2_text.specs.declared.predicate.Subject.TheVariants as subject
 use Rattle.cql2_tokens.specs.declared.token.Keyword.TheVariants as word
 use Rattle.cql2_tokens.specs.declared.token.Numeral.{Numeral}
 use Rattle.cql2_tokens.specs.declared.token.Token.{Token}
-use Rattle.cql2_tokens.specs.declared.token.Token.TheVariants.{Keyword, Column, Compared, Open, Close, Comma, Number, Text}
-
--- the conjunction and the disjunction of two filters, and the negation of one
-abbrev pub IsBoth : {A : Type 0} → Filter A → Filter A → Filter A → Type 0
-IsBoth {A = A} first second made = (p : Box (Unit {0}) A) × ((q : Box (Unit {0}) A) × (made ≡ filter.And' p first q second))
-
-abbrev pub IsEither : {A : Type 0} → Filter A → Filter A → Filter A → Type 0
-IsEither {A = A} first second made = (p : Box (Unit {0}) A) × ((q : Box (Unit {0}) A) × (made ≡ filter.Or' p first q second))
-
-abbrev pub IsNot : {A : Type 0} → Filter A → Filter A → Type 0
-IsNot {A = A} inner made = (p : Box (Unit {0}) A) × (made ≡ filter.Not' p inner)
+use Rattle.cql2_tokens.specs.declared.token.Token.TheVariants.{Keyword, Column, Compared, Open, Close, Comma, Text}
 
 -- the number of bytes in a column
 abbrev pub width_of : TextColumn → ℕ
 width_of column = (text_places column).1 + 1 - (text_places column).0
 
--- propertyName or CASEI(propertyName): the tokens up to the rest
-abbrev pub IsSubject : Subject → List Token → List Token → Type 0
-IsSubject (subject.Numeric c) words rest = words ≡ Column (column.Numeric c) ∷ rest
-IsSubject (subject.Text c) words rest = words ≡ Column (column.Text c) ∷ rest
-IsSubject (subject.Casei c) words rest = words ≡ Keyword word.Casei ∷ Open ∷ Column (column.Text c) ∷ Close ∷ rest
+-- propertyName of a text column
+abbrev pub IsTextColumn : TextColumn → List Token → List Token → Type 0
+IsTextColumn c words rest = words ≡ Column (column.Text c) ∷ rest
 
--- numericLiteral, as a number of the column
-pub record IsNumber (column : NumericColumn) (words rest : List Token) (literal : Literal) : Type 0 where
-  pub numeral : Numeral
-  pub spelled : words ≡ Number numeral ∷ rest
-  pub value : number_of column numeral ≡ Ok literal.number
+-- propertyName, which may be in CASEI and ACCENTI: the tokens up to the rest
+abbrev pub IsSubject : Subject → List Token → List Token → Type 0
+IsSubject (subject.Text c) words rest = IsTextColumn c words rest
+IsSubject (subject.Folded folding c) words rest = IsClause (IsTextColumn c) folding words rest
 
 -- characterLiteral, as a text that is compared with a column of this width
 pub record IsText {A : Type 0} (width : ℕ) (words rest : List Token) (text : AText A) : Type 0 where
@@ -61,39 +53,45 @@ pub record IsText {A : Type 0} (width : ℕ) (words rest : List Token) (text : A
   pub spelled : words ≡ Text spelling ∷ rest
   pub compared : IsComparedText width spelling.now text.bytes.items
 
--- CASEI(characterLiteral), as the pattern that matches the text in either case
-pub record IsCaseiText {A : Type 0} (column : TextColumn) (words rest : List Token) (pattern : Pattern A) : Type 0 where
-  pub inner : List Token
+-- characterLiteral
+pub record BeginsText (words rest : List Token) : Type 0 where
+  pub spelling : Bor (List ℕ)
+  pub is : words ≡ Text spelling ∷ rest
+
+-- characterLiteral in CASEI and ACCENTI, as the pattern that matches the texts that are the same but for what is ignored
+pub record IsFoldedText {A : Type 0} (folding : Folding) (column : TextColumn) (words rest : List Token) (pattern : Pattern A) : Type 0 where
   pub text : AText A
-  pub spelled : words ≡ Keyword word.Casei ∷ Open ∷ inner
-  pub compared : IsText (width_of column) inner (Close ∷ rest) text
-  pub letters : pattern.wanted.items ≡ map (character_pattern true) text.bytes.items
-  pub closed : pattern.is_open ≡ false
+  pub clause : IsClause (λ inner after. IsText (width_of column) inner after text) folding words rest
+  pub letters : pattern.parts.items ≡ map (character_pattern folding) text.bytes.items
 
 -- characterLiteral, as a pattern for LIKE
-pub record IsLikeColumn {A : Type 0} (c : TextColumn) (ignores_case : Bool) (words rest : List Token) (pattern : Pattern A) : Type 0 where
+pub record IsLikeColumn {A : Type 0} (c : TextColumn) (folding : Folding) (words rest : List Token) (pattern : Pattern A) : Type 0 where
   pub spelling : Bor (List ℕ)
   pub spelled : words ≡ Text spelling ∷ rest
-  pub like : IsLikePattern (width_of c) ignores_case spelling.now pattern
+  pub like : IsLikePattern (width_of c) folding spelling.now pattern
 
--- CASEI allows only the comparisons `=` and `<>`
+-- CASEI and ACCENTI allow only the comparisons `=` and `<>`
 abbrev pub is_compared : Subject → Comparison → Bool
-is_compared (subject.Casei c) Equal = true
-is_compared (subject.Casei c) NotEqual = true
-is_compared (subject.Casei c) comparison = false
+is_compared (subject.Folded folding c) Equal = true
+is_compared (subject.Folded folding c) NotEqual = true
+is_compared (subject.Folded folding c) comparison = false
 is_compared s comparison = true
 
--- binaryComparisonPredicate, after the operator
+-- the comparison of a text column with characterLiteral or another text column
+pub data SpellsTextComparison {A : Type 0} (c : TextColumn) (k : Comparison) : List Token → List Token → Filter A → Type 0 where
+  with_literal : {words rest : List Token} {text : AText A} → IsText (width_of c) words rest text
+      → SpellsTextComparison c k words rest (filter.CompareText c k text)
+  with_column : {rest : List Token} {other : TextColumn}
+      → SpellsTextComparison c k (Column (column.Text other) ∷ rest) rest (filter.CompareTexts c k other)
+
+-- binaryComparisonPredicate about texts, after the operator
 abbrev pub SpellsComparison : {A : Type 0} → Subject → Comparison → List Token → List Token → Filter A → Type 0
-SpellsComparison {A = A} (subject.Numeric c) comparison words rest made =
-    (literal : Literal) × IsNumber c words rest literal × (made ≡ filter.CompareNumber c comparison literal)
-SpellsComparison {A = A} (subject.Text c) comparison words rest made =
-    (text : AText A) × IsText (width_of c) words rest text × (made ≡ filter.CompareText c comparison text)
-SpellsComparison {A = A} (subject.Casei c) Equal words rest made =
-    (pattern : Pattern A) × IsCaseiText c words rest pattern × (made ≡ filter.Like c pattern)
-SpellsComparison {A = A} (subject.Casei c) NotEqual words rest made =
-    (pattern : Pattern A) × IsCaseiText c words rest pattern × IsNot (filter.Like c pattern) made
-SpellsComparison {A = A} (subject.Casei c) comparison words rest made = ⊥
+SpellsComparison {A = A} (subject.Text c) comparison words rest made = SpellsTextComparison c comparison words rest made
+SpellsComparison {A = A} (subject.Folded folding c) Equal words rest made =
+    (pattern : Pattern A) × IsFoldedText folding c words rest pattern × (made ≡ filter.Like c pattern)
+SpellsComparison {A = A} (subject.Folded folding c) NotEqual words rest made =
+    (pattern : Pattern A) × IsFoldedText folding c words rest pattern × IsNot (filter.Like c pattern) made
+SpellsComparison {A = A} (subject.Folded folding c) comparison words rest made = ⊥
 
 -- inList, without its parentheses
 pub data SpellsList {A : Type 0} (subject : Subject) (words : List Token) : List Token → Filter A → Type 0 where
@@ -103,40 +101,33 @@ pub data SpellsList {A : Type 0} (subject : Subject) (words : List Token) : List
 
 -- isLikePredicate, after LIKE
 abbrev pub SpellsLike : {A : Type 0} → Subject → List Token → List Token → Filter A → Type 0
-SpellsLike {A = A} (subject.Numeric c) words rest made = ⊥
 SpellsLike {A = A} (subject.Text c) words rest made =
-    (pattern : Pattern A) × IsLikeColumn c false words rest pattern × (made ≡ filter.Like c pattern)
-SpellsLike {A = A} (subject.Casei c) words rest made =
-    (inner : List Token) × ((pattern : Pattern A) × (words ≡ Keyword word.Casei ∷ Open ∷ inner)
-    × IsLikeColumn c true inner (Close ∷ rest) pattern × (made ≡ filter.Like c pattern))
+    (pattern : Pattern A) × IsLikeColumn c nothing words rest pattern × (made ≡ filter.Like c pattern)
+SpellsLike {A = A} (subject.Folded folding c) words rest made =
+    (pattern : Pattern A) × IsClause (λ inner after. IsLikeColumn c folding inner after pattern) folding words rest
+    × (made ≡ filter.Like c pattern)
 
 -- at least one number and at most another
 abbrev pub IsWithin : {A : Type 0} → NumericColumn → Literal → Literal → Filter A → Type 0
 IsWithin c low high made = IsBoth (filter.CompareNumber c GreaterOrEqual low) (filter.CompareNumber c LessOrEqual high) made
 
--- isBetweenPredicate, after BETWEEN
-pub record SpellsBetween {A : Type 0} (c : NumericColumn) (words rest : List Token) (made : Filter A) : Type 0 where
-  pub low : Literal
-  pub high : Literal
-  pub middle : List Token
-  pub first : IsNumber c words (Keyword word.And ∷ middle) low
-  pub second : IsNumber c middle rest high
-  pub within : IsWithin c low high made
-
--- the predicates that NOT may precede
+-- the predicates about texts that NOT may precede
 pub data SpellsNegatable {A : Type 0} : Subject → List Token → List Token → Filter A → Type 0 where
   is_like : {s : Subject} {words rest : List Token} {made : Filter A} → SpellsLike s words rest made
       → SpellsNegatable s (Keyword word.Like ∷ words) rest made
-  is_between : {c : NumericColumn} {words rest : List Token} {made : Filter A} → SpellsBetween c words rest made
-      → SpellsNegatable (subject.Numeric c) (Keyword word.Between ∷ words) rest made
   is_in_list : {s : Subject} {words rest : List Token} {made : Filter A} → SpellsList s words (Close ∷ rest) made
       → SpellsNegatable s (Keyword word.In ∷ Open ∷ words) rest made
 
--- the column of a subject whose case isn't ignored
+-- the column of a subject of which nothing is ignored
 abbrev pub column_of : Subject → Option AColumn
-column_of (subject.Numeric c) = Some (column.Numeric c)
 column_of (subject.Text c) = Some (column.Text c)
-column_of (subject.Casei c) = None
+column_of (subject.Folded folding c) = None
+
+-- isNullPredicate about a column, after IS
+pub data SpellsNull {A : Type 0} (c : AColumn) : List Token → List Token → Filter A → Type 0 where
+  is_null : {rest : List Token} → SpellsNull c (Keyword word.Null ∷ rest) rest (filter.IsNull c)
+  is_not_null : {rest : List Token} {made : Filter A} → IsNot (filter.IsNull c) made
+      → SpellsNull c (Keyword word.Not ∷ Keyword word.Null ∷ rest) rest made
 
 -- a predicate about a subject, after the subject
 pub data SpellsOf {A : Type 0} (s : Subject) : List Token → List Token → Filter A → Type 0 where
@@ -145,21 +136,21 @@ pub data SpellsOf {A : Type 0} (s : Subject) : List Token → List Token → Fil
   negatable : {words rest : List Token} {made : Filter A} → SpellsNegatable s words rest made → SpellsOf s words rest made
   negated : {words rest : List Token} {inner made : Filter A} → SpellsNegatable s words rest inner → IsNot inner made
       → SpellsOf s (Keyword word.Not ∷ words) rest made
-  is_null : {rest : List Token} {c : AColumn} → column_of s ≡ Some c
-      → SpellsOf s (Keyword word.Is ∷ Keyword word.Null ∷ rest) rest (filter.IsNull c)
-  is_not_null : {rest : List Token} {c : AColumn} {made : Filter A} → column_of s ≡ Some c → IsNot (filter.IsNull c) made
-      → SpellsOf s (Keyword word.Is ∷ Keyword word.Not ∷ Keyword word.Null ∷ rest) rest made
+  null_test : {words rest : List Token} {c : AColumn} {made : Filter A} → column_of s ≡ Some c → SpellsNull c words rest made
+      → SpellsOf s (Keyword word.Is ∷ words) rest made
 
 -- HAS_NUMBER, after the word
 pub record SpellsHasNumber (words rest : List Token) (house : HouseNumber) : Type 0 where
   pub numeral : Numeral
-  pub spelled : words ≡ Open ∷ Number numeral ∷ Close ∷ rest
+  pub inner : List Token
+  pub opened : words ≡ Open ∷ inner
+  pub spelled : IsNumeral inner (Close ∷ rest) numeral
   pub value : house_number_of numeral ≡ Ok house.number
 
 -- the number of alternate names that HAS_NAME checks
 pub data SpellsLimit : List Token → List Token → NameLimit → Type 0 where
-  given : {rest : List Token} {limit : NameLimit} (numeral : Numeral) → name_limit_of numeral ≡ Ok limit.number
-      → SpellsLimit (Comma ∷ Number numeral ∷ rest) rest limit
+  given : {words rest : List Token} {limit : NameLimit} (numeral : Numeral) → IsNumeral words rest numeral
+      → name_limit_of numeral ≡ Ok limit.number → SpellsLimit (Comma ∷ words) rest limit
   usual : {rest : List Token} {limit : NameLimit} → limit.number ≡ 63 → SpellsLimit rest rest limit
 
 -- HAS_NAME, after the word
@@ -179,8 +170,8 @@ latitude = Coordinate Frlat
 -- a longitude and a latitude with a comma between them
 pub record IsPoint (words rest : List Token) (x y : Literal) : Type 0 where
   pub middle : List Token
-  pub first : IsNumber longitude words (Comma ∷ middle) x
-  pub second : IsNumber latitude middle rest y
+  pub first : IsNumber Degrees words (Comma ∷ middle) x
+  pub second : IsNumber Degrees middle rest y
 
 -- STARTS_IN, after the word: a box, by its southwest and northeast corners
 pub record SpellsStartsIn {A : Type 0} (words rest : List Token) (made : Filter A) : Type 0 where
@@ -199,6 +190,17 @@ pub record SpellsStartsIn {A : Type 0} (words rest : List Token) (made : Filter 
   pub is_along : IsWithin latitude s n along
   pub both : IsBoth across along made
 
+-- a predicate about a text or a number
+pub data SpellsRelation {A : Type 0} : List Token → List Token → Filter A → Type 0 where
+  of_subject : {s : Subject} {words middle rest : List Token} {made : Filter A} → IsSubject s words middle → SpellsOf s middle rest made
+      → SpellsRelation words rest made
+  text_first : {words rest : List Token} {c : TextColumn} {k : Comparison} {text : AText A}
+      → IsText (width_of c) words (Compared k ∷ Column (column.Text c) ∷ rest) text
+      → SpellsRelation words rest (filter.CompareText c (mirrored k) text)
+  of_number : {words middle rest : List Token} {made : Filter A} → SpellsOfNumber words middle middle rest made → SpellsRelation words rest made
+  number_null : {words rest : List Token} {c : NumericColumn} {made : Filter A} → SpellsNull (column.Numeric c) words rest made
+      → SpellsRelation (Column (column.Numeric c) ∷ Keyword word.Is ∷ words) rest made
+
 -- predicate, function and booleanLiteral
 pub data SpellsPredicate {A : Type 0} : List Token → List Token → Filter A → Type 0 where
   true_literal : {rest : List Token} → SpellsPredicate (Keyword word.True ∷ rest) rest (filter.Constant true)
@@ -209,5 +211,4 @@ pub data SpellsPredicate {A : Type 0} : List Token → List Token → Filter A �
       → SpellsPredicate (Keyword word.HasName ∷ words) rest (filter.HasName text limit)
   starts_in : {words rest : List Token} {made : Filter A} → SpellsStartsIn words rest made
       → SpellsPredicate (Keyword word.StartsIn ∷ words) rest made
-  of_subject : {s : Subject} {words middle rest : List Token} {made : Filter A} → IsSubject s words middle → SpellsOf s middle rest made
-      → SpellsPredicate words rest made
+  relation : {words rest : List Token} {made : Filter A} → SpellsRelation words rest made → SpellsPredicate words rest made

@@ -1,8 +1,10 @@
 -- The filter that a text spells (CQL2, 21-065r2, annex B: one constructor per production).
-use Rattle.std.specs.Prelude.{ℕ, suc, List, [], ◌∷◌}
+use Rattle.std.specs.Prelude.{◌≡◌, ℕ, suc, true, false, List, [], ◌∷◌}
 use Rattle.cql2.specs.declared.filter.Filter.{Filter}
 use Rattle.cql2_tokens.specs.Lexed.{Lexes}
-use Rattle.cql2_text.specs.Predicate.{IsBoth, IsEither, IsNot, SpellsPredicate}
+use Rattle.cql2_text.specs.Connective.{IsBoth, IsEither, IsNot}
+use Rattle.cql2_text.specs.Parenthesis.{opens_filter}
+use Rattle.cql2_text.specs.Predicate.{SpellsPredicate}
 use Rattle.cql2_tokens.specs.declared.token.Keyword.TheVariants as word
 use Rattle.cql2_tokens.specs.declared.token.Token.{Token}
 use Rattle.cql2_tokens.specs.declared.token.Token.TheVariants.{Keyword, Open, Close}
@@ -15,7 +17,7 @@ pub data Production : Type 0 where
   Primary : Production
 
 -- The tokens, up to the rest, form a production that means the filter, with parentheses nested at most to this depth. The parentheses of
--- functions and lists don't count.
+-- functions, lists and numbers don't count. What an opening parenthesis begins is known by what follows the one that closes it.
 pub data Spells {A : Type 0} : ℕ → Production → List Token → List Token → Filter A → Type 0 where
   one_term : {depth : ℕ} {words rest : List Token} {made : Filter A} → Spells depth Term words rest made
       → Spells depth Expression words rest made
@@ -31,9 +33,9 @@ pub data Spells {A : Type 0} : ℕ → Production → List Token → List Token 
       → Spells depth Factor words rest made
   not_primary : {depth : ℕ} {words rest : List Token} {inner made : Filter A} → Spells depth Primary words rest inner
       → IsNot inner made → Spells depth Factor (Keyword word.Not ∷ words) rest made
-  grouped : {depth : ℕ} {words rest : List Token} {made : Filter A} → Spells depth Expression words (Close ∷ rest) made
-      → Spells (suc depth) Primary (Open ∷ words) rest made
-  predicate : {depth : ℕ} {words rest : List Token} {made : Filter A} → SpellsPredicate words rest made
+  grouped : {depth : ℕ} {words rest : List Token} {made : Filter A} → opens_filter (Open ∷ words) ≡ true
+      → Spells depth Expression words (Close ∷ rest) made → Spells (suc depth) Primary (Open ∷ words) rest made
+  predicate : {depth : ℕ} {words rest : List Token} {made : Filter A} → opens_filter words ≡ false → SpellsPredicate words rest made
       → Spells depth Primary words rest made
 
 -- the whole text consists of tokens, which form a booleanExpression that means the filter, with parentheses nested up to 64 deep

@@ -28,6 +28,8 @@ pub enum Expected {
     Text,
     #[error("CASEI")]
     Casei,
+    #[error("ACCENTI")]
+    Accenti,
     #[error("BBOX")]
     Bbox,
     #[error("AND")]
@@ -42,8 +44,6 @@ pub enum Expected {
     End,
     #[error("a character of Latin-1")]
     Character,
-    #[error("no more of the pattern, since `%` may only end it")]
-    PatternEnd,
     #[error("a character that the backslash makes literal")]
     Escaped,
 }
@@ -57,11 +57,13 @@ pub enum FilterFaultKind {
     UnknownColumn,
     #[error("the column isn't of this type")]
     WrongType,
+    #[error("CASEI and ACCENTI have to be on both sides, with =, <>, LIKE or IN")]
+    Folded,
     #[error("a number doesn't fit")]
     NumberRange,
     #[error("a text is empty, or longer than its column")]
     LongText,
-    #[error("parentheses stand in too many others")]
+    #[error("parentheses or operators stand in too many others")]
     TooDeep,
     #[error("the text has more than 1,048,576 bytes")]
     TooLong,
@@ -107,6 +109,7 @@ impl FilterFaultKind {
             FilterFaultKind::Syntax(_expected) => Refusal::refused(90, "Syntax"),
             FilterFaultKind::UnknownColumn => Refusal::refused(91, "UnknownColumn"),
             FilterFaultKind::WrongType => Refusal::refused(92, "WrongType"),
+            FilterFaultKind::Folded => Refusal::refused(92, "WrongType"),
             FilterFaultKind::NumberRange => Refusal::refused(93, "NumberRange"),
             FilterFaultKind::LongText => Refusal::refused(94, "LongText"),
             FilterFaultKind::TooDeep => Refusal::refused(95, "TooDeep"),

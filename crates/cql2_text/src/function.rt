@@ -14,6 +14,7 @@ use crate::literal::{house_number, name_limit};
 use crate::operand::{number, numeral, text};
 use crate::syntax_fault::SyntaxFault;
 use crate::terminal::{Terminal, expect, next};
+use crate::unit::Unit;
 use cql2::{CoordinateColumn, Filter, Literal, NameLimit, NumericColumn};
 use cql2_tokens::Token;
 use std::alloc::Allocator;
@@ -107,8 +108,8 @@ fn point<'a>(words: &'a [Token<'a>]) -> Result<(Literal, Literal, &'a [Token<'a>
     ensures reads { (rest : List Token) (x y : ALiteral) → IsPoint words.now rest x y
         → MatchResult result (λ read. (read.2.now ≡ rest) × (read.0.number ≡ x.number) × (read.1.number ≡ y.number)) (λ fault. ⊥) }
 {
-    let (x, rest) = number(LONGITUDE, words)?;
+    let (x, rest) = number(Unit::Degrees, words)?;
     let rest = expect(rest, Terminal::Comma)?;
-    let (y, rest) = number(LATITUDE, rest)?;
+    let (y, rest) = number(Unit::Degrees, rest)?;
     Ok((x, y, rest))
 }

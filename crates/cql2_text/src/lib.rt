@@ -1,21 +1,31 @@
 //! Reading filters from text (OGC CQL2, 21-065r2, Text encoding).
 #![tactic(auto)]
 
+mod clause;
 mod connective;
+mod expression;
 mod fault;
 mod function;
+mod hint;
 pub mod laws;
+mod leaf;
 mod literal;
 mod nearest;
+mod numeric;
 mod operand;
+mod parenthesis;
 mod parser;
+mod part;
 mod pattern;
 mod predicate;
 mod reader;
+mod relation;
 mod syntax_fault;
 mod terminal;
 mod text;
+mod unit;
 
 pub use cql2_tokens::column_named;
 pub use fault::{Expected, FilterFault, FilterFaultKind};
+pub use hint::Hint;
 pub use reader::{MAX_TEXT_LENGTH, read};

@@ -1,15 +1,16 @@
 //! Numbers.
-ghost use Rattle.std.specs.Prelude.{◌≡◌, ◌≤◌, ◌<◌, ◌^◌, ◌-◌, Ok, Err, IfOk, IfSome, MatchResult};
+ghost use Rattle.std.specs.Prelude.{◌≡◌, ◌≤◌, ◌<◌, ◌^◌, ◌-◌, Ok, Err, unsigned_abs, IfOk, IfSome, MatchResult};
 ghost use Rattle.decimal.specs.Numeral.{decimal_in};
 ghost use Rattle.cql2_text.specs.Number.{number_of, house_number_of, name_limit_of, count_of, signed, whole_amount, millionths, parts_of};
 
 use crate::fault::FilterFaultKind;
-use cql2::{HouseNumber, Literal, NameLimit, NumericColumn};
+use crate::unit::Unit;
+use cql2::{HouseNumber, Literal, NameLimit};
 use cql2_tokens::Numeral;
 use decimal::decimal_value;
 use tl_segments::MAX_NAMES;
 
-/// The maximum number of digits in a column's number.
+/// The maximum number of digits in a whole number.
 const MAX_LITERAL_DIGITS: usize = 18;
 /// The maximum number of digits in a house number.
 const MAX_HOUSE_NUMBER_DIGITS: usize = 11;
@@ -18,21 +19,15 @@ const MAX_DECIMALS: usize = 6;
 /// The bound that a coordinate's degrees are below.
 const DEGREES: u64 = 1000;
 
-/// Returns a numeral's value in the unit of the column's fields.
-pub(crate) fn literal_of(
-    column: NumericColumn,
-    numeral: Numeral,
-) -> Result<Literal, FilterFaultKind>
-    ensures { MatchResult result (λ literal. number_of column numeral.entry ≡ Ok literal.number)
-        (λ flaw. number_of column numeral.entry ≡ Err flaw) }
+/// Returns a numeral's value in a unit.
+pub(crate) fn literal_of(unit: Unit, numeral: Numeral) -> Result<Literal, FilterFaultKind>
+    ensures value { MatchResult result (λ literal. number_of unit numeral.entry ≡ Ok literal.number)
+        (λ flaw. number_of unit numeral.entry ≡ Err flaw) }
+    ensures small { IfOk result (λ literal. unsigned_abs literal.number < 10 ^ 18) }
 {
-    let amount = match column {
-        NumericColumn::Number(_column) => whole_amount(
-            numeral.whole,
-            numeral.decimals,
-            MAX_LITERAL_DIGITS,
-        ),
-        NumericColumn::Coordinate(_column) => millionths(numeral),
+    let amount = match unit {
+        Unit::Whole => whole_amount(numeral.whole, numeral.decimals, MAX_LITERAL_DIGITS),
+        Unit::Degrees => millionths(numeral),
     };
     match amount {
         Ok(amount) => Ok(signed(numeral.is_negative, amount)),
@@ -103,7 +98,8 @@ fn unit(decimals: usize) -> u64
 
 fn signed(is_negative: bool, amount: u64) -> Literal
     requires { amount < 10 ^ 18 }
-    ensures { result.number ≡ signed is_negative amount }
+    ensures value { result.number ≡ signed is_negative amount }
+    ensures small { unsigned_abs result.number ≡ amount }
 {
     let number = if is_negative {
         -(amount as i64)

@@ -1,13 +1,14 @@
 //! Literals that a column is compared with or that a function takes.
-ghost use Rattle.std.specs.Prelude.{◌≡◌, ◌≢◌, ◌∷◌, ◌≤◌, ℕ, List, length, IfOk, Err, MatchResult};
+ghost use Rattle.std.specs.Prelude.{◌≡◌, ◌≢◌, ◌∷◌, ◌≤◌, ◌<◌, ◌^◌, unsigned_abs, ℕ, List, length, IfOk, Err, MatchResult, false};
 ghost use Rattle.tl_segments.specs.declared.name.TheConstants.{NAME_LENGTH};
 ghost use denote.Ref.{Bor};
 ghost use Rattle.cql2.specs.declared.number.Literal.{Literal as ALiteral};
 ghost use Rattle.cql2.specs.declared.text.Text.{Text as AText};
 ghost use Rattle.cql2_text.specs.Number.{number_of};
-ghost use Rattle.cql2_text.specs.Predicate.{IsNumber, IsText};
+ghost use Rattle.cql2_text.specs.Numeral.{IsNumber, IsNumeral, below_zero};
+ghost use Rattle.cql2_text.specs.Predicate.{IsText};
 ghost use Rattle.cql2_text.specs.declared.syntax_fault.SyntaxFault.TheVariants as syntax_fault;
-ghost use Rattle.cql2_tokens.specs.declared.token.Numeral.{Numeral};
+ghost use Rattle.cql2_tokens.specs.declared.token.Numeral.{Numeral as ANumeral};
 ghost use Rattle.cql2_tokens.specs.declared.token.Token.{Token};
 ghost use Rattle.cql2_tokens.specs.declared.token.Token.TheVariants as token;
 
@@ -16,16 +17,49 @@ use crate::literal::literal_of;
 use crate::syntax_fault::SyntaxFault;
 use crate::terminal::next;
 use crate::text::compared_text;
-use cql2::{Literal, NumericColumn, Text};
-use cql2_tokens::{Keyword, Numeral, Token};
+use crate::unit::Unit;
+use cql2::{Literal, Text};
+use cql2_tokens::{Keyword, Numeral, Sign, Token};
 use std::alloc::Allocator;
 
-/// Takes a number and returns it with the tokens after it.
+/// Takes a number with or without a sign and returns it with the tokens after it.
 pub(crate) fn numeral<'a>(
     words: &'a [Token<'a>],
 ) -> Result<(Numeral<'a>, &'a [Token<'a>]), SyntaxFault>
+    ensures ok { IfOk result (λ read. IsNumeral words.now read.1.now read.0) }
+    ensures reads { (rest : List Token) (numeral : ANumeral) → IsNumeral words.now rest numeral
+        → MatchResult result (λ read. (read.1.now ≡ rest) × (read.0 ≡ numeral)) (λ fault. ⊥) }
+{
+    match next(words) {
+        Some((Token::Sign(Sign::Plus), after)) => {
+            let (numeral, rest) = unsigned(after)?;
+            Ok((numeral, rest))
+        }
+        Some((Token::Sign(Sign::Minus), after)) => {
+            let (numeral, rest) = unsigned(after)?;
+            Ok((below_zero(numeral), rest))
+        }
+        _ => {
+            let (numeral, rest) = unsigned(words)?;
+            Ok((numeral, rest))
+        }
+    }
+}
+
+fn below_zero<'a>(numeral: Numeral<'a>) -> Numeral<'a>
+    ensures { result ≡ below_zero numeral.entry }
+{
+    Numeral {
+        is_negative: true,
+        whole: numeral.whole,
+        decimals: numeral.decimals,
+    }
+}
+
+/// Takes a number without a sign and returns it with the tokens after it.
+fn unsigned<'a>(words: &'a [Token<'a>]) -> Result<(Numeral<'a>, &'a [Token<'a>]), SyntaxFault>
     ensures { MatchResult result (λ read. words.now ≡ token.Number read.0 ∷ read.1.now)
-        (λ fault. (numeral : Numeral) (rest : List Token) → words.now ≢ token.Number numeral ∷ rest) }
+        (λ fault. (numeral : ANumeral) (rest : List Token) → words.now ≢ token.Number numeral ∷ rest) }
 {
     match next(words) {
         Some((Token::Number(numeral), rest)) => Ok((numeral, rest)),
@@ -36,32 +70,38 @@ pub(crate) fn numeral<'a>(
     }
 }
 
-/// Reads a number that a column is compared with.
+/// Reads a number, which may have a sign.
 pub(crate) fn number<'a>(
-    column: NumericColumn,
+    unit: Unit,
     words: &'a [Token<'a>],
 ) -> Result<(Literal, &'a [Token<'a>]), SyntaxFault>
-    ensures ok { IfOk result (λ read. IsNumber column words.now read.1.now read.0) }
+    ensures ok { IfOk result (λ read. IsNumber unit words.now read.1.now read.0) }
 
-    // A number that the column can't hold is refused for its flaw.
-    ensures refused { (numeral : Numeral) (rest : List Token) (flaw : FilterFaultKind) → words.now ≡ token.Number numeral ∷ rest
-        → number_of column numeral ≡ Err flaw → result ≡ Err (syntax_fault.At (length words.now) 0 flaw) }
-    ensures reads { (rest : List Token) (literal : ALiteral) → IsNumber column words.now rest literal
+    // A number that isn't one of the unit is refused for its flaw.
+    ensures refused { (numeral : ANumeral) (rest : List Token) (flaw : FilterFaultKind) → IsNumeral words.now rest numeral
+        → number_of unit numeral ≡ Err flaw → result ≡ Err (syntax_fault.At (length words.now) 0 flaw) }
+    ensures small { IfOk result (λ read. unsigned_abs read.0.number < 10 ^ 18) }
+    ensures reads { (rest : List Token) (literal : ALiteral) → IsNumber unit words.now rest literal
         → MatchResult result (λ read. (read.1.now ≡ rest) × (read.0.number ≡ literal.number)) (λ fault. ⊥) }
 {
-    match next(words) {
-        Some((Token::Number(numeral), rest)) => match literal_of(column, numeral) {
-            Ok(literal) => Ok((literal, rest)),
-            Err(flaw) => Err(SyntaxFault::at(words, flaw)),
-        },
-        Some((Token::Text(_spelling), _rest)) => {
-            Err(SyntaxFault::at(words, FilterFaultKind::WrongType))
-        }
-        Some((Token::Keyword(Keyword::Casei), _rest)) => {
-            Err(SyntaxFault::at(words, FilterFaultKind::WrongType))
-        }
-        _ => Err(SyntaxFault::unexpected(words, Expected::Number)),
+    if begins_clause(words) {
+        return Err(SyntaxFault::at(words, FilterFaultKind::WrongType));
     }
+    let (numeral, rest) = numeral(words)?;
+    match literal_of(unit, numeral) {
+        Ok(literal) => Ok((literal, rest)),
+        Err(flaw) => Err(SyntaxFault::at(words, flaw)),
+    }
+}
+
+/// Returns whether the first token is CASEI or ACCENTI.
+fn begins_clause(words: &[Token]) -> bool
+    ensures { (rest : List Token) (numeral : ANumeral) → IsNumeral words.now rest numeral → result ≡ false }
+{
+    matches!(
+        next(words),
+        Some((Token::Keyword(Keyword::Casei | Keyword::Accenti), _rest))
+    )
 }
 
 /// Takes a string literal and returns its inside with the tokens after it.
@@ -76,8 +116,8 @@ pub(crate) fn spelling<'a>(
         Some((Token::Number(_numeral), _rest)) => {
             Err(SyntaxFault::at(words, FilterFaultKind::WrongType))
         }
-        Some((Token::Keyword(Keyword::Casei), _rest)) => {
-            Err(SyntaxFault::at(words, FilterFaultKind::WrongType))
+        Some((Token::Keyword(Keyword::Casei | Keyword::Accenti), _rest)) => {
+            Err(SyntaxFault::at(words, FilterFaultKind::Folded))
         }
         _ => Err(SyntaxFault::unexpected(words, Expected::Text)),
     }

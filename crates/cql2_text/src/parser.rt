@@ -1,17 +1,18 @@
 //! Parsing tokens into a filter.
-ghost use Rattle.std.specs.Prelude.{◌≡◌, ◌<◌, ◌∷◌, [], List, length, IfOk, Err, MatchResult};
+ghost use Rattle.std.specs.Prelude.{◌≡◌, ◌<◌, [], true, List, length, IfOk, Err, MatchResult};
 ghost use Rattle.cql2.specs.declared.filter.Filter.{Filter};
 ghost use Rattle.cql2_text.specs.Content.{content};
+ghost use Rattle.cql2_text.specs.Parenthesis.{opens_filter};
 ghost use Rattle.cql2_text.specs.Read.{IsRead, IsNotNext};
 ghost use Rattle.cql2_tokens.specs.declared.token.Keyword.TheVariants as word;
 ghost use Rattle.cql2_text.specs.Spelled.{Expression, Term, Factor, Primary, Spells};
 ghost use Rattle.cql2_text.specs.declared.syntax_fault.SyntaxFault.TheVariants as syntax_fault;
 ghost use Rattle.cql2_tokens.specs.declared.token.Token.{Token};
-ghost use Rattle.cql2_tokens.specs.declared.token.Token.TheVariants as token;
 
 use crate::connective::{both, either, negated};
 use crate::fault::{Expected, FilterFaultKind};
-use crate::predicate::predicate;
+use crate::leaf::predicate;
+use crate::parenthesis::opens_filter;
 use crate::syntax_fault::SyntaxFault;
 use crate::terminal::{Terminal, expect, next};
 use cql2::Filter;
@@ -114,12 +115,15 @@ fn primary<'a, A: Allocator + Copy>(
     ensures ok { IfOk result (λ read. Spells depth Primary words.now read.1.now read.0) }
     ensures reads { (rest : List Token) (made : Filter A) → Spells depth Primary words.now rest made → IsRead result rest made }
 
-    // A parenthesis is refused if the maximum number of parentheses is already open.
-    ensures too_deep { (rest : List Token) → depth ≡ 0 → words.now ≡ token.Open ∷ rest
+    // A filter's parenthesis is refused if the maximum number of parentheses is already open.
+    ensures too_deep { depth ≡ 0 → opens_filter words.now ≡ true
         → result ≡ Err (syntax_fault.At (length words.now) 0 FilterFaultKind.TooDeep) }
 {
     match next(words) {
         Some((Token::Open, after)) => {
+            if !opens_filter(after) {
+                return predicate(alloc, words);
+            }
             if depth == 0 {
                 return Err(SyntaxFault::at(words, FilterFaultKind::TooDeep));
             }

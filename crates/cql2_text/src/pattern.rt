@@ -1,132 +1,127 @@
 //! Patterns of LIKE.
-ghost use Rattle.std.specs.Prelude.{◌≡◌, ◌<◌, ◌≤◌, ◌∷◌, [], ℕ, List, IsTrue, ◌↔◌, true, false, map, length, IfOk, IfErr, MatchResult};
-ghost use Rattle.cql2.specs.Pattern.{are_bytes, is_byte};
+ghost use Rattle.std.specs.Prelude.{◌≡◌, ◌<◌, ◌≤◌, ℕ, List, true, map, length, IfOk, IfErr, MatchResult};
+ghost use Rattle.cql2.specs.Pattern.{is_byte};
 ghost use Rattle.cql2.specs.declared.pattern.Pattern.{Pattern as APattern};
-ghost use Rattle.cql2.specs.declared.pattern.PatternByte.{PatternByte as APatternByte};
+ghost use Rattle.cql2.specs.declared.pattern.PatternPart.{PatternPart as APatternPart};
 ghost use Rattle.cql2_text.specs.declared.syntax_fault.TextFault.TheVariants as text_fault;
-ghost use Rattle.cql2_text.specs.Pattern.{IsLikePattern, IsSamePattern, IsPatternByte, is_special, character_pattern};
+ghost use Rattle.cql2_text.specs.Pattern.{IsLikePattern, IsPatternPart, after_percents, character_pattern, least_length, takes_one};
 
 use crate::fault::Expected;
 use crate::syntax_fault::TextFault;
-use cql2::{Pattern, PatternByte};
+use cql2::{Folding, Pattern, PatternPart};
 use cql2_tokens::character;
 use std::alloc::Allocator;
 
-/// Returns the pattern byte of a character, a letter in either case if case is ignored.
-fn character_pattern(byte: u8, ignores_case: bool) -> PatternByte
-    ensures wanted { result ≡ character_pattern ignores_case byte }
+/// Returns the part of a pattern that a character is.
+fn character_pattern(byte: u8, folding: Folding) -> PatternPart
+    ensures wanted { result ≡ character_pattern folding byte }
     ensures is_byte { is_byte result ≡ true }
 {
-    if ignores_case && byte.is_ascii_alphabetic() {
-        PatternByte::EitherCase(byte.to_ascii_lowercase())
+    if folding.case || folding.accents {
+        PatternPart::Alike(folding, byte)
     } else {
-        PatternByte::Exactly(byte)
+        PatternPart::Exactly(byte)
     }
 }
 
-/// Returns the pattern byte at the start of a literal's inside, and the text after it. `_` is any character, and `\` makes the next character an
-/// ordinary one.
-fn pattern_byte<'a>(
+/// Returns the part at the start of a literal's inside, and the text after it. `%` is any number of characters, as `%%` is, `_` is any character,
+/// and `\` makes the next character an ordinary one.
+fn pattern_part<'a>(
     spelling: &[u8],
     text: &'a [u8],
-    ignores_case: bool,
-) -> Result<(PatternByte, &'a [u8]), TextFault>
-    ensures byte { IfOk result (λ read. IsPatternByte ignores_case text.now read.0 read.1.now) }
+    folding: Folding,
+) -> Result<(PatternPart, &'a [u8]), TextFault>
+    ensures part { IfOk result (λ read. IsPatternPart folding text.now read.0 read.1.now) }
     ensures is_byte { IfOk result (λ read. is_byte read.0 ≡ true) }
     ensures shorter { IfOk result (λ read. length read.1.now < length text.now) }
-    ensures only { (wanted : APatternByte) (rest : List ℕ) → IsPatternByte ignores_case text.now wanted rest
-        → MatchResult result (λ read. (read.0 ≡ wanted) × (read.1.now ≡ rest)) (λ fault. ⊥) }
+    ensures only { (part : APatternPart) (rest : List ℕ) → IsPatternPart folding text.now part rest
+        → MatchResult result (λ read. (read.0 ≡ part) × (read.1.now ≡ rest)) (λ fault. ⊥) }
 {
     let Some((byte, rest)) = character(text) else {
         return Err(TextFault::expected(spelling, text, Expected::Character));
     };
-    if !is_special(byte) {
-        return Ok((character_pattern(byte, ignores_case), rest));
-    }
     match byte {
-        b'_' => Ok((PatternByte::Any, rest)),
+        b'%' => Ok((PatternPart::Many, after_percents(rest))),
+        b'_' => Ok((PatternPart::One, rest)),
         b'\\' => match character(rest) {
-            Some((next, rest)) => Ok((character_pattern(next, ignores_case), rest)),
+            Some((next, rest)) => Ok((character_pattern(next, folding), rest)),
             None => Err(TextFault::expected(spelling, rest, Expected::Escaped)),
         },
-        _ => Err(TextFault::expected(spelling, text, Expected::PatternEnd)),
+        _ => Ok((character_pattern(byte, folding), rest)),
     }
 }
 
-/// Returns whether the byte is `%`, `_` or `\`.
-fn is_special(byte: u8) -> bool
-    ensures { result ≡ is_special byte }
+/// Returns the text after each `%` at its start.
+fn after_percents(text: &[u8]) -> &[u8]
+    ensures value { result.now ≡ after_percents text.now }
+    ensures no_longer { length result.now ≤ length text.now }
 {
-    byte == b'%' || byte == b'_' || byte == b'\\'
+    let mut rest = text;
+    while let [b'%', after @ ..] = rest {
+        rest = after;
+    }
+    rest
 }
 
-/// Returns whether only `%` is left.
-fn is_percent(text: &[u8]) -> bool
-    ensures { IsTrue result ↔ (text.now ≡ 37 ∷ []) }
+/// Returns whether a part takes one byte.
+fn takes_one(part: PatternPart) -> bool
+    ensures { result ≡ takes_one part }
 {
-    match text {
-        [b'%'] => true,
-        _ => false,
+    match part {
+        PatternPart::Many => false,
+        _ => true,
     }
 }
 
-/// Returns a pattern, provided it is no longer than the column.
-fn short<A: Allocator>(
-    wanted: Vec<PatternByte, A>,
-    is_open: bool,
-    width: usize,
-) -> Result<Pattern<A>, TextFault>
-    requires { are_bytes wanted.items ≡ true }
-    ensures wanted { IfOk result (λ pattern. pattern.wanted.items ≡ wanted.items) }
-    ensures open { IfOk result (λ pattern. pattern.is_open ≡ is_open) }
-    ensures few { IfOk result (λ pattern. length pattern.wanted.items ≤ width) }
-    ensures long { IfErr result (λ fault. width < length wanted.items) }
+/// Returns the number of bytes in the shortest text that matches.
+fn least_length(parts: &[PatternPart]) -> usize
+    ensures { result ≡ least_length parts.now }
 {
-    if wanted.len() > width {
-        return Err(TextFault::Long);
+    let mut least = 0;
+    for part in parts {
+        if takes_one(*part) {
+            least += 1;
+        }
     }
-    Ok(Pattern { wanted, is_open })
+    least
 }
 
-/// Returns the pattern inside a literal. It is open if it ends in `%`.
+/// Returns the pattern inside a literal, provided a text of this width can match it.
 pub(crate) fn pattern<A: Allocator + Copy>(
     alloc: A,
     spelling: &[u8],
-    ignores_case: bool,
+    folding: Folding,
     width: usize,
 ) -> Result<Pattern<A>, TextFault>
-    ensures ok { IfOk result (λ pattern. IsLikePattern width ignores_case spelling.now pattern) }
-    ensures reads { (pattern : APattern A) → IsLikePattern width ignores_case spelling.now pattern
-        → MatchResult result (λ read. IsSamePattern read pattern) (λ fault. fault ≡ text_fault.Memory) }
+    ensures ok { IfOk result (λ pattern. IsLikePattern width folding spelling.now pattern) }
+    ensures reads { (pattern : APattern A) → IsLikePattern width folding spelling.now pattern
+        → MatchResult result (λ read. read.parts.items ≡ pattern.parts.items) (λ fault. fault ≡ text_fault.Memory) }
 {
-    let mut wanted = Vec::new(alloc);
+    let mut parts = Vec::new(alloc);
     let mut rest = spelling;
     while !rest.is_empty() {
-        if is_percent(rest) {
-            return short(wanted, true, width);
-        }
-        let (byte, after) = pattern_byte(spelling, rest, ignores_case)?;
-        wanted.push(byte)?;
+        let (part, after) = pattern_part(spelling, rest, folding)?;
+        parts.push(part)?;
         rest = after;
     }
-    short(wanted, false, width)
+    if least_length(&parts) > width {
+        return Err(TextFault::Long);
+    }
+    Ok(Pattern { parts })
 }
 
-/// Returns the pattern that matches a text in either case.
-pub(crate) fn same_but_for_case<A: Allocator + Copy>(
+/// Returns the pattern that matches a text and each that is the same but for what is ignored.
+pub(crate) fn same_but_for<A: Allocator + Copy>(
     alloc: A,
+    folding: Folding,
     bytes: &[u8],
 ) -> Result<Pattern<A>, TextFault>
-    ensures letters { IfOk result (λ pattern. pattern.wanted.items ≡ map (character_pattern true) bytes.now) }
-    ensures closed { IfOk result (λ pattern. pattern.is_open ≡ false) }
+    ensures letters { IfOk result (λ pattern. pattern.parts.items ≡ map (character_pattern folding) bytes.now) }
     ensures memory { IfErr result (λ fault. fault ≡ text_fault.Memory) }
 {
-    let mut wanted = Vec::new(alloc);
+    let mut parts = Vec::new(alloc);
     for byte in bytes {
-        wanted.push(character_pattern(*byte, true))?;
+        parts.push(character_pattern(*byte, folding))?;
     }
-    Ok(Pattern {
-        wanted,
-        is_open: false,
-    })
+    Ok(Pattern { parts })
 }

@@ -1,107 +1,87 @@
-//! Predicates.
+//! Predicates about texts.
 ghost use Rattle.std.specs.Prelude.{◌≡◌, ◌≢◌, ◌∷◌, ◌≤◌, List, IfOk, Err, MatchResult};
 ghost use Rattle.tl_segments.specs.declared.name.TheConstants.{NAME_LENGTH};
-ghost use Rattle.cql2.specs.declared.column.Column.TheVariants as column;
 ghost use Rattle.cql2.specs.declared.column.TextColumn.{TextColumn};
 ghost use Rattle.cql2.specs.declared.filter.Comparison.TheVariants.{Equal};
 ghost use Rattle.cql2.specs.declared.filter.Filter.{Filter};
 ghost use Rattle.cql2.specs.declared.filter.Filter.TheVariants as filter;
+ghost use Rattle.cql2.specs.declared.pattern.Folding.{Folding as AFolding};
 ghost use Rattle.cql2.specs.declared.pattern.Pattern.{Pattern as APattern};
 ghost use Rattle.cql2_text.specs.declared.predicate.Subject.{Subject};
 ghost use Rattle.cql2_text.specs.Read.{IsRead};
-ghost use Rattle.cql2_text.specs.Pattern.{IsSamePattern};
-ghost use Rattle.cql2_text.specs.Predicate.{IsSubject, IsLikeColumn, is_compared, SpellsBetween, SpellsComparison, SpellsList, SpellsLike};
-ghost use Rattle.cql2_text.specs.Predicate.{SpellsNegatable, SpellsOf, SpellsPredicate, column_of, width_of};
+ghost use Rattle.cql2_text.specs.Clause.{IsClause};
+ghost use Rattle.cql2_text.specs.Predicate.{IsSubject, IsTextColumn, IsLikeColumn, is_compared, SpellsComparison, SpellsList, SpellsLike, SpellsNull};
+ghost use Rattle.cql2_text.specs.Predicate.{SpellsTextComparison};
+ghost use Rattle.cql2_text.specs.Predicate.{SpellsNegatable, SpellsOf, column_of, width_of};
 ghost use Rattle.cql2_text.specs.declared.syntax_fault.SyntaxFault.TheVariants as syntax_fault;
 ghost use Rattle.cql2_tokens.specs.declared.token.Keyword.TheVariants as word;
 ghost use Rattle.cql2_tokens.specs.declared.token.Token.{Token};
 ghost use Rattle.cql2_tokens.specs.declared.token.Token.TheVariants as token;
 ghost use Rattle.cql2_text.specs.declared.predicate.Subject.TheVariants as subject;
 
-use crate::connective::{either, negated, within};
+use crate::clause::{MAX_NESTED_CLAUSES, NOTHING, closings, openings, same_openings};
+use crate::connective::{either, negated};
 use crate::fault::{Expected, FilterFaultKind};
-use crate::function::{has_name, has_number, starts_in};
-use crate::operand::{number, spelling, text};
-use crate::pattern::{pattern, same_but_for_case};
+use crate::operand::{spelling, text};
+use crate::pattern::{pattern, same_but_for};
 use crate::syntax_fault::SyntaxFault;
 use crate::terminal::{Terminal, expect, next};
-use cql2::{Column, Comparison, Filter, NumericColumn, Pattern, TextColumn};
+use cql2::{Column, Comparison, Filter, Folding, Pattern, TextColumn};
 use cql2_tokens::{Keyword, Token};
 use std::alloc::Allocator;
 
-/// The subject of a predicate.
+/// The subject of a predicate about a text.
 #[derive(Clone, Copy)]
 pub(crate) enum Subject {
-    Numeric(NumericColumn),
     Text(TextColumn),
-    /// `CASEI(column)`.
-    Casei(TextColumn),
+    /// A column in CASEI and ACCENTI, of which they ignore this.
+    Folded(Folding, TextColumn),
 }
 
-/// Reads a predicate, a function, TRUE or FALSE.
-pub(crate) fn predicate<'a, A: Allocator + Copy>(
-    alloc: A,
+/// Reads a text column, or one in CASEI and ACCENTI.
+pub(crate) fn first_subject<'a>(
     words: &'a [Token<'a>],
-) -> Result<(Filter<A>, &'a [Token<'a>]), SyntaxFault>
-    ensures ok { IfOk result (λ read. SpellsPredicate words.now read.1.now read.0) }
-    ensures reads { (rest : List Token) (made : Filter A) → SpellsPredicate words.now rest made → IsRead result rest made }
-{
-    match next(words) {
-        Some((Token::Keyword(Keyword::True), rest)) => Ok((Filter::Constant(true), rest)),
-        Some((Token::Keyword(Keyword::False), rest)) => Ok((Filter::Constant(false), rest)),
-        Some((Token::Keyword(Keyword::HasNumber), after)) => {
-            let (filter, rest) = has_number(after)?;
-            Ok((filter, rest))
-        }
-        Some((Token::Keyword(Keyword::HasName), after)) => {
-            let (filter, rest) = has_name(alloc, after)?;
-            Ok((filter, rest))
-        }
-        Some((Token::Keyword(Keyword::StartsIn), after)) => {
-            let (filter, rest) = starts_in(alloc, after)?;
-            Ok((filter, rest))
-        }
-        _ => {
-            let (subject, after) = first_subject(words)?;
-            let (filter, rest) = of_subject(alloc, subject, after)?;
-            Ok((filter, rest))
-        }
-    }
-}
-
-/// Reads a column, or a column in CASEI.
-fn first_subject<'a>(words: &'a [Token<'a>]) -> Result<(Subject, &'a [Token<'a>]), SyntaxFault>
+) -> Result<(Subject, &'a [Token<'a>]), SyntaxFault>
     ensures ok { IfOk result (λ read. IsSubject read.0 words.now read.1.now) }
     ensures reads { (s : Subject) (rest : List Token) → IsSubject s words.now rest
         → MatchResult result (λ read. (read.0 ≡ s) × (read.1.now ≡ rest)) (λ fault. ⊥) }
 {
     match next(words) {
-        Some((Token::Column(Column::Numeric(column)), rest)) => {
-            Ok((Subject::Numeric(column), rest))
-        }
         Some((Token::Column(Column::Text(column)), rest)) => Ok((Subject::Text(column), rest)),
-        Some((Token::Keyword(Keyword::Casei), after)) => {
-            let (column, rest) = casei_column(after)?;
-            Ok((Subject::Casei(column), rest))
-        }
         Some((Token::UnknownColumn, _rest)) => {
             Err(SyntaxFault::at(words, FilterFaultKind::UnknownColumn))
         }
-        _ => Err(SyntaxFault::unexpected(words, Expected::Predicate)),
+        _ => {
+            let (folding, column, rest) = folded_column(words)?;
+            Ok((Subject::Folded(folding, column), rest))
+        }
     }
 }
 
-/// Reads a text column in parentheses, after CASEI.
-fn casei_column<'a>(words: &'a [Token<'a>]) -> Result<(TextColumn, &'a [Token<'a>]), SyntaxFault>
-    ensures { MatchResult result (λ read. words.now ≡ token.Open ∷ token.Column (column.Text read.0) ∷ token.Close ∷ read.1.now)
-        (λ fault. (c : TextColumn) (rest : List Token) → words.now ≢ token.Open ∷ token.Column (column.Text c) ∷ token.Close ∷ rest) }
+/// Reads a text column in CASEI and ACCENTI.
+fn folded_column<'a>(
+    words: &'a [Token<'a>],
+) -> Result<(Folding, TextColumn, &'a [Token<'a>]), SyntaxFault>
+    ensures ok { IfOk result (λ read. IsClause (IsTextColumn read.1) read.0 words.now read.2.now) }
+    ensures reads { (folding : AFolding) (c : TextColumn) (rest : List Token) → IsClause (IsTextColumn c) folding words.now rest
+        → MatchResult result (λ read. (read.0 ≡ folding) × (read.1 ≡ c) × (read.2.now ≡ rest)) (λ fault. ⊥) }
 {
-    let words = expect(words, Terminal::Opening)?;
+    let (folding, depth, inner) = openings(words, MAX_NESTED_CLAUSES)?;
+    if depth == 0 {
+        return Err(SyntaxFault::unexpected(words, Expected::Predicate));
+    }
+    let (column, rest) = text_column(inner)?;
+    let rest = closings(rest, depth)?;
+    Ok((folding, column, rest))
+}
+
+/// Takes a text column and returns it with the tokens after it.
+fn text_column<'a>(words: &'a [Token<'a>]) -> Result<(TextColumn, &'a [Token<'a>]), SyntaxFault>
+    ensures { MatchResult result (λ read. IsTextColumn read.0 words.now read.1.now)
+        (λ fault. (c : TextColumn) (rest : List Token) → IsTextColumn c words.now rest → ⊥) }
+{
     match next(words) {
-        Some((Token::Column(Column::Text(column)), rest)) => {
-            let rest = expect(rest, Terminal::Closing)?;
-            Ok((column, rest))
-        }
+        Some((Token::Column(Column::Text(column)), rest)) => Ok((column, rest)),
         Some((Token::Column(_column), _rest)) => {
             Err(SyntaxFault::at(words, FilterFaultKind::WrongType))
         }
@@ -113,7 +93,7 @@ fn casei_column<'a>(words: &'a [Token<'a>]) -> Result<(TextColumn, &'a [Token<'a
 }
 
 /// Reads a predicate about a subject, after the subject.
-fn of_subject<'a, A: Allocator + Copy>(
+pub(crate) fn of_subject<'a, A: Allocator + Copy>(
     alloc: A,
     subject: Subject,
     words: &'a [Token<'a>],
@@ -124,13 +104,16 @@ fn of_subject<'a, A: Allocator + Copy>(
     match next(words) {
         Some((Token::Compared(comparison), after)) => {
             if !is_compared(subject, comparison) {
-                return Err(SyntaxFault::at(words, FilterFaultKind::WrongType));
+                return Err(SyntaxFault::at(words, FilterFaultKind::Folded));
             }
             let (filter, rest) = compared(alloc, subject, comparison, after)?;
             Ok((filter, rest))
         }
         Some((Token::Keyword(Keyword::Is), after)) => {
-            let (filter, rest) = null(alloc, subject, after)?;
+            let Some(column) = column_of(subject) else {
+                return Err(SyntaxFault::at(after, FilterFaultKind::Folded));
+            };
+            let (filter, rest) = null(alloc, column, after)?;
             Ok((filter, rest))
         }
         Some((Token::Keyword(Keyword::Not), after)) => {
@@ -145,31 +128,27 @@ fn of_subject<'a, A: Allocator + Copy>(
     }
 }
 
-/// Returns whether a subject allows this comparison. CASEI allows only `=` and `<>`.
+/// Returns whether a subject allows this comparison. CASEI and ACCENTI allow only `=` and `<>`.
 fn is_compared(subject: Subject, comparison: Comparison) -> bool
     ensures { result ≡ is_compared subject comparison }
 {
     match (subject, comparison) {
-        (Subject::Casei(_column), Comparison::Equal) => true,
-        (Subject::Casei(_column), Comparison::NotEqual) => true,
-        (Subject::Casei(_column), _) => false,
+        (Subject::Folded(_folding, _column), Comparison::Equal) => true,
+        (Subject::Folded(_folding, _column), Comparison::NotEqual) => true,
+        (Subject::Folded(_folding, _column), _) => false,
         _ => true,
     }
 }
 
 /// Reads NULL or NOT NULL, after IS.
-fn null<'a, A: Allocator + Copy>(
+pub(crate) fn null<'a, A: Allocator + Copy>(
     alloc: A,
-    subject: Subject,
+    column: Column,
     words: &'a [Token<'a>],
 ) -> Result<(Filter<A>, &'a [Token<'a>]), SyntaxFault>
-    ensures ok { IfOk result (λ read. SpellsOf subject (token.Keyword word.Is ∷ words.now) read.1.now read.0) }
-    ensures reads { (rest : List Token) (made : Filter A) → SpellsOf subject (token.Keyword word.Is ∷ words.now) rest made
-        → IsRead result rest made }
+    ensures ok { IfOk result (λ read. SpellsNull column words.now read.1.now read.0) }
+    ensures reads { (rest : List Token) (made : Filter A) → SpellsNull column words.now rest made → IsRead result rest made }
 {
-    let Some(column) = column_of(subject) else {
-        return Err(SyntaxFault::at(words, FilterFaultKind::WrongType));
-    };
     match next(words) {
         Some((Token::Keyword(Keyword::Null), rest)) => Ok((Filter::IsNull(column), rest)),
         Some((Token::Keyword(Keyword::Not), after)) => {
@@ -181,18 +160,17 @@ fn null<'a, A: Allocator + Copy>(
     }
 }
 
-/// Returns the column of a subject that isn't in CASEI.
+/// Returns the column of a subject that isn't in CASEI or ACCENTI.
 fn column_of(subject: Subject) -> Option<Column>
     ensures { result ≡ column_of subject }
 {
     match subject {
-        Subject::Numeric(column) => Some(Column::Numeric(column)),
         Subject::Text(column) => Some(Column::Text(column)),
-        Subject::Casei(_column) => None,
+        Subject::Folded(_folding, _column) => None,
     }
 }
 
-/// Reads the predicates that NOT may precede: LIKE, BETWEEN and IN.
+/// Reads the predicates about a text that NOT may precede: LIKE and IN.
 fn negatable<'a, A: Allocator + Copy>(
     alloc: A,
     subject: Subject,
@@ -204,22 +182,20 @@ fn negatable<'a, A: Allocator + Copy>(
 {
     match next(words) {
         Some((Token::Keyword(Keyword::Like), after)) => match subject {
-            Subject::Numeric(_column) => Err(SyntaxFault::at(words, FilterFaultKind::WrongType)),
             Subject::Text(column) => {
                 let (filter, rest) = like(alloc, column, after)?;
                 Ok((filter, rest))
             }
-            Subject::Casei(column) => {
-                let (filter, rest) = casei_like(alloc, column, after)?;
+            Subject::Folded(folding, column) => {
+                let (filter, rest) = folded_like(alloc, folding, column, after)?;
                 Ok((filter, rest))
             }
         },
-        Some((Token::Keyword(Keyword::Between), after)) => match subject {
-            Subject::Numeric(column) => {
-                let (filter, rest) = between(alloc, column, after)?;
-                Ok((filter, rest))
+        Some((Token::Keyword(Keyword::Between), _after)) => match subject {
+            Subject::Text(_column) => Err(SyntaxFault::at(words, FilterFaultKind::WrongType)),
+            Subject::Folded(_folding, _column) => {
+                Err(SyntaxFault::at(words, FilterFaultKind::Folded))
             }
-            _ => Err(SyntaxFault::at(words, FilterFaultKind::WrongType)),
         },
         Some((Token::Keyword(Keyword::In), after)) => {
             let (filter, rest) = among(alloc, subject, after)?;
@@ -241,30 +217,48 @@ fn compared<'a, A: Allocator + Copy>(
         → IsRead result rest made }
 {
     match subject {
-        Subject::Numeric(column) => {
-            let (literal, rest) = number(column, words)?;
-            Ok((Filter::CompareNumber(column, comparison, literal), rest))
-        }
         Subject::Text(column) => {
-            let (text, rest) = text(alloc, width(column), words)?;
-            Ok((Filter::CompareText(column, comparison, text), rest))
+            let (filter, rest) = compared_text(alloc, column, comparison, words)?;
+            Ok((filter, rest))
         }
-        Subject::Casei(column) => {
-            let (filter, rest) = casei_same(alloc, column, words)?;
+        Subject::Folded(folding, column) => {
+            let (filter, rest) = folded_same(alloc, folding, column, words)?;
             match comparison {
                 Comparison::Equal => Ok((filter, rest)),
                 Comparison::NotEqual => {
                     let filter = negated(alloc, filter)?;
                     Ok((filter, rest))
                 }
-                _ => Err(SyntaxFault::at(words, FilterFaultKind::WrongType)),
+                _ => Err(SyntaxFault::at(words, FilterFaultKind::Folded)),
             }
         }
     }
 }
 
+/// Compares a text column with the literal or text column that the tokens begin with.
+fn compared_text<'a, A: Allocator + Copy>(
+    alloc: A,
+    column: TextColumn,
+    comparison: Comparison,
+    words: &'a [Token<'a>],
+) -> Result<(Filter<A>, &'a [Token<'a>]), SyntaxFault>
+    ensures ok { IfOk result (λ read. SpellsTextComparison column comparison words.now read.1.now read.0) }
+    ensures reads { (rest : List Token) (made : Filter A) → SpellsTextComparison column comparison words.now rest made
+        → IsRead result rest made }
+{
+    match next(words) {
+        Some((Token::Column(Column::Text(other)), rest)) => {
+            Ok((Filter::CompareTexts(column, comparison, other), rest))
+        }
+        _ => {
+            let (text, rest) = text(alloc, width(column), words)?;
+            Ok((Filter::CompareText(column, comparison, text), rest))
+        }
+    }
+}
+
 /// Returns the number of bytes in a column.
-fn width(column: TextColumn) -> usize
+pub(crate) fn width(column: TextColumn) -> usize
     ensures value { result ≡ width_of column }
     ensures small { result ≤ NAME_LENGTH }
 {
@@ -272,37 +266,21 @@ fn width(column: TextColumn) -> usize
     places.1 + 1 - places.0
 }
 
-/// Takes CASEI and an opening parenthesis and returns the tokens after them.
-fn casei<'a>(words: &'a [Token<'a>]) -> Result<&'a [Token<'a>], SyntaxFault>
-    ensures { MatchResult result (λ rest. words.now ≡ token.Keyword word.Casei ∷ token.Open ∷ rest.now)
-        (λ fault. (rest : List Token) → words.now ≢ token.Keyword word.Casei ∷ token.Open ∷ rest) }
-{
-    match next(words) {
-        Some((Token::Keyword(Keyword::Casei), rest)) => expect(rest, Terminal::Opening),
-        Some((Token::Text(_spelling), _rest)) => {
-            Err(SyntaxFault::at(words, FilterFaultKind::WrongType))
-        }
-        Some((Token::Number(_numeral), _rest)) => {
-            Err(SyntaxFault::at(words, FilterFaultKind::WrongType))
-        }
-        _ => Err(SyntaxFault::unexpected(words, Expected::Casei)),
-    }
-}
-
-/// Reads `CASEI('..')`, which the column equals in either case.
-fn casei_same<'a, A: Allocator + Copy>(
+/// Reads a text in CASEI and ACCENTI, which the column equals but for what they ignore.
+fn folded_same<'a, A: Allocator + Copy>(
     alloc: A,
+    folding: Folding,
     column: TextColumn,
     words: &'a [Token<'a>],
 ) -> Result<(Filter<A>, &'a [Token<'a>]), SyntaxFault>
-    ensures ok { IfOk result (λ read. SpellsComparison (subject.Casei column) Equal words.now read.1.now read.0) }
-    ensures reads { (rest : List Token) (made : Filter A) → SpellsComparison (subject.Casei column) Equal words.now rest made
+    ensures ok { IfOk result (λ read. SpellsComparison (subject.Folded folding column) Equal words.now read.1.now read.0) }
+    ensures reads { (rest : List Token) (made : Filter A) → SpellsComparison (subject.Folded folding column) Equal words.now rest made
         → IsRead result rest made }
 {
-    let words = casei(words)?;
+    let (depth, words) = same_openings(folding, words)?;
     let (text, rest) = text(alloc, width(column), words)?;
-    let rest = expect(rest, Terminal::Closing)?;
-    match same_but_for_case(alloc, &text.bytes) {
+    let rest = closings(rest, depth)?;
+    match same_but_for(alloc, folding, &text.bytes) {
         Ok(pattern) => Ok((Filter::Like(column, pattern), rest)),
         Err(flaw) => Err(SyntaxFault::in_text(words, flaw)),
     }
@@ -312,15 +290,15 @@ fn casei_same<'a, A: Allocator + Copy>(
 fn column_pattern<'a, A: Allocator + Copy>(
     alloc: A,
     column: TextColumn,
-    ignores_case: bool,
+    folding: Folding,
     words: &'a [Token<'a>],
 ) -> Result<(Pattern<A>, &'a [Token<'a>]), SyntaxFault>
-    ensures ok { IfOk result (λ read. IsLikeColumn column ignores_case words.now read.1.now read.0) }
-    ensures reads { (rest : List Token) (pattern : APattern A) → IsLikeColumn column ignores_case words.now rest pattern
-        → MatchResult result (λ read. (read.1.now ≡ rest) × IsSamePattern read.0 pattern) (λ fault. fault ≡ syntax_fault.Memory) }
+    ensures ok { IfOk result (λ read. IsLikeColumn column folding words.now read.1.now read.0) }
+    ensures reads { (rest : List Token) (pattern : APattern A) → IsLikeColumn column folding words.now rest pattern
+        → MatchResult result (λ read. (read.1.now ≡ rest) × (read.0.parts.items ≡ pattern.parts.items)) (λ fault. fault ≡ syntax_fault.Memory) }
 {
     let (spelling, rest) = spelling(words)?;
-    match pattern(alloc, spelling, ignores_case, width(column)) {
+    match pattern(alloc, spelling, folding, width(column)) {
         Ok(pattern) => Ok((pattern, rest)),
         Err(flaw) => Err(SyntaxFault::in_text(words, flaw)),
     }
@@ -335,40 +313,25 @@ fn like<'a, A: Allocator + Copy>(
     ensures ok { IfOk result (λ read. SpellsLike (subject.Text column) words.now read.1.now read.0) }
     ensures reads { (rest : List Token) (made : Filter A) → SpellsLike (subject.Text column) words.now rest made → IsRead result rest made }
 {
-    let (pattern, rest) = column_pattern(alloc, column, false, words)?;
+    let (pattern, rest) = column_pattern(alloc, column, NOTHING, words)?;
     Ok((Filter::Like(column, pattern), rest))
 }
 
-/// Reads a pattern in CASEI that the column matches in either case.
-fn casei_like<'a, A: Allocator + Copy>(
+/// Reads a pattern in CASEI and ACCENTI, which the column matches but for what they ignore.
+fn folded_like<'a, A: Allocator + Copy>(
     alloc: A,
+    folding: Folding,
     column: TextColumn,
     words: &'a [Token<'a>],
 ) -> Result<(Filter<A>, &'a [Token<'a>]), SyntaxFault>
-    ensures ok { IfOk result (λ read. SpellsLike (subject.Casei column) words.now read.1.now read.0) }
-    ensures reads { (rest : List Token) (made : Filter A) → SpellsLike (subject.Casei column) words.now rest made
+    ensures ok { IfOk result (λ read. SpellsLike (subject.Folded folding column) words.now read.1.now read.0) }
+    ensures reads { (rest : List Token) (made : Filter A) → SpellsLike (subject.Folded folding column) words.now rest made
         → IsRead result rest made }
 {
-    let words = casei(words)?;
-    let (pattern, rest) = column_pattern(alloc, column, true, words)?;
-    let rest = expect(rest, Terminal::Closing)?;
+    let (depth, words) = same_openings(folding, words)?;
+    let (pattern, rest) = column_pattern(alloc, column, folding, words)?;
+    let rest = closings(rest, depth)?;
     Ok((Filter::Like(column, pattern), rest))
-}
-
-/// Reads the two numbers that a column is between.
-fn between<'a, A: Allocator + Copy>(
-    alloc: A,
-    column: NumericColumn,
-    words: &'a [Token<'a>],
-) -> Result<(Filter<A>, &'a [Token<'a>]), SyntaxFault>
-    ensures ok { IfOk result (λ read. SpellsBetween column words.now read.1.now read.0) }
-    ensures reads { (rest : List Token) (made : Filter A) → SpellsBetween column words.now rest made → IsRead result rest made }
-{
-    let (low, rest) = number(column, words)?;
-    let rest = expect(rest, Terminal::And)?;
-    let (high, rest) = number(column, rest)?;
-    let filter = within(alloc, column, low, high)?;
-    Ok((filter, rest))
 }
 
 /// Reads the literals in parentheses, one of which the subject equals.

@@ -59,3 +59,7 @@ returns-clause-reads g c =
     let limit = c.in_ok-limit.ensures.reads rest is.1 names in
     let rest_same : c.in_ok-rest.rest.now ≡ rest = cc (limit.0, c.in_ok-rest.ensures) in
     (rest_same, rw is.3 (ap (λ t. HasName t c.in_ok-limit.limit.number) read.1 ∙ ap (λ n. HasName is.0.bytes.items n) limit.1))
+
+pub returns-in_err-words-clause-reads : goal.returns-in_err-words-clause-reads
+returns-in_err-words-clause-reads g c =
+    λ rest made spelled. let is = has_name-of spelled in absurd (c.in_err-words.ensures _ is.2.opened)

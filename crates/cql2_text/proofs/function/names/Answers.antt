@@ -7,7 +7,7 @@ pub returns-in-Ok-clause-ok : goal.returns-in-Ok-clause-ok
 returns-in-Ok-clause-ok c =
     let k = c.in-Some-Comma-default in
     let is = first-is _ _ _ _ k.ensures k.field-0-0-is in
-    rw (is, c.in_ok-numeral-in-Some-Comma-default.ensures) (given _ c.in-Ok.ensures)
+    rw is (given _ c.in_ok-numeral-in-Some-Comma-default.ensures.ok c.in-Ok.ensures)
 
 pub returns-in_default-clause-ok : goal.returns-in_default-clause-ok
 returns-in_default-clause-ok c = usual refl

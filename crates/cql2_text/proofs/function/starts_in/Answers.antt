@@ -1,5 +1,6 @@
 use Rattle.cql2_text.proofs.SpelledLemmas.{same-both, same-within, starts-of}
-use Rattle.cql2_tokens.specs.declared.token.Token.TheVariants.{Close}
+use Rattle.cql2_tokens.specs.declared.token.Token.TheVariants.{Close, Keyword, Open}
+use Rattle.cql2_tokens.specs.declared.token.Keyword.TheVariants as word
 use Rattle.std.proofs.Common.{◌≡◌, ◌∷◌, refl}
 use Rattle.cql2_text.specs.Predicate.{starts_in}
 use Rattle.cql2_text.proofs.function.starts_in.Goals as goal
@@ -80,3 +81,23 @@ returns-clause-reads g c =
     let across = same-within _ _ _ _ _ _ _ southwest.1 northeast.1 c.in_ok-across.ensures s.is_across in
     let along = same-within _ _ _ _ _ _ _ southwest.2 northeast.2 c.in_ok-along.ensures s.is_along in
     («end», same-both _ _ _ _ _ _ across along c.in_ok-filter.ensures s.both)
+
+pub returns-in_err-rest-clause-reads : goal.returns-in_err-rest-clause-reads
+returns-in_err-rest-clause-reads g c =
+    λ rest made spelled.
+    let s = starts-of spelled in
+    absurd (c.in_err-rest.ensures _ s.opened)
+
+pub returns-in_err-rest-2-clause-reads : goal.returns-in_err-rest-2-clause-reads
+returns-in_err-rest-2-clause-reads g c =
+    λ rest made spelled.
+    let s = starts-of spelled in
+    let bbox : c.in_ok-rest.rest.now ≡ Keyword word.Bbox ∷ Open ∷ s.from_w = cc (s.opened, c.in_ok-rest.ensures) in
+    absurd (c.in_err-rest-2.ensures _ bbox)
+
+pub returns-in_err-rest-3-clause-reads : goal.returns-in_err-rest-3-clause-reads
+returns-in_err-rest-3-clause-reads g c =
+    λ rest made spelled.
+    let s = starts-of spelled in
+    let inner : c.in_ok-rest-2.rest.now ≡ Open ∷ s.from_w = cc (s.opened, c.in_ok-rest.ensures, c.in_ok-rest-2.ensures) in
+    absurd (c.in_err-rest-3.ensures _ inner)

@@ -1,4 +1,5 @@
-use Rattle.std.proofs.Common.{◌≡◌, ◌≢◌, ◌-◌, suc, List, ◌∷◌, ap, length, arith, rules}
+use Rattle.std.proofs.Common.{◌≡◌, ◌≢◌, ◌-◌, suc, true, false, List, ◌∷◌, ap, ◌∙◌, sym, length, arith, rules}
+use Rattle.cql2_text.specs.Parenthesis.{opens_filter}
 use Rattle.cql2_text.specs.Read.{IsNotNext}
 use Rattle.cql2_text.specs.Spelled.{both, either, grouped, not_primary, one_factor, one_primary, one_term, predicate}
 use Rattle.cql2_text.specs.declared.syntax_fault.SyntaxFault.TheVariants.{Memory}
@@ -7,7 +8,7 @@ use Rattle.cql2_tokens.specs.declared.token.Token.{Token}
 use Rattle.cql2_tokens.specs.declared.token.Token.TheVariants.{Close, Keyword, Open}
 use Rattle.cql2_text.proofs.ChainLemmas.{chain-first, chain-last, chain-next, expression-parts, and-not-next, term-parts}
 use Rattle.cql2_text.proofs.ShorterLemmas.{spells-shorter}
-use Rattle.cql2_text.proofs.SpelledLemmas.{group-of, negation-of, predicate-of, primary-of, same-both, same-either, same-not}
+use Rattle.cql2_text.proofs.SpelledLemmas.{group-of, negation-of, opens-none, predicate-of, predicate-spells, primary-of, same-both, same-either, same-not}
 use Rattle.cql2_text.proofs.TokenLemmas.{first-is, word-is}
 use Rattle.cql2_text.proofs.parser.+parsing.Goals as goal
 
@@ -126,17 +127,6 @@ factor-returns-in_ok-filter-in-Some-Keyword-Not-default-clause-ok g t c =
 pub factor-returns-in_ok-filter-in_default-clause-ok : goal.factor-returns-in_ok-filter-in_default-clause-ok
 factor-returns-in_ok-filter-in_default-clause-ok g t c = one_primary c.in_ok-filter-in_default.ensures.ok
 
-pub primary-returns-in_ok-rest-in-Some-Open-default-clause-ok : goal.primary-returns-in_ok-rest-in-Some-Open-default-clause-ok
-primary-returns-in_ok-rest-in-Some-Open-default-clause-ok g t c =
-    let k = c.in-Some-Open-default in
-    let is = first-is _ _ _ _ k.ensures k.field-0-0-is in
-    let inner = rw c.in_ok-rest-in-Some-Open-default.ensures at c.in_ok-filter-in-Some-Open-default.ensures.ok in
-    let deep : c.args.depth ≡ suc (c.args.depth - 1) = omega arith in
-    rw (is, deep) (grouped inner)
-
-pub primary-returns-in_ok-filter-in_default-clause-ok : goal.primary-returns-in_ok-filter-in_default-clause-ok
-primary-returns-in_ok-filter-in_default-clause-ok g t c = predicate c.in_ok-filter-in_default.ensures.ok
-
 pub factor-returns-in_err-inner-in-Some-Keyword-Not-default-clause-reads :
     goal.factor-returns-in_err-inner-in-Some-Keyword-Not-default-clause-reads
 factor-returns-in_err-inner-in-Some-Keyword-Not-default-clause-reads g t c =
@@ -179,13 +169,23 @@ factor-returns-in_ok-filter-in_default-clause-reads g t c =
     let is = primary-of no_not spelled in
     c.in_ok-filter-in_default.ensures.reads rest made is
 
+pub primary-returns-in_ok-rest-in-Some-Open-default-clause-ok : goal.primary-returns-in_ok-rest-in-Some-Open-default-clause-ok
+primary-returns-in_ok-rest-in-Some-Open-default-clause-ok g t c =
+    let k = c.in-Some-Open-default in
+    let is = first-is _ _ _ _ k.ensures k.field-0-0-is in
+    let opens : opens_filter (Open ∷ k.after.now) ≡ true = sym c.opens_filter.ensures ∙ c.if-not-opens_filter.false in
+    let inner = rw c.in_ok-rest-in-Some-Open-default.ensures at c.in_ok-filter-in-Some-Open-default.ensures.ok in
+    let deep : c.args.depth ≡ suc (c.args.depth - 1) = omega arith in
+    rw (is, deep) (grouped opens inner)
+
 pub primary-returns-then-depth-eq0-clause-reads :
     goal.primary-returns-then-depth-eq0-clause-reads
 primary-returns-then-depth-eq0-clause-reads g t c =
     let k = c.in-Some-Open-default in
     let is = first-is _ _ _ _ k.ensures k.field-0-0-is in
+    let opens : opens_filter (Open ∷ k.after.now) ≡ true = sym c.opens_filter.ensures ∙ c.if-not-opens_filter.false in
     λ rest made spelled.
-    let group = group-of (rw is at spelled) in
+    let group = group-of opens (rw is at spelled) in
     absurd (omega (arith, group.some))
 
 pub primary-returns-in_err-filter-in-Some-Open-default-clause-reads :
@@ -193,8 +193,9 @@ pub primary-returns-in_err-filter-in-Some-Open-default-clause-reads :
 primary-returns-in_err-filter-in-Some-Open-default-clause-reads g t c =
     let k = c.in-Some-Open-default in
     let is = first-is _ _ _ _ k.ensures k.field-0-0-is in
+    let opens : opens_filter (Open ∷ k.after.now) ≡ true = sym c.opens_filter.ensures ∙ c.if-not-opens_filter.false in
     λ rest made spelled.
-    let group = group-of (rw is at spelled) in
+    let group = group-of opens (rw is at spelled) in
     let memory : c.in_err-filter-in-Some-Open-default.field-0.0 ≡ Memory =
     c.in_err-filter-in-Some-Open-default.ensures.reads (Close ∷ rest) made group.no_and group.no_or group.spelled in
     search rules
@@ -204,8 +205,9 @@ pub primary-returns-in_err-rest-in-Some-Open-default-clause-reads :
 primary-returns-in_err-rest-in-Some-Open-default-clause-reads g t c =
     let k = c.in-Some-Open-default in
     let is = first-is _ _ _ _ k.ensures k.field-0-0-is in
+    let opens : opens_filter (Open ∷ k.after.now) ≡ true = sym c.opens_filter.ensures ∙ c.if-not-opens_filter.false in
     λ rest made spelled.
-    let group = group-of (rw is at spelled) in
+    let group = group-of opens (rw is at spelled) in
     let read = c.in_ok-filter-in-Some-Open-default.ensures.reads (Close ∷ rest) made group.no_and group.no_or group.spelled in
     absurd (c.in_err-rest-in-Some-Open-default.ensures _ read.0)
 
@@ -214,26 +216,44 @@ pub primary-returns-in_ok-rest-in-Some-Open-default-clause-reads :
 primary-returns-in_ok-rest-in-Some-Open-default-clause-reads g t c =
     let k = c.in-Some-Open-default in
     let is = first-is _ _ _ _ k.ensures k.field-0-0-is in
+    let opens : opens_filter (Open ∷ k.after.now) ≡ true = sym c.opens_filter.ensures ∙ c.if-not-opens_filter.false in
     λ rest made spelled.
-    let group = group-of (rw is at spelled) in
+    let group = group-of opens (rw is at spelled) in
     let read = c.in_ok-filter-in-Some-Open-default.ensures.reads (Close ∷ rest) made group.no_and group.no_or group.spelled in
     let rest_same : c.in_ok-rest-in-Some-Open-default.rest.now ≡ rest = cc (read.0, c.in_ok-rest-in-Some-Open-default.ensures) in
     (rest_same, read.1)
 
-pub primary-returns-in_err-filter-in_default-clause-reads :
-    goal.primary-returns-in_err-filter-in_default-clause-reads
+pub primary-returns-then-not-opens_filter-clause-ok : goal.primary-returns-then-not-opens_filter-clause-ok
+primary-returns-then-not-opens_filter-clause-ok g t c =
+    let k = c.in-Some-Open-default in
+    let is = first-is _ _ _ _ k.ensures k.field-0-0-is in
+    let stop : opens_filter c.args.words.now ≡ false = rw is (sym c.opens_filter.ensures ∙ c.if-not-opens_filter.true) in
+    predicate-spells _ _ _ stop c.predicate.ensures.ok
+
+pub primary-returns-then-not-opens_filter-clause-reads : goal.primary-returns-then-not-opens_filter-clause-reads
+primary-returns-then-not-opens_filter-clause-reads g t c =
+    let k = c.in-Some-Open-default in
+    let is = first-is _ _ _ _ k.ensures k.field-0-0-is in
+    let stop : opens_filter c.args.words.now ≡ false = rw is (sym c.opens_filter.ensures ∙ c.if-not-opens_filter.true) in
+    λ rest made spelled. c.predicate.ensures.reads rest made (predicate-of stop spelled)
+
+pub primary-returns-in_ok-filter-in_default-clause-ok : goal.primary-returns-in_ok-filter-in_default-clause-ok
+primary-returns-in_ok-filter-in_default-clause-ok g t c =
+    let no_group : (w : List Token) → c.args.words.now ≢ Open ∷ w = search rules in
+    let stop = opens-none c.args.words.now no_group in
+    predicate stop c.in_ok-filter-in_default.ensures.ok
+
+pub primary-returns-in_err-filter-in_default-clause-reads : goal.primary-returns-in_err-filter-in_default-clause-reads
 primary-returns-in_err-filter-in_default-clause-reads g t c =
     let no_group : (w : List Token) → c.args.words.now ≢ Open ∷ w = search rules in
+    let stop = opens-none c.args.words.now no_group in
     λ rest made spelled.
-    let is = predicate-of no_group spelled in
-    let memory : c.in_err-filter-in_default.field-0.0 ≡ Memory =
-    c.in_err-filter-in_default.ensures.reads rest made is in
+    let is = predicate-of stop spelled in
+    let memory : c.in_err-filter-in_default.field-0.0 ≡ Memory = c.in_err-filter-in_default.ensures.reads rest made is in
     search rules
 
-pub primary-returns-in_ok-filter-in_default-clause-reads :
-    goal.primary-returns-in_ok-filter-in_default-clause-reads
+pub primary-returns-in_ok-filter-in_default-clause-reads : goal.primary-returns-in_ok-filter-in_default-clause-reads
 primary-returns-in_ok-filter-in_default-clause-reads g t c =
     let no_group : (w : List Token) → c.args.words.now ≢ Open ∷ w = search rules in
-    λ rest made spelled.
-    let is = predicate-of no_group spelled in
-    c.in_ok-filter-in_default.ensures.reads rest made is
+    let stop = opens-none c.args.words.now no_group in
+    λ rest made spelled. c.in_ok-filter-in_default.ensures.reads rest made (predicate-of stop spelled)

@@ -1,6 +1,6 @@
 use Rattle.std.proofs.Common.{◌+◌, ◌*◌, List, length}
 use Rattle.cql2.specs.declared.filter.Filter.{Filter}
-use Rattle.cql2_text.specs.Predicate.{IsBoth, IsEither}
+use Rattle.cql2_text.specs.Connective.{IsBoth, IsEither}
 use Rattle.cql2_text.specs.Read.{IsNotNext}
 use Rattle.cql2_text.specs.Spelled.{Expression, Factor, Spells, Term}
 use Rattle.cql2_tokens.specs.declared.token.Keyword.TheVariants as word

@@ -1,9 +1,10 @@
-use Rattle.std.proofs.Common.{◌≡◌, ◌≢◌, List, ◌∷◌, rules}
+use Rattle.std.proofs.Common.{◌≡◌, ◌≢◌, List, ◌∷◌, ap, length, arith, rules}
 use Rattle.cql2_text.specs.Predicate.{more, one}
 use Rattle.cql2_text.specs.declared.syntax_fault.SyntaxFault.TheVariants.{Memory}
 use Rattle.cql2_tokens.specs.declared.token.Token.{Token}
 use Rattle.cql2_tokens.specs.declared.token.Token.TheVariants.{Comma}
 use Rattle.cql2_text.proofs.ChainLemmas.{chain-first, chain-last, chain-next, list-parts}
+use Rattle.cql2_text.proofs.ShorterLemmas.{comparison-shorter}
 use Rattle.cql2_text.proofs.SpelledLemmas.{same-either}
 use Rattle.cql2_text.proofs.TokenLemmas.{first-is}
 use Rattle.cql2_text.proofs.predicate.list.Goals as goal
@@ -53,3 +54,9 @@ pub returns-clause-reads : goal.returns-clause-reads
 returns-clause-reads g c =
     let no_comma : (w : List Token) → c.loop-after.rest.now ≢ Comma ∷ w = search rules in
     λ rest made spelled. chain-last (c.loop-after.invariant.reads rest made spelled) no_comma
+
+pub loop-after-smaller : goal.loop-after-smaller
+loop-after-smaller g c =
+    let k = c.in-Some-Comma-default in
+    let is = first-is _ _ _ _ k.ensures k.field-0-0-is in
+    omega (arith, ap length is, comparison-shorter _ _ _ _ _ c.in_ok-second.ensures.ok)

@@ -1,7 +1,8 @@
 use Rattle.std.proofs.Common.{List, ◌∷◌, length}
 use Rattle.cql2.specs.declared.filter.Comparison.TheVariants.{Equal}
 use Rattle.cql2.specs.declared.filter.Filter.{Filter}
-use Rattle.cql2_text.specs.Predicate.{IsEither, SpellsComparison, SpellsList}
+use Rattle.cql2_text.specs.Connective.{IsEither}
+use Rattle.cql2_text.specs.Predicate.{SpellsComparison, SpellsList}
 use Rattle.cql2_tokens.specs.declared.token.Token.{Token}
 use Rattle.cql2_tokens.specs.declared.token.Token.TheVariants.{Close, Comma}
 use Rattle.cql2_text.proofs.ChainLemmas.{ReadChain}

@@ -2,10 +2,10 @@ use Rattle.cql2_tokens.specs.declared.token.Keyword.TheVariants as word
 use Rattle.cql2_tokens.specs.declared.token.Token.{Token}
 use Rattle.cql2_tokens.specs.declared.token.Token.TheVariants.{Compared, Keyword}
 use Rattle.cql2.specs.declared.filter.Comparison.{Comparison}
-use Rattle.cql2_text.proofs.SpelledLemmas.{compared-of, negated-of, operator-of, same-not}
+use Rattle.cql2_text.proofs.SpelledLemmas.{compared-of, negated-of, null-of, operator-of, same-not}
 use Rattle.cql2_text.specs.declared.syntax_fault.SyntaxFault.TheVariants.{Memory}
-use Rattle.std.proofs.Common.{◌≡◌, ◌≢◌, ◌∷◌, List, rules}
-use Rattle.cql2_text.specs.Predicate.{binary_comparison, negatable, negated}
+use Rattle.std.proofs.Common.{◌≡◌, ◌≢◌, ◌∷◌, ◌∙◌, List, sym, rules}
+use Rattle.cql2_text.specs.Predicate.{binary_comparison, negatable, negated, null_test}
 use Rattle.cql2_text.proofs.TokenLemmas.{first-is, word-is}
 use Rattle.cql2_text.proofs.predicate.of_subject.Goals as goal
 
@@ -75,3 +75,19 @@ returns-in_ok-filter-in_default-clause-reads g c =
     λ rest made spelled.
     let is = operator-of no_comparison no_is no_not spelled in
     c.in_ok-filter-in_default.ensures.reads rest made is
+
+pub returns-in_ok-filter-in-Some-Keyword-Is-default-clause-ok : goal.returns-in_ok-filter-in-Some-Keyword-Is-default-clause-ok
+returns-in_ok-filter-in-Some-Keyword-Is-default-clause-ok g c =
+    let k = c.in-Some-Keyword-Is-default in
+    let is = word-is _ _ _ _ _ k.ensures k.field-0-0-is k.field-0-0-0-is in
+    rw is (null_test (sym c.in-Some.ensures) c.in_ok-filter-in-Some-Keyword-Is-default.ensures.ok)
+
+pub returns-in_ok-filter-in-Some-Keyword-Is-default-clause-reads : goal.returns-in_ok-filter-in-Some-Keyword-Is-default-clause-reads
+returns-in_ok-filter-in-Some-Keyword-Is-default-clause-reads g c =
+    let k = c.in-Some-Keyword-Is-default in
+    let is = word-is _ _ _ _ _ k.ensures k.field-0-0-is k.field-0-0-0-is in
+    λ rest made spelled.
+    let null = null-of (rw is at spelled) in
+    let both = c.in-Some.ensures ∙ null.1 in
+    let same : c.in-Some.column ≡ null.0 = cc both in
+    c.in_ok-filter-in-Some-Keyword-Is-default.ensures.reads rest made (rw (← same) at null.2)
