@@ -99,7 +99,7 @@ chunk_short Byte = omega arith
 chunk_short Word = omega arith
 chunk_short DoubleWord = omega arith
 
-equal_numbers : (m n : ℕ) → int_eq (pos m) (pos n) ≡ (m == n)
+pub equal_numbers : (m n : ℕ) → int_eq (pos m) (pos n) ≡ (m == n)
 equal_numbers m n = grind (arith, nat_tests, Decides-int_eq)
 
 module _ (segment : SegmentParts) (is : IsSegment segment) where
@@ -117,7 +117,7 @@ module _ (segment : SegmentParts) (is : IsSegment segment) where
       → take (suc count) (drop at segment.bytes) ≡ get_or segment.bytes at 0 ∷ take count (drop (at + 1) segment.bytes)
   first_of at count within = ap (take (suc count)) (first_byte at within)
 
-  byte_read : (at : ℕ) → at < 228 → bytes_value (take 1 (drop at segment.bytes)) ≡ get_or segment.bytes at 0
+  pub byte_read : (at : ℕ) → at < 228 → bytes_value (take 1 (drop at segment.bytes)) ≡ get_or segment.bytes at 0
   byte_read at within =
       let one : get_or segment.bytes at 0 + 256 * 0 ≡ get_or segment.bytes at 0 = omega arith in
       ap bytes_value (first_of at 0 within) ∙ one

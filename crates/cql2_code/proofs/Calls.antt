@@ -34,6 +34,9 @@ answered from answer second = record {
   v3 = value.Empty;
   v4 = value.Empty;
   v5 = value.Empty;
+  v7 = from.v7;
+  v8 = from.v8;
+  v9 = from.v9;
   frame = write_bytes from.frame second [];
   whole = nothing_written from.frame second from.whole;
 }

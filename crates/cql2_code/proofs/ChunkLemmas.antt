@@ -3,8 +3,8 @@ use Rattle.std.proofs.Common.{◌≡◌, ℕ, zero, suc, ◌+◌, ◌-◌, ◌<�
 use Rattle.std.specs.Prelude.{take, replicate}
 use Rattle.std.proofs.lemmas.List.{take-replicate}
 use Rattle.byteorder.specs.Endian.{little_number}
-use Rattle.cql2.specs.declared.filter.Comparison.TheVariants.{Equal, Greater}
-use Rattle.cql2_code.specs.Lowering.{byte_test, chunk_test, has_bytes, has_each, has_few, is_blank, is_greater}
+use Rattle.cql2.specs.declared.filter.Comparison.TheVariants.{Equal, Greater, Less}
+use Rattle.cql2_code.specs.Lowering.{byte_test, chunk_test, has_bytes, has_each, has_few, is_blank, is_greater, is_less}
 use Rattle.cql2_code.specs.Question.{Joined, Opposite, bytes_value}
 use Rattle.cql2_code.specs.declared.question.Chunk.TheVariants.{DoubleWord, Word}
 
@@ -69,6 +69,15 @@ pub greater_blank : (at left : ℕ) (text : List ℕ) → 0 < left → length te
 greater_blank at zero text some none = absurd (omega arith)
 greater_blank at (suc left) [] some none = refl
 greater_blank at (suc left) (byte ∷ text) some none = absurd (omega arith)
+
+-- the rest of a field is less than a text, by the first byte or by the bytes after it
+pub less_more : (at left : ℕ) (text : List ℕ) (byte : ℕ) (rest : List ℕ) → 0 < left → text ≡ byte ∷ rest
+    → is_less at left text ≡ Joined false (byte_test at Less byte) (Joined true (byte_test at Equal byte) (is_less (at + 1) (left - 1) rest))
+less_more at zero text byte rest some is = absurd (omega arith)
+less_more at (suc left) text byte rest some is =
+    let fewer : left ≡ suc left - 1 = omega arith in
+    ap (is_less at (suc left)) is
+    ∙ ap (λ (n : ℕ). Joined false (byte_test at Less byte) (Joined true (byte_test at Equal byte) (is_less (at + 1) n rest))) fewer
 
 -- the rest of a field is greater than a text, by the first byte or by the bytes after it
 pub greater_more : (at left : ℕ) (text : List ℕ) (byte : ℕ) (rest : List ℕ) → 0 < left → text ≡ byte ∷ rest

@@ -1,12 +1,15 @@
 -- The parts of a question's code: comparisons, and pairs of joined questions.
 use Rattle.std.proofs.Common.{◌≡◌, ℤ, ℕ, ◌+◌, pos, Bool, true, false, List, [], ◌∷◌, ◌++◌, if◌then◌else◌, refl, sym, subst, arith}
+use Rattle.std.specs.Prelude.{nat_le}
 use Rattle.bpf_insn.specs.Arithmetic.{immediate_operand}
 use Rattle.bpf_insn.specs.Code.{word_count}
 use Rattle.bpf_insn.specs.declared.instruction.Insn.{Insn}
+use Rattle.bpf_insn.specs.declared.instruction.Source.{Source}
 use Rattle.bpf_insn.specs.declared.instruction.Source.TheVariants.{Immediate, Register}
 use Rattle.bpf_insn.proofs.PlaceLemmas.{word_count-append}
 use Rattle.cql2.specs.declared.filter.Comparison.{Comparison}
-use Rattle.cql2_code.specs.Layout.{comparison_code, first_skip, is_narrow, jump_if, opposite, question_code, from_argument_1, into_argument_1, wide_load}
+use Rattle.cql2_code.specs.Layout.{comparison_code, first_skip, is_narrow, jump, jump_if, opposite, question_code, skip_if, from_argument_1}
+use Rattle.cql2_code.specs.Layout.{into_argument_1, wide_load}
 use Rattle.cql2_code.proofs.Steps.{HasAt, has_back, has_front}
 use Rattle.cql2_code.specs.Question.{Question}
 use Rattle.cql2_code.specs.declared.question.Test.{Test}
@@ -15,11 +18,27 @@ use Rattle.cql2_code.specs.declared.question.Test.{Test}
 abbrev pub jumping : Test → Bool → Comparison
 jumping test falls = if falls then opposite test.comparison else test.comparison
 
+-- the words that a comparison skips, by whether 16 bits hold their number
+abbrev pub skip_by : Bool → Comparison → Source → ℕ → List Insn
+skip_by true comparison operand skip = jump_if comparison operand (pos skip) ∷ []
+skip_by false comparison operand skip = jump_if (opposite comparison) operand (pos 1) ∷ jump (pos skip) ∷ []
+
+pub skip_is : (comparison : Comparison) (operand : Source) (skip : ℕ)
+    → skip_by (nat_le skip 32767) comparison operand skip ≡ skip_if comparison operand skip
+unfolding skip_if
+skip_is comparison operand skip = by_distance (nat_le skip 32767)
+  where
+    by_distance : (near : Bool)
+        → skip_by near comparison operand skip
+        ≡ (if near then skip_by true comparison operand skip else skip_by false comparison operand skip)
+    by_distance true = refl
+    by_distance false = refl
+
 -- the code of a comparison, by whether an immediate holds its operand
 abbrev pub comparison_by : Bool → Comparison → ℤ → ℕ → List Insn
-comparison_by true comparison operand skip = jump_if comparison (Immediate operand) (pos skip) ∷ []
+comparison_by true comparison operand skip = skip_if comparison (Immediate operand) skip
 comparison_by false comparison operand skip =
-    wide_load into_argument_1 (immediate_operand operand) ∷ jump_if comparison (Register from_argument_1) (pos skip) ∷ []
+    wide_load into_argument_1 (immediate_operand operand) ∷ skip_if comparison (Register from_argument_1) skip
 
 pub comparison_is : (comparison : Comparison) (operand : ℤ) (skip : ℕ)
     → comparison_by (is_narrow operand) comparison operand skip ≡ comparison_code comparison operand skip

@@ -1,5 +1,5 @@
 -- A compiled filter.
-use Rattle.std.proofs.Common.{◌≡◌, ℕ, ◌+◌, ◌-◌, Bool, true, false, List, [], ◌∷◌, ◌++◌, length, Option, if◌then◌else◌, refl, sym, ap, ◌∙◌, subst}
+use Rattle.std.proofs.Common.{◌≡◌, ℕ, ◌-◌, Bool, true, false, List, [], ◌∷◌, ◌++◌, length, Option, if◌then◌else◌, refl, sym, ap, ◌∙◌, subst}
 use Rattle.std.proofs.Common.{arith, append_assoc}
 use Rattle.std.specs.Prelude.{All, IfOk, Result}
 use Rattle.std.proofs.lemmas.Result.{IfOk-weaker}
@@ -24,13 +24,13 @@ use Rattle.tl_segments.specs.Segment.{SegmentParts, IsSegment}
 use Rattle.tl_segments.specs.declared.fault.CountyFile.TheVariants.{Rt1}
 use Rattle.cql2_code.specs.Chosen.{Chooses, IsExtractOf, score_of, selection_of}
 use Rattle.cql2_code.specs.declared.fault.CompileFault.{CompileFault}
-use Rattle.cql2_code.specs.Layout.{IsTooLong, MayBeRefused, Refuses, Writes, answer_code, chosen_code, copy, program, question_code, from_argument_1, score_code, into_record}
+use Rattle.cql2_code.specs.Layout.{IsTooLong, MayBeRefused, Refuses, Writes, answer_code, begun, chosen_code, program, question_code, score_code}
 use Rattle.cql2_code.specs.Lowering.{asks_whether}
 use Rattle.cql2_code.specs.Question.{Question}
 use Rattle.cql2_code.specs.declared.question.Exits.{Exits}
-use Rattle.cql2_code.proofs.Accepted.{program_is_accepted, program_is_forward}
+use Rattle.cql2_code.proofs.AcceptedWhole.{program_is_accepted, program_is_forward}
 use Rattle.cql2_code.proofs.Lowered.{asks_rightly}
-use Rattle.cql2_code.proofs.Refused.{longer}
+use Rattle.cql2_code.proofs.Refused.{begun_longer, longer}
 use Rattle.cql2_code.proofs.Sound.{asks_soundly}
 use Rattle.cql2_code.proofs.Whole.{program_answers}
 
@@ -77,9 +77,9 @@ chosen_words score first all =
 -- a program, assembled back to front
 pub program_written : {question : Question} {exits : Exits} {end whole : List Insn} (score : Option NumericColumn)
     → end ≡ chosen_code score ++ answer_code 0 → exits.falls ≡ true → exits.skip ≡ word_count (chosen_code score)
-    → Writes question exits end whole → copy into_record from_argument_1 ∷ whole ≡ program score question
+    → Writes question exits end whole → begun whole ≡ program score question
 program_written {question} {exits} {end} score last falls skip written =
-    ap (λ (rest : List Insn). copy into_record from_argument_1 ∷ rest)
+    ap begun
     (written.code ∙ ap (λ (b : Bool). question_code question b exits.skip ++ end) falls
     ∙ ap (λ (n : ℕ). question_code question true n ++ end) skip
     ∙ ap (λ (rest : List Insn). question_code question true (word_count (chosen_code score)) ++ rest) last)
@@ -89,8 +89,8 @@ pub end_refused : {rest : List Insn} {fault : CompileFault} (score : Option Nume
     → chosen_code score ++ answer_code 0 ≡ front ++ rest → MayBeRefused rest fault → MayBeRefused (program score question) fault
 end_refused score question front is refused = record {
   too_long = λ other.
-      longer (copy into_record from_argument_1 ∷ question_code question true (word_count (chosen_code score)))
-      (subst IsTooLong (sym is) (longer front (refused.too_long other)));
+      begun_longer
+      (longer (question_code question true (word_count (chosen_code score))) (subst IsTooLong (sym is) (longer front (refused.too_long other))));
 }
 
 -- a program is refused if its question's code is
@@ -100,7 +100,7 @@ pub question_refused : {question : Question} {exits : Exits} {end : List Insn} {
 question_refused {question} score last falls skip refused = record {
   too_long = λ other.
       subst IsTooLong (program_written {question = question} score last falls skip (record { code = refl }))
-      (longer (copy into_record from_argument_1 ∷ []) (refused.too_long other));
+      (begun_longer (refused.too_long other));
 }
 
 -- a property of a result's code, if there is one

@@ -34,6 +34,24 @@ column_within Toiaddr = lit≤ tt
 column_within Cousubl = lit≤ tt
 column_within Cousubr = lit≤ tt
 
+-- it is no wider than a name
+pub column_width : (column : TextColumn) → width_of column ≤ 30
+column_width Rt = lit≤ tt
+column_width Version = lit≤ tt
+column_width Side1 = lit≤ tt
+column_width Source = lit≤ tt
+column_width Fedirp = lit≤ tt
+column_width Fename = lit≤ tt
+column_width Fetype = lit≤ tt
+column_width Fedirs = lit≤ tt
+column_width Cfcc = lit≤ tt
+column_width Friaddl = lit≤ tt
+column_width Toiaddl = lit≤ tt
+column_width Friaddr = lit≤ tt
+column_width Toiaddr = lit≤ tt
+column_width Cousubl = lit≤ tt
+column_width Cousubr = lit≤ tt
+
 -- the bytes of a column
 abbrev pub field_of : TextColumn → SegmentParts → List ℕ
 field_of column segment = take (width_of column) (drop (offset_of column) segment.bytes)

@@ -7,10 +7,14 @@ use Rattle.cql2.specs.Truth.{is, is_null as is_column_null, truth}
 use Rattle.cql2.specs.declared.column.Column.{Column}
 use Rattle.cql2.specs.declared.column.Column.TheVariants.{Numeric, Text}
 use Rattle.cql2.specs.declared.filter.Filter.{Filter}
-use Rattle.cql2.specs.declared.filter.Filter.TheVariants.{Constant, And', Or', Not', IsNull, CompareNumber, CompareText, Like, HasNumber}
+use Rattle.cql2.specs.declared.filter.Filter.TheVariants.{Constant, And', Or', Not', IsNull, CompareNumber, CompareNumbers, CompareText, CompareTexts}
+use Rattle.cql2.specs.declared.filter.Filter.TheVariants.{Like, HasNumber}
 use Rattle.cql2.specs.declared.filter.Filter.TheVariants.{HasName}
 use Rattle.cql2_code.specs.Lowering.{asks_whether, is_null}
 use Rattle.cql2_code.specs.Question.{answer}
+use Rattle.cql2_code.proofs.ColumnTexts.{compares_columns_rightly}
+use Rattle.cql2_code.proofs.ExactLemmas.{exact_bounded}
+use Rattle.cql2_code.proofs.ExpressionLemmas.{compares_numbers_rightly}
 use Rattle.cql2_code.proofs.FieldLemmas.{field_of, null_found, text_null, text_value_is}
 use Rattle.cql2_code.proofs.JoinLemmas.{and_joins, asked_answers, joined_answers, not_exchanges, or_joins}
 use Rattle.cql2_code.proofs.LikeLemmas.{asks_like_rightly}
@@ -40,10 +44,14 @@ asks_rightly segment is (IsNull column) asked =
     asked_answers (is_null column) segment asked ∙ ap (λ (null : Bool). beq null asked) (null_rightly segment is column)
 asks_rightly segment is (CompareNumber column comparison literal) asked =
     compares_number_rightly column comparison literal.number segment literal.fits asked
+asks_rightly segment is (CompareNumbers first comparison second) asked =
+    compares_numbers_rightly first.expression second.expression segment (exact_bounded first.expression first.is_exact)
+    (exact_bounded second.expression second.is_exact) comparison asked
+asks_rightly segment is (CompareTexts first comparison second) asked = compares_columns_rightly segment is first second comparison asked
 asks_rightly segment is (CompareText column comparison text) asked =
     compares_text_rightly segment is column text.bytes.items (text_wanted text.bytes.items text.is_text) comparison asked
 asks_rightly segment is (Like column pattern) asked =
-    asks_like_rightly segment is column pattern.wanted.items pattern.are_bytes pattern.is_open asked
+    asks_like_rightly segment is column pattern.parts.items pattern.are_bytes asked
 asks_rightly segment is (HasNumber house) asked = has_number_rightly segment is house.number asked
 asks_rightly segment is (HasName text limit) asked =
     has_name_rightly segment is text.bytes.items limit.number (text_wanted text.bytes.items text.is_text).few limit.fits asked

@@ -135,7 +135,7 @@ word_unless_zero None = refl
 word_unless_zero (Some millionths) = unless_zero_by millionths _ refl
 
 -- the word that a column's test looks at
-word_read : (column : NumericColumn) (segment : SegmentParts)
+pub word_read : (column : NumericColumn) (segment : SegmentParts)
     → value (subject_of column) segment ≡ coordinate_word (numeric_value column segment.bytes)
 word_read (Number column) segment =
     ap or_zero (number_read column segment.bytes) ∙ word_of_number (number_of (field_at (number_places column) segment.bytes))
@@ -179,7 +179,7 @@ unless_zero_fits (Some millionths) fits = by_zero (int_eq millionths (pos 0))
     by_zero true = tt
     by_zero false = fits
 
-value_fits : (column : NumericColumn) (line : List ℕ) → IfSome (numeric_value column line) (FitsSigned w64)
+pub value_fits : (column : NumericColumn) (line : List ℕ) → IfSome (numeric_value column line) (FitsSigned w64)
 value_fits (Number column) line = number_fits _ (λ n found. let small = number_below _ n found in omega arith)
 value_fits (Coordinate column) line = unless_zero_fits _ (coordinate_fits _)
 

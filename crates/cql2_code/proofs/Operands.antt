@@ -91,20 +91,20 @@ word_bytes (a ∷ b ∷ c ∷ d ∷ []) long fits =
 
 -- comparisons and their opposites
 
-not_not : (b : Bool) → not (not b) ≡ b
+pub not_not : (b : Bool) → not (not b) ≡ b
 not_not true = refl
 not_not false = refl
 
 less_is_not : (m n : ℕ) → nat_lt m n ≡ not (nat_le n m)
 less_is_not m n = grind (arith, nat_tests)
 
-int_less : (x y : ℤ) → int_lt x y ≡ not (int_le y x)
+pub int_less : (x y : ℤ) → int_lt x y ≡ not (int_le y x)
 int_less (pos m) (pos n) = less_is_not m n
 int_less (pos m) (negsuc n) = refl
 int_less (negsuc m) (pos n) = refl
 int_less (negsuc m) (negsuc n) = less_is_not n m
 
-int_at_most : (x y : ℤ) → int_le x y ≡ not (int_lt y x)
+pub int_at_most : (x y : ℤ) → int_le x y ≡ not (int_lt y x)
 int_at_most x y = sym (ap not (int_less y x) ∙ not_not (int_le x y))
 
 -- a 64-bit number as a signed one

@@ -1,29 +1,29 @@
--- The exact bytes of a pattern, and how it ends.
+-- The exact bytes of a piece of a pattern, and how it ends.
 use Rattle.std.proofs.Common.{◌≡◌, ℕ, suc, ◌+◌, ◌-◌, ◌==◌, ◌<◌, ◌≤◌, Bool, not, true, false, List, [], ◌∷◌, ◌++◌, length, map, take, drop}
 use Rattle.std.proofs.Common.{get_or, slice_get, Option, None, Some, refl, sym, ap, ◌∙◌, subst, arith, take-append-drop}
 use Rattle.std.proofs.lemmas.Bool.{le-leb}
 use Rattle.std.proofs.lemmas.List.{drop_more, length-map}
 use Rattle.cql2.specs.declared.column.TextColumn.{TextColumn}
-use Rattle.cql2.specs.declared.pattern.PatternByte.{PatternByte}
-use Rattle.cql2.specs.declared.pattern.PatternByte.TheVariants.{Exactly, EitherCase, Any}
-use Rattle.cql2_code.specs.Lowering.{are_wanted, both, ends_filled, ends_so, exact_bytes, has_bytes, is_each_wanted, is_filled, is_like}
+use Rattle.cql2.specs.declared.pattern.PatternPart.{PatternPart}
+use Rattle.cql2.specs.declared.pattern.PatternPart.TheVariants.{Exactly, Alike, One, Many}
+use Rattle.cql2_code.specs.Lowering.{both, ends_at, ends_filled, ends_so, exact_bytes, has_bytes, is_each_wanted, is_filled, is_piece}
 use Rattle.cql2_code.specs.Lowering.{is_wanted, offset_of, width_of}
-use Rattle.cql2_code.specs.Question.{Joined, Question}
-use Rattle.cql2_code.proofs.LikeLemmas.{Spells, spells}
+use Rattle.cql2_code.specs.Question.{Joined}
+use Rattle.cql2_code.proofs.WantedLemmas.{Spells, spells}
 
 -- one wanted byte, and more
-pub is_each_wanted-more : (at : ℕ) (pattern : List PatternByte) (wanted : PatternByte) (rest : List PatternByte)
+pub is_each_wanted-more : (at : ℕ) (pattern : List PatternPart) (wanted : PatternPart) (rest : List PatternPart)
     → pattern ≡ wanted ∷ rest → 0 < length rest
     → is_each_wanted at pattern ≡ Joined true (is_wanted at wanted) (is_each_wanted (at + 1) rest)
 is_each_wanted-more at pattern wanted [] is some = absurd (omega arith)
 is_each_wanted-more at pattern wanted (next ∷ rest) is some = ap (is_each_wanted at) is
 
 -- the last wanted byte, if there is one, is not a blank
-abbrev pub is_last_filled : Option PatternByte → Bool
+abbrev pub is_last_filled : Option PatternPart → Bool
 is_last_filled None = false
 is_last_filled (Some wanted) = is_filled wanted
 
-pub ends_filled-last : (pattern : List PatternByte) → ends_filled pattern ≡ is_last_filled (slice_get pattern (length pattern - 1))
+pub ends_filled-last : (pattern : List PatternPart) → ends_filled pattern ≡ is_last_filled (slice_get pattern (length pattern - 1))
 ends_filled-last [] = refl
 ends_filled-last (wanted ∷ []) = refl
 ends_filled-last (wanted ∷ next ∷ pattern) =
@@ -47,42 +47,43 @@ exact_bytes-exactly [] = refl
 exact_bytes-exactly (byte ∷ bytes) = rw (exact_bytes-exactly bytes) refl
 
 -- a pattern has no exact bytes if its rest after some exact bytes has none
-exact_bytes-none : (front : List ℕ) (rest : List PatternByte) → exact_bytes rest ≡ None → exact_bytes (map Exactly front ++ rest) ≡ None
+exact_bytes-none : (front : List ℕ) (rest : List PatternPart) → exact_bytes rest ≡ None → exact_bytes (map Exactly front ++ rest) ≡ None
 exact_bytes-none [] rest none = none
 exact_bytes-none (byte ∷ front) rest none = rw (exact_bytes-none front rest none) refl
 
-not_exact : (wanted : PatternByte) (rest : List PatternByte) → ((byte : ℕ) → wanted ≡ Exactly byte → ⊥) → exact_bytes (wanted ∷ rest) ≡ None
+not_exact : (wanted : PatternPart) (rest : List PatternPart) → ((byte : ℕ) → wanted ≡ Exactly byte → ⊥) → exact_bytes (wanted ∷ rest) ≡ None
 not_exact (Exactly byte) rest other = absurd (other byte refl)
-not_exact (EitherCase letter) rest other = refl
-not_exact Any rest other = refl
+not_exact (Alike folding wanted) rest other = refl
+not_exact One rest other = refl
+not_exact Many rest other = refl
 
-pub exact_bytes-other : (pattern : List PatternByte) (bytes : List ℕ) (at : ℕ) → at < length pattern → take at pattern ≡ map Exactly bytes
+pub exact_bytes-other : (pattern : List PatternPart) (bytes : List ℕ) (at : ℕ) → at < length pattern → take at pattern ≡ map Exactly bytes
     → ((byte : ℕ) → get_or pattern at (Exactly 0) ≡ Exactly byte → ⊥) → exact_bytes pattern ≡ None
 exact_bytes-other pattern bytes at within front other =
     let rest = drop_more pattern at (Exactly 0) within in
     let parts : pattern ≡ map Exactly bytes ++ (get_or pattern at (Exactly 0) ∷ drop (at + 1) pattern) =
-    sym (take-append-drop at pattern) ∙ ap (λ (some : List PatternByte). some ++ drop at pattern) front
-    ∙ ap (λ (some : List PatternByte). map Exactly bytes ++ some) rest in
+    sym (take-append-drop at pattern) ∙ ap (λ (some : List PatternPart). some ++ drop at pattern) front
+    ∙ ap (λ (some : List PatternPart). map Exactly bytes ++ some) rest in
     let none = not_exact (get_or pattern at (Exactly 0)) (drop (at + 1) pattern) other in
     ap exact_bytes parts ∙ exact_bytes-none bytes (get_or pattern at (Exactly 0) ∷ drop (at + 1) pattern) none
 
 -- a pattern with exact bytes wants exactly these
-pub spelled : (pattern : List PatternByte) (bytes : List ℕ) → exact_bytes pattern ≡ Some bytes → pattern ≡ map Exactly bytes
+pub spelled : (pattern : List PatternPart) (bytes : List ℕ) → exact_bytes pattern ≡ Some bytes → pattern ≡ map Exactly bytes
 spelled pattern bytes found = subst (λ (some : Option (List ℕ)). Spells some pattern) found (spells pattern)
 
--- a pattern that is no longer than a column
-abbrev pub with_ends : TextColumn → List PatternByte → Bool → Question → Question
-with_ends column pattern is_open first = both first (ends_so is_open (ends_filled pattern) column (length pattern))
+-- a piece that is no longer than a column
+pub is_piece-short : (column : TextColumn) (piece : List PatternPart) (is_open : Bool) → length piece ≤ width_of column
+    → is_piece column piece is_open ≡ ends_at column piece is_open 0
+is_piece-short column piece is_open short = rw (le-leb (length piece) (width_of column) short) refl
 
-pub is_like-short : (column : TextColumn) (pattern : List PatternByte) (is_open : Bool) → length pattern ≤ width_of column
-    → is_like column pattern is_open ≡ with_ends column pattern is_open (are_wanted (offset_of column) pattern)
-is_like-short column pattern is_open short = rw (le-leb (length pattern) (width_of column) short) refl
-
-pub is_like-exact : (column : TextColumn) (bytes : List ℕ) (is_open : Bool) → length bytes ≤ width_of column
-    → is_like column (map Exactly bytes) is_open
+pub is_piece-exact : (column : TextColumn) (bytes : List ℕ) (is_open : Bool) → length bytes ≤ width_of column
+    → is_piece column (map Exactly bytes) is_open
     ≡ both (has_bytes (offset_of column) bytes) (ends_so is_open (ends_filled (map Exactly bytes)) column (length bytes))
-is_like-exact column bytes is_open short =
+is_piece-exact column bytes is_open short =
     let count = length-map bytes Exactly in
-    is_like-short column (map Exactly bytes) is_open (omega arith)
+    let from : offset_of column + 0 ≡ offset_of column = omega arith in
+    let end : 0 + length (map Exactly bytes) ≡ length bytes = omega arith in
+    is_piece-short column (map Exactly bytes) is_open (omega arith)
     ∙ rw (exact_bytes-exactly bytes)
-    (ap (λ (n : ℕ). both (has_bytes (offset_of column) bytes) (ends_so is_open (ends_filled (map Exactly bytes)) column n)) count)
+    (ap (λ (at : ℕ). both (has_bytes at bytes) (ends_so is_open (ends_filled (map Exactly bytes)) column (0 + length (map Exactly bytes)))) from
+    ∙ ap (λ (n : ℕ). both (has_bytes (offset_of column) bytes) (ends_so is_open (ends_filled (map Exactly bytes)) column n)) end)

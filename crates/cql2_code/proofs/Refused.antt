@@ -1,14 +1,13 @@
 -- Codes that are refused for being too long.
-use Rattle.std.proofs.Common.{◌≡◌, Some, Bool, true, false, ◌||◌, List, ◌++◌, refl, sym, ap, ◌∙◌, subst, append_assoc, arith, if◌then◌else◌}
-use Rattle.std.proofs.lemmas.List.Folds.{list_any-append}
+use Rattle.std.proofs.Common.{◌≡◌, Some, Bool, true, false, List, ◌∷◌, ◌++◌, refl, sym, ◌∙◌, subst, append_assoc, arith, if◌then◌else◌}
 use Rattle.std.proofs.lemmas.Result.{MatchResult-weaker}
-use Rattle.std.proofs.Math.Bool.{or-true}
 use Rattle.std.specs.List.{list_any}
 use Rattle.std.specs.Prelude.{Err, IfErr, IsErrAnd, Ok, Result}
 use Rattle.bpf_insn.proofs.PlaceLemmas.{word_count-append}
 use Rattle.bpf_insn.specs.Code.{word_count}
 use Rattle.bpf_insn.specs.declared.instruction.Insn.{Insn}
-use Rattle.cql2_code.specs.Layout.{IsTooLong, MayBeRefused, Prepends, Refuses, Writes, first_skip, has_far_jump, has_many_words, is_far_jump, question_code}
+use Rattle.cql2_code.specs.Layout.{IsTooLong, MayBeRefused, Prepends, Refuses, Writes, begun, copy, first_skip, from_argument_1, into_record, kept_code}
+use Rattle.cql2_code.specs.Layout.{question_code, writes_kept}
 use Rattle.cql2_code.specs.Lowering.{PrependsBefore}
 use Rattle.cql2_code.specs.Question.{Joined, Question}
 use Rattle.cql2_code.specs.declared.fault.CompileFault.{CompileFault}
@@ -17,9 +16,11 @@ use Rattle.cql2_code.specs.declared.question.Exits.{Exits}
 
 -- a code is too long if it ends with one that is too long
 pub longer : (front : List Insn) {code : List Insn} → IsTooLong code → IsTooLong (front ++ code)
-longer front {code} (has_many_words many) = has_many_words (let sum = word_count-append front code in omega arith)
-longer front {code} (has_far_jump far) =
-    has_far_jump (list_any-append is_far_jump front code ∙ ap (λ (b : Bool). list_any is_far_jump front || b) far ∙ or-true _)
+longer front {code} long = record { words = let many = long.words in let sum = word_count-append front code in omega arith }
+
+-- so is a program if the code after its first instructions is
+pub begun_longer : {code : List Insn} → IsTooLong code → IsTooLong (begun code)
+begun_longer {code} = longer (copy into_record from_argument_1 ∷ kept_code (list_any writes_kept code))
 
 -- a question's code is refused if the identical code of another question is
 pub refuses_as : {question other : Question} {exits others : Exits} {old olds : List Insn} {fault : CompileFault}

@@ -4,7 +4,7 @@ use Rattle.std.proofs.Common.{◌++◌, length, map, replicate, slice_index, Opt
 use Rattle.std.proofs.Common.{rules}
 use Rattle.std.specs.Prelude.{FitsSigned}
 use Rattle.std.specs.Int.{w64, cast_signed}
-use Rattle.std.proofs.lemmas.Bool.{and_parts, leb-true, ltb-true}
+use Rattle.std.proofs.lemmas.Bool.{leb-true, ltb-true}
 use Rattle.std.proofs.lemmas.List.{length-append, length-map, length-replicate}
 use Rattle.tl_segments.specs.Range.{AreBytes}
 use Rattle.tl_segments.specs.declared.limits.TheConstants.{MAX_RANGES}
@@ -17,23 +17,35 @@ use Rattle.cql2.specs.declared.column.TextColumn.{TextColumn}
 use Rattle.cql2.specs.declared.filter.Comparison.{Comparison}
 use Rattle.cql2.specs.declared.filter.Comparison.TheVariants.{Equal, NotEqual, Less, LessOrEqual, Greater, GreaterOrEqual}
 use Rattle.cql2.specs.declared.filter.Filter.{Filter}
-use Rattle.cql2.specs.declared.filter.Filter.TheVariants.{Constant, And', Or', Not', IsNull, CompareNumber, CompareText, Like, HasNumber}
+use Rattle.cql2.specs.declared.filter.Filter.TheVariants.{Constant, And', Or', Not', IsNull, CompareNumber, CompareNumbers, CompareText, CompareTexts}
+use Rattle.cql2.specs.declared.filter.Filter.TheVariants.{Like, HasNumber}
 use Rattle.cql2.specs.declared.filter.Filter.TheVariants.{HasName}
-use Rattle.cql2.specs.declared.pattern.PatternByte.{PatternByte}
-use Rattle.cql2.specs.declared.pattern.PatternByte.TheVariants.{Exactly, EitherCase, Any}
+use Rattle.cql2.specs.Folding.{is_alike}
+use Rattle.cql2.specs.declared.pattern.PatternPart.{PatternPart}
+use Rattle.cql2.specs.declared.pattern.PatternPart.TheVariants.{Exactly, Alike, One, Many}
+use Rattle.cql2_code.specs.Grid.{grid}
+use Rattle.cql2_code.specs.Lowering.{are_pieces, bytes_alike, cell, ends_at, is_among, is_last, is_piece, rows_of}
+use Rattle.cql2_code.specs.Pieces.{pieces_of, taken}
+use Rattle.cql2_code.specs.Lowering.{compares_columns, compares_fields, is_less_column, is_less_field, is_same_column, is_same_field}
 use Rattle.cql2_code.specs.Lowering.{are_wanted, asks_has_name, asks_has_number, asks_like, asks_whether, both, byte_test, chunk_test}
 use Rattle.cql2_code.specs.Lowering.{compares_bytes, compares_number, compares_text, ends_filled, ends_so, exact_bytes, has_bytes, has_each}
 use Rattle.cql2_code.specs.Lowering.{has_few, has_value, holds_of_blanks, holds_of_zero, if_asked, is_blank, is_each_wanted, is_greater}
 use Rattle.cql2_code.specs.Lowering.{is_less, is_like, checks_for_end, is_named_from, is_null, is_null_text, is_wanted, lies_from, name_block}
 use Rattle.cql2_code.specs.Lowering.{number_of, offset_of, test, width_of}
-use Rattle.cql2_code.specs.Question.{Question, Decided, Opposite, Joined, IsSound, bytes_value, chunk_length}
+use Rattle.cql2_code.specs.Question.{Question, Coded, Decided, Opposite, Joined, bytes_value, chunk_length}
 use Rattle.cql2_code.specs.declared.question.Chunk.{Chunk}
 use Rattle.cql2_code.specs.declared.question.Chunk.TheVariants.{Word, DoubleWord}
+use Rattle.cql2_code.proofs.AmongLemmas.{among_sound}
+use Rattle.cql2_code.proofs.Blocks.{IsSound}
 use Rattle.cql2_code.proofs.ByteLemmas.{AreSmall, small_blanks}
+use Rattle.cql2_code.proofs.ExpressionSound.{exact_sound, has_value_sound}
 use Rattle.cql2_code.proofs.FieldLemmas.{column_within}
-use Rattle.cql2_code.proofs.LikeLemmas.{Fits, FitsColumn, Spells, fits_first, fits_record, fits_rest, small_wanted, spells}
+use Rattle.cql2_code.proofs.GridLemmas.{SoundCells, SoundRows, grid_sound}
 use Rattle.cql2_code.proofs.NumberLemmas.{small_fits}
-use Rattle.cql2_code.proofs.TextLemmas.{IsWanted, exactly_bytes, text_wanted}
+use Rattle.cql2_code.proofs.PairLemmas.{pair_sound}
+use Rattle.cql2_code.proofs.PieceLemmas.{ArePieces, Cut, IsPiece, cut_pieces, lengths, piece_bytes}
+use Rattle.cql2_code.proofs.TextLemmas.{IsWanted, exactly_piece, text_wanted}
+use Rattle.cql2_code.proofs.WantedLemmas.{Fits, FitsColumn, Spells, fits_first, fits_record, fits_rest, small_wanted, small_where, spells}
 
 zero_fits : FitsSigned w64 (pos 0)
 zero_fits = small_fits 0 (omega arith)
@@ -75,10 +87,6 @@ blank_sound at count within = bytes_sound at (replicate count 32) (small_blanks 
 
 -- Numbers
 
-has_value_sound : (column : NumericColumn) → IsSound (has_value column)
-has_value_sound (Number field) = record { subject = tt; operand = zero_fits }
-has_value_sound (Coordinate place) = record { subject = tt; operand = zero_fits }
-
 number_test_sound : (column : NumericColumn) (comparison : Comparison) (literal : ℤ) → FitsSigned w64 literal
     → IsSound (test (number_of column) comparison literal)
 number_test_sound (Number field) comparison literal fits = record { subject = tt; operand = fits }
@@ -95,30 +103,35 @@ compares_number_sound column comparison literal fits = by_zero (holds_of_zero co
 
 -- Patterns
 
-byte_wanted_sound : (at : ℕ) (wanted : PatternByte) → at < 228 → is_byte wanted ≡ true → IsSound (is_wanted at wanted)
-byte_wanted_sound at (Exactly byte) within are = byte_sound at Equal byte within (ltb-true byte 256 are)
-byte_wanted_sound at (EitherCase letter) within are =
-    let small = leb-true letter 122 (and_parts (nat_le 97 letter) _ are).1 in
-    (byte_sound at Equal letter within (omega arith), byte_sound at Equal (letter - 32) within (omega arith))
-byte_wanted_sound at Any within are = tt
+is_among_sound : (at : ℕ) (bytes : List ℕ) → at < 228 → AreSmall bytes → IsSound (is_among at bytes)
+is_among_sound at [] within small = tt
+is_among_sound at (byte ∷ []) within small = byte_sound at Equal byte within small.0
+is_among_sound at (byte ∷ next ∷ bytes) within small = among_sound at byte (next ∷ bytes) within small
 
-each_wanted_sound : (at : ℕ) (pattern : List PatternByte) → Fits at pattern → IsSound (is_each_wanted at pattern)
+byte_wanted_sound : (at : ℕ) (wanted : PatternPart) → at < 228 → is_byte wanted ≡ true → IsSound (is_wanted at wanted)
+byte_wanted_sound at (Exactly byte) within are = byte_sound at Equal byte within (ltb-true byte 256 are)
+byte_wanted_sound at (Alike folding wanted) within are =
+    is_among_sound at (bytes_alike folding wanted) within (small_where (λ byte. is_alike folding byte wanted) 256 (omega arith))
+byte_wanted_sound at One within are = tt
+byte_wanted_sound at Many within are = tt
+
+each_wanted_sound : (at : ℕ) (piece : List PatternPart) → Fits at piece → IsSound (is_each_wanted at piece)
 each_wanted_sound at [] fits = tt
 each_wanted_sound at (wanted ∷ []) fits = let first = fits_first at wanted [] fits in byte_wanted_sound at wanted first.0 first.1
-each_wanted_sound at (wanted ∷ next ∷ pattern) fits =
-    let first = fits_first at wanted (next ∷ pattern) fits in
-    (byte_wanted_sound at wanted first.0 first.1, each_wanted_sound (at + 1) (next ∷ pattern) (fits_rest at wanted (next ∷ pattern) fits))
+each_wanted_sound at (wanted ∷ next ∷ piece) fits =
+    let first = fits_first at wanted (next ∷ piece) fits in
+    (byte_wanted_sound at wanted first.0 first.1, each_wanted_sound (at + 1) (next ∷ piece) (fits_rest at wanted (next ∷ piece) fits))
 
-wanted_sound_by : (at : ℕ) (pattern : List PatternByte) (exact : Option (List ℕ)) → exact_bytes pattern ≡ exact → Spells exact pattern
-    → Fits at pattern → IsSound (are_wanted at pattern)
-wanted_sound_by at pattern None exact spelled fits = rw exact (each_wanted_sound at pattern fits)
-wanted_sound_by at pattern (Some bytes) exact spelled fits =
-    let count : length pattern ≡ length bytes = ap length spelled ∙ length-map bytes Exactly in
+wanted_sound_by : (at : ℕ) (piece : List PatternPart) (exact : Option (List ℕ)) → exact_bytes piece ≡ exact → Spells exact piece
+    → Fits at piece → IsSound (are_wanted at piece)
+wanted_sound_by at piece None exact spelled fits = rw exact (each_wanted_sound at piece fits)
+wanted_sound_by at piece (Some bytes) exact spelled fits =
+    let count : length piece ≡ length bytes = ap length spelled ∙ length-map bytes Exactly in
     let within = fits.within in
-    rw exact (bytes_sound at bytes (small_wanted bytes (sym (ap are_bytes spelled) ∙ fits.are)) (omega arith))
+    rw exact (bytes_sound at bytes (small_wanted bytes (sym (ap are_bytes spelled) ∙ piece_bytes piece fits.are)) (omega arith))
 
-wanted_sound : (at : ℕ) (pattern : List PatternByte) → Fits at pattern → IsSound (are_wanted at pattern)
-wanted_sound at pattern fits = wanted_sound_by at pattern (exact_bytes pattern) refl (spells pattern) fits
+wanted_sound : (at : ℕ) (piece : List PatternPart) → Fits at piece → IsSound (are_wanted at piece)
+wanted_sound at piece fits = wanted_sound_by at piece (exact_bytes piece) refl (spells piece) fits
 
 -- the rest of a column after some bytes
 rest_sound : (column : TextColumn) (count : ℕ) → count ≤ width_of column
@@ -126,47 +139,95 @@ rest_sound : (column : TextColumn) (count : ℕ) → count ≤ width_of column
 rest_sound column count few =
     let within = column_within column in blank_sound (offset_of column + count) (width_of column - count) (omega arith)
 
-module _ (column : TextColumn) (pattern : List PatternByte) (fits : FitsColumn column pattern) where
-  wanted_here : IsSound (are_wanted (offset_of column) pattern)
-  wanted_here = wanted_sound (offset_of column) pattern (fits_record column pattern fits)
+module _ (column : TextColumn) (from : ℕ) (piece : List PatternPart) (fits : FitsColumn column from piece) where
+  wanted_here : IsSound (are_wanted (offset_of column + from) piece)
+  wanted_here = wanted_sound (offset_of column + from) piece (fits_record column from piece fits)
 
-  closes_here : IsSound (is_blank (offset_of column + length pattern) (width_of column - length pattern))
-  closes_here = rest_sound column (length pattern) fits.short
+  closes_here : IsSound (is_blank (offset_of column + (from + length piece)) (width_of column - (from + length piece)))
+  closes_here = rest_sound column (from + length piece) fits.within
 
-  fills_here : IsSound (is_blank (offset_of column + (length pattern - 1)) (width_of column - (length pattern - 1)))
-  fills_here = let short = fits.short in rest_sound column (length pattern - 1) (omega arith)
+  fills_here : IsSound (is_blank (offset_of column + (from + length piece - 1)) (width_of column - (from + length piece - 1)))
+  fills_here = let within = fits.within in rest_sound column (from + length piece - 1) (omega arith)
 
-  closed_sound : (whole : Bool) → IsSound (both (are_wanted (offset_of column) pattern)
-      (if whole then None else Some (is_blank (offset_of column + length pattern) (width_of column - length pattern))))
+  closed_sound : (whole : Bool) → IsSound (both (are_wanted (offset_of column + from) piece)
+      (if whole then None else Some (is_blank (offset_of column + (from + length piece)) (width_of column - (from + length piece)))))
   closed_sound true = wanted_here
   closed_sound false = (wanted_here, closes_here)
 
-  ends_sound : (is_open filled : Bool)
-      → IsSound (both (are_wanted (offset_of column) pattern) (ends_so is_open filled column (length pattern)))
-  ends_sound true true = wanted_here
-  ends_sound true false = (wanted_here, fills_here)
-  ends_sound false true = closed_sound (length pattern == width_of column)
-  ends_sound false false = (wanted_here, (closes_here, fills_here))
+  ends_so_sound : (is_open filled : Bool)
+      → IsSound (both (are_wanted (offset_of column + from) piece) (ends_so is_open filled column (from + length piece)))
+  ends_so_sound true true = wanted_here
+  ends_so_sound true false = (wanted_here, fills_here)
+  ends_so_sound false true = closed_sound (from + length piece == width_of column)
+  ends_so_sound false false = (wanted_here, (closes_here, fills_here))
 
-module _ (column : TextColumn) (pattern : List PatternByte) (are : are_bytes pattern ≡ true) (is_open : Bool) where
-  like_by : (short : Bool) → nat_le (length pattern) (width_of column) ≡ short
-      → IsSound (if short then both (are_wanted (offset_of column) pattern) (ends_so is_open (ends_filled pattern) column (length pattern))
+  cell_sound : (last is_open : Bool) → IsSound (cell column piece last is_open from)
+  cell_sound true is_open = ends_so_sound is_open (ends_filled piece)
+  cell_sound false is_open = wanted_here
+
+module _ (column : TextColumn) (piece : List PatternPart) (are : IsPiece piece) (is_open : Bool) where
+  piece_by : (short : Bool) → nat_le (length piece) (width_of column) ≡ short
+      → IsSound (if short then ends_at column piece is_open 0 else Decided false)
+  piece_by true short =
+      let few = leb-true (length piece) (width_of column) short in
+      ends_so_sound column 0 piece (record { within = omega arith; are = are }) is_open (ends_filled piece)
+  piece_by false short = tt
+
+  piece_sound : IsSound (is_piece column piece is_open)
+  piece_sound = piece_by (nat_le (length piece) (width_of column)) refl
+
+-- the pieces behind a `%`
+
+cells_sound : (column : TextColumn) (piece : List PatternPart) (last is_open : Bool) (from at left : ℕ) → IsPiece piece
+    → from + at + length piece + left ≤ suc (width_of column)
+    → SoundCells (λ shift. cell column piece last is_open (from + shift)) at left
+cells_sound column piece last is_open from at zero are fits = tt
+cells_sound column piece last is_open from at (suc left) are fits = (
+  cell_sound column (from + at) piece (record { within = omega arith; are = are }) last is_open,
+  cells_sound column piece last is_open from (at + 1) left are (omega arith),
+)
+
+rows_sound : (column : TextColumn) (is_open : Bool) (from columns : ℕ) (pieces : List (List PatternPart)) → ArePieces pieces
+    → from + lengths pieces + columns ≤ suc (width_of column) → SoundRows (rows_of column is_open from pieces) columns
+rows_sound column is_open from columns [] are fits = tt
+rows_sound column is_open from columns (piece ∷ pieces) are fits = (
+  cells_sound column piece (is_last pieces) is_open from 0 columns are.0.are (omega arith),
+  rows_sound column is_open (from + length piece) columns pieces are.1 (omega arith),
+)
+
+module _ (column : TextColumn) (pattern : List PatternPart) where
+  pieces_by : (first piece : List PatternPart) (others : List (List PatternPart)) (is_open short : Bool)
+      → nat_le (taken pattern) (width_of column) ≡ short → Cut pattern first (piece ∷ others) is_open
+      → IsSound (if short then Joined true (are_wanted (offset_of column) first)
+      (Coded (grid (rows_of column is_open (length first) (piece ∷ others)) (suc (width_of column - taken pattern))))
       else Decided false)
-  like_by true short =
-      let few = leb-true (length pattern) (width_of column) short in
-      ends_sound column pattern (record { short = few; are = are }) is_open (ends_filled pattern)
-  like_by false short = tt
+  pieces_by first piece others is_open true short cut =
+      let few = leb-true (taken pattern) (width_of column) short in
+      let takes = cut.takes in
+      let within = column_within column in (
+        wanted_sound (offset_of column) first (record { within = omega arith; are = cut.first_is }),
+        grid_sound (rows_of column is_open (length first) (piece ∷ others)) (suc (width_of column - taken pattern))
+            (rows_sound column is_open (length first) (suc (width_of column - taken pattern)) (piece ∷ others) cut.others_are (omega arith)),
+      )
+  pieces_by first piece others is_open false short cut = tt
 
-  like_sound : IsSound (is_like column pattern is_open)
-  like_sound = like_by (nat_le (length pattern) (width_of column)) refl
+  pieces_sound : (first : List PatternPart) (others : List (List PatternPart)) (is_open : Bool) → Cut pattern first others is_open
+      → IsSound (are_pieces column first others is_open (taken pattern))
+  pieces_sound first [] is_open cut = piece_sound column first cut.first_is is_open
+  pieces_sound first (piece ∷ others) is_open cut =
+      pieces_by first piece others is_open (nat_le (taken pattern) (width_of column)) refl cut
+
+  like_sound : are_bytes pattern ≡ true → IsSound (is_like column pattern)
+  like_sound are =
+      let pieces = pieces_of pattern in pieces_sound pieces.first pieces.others pieces.is_open (cut_pieces pattern are)
 
 null_text_sound : (column : TextColumn) → IsSound (is_null_text column)
 null_text_sound column = blank_sound (offset_of column) (width_of column) (column_within column)
 
-asks_like_sound : (column : TextColumn) (pattern : List PatternByte) (is_open asked : Bool) → are_bytes pattern ≡ true
-    → IsSound (asks_like column pattern is_open asked)
-asks_like_sound column pattern is_open true are = like_sound column pattern are is_open
-asks_like_sound column pattern is_open false are = (null_text_sound column, like_sound column pattern are is_open)
+asks_like_sound : (column : TextColumn) (pattern : List PatternPart) (asked : Bool) → are_bytes pattern ≡ true
+    → IsSound (asks_like column pattern asked)
+asks_like_sound column pattern true are = like_sound column pattern are
+asks_like_sound column pattern false are = (null_text_sound column, like_sound column pattern are)
 
 -- Texts
 
@@ -187,8 +248,8 @@ greater_sound at (suc left) (byte ∷ text) within small = (
 )
 
 module _ (column : TextColumn) (text : List ℕ) (small : AreSmall text) where
-  same_sound : IsSound (is_like column (map Exactly text) false)
-  same_sound = like_sound column (map Exactly text) (exactly_bytes text small) false
+  same_sound : IsSound (is_piece column (map Exactly text) false)
+  same_sound = piece_sound column (map Exactly text) (exactly_piece text small) false
 
   less_here : IsSound (is_less (offset_of column) (width_of column) text)
   less_here = less_sound (offset_of column) (width_of column) text (column_within column) small
@@ -213,6 +274,48 @@ module _ (column : TextColumn) (text : List ℕ) (small : AreSmall text) where
   compares_text_sound : (comparison : Comparison) → IsSound (compares_text column comparison text)
   compares_text_sound comparison = text_by comparison (holds_of_blanks comparison)
 
+-- Two columns
+
+same_field_sound : (at left other more : ℕ) → at + left ≤ 228 → other + more ≤ 228 → IsSound (is_same_field at left other more)
+same_field_sound at zero other more within inside = blank_sound other more inside
+same_field_sound at (suc left) other zero within inside = blank_sound at (suc left) within
+same_field_sound at (suc left) other (suc more) within inside = (
+  pair_sound at Equal other (omega arith) (omega arith),
+  same_field_sound (at + 1) left (other + 1) more (omega arith) (omega arith),
+)
+
+less_field_sound : (at left other more : ℕ) → at + left ≤ 228 → other + more ≤ 228 → IsSound (is_less_field at left other more)
+less_field_sound at zero other zero within inside = tt
+less_field_sound at (suc left) other zero within inside = tt
+less_field_sound at zero other (suc more) within inside = blank_sound other (suc more) inside
+less_field_sound at (suc left) other (suc more) within inside = (
+  blank_sound other (suc more) inside,
+  (
+    blank_sound at (suc left) within,
+    (
+      pair_sound at Less other (omega arith) (omega arith),
+      (pair_sound at Equal other (omega arith) (omega arith), less_field_sound (at + 1) left (other + 1) more (omega arith) (omega arith)),
+    ),
+  ),
+)
+
+same_column_sound : (first second : TextColumn) → IsSound (is_same_column first second)
+same_column_sound first second = same_field_sound _ _ _ _ (column_within first) (column_within second)
+
+less_column_sound : (first second : TextColumn) → IsSound (is_less_column first second)
+less_column_sound first second = less_field_sound _ _ _ _ (column_within first) (column_within second)
+
+fields_sound : (first : TextColumn) (comparison : Comparison) (second : TextColumn) → IsSound (compares_fields first comparison second)
+fields_sound first Equal second = same_column_sound first second
+fields_sound first NotEqual second = same_column_sound first second
+fields_sound first Less second = less_column_sound first second
+fields_sound first LessOrEqual second = less_column_sound second first
+fields_sound first Greater second = less_column_sound second first
+fields_sound first GreaterOrEqual second = less_column_sound first second
+
+compares_columns_sound : (first : TextColumn) (comparison : Comparison) (second : TextColumn) → IsSound (compares_columns first comparison second)
+compares_columns_sound first comparison second = (null_text_sound first, (null_text_sound second, fields_sound first comparison second))
+
 -- Ranges and names
 
 count_sound : (number : ℕ) → number < 2 ^ 16 → FitsSigned w64 (pos number)
@@ -231,7 +334,7 @@ lies_sound house at (suc more) fits few = part_sound _ _ _
     (record { subject = (omega arith, fits); operand = zero_fits })
     (lies_sound house (at + 1) more fits (omega arith)) (checks_for_end at)
 
-if_asked_sound : (question : Question) (asked : Bool) → IsSound question → IsSound (if_asked question asked)
+pub if_asked_sound : (question : Question) (asked : Bool) → IsSound question → IsSound (if_asked question asked)
 if_asked_sound question true sound = sound
 if_asked_sound question false sound = sound
 
@@ -286,9 +389,12 @@ asks_soundly (Not' p inner) true = asks_soundly inner false
 asks_soundly (Not' p inner) false = asks_soundly inner true
 asks_soundly (IsNull column) asked = if_asked_sound (is_null column) asked (null_sound column)
 asks_soundly (CompareNumber column comparison literal) asked = compares_number_sound column _ literal.number literal.fits
+asks_soundly (CompareNumbers first comparison second) asked =
+    exact_sound first.expression _ second.expression first.is_exact second.is_exact
+asks_soundly (CompareTexts first comparison second) asked = compares_columns_sound first _ second
 asks_soundly (CompareText column comparison text) asked =
     compares_text_sound column text.bytes.items (text_wanted text.bytes.items text.is_text).small _
-asks_soundly (Like column pattern) asked = asks_like_sound column pattern.wanted.items pattern.is_open asked pattern.are_bytes
+asks_soundly (Like column pattern) asked = asks_like_sound column pattern.parts.items asked pattern.are_bytes
 asks_soundly (HasNumber house) asked = has_number_sound house.number asked house.fits
 asks_soundly (HasName text limit) asked =
     has_name_sound text.bytes.items limit.number asked (text_wanted text.bytes.items text.is_text) limit.fits

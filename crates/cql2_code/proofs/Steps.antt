@@ -1,7 +1,7 @@
 -- What a run of a filter's program does at each instruction.
 use Rattle.std.proofs.Common.{◌≡◌, ℕ, ◌+◌, ℤ, pos, Bool, true, false, is_some, List, [], ◌∷◌, ◌++◌, length, Option, Some, Ok, Err}
 use Rattle.std.proofs.Common.{if◌then◌else◌, refl, sym, ap, ◌∙◌, subst, arith}
-use Rattle.std.specs.Prelude.{nat_lt}
+use Rattle.std.specs.Prelude.{◌+ℤ◌, int_le, nat_lt}
 use Rattle.std.proofs.lemmas.Bool.{false≢true}
 use Rattle.bpf_insn.specs.Arithmetic.{immediate_operand, condition_holds, wide_number}
 use Rattle.bpf_insn.specs.Code.{instruction_at, spelling, word_count}
@@ -9,6 +9,8 @@ use Rattle.bpf_insn.specs.Frame.{FrameContents}
 use Rattle.bpf_insn.specs.declared.instruction.Condition.{Condition}
 use Rattle.bpf_insn.specs.declared.instruction.Insn.{Insn}
 use Rattle.bpf_insn.specs.declared.instruction.Insn.TheVariants.{Exit, JumpIf, WideLoad}
+use Rattle.bpf_insn.specs.Jump.{words}
+use Rattle.bpf_insn.specs.declared.instruction.JumpDistance.TheVariants.{Short, Long}
 use Rattle.bpf_insn.specs.declared.instruction.Source.{Source}
 use Rattle.bpf_insn.specs.declared.instruction.Source.TheVariants.{Immediate, Register}
 use Rattle.bpf_insn.specs.declared.instruction.Width.TheVariants.{Bits64}
@@ -17,7 +19,7 @@ use Rattle.bpf_insn.specs.declared.value.Area.TheVariants as area
 use Rattle.bpf_insn.specs.declared.value.Value.{Value}
 use Rattle.bpf_insn.specs.declared.value.Value.TheVariants as value
 use Rattle.bpf_insn.proofs.PlaceLemmas.{word_count-append, word_count-cons}
-use Rattle.bpf_meaning.specs.Effect.{effect_of, continue_with, instruction_effect}
+use Rattle.bpf_meaning.specs.Effect.{continue_at, continue_with, effect_of, instruction_effect}
 use Rattle.bpf_meaning.specs.Run.{FollowSteps, last_of}
 use Rattle.bpf_meaning.specs.Step.{Configuration, Running, Exited, after, carry_out, next_of}
 use Rattle.bpf_meaning.specs.declared.cause.Cause.TheVariants.{IntoWide, OutOfProgram}
@@ -26,7 +28,8 @@ use Rattle.bpf_meaning.specs.declared.effect.Change.TheVariants.{Nothing, SetReg
 use Rattle.bpf_meaning.specs.declared.effect.Effect.TheVariants.{Continue}
 use Rattle.bpf_meaning.specs.declared.state.State.{State}
 use Rattle.tl_segments.specs.Segment.{SegmentParts}
-use Rattle.cql2_code.specs.Layout.{copy, jump, move, from_result, from_argument_1, from_frame, into_result, into_argument_1, into_argument_2, into_argument_3}
+use Rattle.cql2_code.specs.Layout.{copy, in_field, jump, move, from_result, from_argument_1, from_frame, into_result, into_argument_1, into_argument_2}
+use Rattle.cql2_code.specs.Layout.{into_argument_3}
 
 -- these instructions follow one another from a place
 abbrev pub HasAt : List Insn → ℕ → List Insn → Type 0
@@ -43,7 +46,7 @@ pub record Setting : Type 0 where
   pub segment : SegmentParts
   pub score : ℕ
 
--- what a question's instructions change: registers 0 to 5, and the frame
+-- what a question's instructions change: registers 0 to 5 and 7 to 9, and the frame
 pub record Scratch : Type 0 where
   pub v0 : Value
   pub v1 : Value
@@ -51,6 +54,9 @@ pub record Scratch : Type 0 where
   pub v3 : Value
   pub v4 : Value
   pub v5 : Value
+  pub v7 : Value
+  pub v8 : Value
+  pub v9 : Value
   pub frame : FrameContents
   pub whole : length frame.bytes ≡ FRAME_LENGTH
 
@@ -78,8 +84,8 @@ to_frame = value.Pointer (record { area = area.Frame; offset = pos FRAME_LENGTH 
 abbrev pub state : Setting → Scratch → ℕ → State
 state on scratch place = record {
   place = place;
-  registers = scratch.v0 ∷ scratch.v1 ∷ scratch.v2 ∷ scratch.v3 ∷ scratch.v4 ∷ scratch.v5 ∷ to_record ∷ value.Empty ∷ value.Empty
-      ∷ value.Empty ∷ to_frame ∷ [];
+  registers = scratch.v0 ∷ scratch.v1 ∷ scratch.v2 ∷ scratch.v3 ∷ scratch.v4 ∷ scratch.v5 ∷ to_record ∷ scratch.v7 ∷ scratch.v8
+      ∷ scratch.v9 ∷ to_frame ∷ [];
   frame = scratch.frame;
   score = on.score;
 }
@@ -268,14 +274,26 @@ copies_10_to_2 on from =
 
 -- jumps
 
+-- a jump's field holds its distance
+pub field_is : (distance : ℤ) → words (in_field distance) ≡ distance
+unfolding in_field
+field_is distance = by_size (int_le distance (pos 32767))
+  where
+    by_size : (near : Bool) → words (if near then Short distance else Long distance) ≡ distance
+    by_size true = refl
+    by_size false = refl
+
 -- a jump that is always taken
 pub jumps : (on : Setting) (scratch : Scratch) (place skip : ℕ) → instruction_at on.code place ≡ Some (jump (pos skip))
     → Begins on.code (place + 1 + skip) → running on scratch (place + 1 + skip) ≡ after on.code on.segment (state on scratch place)
 jumps on scratch place skip at target =
-    sym (after_at on (state on scratch place) (jump (pos skip)) at ∙ continues_at on (state on scratch place) (place + 1 + skip) Nothing target)
+    sym
+    (after_at on (state on scratch place) (jump (pos skip)) at
+    ∙ ap (λ (distance : ℤ). next_of on.segment (state on scratch place) (continue_at on.code (pos (place + 1) +ℤ distance))) (field_is (pos skip))
+    ∙ continues_at on (state on scratch place) (place + 1 + skip) Nothing target)
 
 -- a jump that may be taken
-branches : (on : Setting) (scratch : Scratch) (place skip : ℕ) (taken : Bool) → Begins on.code (place + 1)
+pub branches : (on : Setting) (scratch : Scratch) (place skip : ℕ) (taken : Bool) → Begins on.code (place + 1)
     → Begins on.code (place + 1 + skip)
     → next_of on.segment (state on scratch place)
     (if taken then continue_with on.code (place + 1 + skip) Nothing else continue_with on.code (place + 1) Nothing)
@@ -311,6 +329,20 @@ jumps_by_register on from n m place skip condition jump =
     sym
     (after_at on (state on scratch place) (conditional_jump condition (Register from_argument_1) skip) jump.at
     ∙ branches on scratch place skip (condition_holds condition Bits64 n m) jump.next jump.target)
+
+-- a conditional jump on an operand compares two numbers
+pub record BranchesOn (on : Setting) (scratch : Scratch) (source : Source) (x y : ℕ) : Type 0 where
+  pub jumps : (place skip : ℕ) (condition : Condition) → JumpsAt on place condition source skip
+      → running on scratch (if condition_holds condition Bits64 x y then place + 1 + skip else place + 1)
+      ≡ after on.code on.segment (state on scratch place)
+
+pub branches_on_immediate : (on : Setting) (from : Scratch) (n : ℕ) (number : ℤ)
+    → BranchesOn on (with_0 from n) (Immediate number) n (immediate_operand number)
+branches_on_immediate on from n number =
+    record { jumps = λ place skip condition jump. jumps_by_immediate on from n place skip condition number jump }
+
+pub branches_on_register : (on : Setting) (from : Scratch) (n m : ℕ) → BranchesOn on (with_1 (with_0 from n) m) (Register from_argument_1) n m
+branches_on_register on from n m = record { jumps = λ place skip condition jump. jumps_by_register on from n m place skip condition jump }
 
 -- the end of a program
 pub exits : (on : Setting) (from : Scratch) (n place : ℕ) → instruction_at on.code place ≡ Some Exit

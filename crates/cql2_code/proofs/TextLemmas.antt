@@ -9,22 +9,23 @@ use Rattle.tl_fields.specs.Number.{is_blank as are_blank}
 use Rattle.tl_segments.specs.Segment.{SegmentParts, IsSegment}
 use Rattle.cql2.specs.Column.{text_value}
 use Rattle.cql2.specs.Filter.{compares_text as text_compares}
-use Rattle.cql2.specs.Pattern.{are_bytes, is_like as is_text_like}
+use Rattle.cql2.specs.Pattern.{is_like as is_text_like}
 use Rattle.cql2.specs.Text.{ends_filled, is_less as is_text_less, is_same, is_text}
 use Rattle.cql2.specs.Truth.{is as is_truth}
 use Rattle.cql2.specs.declared.column.TextColumn.{TextColumn}
 use Rattle.cql2.specs.declared.filter.Comparison.{Comparison}
 use Rattle.cql2.specs.declared.filter.Comparison.TheVariants.{Equal, NotEqual, Less, LessOrEqual, Greater, GreaterOrEqual}
-use Rattle.cql2.specs.declared.pattern.PatternByte.TheVariants.{Exactly}
+use Rattle.cql2.specs.declared.pattern.PatternPart.TheVariants.{Exactly}
 use Rattle.cql2_code.specs.Layout.{opposite}
-use Rattle.cql2_code.specs.Lowering.{compares_bytes, compares_text, holds_of_blanks, is_greater, is_less, is_like, is_null_text}
+use Rattle.cql2_code.specs.Lowering.{compares_bytes, compares_text, holds_of_blanks, is_greater, is_less, is_null_text, is_piece}
 use Rattle.cql2_code.specs.Lowering.{offset_of, width_of}
 use Rattle.cql2_code.specs.Question.{Joined, Opposite, answer}
 use Rattle.cql2_code.proofs.ByteLemmas.{AreSmall, blank_found, byte_equals, byte_answer, first_of}
 use Rattle.cql2_code.proofs.FieldLemmas.{column_within, field_of, has_text, null_found, value_asked}
 use Rattle.cql2_code.proofs.JoinLemmas.{both_answers, either_answers, is_it, isnt_it, not_not}
-use Rattle.cql2_code.proofs.LikeLemmas.{like_found}
+use Rattle.cql2_code.proofs.PieceLemmas.{IsPiece}
 use Rattle.cql2_code.proofs.TrimLemmas.{trimmed, trimmed_blank}
+use Rattle.cql2_code.proofs.WantedLemmas.{ending, piece_found}
 
 -- Texts that a filter can hold
 
@@ -165,16 +166,15 @@ module _ (segment : SegmentParts) (is : IsSegment segment) where
 
 -- Equality is LIKE without wildcards
 
-like_same : (text wanted : List ℕ) → is_text_like (map Exactly wanted) false text ≡ is_same text wanted
+like_same : (text wanted : List ℕ) → is_text_like (ending (map Exactly wanted) false) text ≡ is_same text wanted
 like_same [] [] = refl
 like_same (byte ∷ text) [] = refl
 like_same [] (byte ∷ wanted) = refl
 like_same (first ∷ text) (byte ∷ wanted) = ap (λ (rest : Bool). first == byte && rest) (like_same text wanted)
 
-pub exactly_bytes : (text : List ℕ) → AreSmall text → are_bytes (map Exactly text) ≡ true
-exactly_bytes [] small = refl
-exactly_bytes (byte ∷ text) small =
-    ap (λ (first : Bool). first && are_bytes (map Exactly text)) (lt-ltb byte 256 small.0) ∙ exactly_bytes text small.1
+pub exactly_piece : (text : List ℕ) → AreSmall text → IsPiece (map Exactly text)
+exactly_piece [] small = tt
+exactly_piece (byte ∷ text) small = (record { single = refl; is_byte = lt-ltb byte 256 small.0 }, exactly_piece text small.1)
 
 -- a blank field
 
@@ -200,7 +200,7 @@ unless_blank property field fails = by_blank (are_blank field) refl
     by_blank true is = sym (ap property (trimmed_blank field is) ∙ fails)
     by_blank false is = refl
 
-opposite_compares_text : (comparison : Comparison) (text other : List ℕ)
+pub opposite_compares_text : (comparison : Comparison) (text other : List ℕ)
     → text_compares (opposite comparison) text other ≡ not (text_compares comparison text other)
 opposite_compares_text Equal text other = refl
 opposite_compares_text NotEqual text other = sym (not_not (is_same text other))
@@ -210,9 +210,9 @@ opposite_compares_text Greater text other = refl
 opposite_compares_text GreaterOrEqual text other = sym (not_not (is_text_less text other))
 
 module _ (segment : SegmentParts) (is : IsSegment segment) (column : TextColumn) (text : List ℕ) (wanted : IsWanted text) where
-  same_here : answer (is_like column (map Exactly text) false) segment ≡ is_same (trimmed (field_of column segment)) text
+  same_here : answer (is_piece column (map Exactly text) false) segment ≡ is_same (trimmed (field_of column segment)) text
   same_here =
-      like_found segment is column (map Exactly text) (exactly_bytes text wanted.small) false
+      piece_found segment is column (map Exactly text) (exactly_piece text wanted.small) false
       ∙ ap (λ (like : Bool). not (are_blank (field_of column segment)) && like) (like_same (trimmed (field_of column segment)) text)
       ∙ unless_blank (λ found. is_same found text) (field_of column segment) (same_blank text wanted.some)
 

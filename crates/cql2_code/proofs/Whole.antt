@@ -14,14 +14,18 @@ use Rattle.tl_segments.specs.Segment.{SegmentParts, IsSegment}
 use Rattle.cql2.specs.declared.column.NumericColumn.{NumericColumn}
 use Rattle.cql2.specs.declared.column.NumericColumn.TheVariants as column
 use Rattle.cql2_code.specs.Chosen.{score_of}
-use Rattle.cql2_code.specs.Layout.{answer_code, call, chosen_code, copy, program, subject_code, from_result, from_argument_1, into_argument_1, into_record}
-use Rattle.cql2_code.specs.Question.{value as number_in, IsSoundSubject, IsSound, Question, answer}
+use Rattle.cql2_code.specs.Layout.{answer_code, call, chosen_code, copy, kept_code, program, subject_code, from_result, from_argument_1, into_argument_1}
+use Rattle.cql2_code.specs.Layout.{into_record}
+use Rattle.cql2_code.specs.Question.{value as number_in, IsSoundSubject, Question, answer}
 use Rattle.cql2_code.specs.declared.question.Subject.{Subject}
 use Rattle.cql2_code.specs.declared.question.Subject.TheVariants as subject
+use Rattle.cql2_code.proofs.Blocks.{IsSound}
 use Rattle.cql2_code.proofs.Calls.{answered, calls_emit, scored}
 use Rattle.cql2_code.proofs.Columns.{coordinate_fits, field_fits}
-use Rattle.cql2_code.proofs.Program.{has_all, has_chosen, has_other, middle_of, question_at}
-use Rattle.cql2_code.proofs.Runs.{Arrives, question_leads, exit_of}
+use Rattle.cql2_code.proofs.Program.{has_all, has_chosen, has_first, has_other, keeps_of, middle_of, question_at, start_of}
+use Rattle.cql2_code.proofs.KeptSteps.{begins_kept, begun}
+use Rattle.cql2_code.proofs.Leads.{Arrives, exit_of}
+use Rattle.cql2_code.proofs.Runs.{question_leads}
 use Rattle.cql2_code.proofs.Subjects.{takes}
 use Rattle.cql2_code.proofs.Steps.{with_0, with_1, Begins, Reaches, HasAt, Scratch, Setting, after_at, and_on, begins_at, copies_0_to_1}
 use Rattle.cql2_code.proofs.Steps.{exits, continues_at, has_back, has_front, moves_0, running, stays, steps_on, to_record}
@@ -85,6 +89,9 @@ at_first = record {
   v3 = value.Empty;
   v4 = value.Empty;
   v5 = value.Empty;
+  v7 = value.Empty;
+  v8 = value.Empty;
+  v9 = value.Empty;
   frame = start.frame;
   whole = refl;
 }
@@ -104,20 +111,31 @@ program_answers score question sound segment is = record { run = all.run; is_run
     skip : ℕ
     skip = word_count (chosen_code score)
 
-    begins : Begins on.code 1
-    begins = begins_at on.code 1 middle (question_at score question).has (question_at score question).end
+    keeps : Bool
+    keeps = keeps_of score question
+
+    place : ℕ
+    place = start_of score question
+
+    begins : Begins on.code place
+    begins = begins_at on.code place middle (question_at score question).has (question_at score question).end
+
+    has_kept : HasAt on.code 1 (kept_code keeps)
+    has_kept = (has_first score question).1
 
     starts : running on at_first 1 ≡ after on.code on.segment start
     starts = sym (after_at on start (copy into_record from_argument_1) (has_all on.code).0
-        ∙ continues_at on start 1 (SetRegister into_record to_record) begins)
+        ∙ continues_at on start 1 (SetRegister into_record to_record) (begins_at on.code 1 (kept_code keeps) has_kept begins))
 
-    there : Arrives on (running on at_first 1) (exit_of true (answer question segment) (1 + word_count middle) skip)
-    there = question_leads on question true skip 1 sound is (question_at score question) at_first
+    there : Arrives on (running on (begun keeps at_first) place) (exit_of true (answer question segment) (place + word_count middle) skip)
+    there = question_leads on question true skip place sound is (question_at score question) (begun keeps at_first)
 
     ends : (found : Bool)
-        → Reaches on (running on there.scratch (exit_of true found (1 + word_count middle) skip)) (ended score segment found)
-    ends true = chooses on there.scratch score (1 + word_count middle) refl is (has_chosen score question)
-    ends false = answers on there.scratch 0 (1 + word_count middle + skip) (has_other score question)
+        → Reaches on (running on there.scratch (exit_of true found (place + word_count middle) skip)) (ended score segment found)
+    ends true = chooses on there.scratch score (place + word_count middle) refl is (has_chosen score question)
+    ends false = answers on there.scratch 0 (place + word_count middle + skip) (has_other score question)
 
     all : Reaches on (Running start) (ended score segment (answer question segment))
-    all = steps_on on start (running on at_first 1) _ starts (and_on on _ _ _ there.reaches (ends (answer question segment)))
+    all = steps_on on start (running on at_first 1) _ starts
+        (and_on on _ (running on (begun keeps at_first) place) _ ((begins_kept on keeps at_first).reaches 1 has_kept begins)
+        (and_on on _ _ _ there.reaches (ends (answer question segment))))

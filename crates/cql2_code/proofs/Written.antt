@@ -8,6 +8,7 @@ use Rattle.cql2_code.specs.Layout.{IsBefore, Writes, first_skip, question_code}
 use Rattle.cql2_code.specs.Lowering.{WritesBefore, if_asked}
 use Rattle.cql2_code.specs.Question.{Question, Joined, Opposite}
 use Rattle.cql2_code.specs.declared.question.Exits.{Exits}
+use Rattle.cql2_code.proofs.Operands.{not_not}
 
 module _ {neutral : Bool} {first second : Question} {exits before : Exits} {old middle new : List Insn} {words : ℕ} where
   -- the second of two questions was written, and then the first one, with the exits it has before the second
@@ -52,6 +53,16 @@ module _ {question : Question} {exits other : Exits} {old new : List Insn} where
         ∙ ap (λ (n : ℕ). question_code question exits.falls n ++ old) skip;
   }
   asked_written false falls skip written = opposite_written falls skip written
+
+  -- the opposite of a question, or its own opposite, is written as the question
+  pub null_written : (asked : Bool) → other.falls ≡ (if not asked then exits.falls else not exits.falls) → other.skip ≡ exits.skip
+      → Writes question other old new → Writes (if_asked (Opposite question) asked) exits old new
+  null_written true falls skip written = opposite_written falls skip written
+  null_written false falls skip written = record {
+    code = written.code
+        ∙ ap (λ (b : Bool). question_code question b other.skip ++ old) (falls ∙ sym (not_not exits.falls))
+        ∙ ap (λ (n : ℕ). question_code question (not (not exits.falls)) n ++ old) skip;
+  }
 
 -- once the second question is written, the first one can be written before it
 pub before_second : {second : Question} {exits first : Exits} {old new : List Insn} {words : ℕ}

@@ -1,6 +1,8 @@
 -- The layout of a question's code. It has one entry, its first instruction, and two exits: it falls through its end on one given answer, and
--- jumps some words past its end on the other. All jumps go forward. Register 6 holds the record's pointer throughout.
-use Rattle.std.specs.Prelude.{◌≡◌, ℕ, ◌+◌, ◌-◌, ◌*◌, ◌/◌, ◌%◌, ◌^◌, ◌<◌, ◌&&◌, ℤ, pos, negsuc, Bool, true, false, not, int_le, int_lt, nat_le, List, [], ◌∷◌, ◌++◌, take, drop, Option, Some, None, IsTrue, MatchResult, Result, if◌then◌else◌}
+-- jumps some words past its end on the other. All jumps go forward. Register 6 holds the record's pointer throughout, and registers 7 to 9 hold
+-- numbers in programs that write them.
+use Rattle.std.specs.Prelude.{◌≡◌, ℕ, zero, suc, ◌+◌, ◌-◌, ◌*◌, ◌/◌, ◌%◌, ◌^◌, ◌<◌, ◌&&◌, ℤ, pos, negsuc, Bool, true, false, not, int_le, nat_le, List, []}
+use Rattle.std.specs.Prelude.{◌∷◌, ◌++◌, take, drop, Option, Some, None, MatchResult, Result, if◌then◌else◌}
 use Rattle.std.specs.Bool.{beq}
 use Rattle.std.specs.List.{list_any}
 use Rattle.std.specs.Int.{w32, cast_signed}
@@ -14,7 +16,8 @@ use Rattle.bpf_insn.specs.declared.code.TheConstants.{MAX_WORDS}
 use Rattle.bpf_insn.specs.declared.instruction.Insn.{Insn}
 use Rattle.bpf_insn.specs.declared.instruction.Insn.TheVariants.{Alu, Jump, JumpIf, Call, Exit, StoreImmediate, WideLoad}
 use Rattle.bpf_insn.specs.declared.instruction.Insn.TheVariants as insn
-use Rattle.bpf_insn.specs.declared.instruction.JumpDistance.TheVariants.{Short}
+use Rattle.bpf_insn.specs.declared.instruction.JumpDistance.{JumpDistance}
+use Rattle.bpf_insn.specs.declared.instruction.JumpDistance.TheVariants.{Short, Long}
 use Rattle.bpf_insn.specs.declared.instruction.LoadFormat.{LoadFormat}
 use Rattle.bpf_insn.specs.declared.instruction.LoadFormat.TheVariants as format
 use Rattle.bpf_insn.specs.declared.instruction.Operation.TheVariants.{Add, Move}
@@ -30,7 +33,7 @@ use Rattle.cql2.specs.declared.filter.Comparison.{Comparison}
 use Rattle.cql2.specs.declared.filter.Comparison.TheVariants.{Equal, NotEqual, Less, LessOrEqual, Greater, GreaterOrEqual}
 use Rattle.cql2_code.specs.declared.fault.CompileFault.{CompileFault}
 use Rattle.cql2_code.specs.declared.fault.CompileFault.TheVariants.{TooLong}
-use Rattle.cql2_code.specs.Question.{Question, Decided, Holds, Opposite, Joined, bytes_value, condition_of, coordinate_id, field_id}
+use Rattle.cql2_code.specs.Question.{Question, Decided, Holds, Opposite, Joined, Coded, bytes_value, condition_of, coordinate_id, field_id}
 use Rattle.cql2_code.specs.declared.question.Chunk.{Chunk}
 use Rattle.cql2_code.specs.declared.question.Chunk.TheVariants.{Byte, Word, DoubleWord}
 use Rattle.cql2_code.specs.declared.question.Exits.{Exits}
@@ -53,6 +56,17 @@ into_argument_3 = record { number = 3; in_range = lit≤ tt }
 
 abbrev pub into_record : WritableRegister
 into_record = record { number = 6; in_range = lit≤ tt }
+
+-- registers 7 to 9, which keep numbers over calls, by the level at which they are needed
+abbrev pub into_kept : ℕ → WritableRegister
+into_kept zero = record { number = 7; in_range = lit≤ tt }
+into_kept (suc zero) = record { number = 8; in_range = lit≤ tt }
+into_kept (suc (suc level)) = record { number = 9; in_range = lit≤ tt }
+
+abbrev pub from_kept : ℕ → RegisterParts
+from_kept zero = record { number = 7; in_range = lit≤ tt }
+from_kept (suc zero) = record { number = 8; in_range = lit≤ tt }
+from_kept (suc (suc level)) = record { number = 9; in_range = lit≤ tt }
 
 abbrev pub from_result : RegisterParts
 from_result = record { number = 0; in_range = lit≤ tt }
@@ -136,15 +150,27 @@ opposite LessOrEqual = Greater
 abbrev pub jump_if : Comparison → Source → ℤ → Insn
 jump_if comparison operand distance = JumpIf (condition_of comparison) Bits64 from_result operand distance
 
+-- a jump, which holds its distance in 16 bits if they suffice and otherwise in 32
+unfoldable pub in_field : ℤ → JumpDistance
+in_field distance = if int_le distance (pos 32767) then Short distance else Long distance
+
 abbrev pub jump : ℤ → Insn
-jump distance = Jump (Short distance)
+jump distance = Jump (in_field distance)
+
+-- Words are skipped if a comparison of register 0 holds. A conditional jump has 16 bits for its distance, so if they don't suffice, the opposite
+-- comparison skips a jump.
+unfoldable pub skip_if : Comparison → Source → ℕ → List Insn
+skip_if comparison operand distance =
+    if nat_le distance 32767
+    then jump_if comparison operand (pos distance) ∷ []
+    else jump_if (opposite comparison) operand (pos 1) ∷ jump (pos distance) ∷ []
 
 -- a comparison of register 0 with a number, which is put into register 1 if no immediate holds it
 abbrev pub comparison_code : Comparison → ℤ → ℕ → List Insn
 comparison_code comparison operand distance =
     if is_narrow operand
-    then jump_if comparison (Immediate operand) (pos distance) ∷ []
-    else wide_load into_argument_1 (immediate_operand operand) ∷ jump_if comparison (Register from_argument_1) (pos distance) ∷ []
+    then skip_if comparison (Immediate operand) distance
+    else wide_load into_argument_1 (immediate_operand operand) ∷ skip_if comparison (Register from_argument_1) distance
 
 -- the code of a test, which jumps unless the answer is the one that falls through
 abbrev pub test_code : Test → Bool → ℕ → List Insn
@@ -164,17 +190,11 @@ question_code (Opposite question) falls skip = question_code question (not falls
 question_code (Joined neutral first second) falls skip =
     question_code first neutral (first_skip falls neutral (word_count (question_code second falls skip)) skip)
     ++ question_code second falls skip
+question_code (Coded block) falls skip = block.code falls skip
 
--- a jump too far for the 16 bits of its distance
-abbrev pub is_far_jump : Insn → Bool
-is_far_jump (Jump (Short distance)) = int_lt (pos 32767) distance
-is_far_jump (JumpIf condition width left right distance) = int_lt (pos 32767) distance
-is_far_jump insn = false
-
--- a code is too long for a program: it has more words than a program can have, or such a jump
-pub data IsTooLong (code : List Insn) : Type 0 where
-  has_many_words : MAX_WORDS < word_count code → IsTooLong code
-  has_far_jump : IsTrue (list_any is_far_jump code) → IsTooLong code
+-- a code is too long for a program: it has more words than a program can have
+pub record IsTooLong (code : List Insn) : Type 0 where
+  pub words : MAX_WORDS < word_count code
 
 -- a code may be refused: as too long only if it is, and otherwise because an allocation fails
 pub record MayBeRefused (code : List Insn) (fault : CompileFault) : Type 0 where
@@ -216,7 +236,20 @@ answer_code number = move into_result (pos number) ∷ Exit ∷ []
 abbrev pub chosen_code : Option NumericColumn → List Insn
 chosen_code score = score_code score ++ answer_code 1
 
--- the whole program, which keeps the record's pointer in register 6
+-- an instruction that writes one of registers 7 to 9
+abbrev pub writes_kept : Insn → Bool
+writes_kept (Alu operation width destination source) = nat_le 7 destination.number
+writes_kept insn = false
+
+-- the code that sets registers 7 to 9, if the program keeps numbers in them
+abbrev pub kept_code : Bool → List Insn
+kept_code true = move (into_kept 0) (pos 0) ∷ move (into_kept 1) (pos 0) ∷ move (into_kept 2) (pos 0) ∷ []
+kept_code false = []
+
+-- a program begins by keeping the record's pointer in register 6
+abbrev pub begun : List Insn → List Insn
+begun code = copy into_record from_argument_1 ∷ (kept_code (list_any writes_kept code) ++ code)
+
+-- the whole program
 abbrev pub program : Option NumericColumn → Question → List Insn
-program score question =
-    copy into_record from_argument_1 ∷ (question_code question true (word_count (chosen_code score)) ++ (chosen_code score ++ answer_code 0))
+program score question = begun (question_code question true (word_count (chosen_code score)) ++ (chosen_code score ++ answer_code 0))

@@ -1,5 +1,13 @@
+pub mod Among
+pub mod BytePairs
 pub mod CompileFault
 pub mod Chosen
+pub mod Grid
+pub mod Columns
+pub mod Expressions
 pub mod Layout
 pub mod Lowering
+pub mod Pieces
 pub mod Question
+pub mod ShapeCode
+pub mod Skipping

@@ -1,5 +1,6 @@
 -- The questions whether a filter is true and whether it is false. Each has an answer, even if the filter is neither. NOT exchanges them.
-use Rattle.std.specs.Prelude.{◌≡◌, ℕ, zero, suc, ◌+◌, ◌-◌, ◌==◌, ◌||◌, ℤ, pos, nat_le, Bool, true, false, not, List, [], ◌∷◌, ◌++◌, length, map, replicate, Option, Some, None, MatchResult, Result, if◌then◌else◌}
+use Rattle.std.specs.Prelude.{◌≡◌, ℕ, zero, suc, ◌+◌, ◌-◌, ◌==◌, ◌||◌, ℤ, pos, nat_le, Bool, true, false, not, List, [], ◌∷◌, ◌++◌, length, map, replicate}
+use Rattle.std.specs.Prelude.{Option, Some, None, MatchResult, Result, if◌then◌else◌}
 use Rattle.std.specs.Bool.{beq}
 use Rattle.std.specs.Int.{w64, cast_signed}
 use Rattle.tl_segments.specs.declared.limits.TheConstants.{MAX_RANGES}
@@ -7,45 +8,43 @@ use Rattle.cql2.specs.Column.{text_places}
 use Rattle.cql2.specs.Filter.{compares}
 use Rattle.cql2.specs.declared.column.Column.{Column}
 use Rattle.cql2.specs.declared.column.Column.TheVariants.{Numeric, Text}
+use Rattle.cql2.specs.declared.column.CoordinateColumn.TheVariants.{Frlong, Frlat, Tolong, Tolat}
 use Rattle.cql2.specs.declared.column.NumericColumn.{NumericColumn}
 use Rattle.cql2.specs.declared.column.NumericColumn.TheVariants as column
 use Rattle.cql2.specs.declared.column.TextColumn.{TextColumn}
 use Rattle.cql2.specs.declared.filter.Comparison.{Comparison}
 use Rattle.cql2.specs.declared.filter.Comparison.TheVariants.{Equal, NotEqual, Less, LessOrEqual, Greater, GreaterOrEqual}
 use Rattle.cql2.specs.declared.filter.Filter.{Filter}
-use Rattle.cql2.specs.declared.filter.Filter.TheVariants.{Constant, And', Or', Not', IsNull, CompareNumber, CompareText, Like, HasName}
+use Rattle.cql2.specs.declared.filter.Filter.TheVariants.{Constant, And', Or', Not', IsNull, CompareNumber, CompareNumbers, CompareText, CompareTexts, Like}
+use Rattle.cql2.specs.declared.filter.Filter.TheVariants.{HasName}
 use Rattle.cql2.specs.declared.filter.Filter.TheVariants as filter
-use Rattle.cql2.specs.declared.pattern.PatternByte.{PatternByte}
-use Rattle.cql2.specs.declared.pattern.PatternByte.TheVariants.{Exactly, EitherCase, Any}
-use Rattle.cql2_code.specs.Question.{Question, Decided, Holds, Opposite, Joined, bytes_value}
+use Rattle.cql2.specs.declared.geometry.Shape.{Shape}
+use Rattle.cql2.specs.Folding.{is_alike}
+use Rattle.cql2.specs.declared.pattern.Folding.{Folding}
+use Rattle.cql2.specs.declared.pattern.PatternPart.{PatternPart}
+use Rattle.cql2.specs.declared.pattern.PatternPart.TheVariants.{Exactly, Alike, One, Many}
+use Rattle.cql2_code.specs.Among.{among}
+use Rattle.cql2_code.specs.Grid.{grid}
+use Rattle.cql2_code.specs.Pieces.{pieces_of, taken}
+use Rattle.cql2_code.specs.Question.{Question, Coded, Decided, Opposite, Joined, bytes_value}
 use Rattle.bpf_insn.specs.Code.{word_count}
 use Rattle.bpf_insn.specs.declared.instruction.Insn.{Insn}
+pub use Rattle.cql2_code.specs.Columns.{has_value, number_of, test}
+use Rattle.cql2_code.specs.BytePairs.{compares_pair}
+use Rattle.cql2_code.specs.Expressions.{compares_numbers}
 use Rattle.cql2_code.specs.Layout.{Prepends, Refuses, Writes, opposite, program}
+use Rattle.cql2_code.specs.ShapeCode.{meets_shape}
 use Rattle.cql2_code.specs.declared.fault.CompileFault.{CompileFault}
 use Rattle.cql2_code.specs.declared.question.Exits.{Exits}
 use Rattle.cql2_code.specs.declared.question.Chunk.{Chunk}
 use Rattle.cql2_code.specs.declared.question.Chunk.TheVariants.{Byte, Word, DoubleWord}
-use Rattle.cql2_code.specs.declared.question.Subject.{Subject}
-use Rattle.cql2_code.specs.declared.question.Subject.TheVariants.{Number, HasNumber, Coordinate, Names, Ranges, InRange, NameIs, Load}
-
-abbrev pub test : Subject → Comparison → ℤ → Question
-test subject comparison operand = Holds (record { subject = subject; comparison = comparison; operand = operand })
+use Rattle.cql2_code.specs.declared.question.Subject.TheVariants.{Names, Ranges, InRange, NameIs, Load}
 
 abbrev pub if_asked : Question → Bool → Question
 if_asked question true = question
 if_asked question false = Opposite question
 
 -- Numeric columns
-
--- the number of a column; 0 if it has none
-abbrev pub number_of : NumericColumn → Subject
-number_of (column.Number field) = Number field
-number_of (column.Coordinate place) = Coordinate place
-
--- a column has a number
-abbrev pub has_value : NumericColumn → Question
-has_value (column.Number field) = test (HasNumber field) NotEqual (pos 0)
-has_value (column.Coordinate place) = test (Coordinate place) NotEqual (pos 0)
 
 -- a comparison holds for 0 and a number
 abbrev pub holds_of_zero : Comparison → ℤ → Bool
@@ -101,48 +100,66 @@ width_of column = (text_places column).1 - offset_of column
 abbrev pub is_null_text : TextColumn → Question
 is_null_text column = is_blank (offset_of column) (width_of column)
 
--- a byte matches a pattern byte
-abbrev pub is_wanted : ℕ → PatternByte → Question
-is_wanted at (Exactly byte) = byte_test at Equal byte
-is_wanted at (EitherCase letter) = Joined false (byte_test at Equal letter) (byte_test at Equal (letter - 32))
-is_wanted at Any = Decided true
+-- the bytes below a limit that a test chooses, in descending order
+unfoldable pub bytes_where : (ℕ → Bool) → ℕ → List ℕ
+bytes_where good zero = []
+bytes_where good (suc byte) = if good byte then byte ∷ bytes_where good byte else bytes_where good byte
 
--- the bytes of a pattern that wants each of them exactly
-abbrev pub exact_bytes : List PatternByte → Option (List ℕ)
+-- the bytes that are the same as this one but for what is ignored
+abbrev pub bytes_alike : Folding → ℕ → List ℕ
+bytes_alike folding wanted = bytes_where (λ byte. is_alike folding byte wanted) 256
+
+-- a byte is one of several
+abbrev pub is_among : ℕ → List ℕ → Question
+is_among at [] = Decided false
+is_among at (byte ∷ []) = byte_test at Equal byte
+is_among at (byte ∷ next ∷ bytes) = Coded (among at byte (next ∷ bytes))
+
+-- a byte matches a part of a pattern
+abbrev pub is_wanted : ℕ → PatternPart → Question
+is_wanted at (Exactly byte) = byte_test at Equal byte
+is_wanted at (Alike folding wanted) = is_among at (bytes_alike folding wanted)
+is_wanted at One = Decided true
+is_wanted at Many = Decided true
+
+-- the bytes of a piece that wants each of them exactly
+abbrev pub exact_bytes : List PatternPart → Option (List ℕ)
 exact_bytes [] = Some []
-exact_bytes (Exactly byte ∷ pattern) = before byte (exact_bytes pattern)
+exact_bytes (Exactly byte ∷ piece) = before byte (exact_bytes piece)
   where
     before : ℕ → Option (List ℕ) → Option (List ℕ)
     before byte None = None
     before byte (Some bytes) = Some (byte ∷ bytes)
-exact_bytes (EitherCase letter ∷ pattern) = None
-exact_bytes (Any ∷ pattern) = None
+exact_bytes (Alike folding wanted ∷ piece) = None
+exact_bytes (One ∷ piece) = None
+exact_bytes (Many ∷ piece) = None
 
-abbrev pub is_each_wanted : ℕ → List PatternByte → Question
+abbrev pub is_each_wanted : ℕ → List PatternPart → Question
 is_each_wanted at [] = Decided true
 is_each_wanted at (wanted ∷ []) = is_wanted at wanted
-is_each_wanted at (wanted ∷ next ∷ pattern) = Joined true (is_wanted at wanted) (is_each_wanted (at + 1) (next ∷ pattern))
+is_each_wanted at (wanted ∷ next ∷ piece) = Joined true (is_wanted at wanted) (is_each_wanted (at + 1) (next ∷ piece))
 
-abbrev pub are_wanted : ℕ → List PatternByte → Question
-are_wanted at pattern = by_exact (exact_bytes pattern)
+abbrev pub are_wanted : ℕ → List PatternPart → Question
+are_wanted at piece = by_exact (exact_bytes piece)
   where
     by_exact : Option (List ℕ) → Question
     by_exact (Some bytes) = has_bytes at bytes
-    by_exact None = is_each_wanted at pattern
+    by_exact None = is_each_wanted at piece
 
--- the last byte of a pattern is not a blank
-abbrev pub is_filled : PatternByte → Bool
+-- the last byte of a piece is not a blank
+abbrev pub is_filled : PatternPart → Bool
 is_filled (Exactly byte) = not (byte == 32)
-is_filled (EitherCase letter) = true
-is_filled Any = false
+is_filled (Alike folding wanted) = not (is_alike folding 32 wanted)
+is_filled One = false
+is_filled Many = false
 
-abbrev pub ends_filled : List PatternByte → Bool
+abbrev pub ends_filled : List PatternPart → Bool
 ends_filled [] = false
 ends_filled (wanted ∷ []) = is_filled wanted
-ends_filled (wanted ∷ next ∷ pattern) = ends_filled (next ∷ pattern)
+ends_filled (wanted ∷ next ∷ piece) = ends_filled (next ∷ piece)
 
--- The question after the wanted bytes. A closed pattern requires the rest of the field to be blank. If the last wanted byte may be a blank, the
--- text is long enough only if the field isn't blank from that byte on.
+-- The question after the wanted bytes, whose end is given. If no more bytes may follow, the rest of the field must be blank. If the last wanted
+-- byte may be a blank, the text is long enough only if the field isn't blank from that byte on.
 abbrev pub ends_so : Bool → Bool → TextColumn → ℕ → Option Question
 ends_so true true column count = None
 ends_so true false column count = Some (Opposite (is_blank (offset_of column + (count - 1)) (width_of column - (count - 1))))
@@ -165,17 +182,48 @@ abbrev pub PrependsBefore : Result Exits CompileFault → Option Question → Ex
 PrependsBefore result second exits old new = MatchResult result (λ first. WritesBefore second exits first old new)
     (λ fault. (wanted : Question) → Refuses (both wanted second) exits old fault)
 
--- a column isn't NULL and matches a pattern
-abbrev pub is_like : TextColumn → List PatternByte → Bool → Question
-is_like column pattern is_open =
-    if nat_le (length pattern) (width_of column)
-    then both (are_wanted (offset_of column) pattern) (ends_so is_open (ends_filled pattern) column (length pattern))
+-- a pattern's last piece is in a column from a byte on, which isn't blank there: the text ends behind it, or later if the pattern is open
+abbrev pub ends_at : TextColumn → List PatternPart → Bool → ℕ → Question
+ends_at column piece is_open from =
+    both (are_wanted (offset_of column + from) piece) (ends_so is_open (ends_filled piece) column (from + length piece))
+
+-- a column isn't NULL and matches a pattern of one piece
+abbrev pub is_piece : TextColumn → List PatternPart → Bool → Question
+is_piece column piece is_open = if nat_le (length piece) (width_of column) then ends_at column piece is_open 0 else Decided false
+
+-- a piece behind a `%` is in a column from a byte on
+abbrev pub cell : TextColumn → List PatternPart → Bool → Bool → ℕ → Question
+cell column piece true is_open at = ends_at column piece is_open at
+cell column piece false is_open at = are_wanted (offset_of column + at) piece
+
+-- no piece follows
+abbrev pub is_last : List (List PatternPart) → Bool
+is_last [] = true
+is_last (piece ∷ pieces) = false
+
+-- the pieces behind a `%`, by the number of bytes that the `%`s before them take
+abbrev pub rows_of : TextColumn → Bool → ℕ → List (List PatternPart) → List (ℕ → Question)
+rows_of column is_open from [] = []
+rows_of column is_open from (piece ∷ pieces) =
+    (λ shift. cell column piece (is_last pieces) is_open (from + shift)) ∷ rows_of column is_open (from + length piece) pieces
+
+-- A column isn't NULL and matches a pattern: each piece is searched for behind the one before. What follows a `%` matches all the more the earlier
+-- it may begin, so the leftmost place will do.
+abbrev pub are_pieces : TextColumn → List PatternPart → List (List PatternPart) → Bool → ℕ → Question
+are_pieces column first [] is_open total = is_piece column first is_open
+are_pieces column first (piece ∷ others) is_open total =
+    if nat_le total (width_of column)
+    then Joined true (are_wanted (offset_of column) first)
+    (Coded (grid (rows_of column is_open (length first) (piece ∷ others)) (suc (width_of column - total))))
     else Decided false
 
+abbrev pub is_like : TextColumn → List PatternPart → Question
+is_like column pattern = let pieces = pieces_of pattern in are_pieces column pieces.first pieces.others pieces.is_open (taken pattern)
+
 -- a column matches a pattern, or isn't NULL and doesn't match it
-abbrev pub asks_like : TextColumn → List PatternByte → Bool → Bool → Question
-asks_like column pattern is_open true = is_like column pattern is_open
-asks_like column pattern is_open false = Joined true (Opposite (is_null_text column)) (Opposite (is_like column pattern is_open))
+abbrev pub asks_like : TextColumn → List PatternPart → Bool → Question
+asks_like column pattern true = is_like column pattern
+asks_like column pattern false = Joined true (Opposite (is_null_text column)) (Opposite (is_like column pattern))
 
 -- the rest of a field, given by its offset and length, is less than a text
 abbrev pub is_less : ℕ → ℕ → List ℕ → Question
@@ -192,8 +240,8 @@ is_greater at (suc left) (byte ∷ text) =
     Joined false (byte_test at Greater byte) (Joined true (byte_test at Equal byte) (is_greater (at + 1) left text))
 
 abbrev pub compares_bytes : TextColumn → Comparison → List ℕ → Question
-compares_bytes column Equal text = is_like column (map Exactly text) false
-compares_bytes column NotEqual text = Opposite (is_like column (map Exactly text) false)
+compares_bytes column Equal text = is_piece column (map Exactly text) false
+compares_bytes column NotEqual text = Opposite (is_piece column (map Exactly text) false)
 compares_bytes column Less text = is_less (offset_of column) (width_of column) text
 compares_bytes column GreaterOrEqual text = Opposite (is_less (offset_of column) (width_of column) text)
 compares_bytes column Greater text = is_greater (offset_of column) (width_of column) text
@@ -214,6 +262,43 @@ compares_text column comparison text =
     if holds_of_blanks comparison
     then Joined true (Opposite (is_null_text column)) (compares_bytes column comparison text)
     else compares_bytes column comparison text
+
+-- Two fields, each given by its offset and length
+
+-- they hold the same text
+abbrev pub is_same_field : ℕ → ℕ → ℕ → ℕ → Question
+is_same_field at zero other more = is_blank other more
+is_same_field at (suc left) other zero = is_blank at (suc left)
+is_same_field at (suc left) other (suc more) = Joined true (compares_pair at Equal other) (is_same_field (at + 1) left (other + 1) more)
+
+-- the text in the first one is less than that in the second one
+abbrev pub is_less_field : ℕ → ℕ → ℕ → ℕ → Question
+is_less_field at left other zero = Decided false
+is_less_field at zero other (suc more) = Opposite (is_blank other (suc more))
+is_less_field at (suc left) other (suc more) =
+    Joined true (Opposite (is_blank other (suc more)))
+    (Joined false (is_blank at (suc left))
+    (Joined false (compares_pair at Less other)
+    (Joined true (compares_pair at Equal other) (is_less_field (at + 1) left (other + 1) more))))
+
+abbrev pub is_same_column : TextColumn → TextColumn → Question
+is_same_column first second = is_same_field (offset_of first) (width_of first) (offset_of second) (width_of second)
+
+abbrev pub is_less_column : TextColumn → TextColumn → Question
+is_less_column first second = is_less_field (offset_of first) (width_of first) (offset_of second) (width_of second)
+
+abbrev pub compares_fields : TextColumn → Comparison → TextColumn → Question
+compares_fields first Equal second = is_same_column first second
+compares_fields first NotEqual second = Opposite (is_same_column first second)
+compares_fields first Less second = is_less_column first second
+compares_fields first GreaterOrEqual second = Opposite (is_less_column first second)
+compares_fields first Greater second = is_less_column second first
+compares_fields first LessOrEqual second = Opposite (is_less_column second first)
+
+-- neither of two columns is NULL, and a comparison holds for them
+abbrev pub compares_columns : TextColumn → Comparison → TextColumn → Question
+compares_columns first comparison second =
+    Joined true (Opposite (is_null_text first)) (Joined true (Opposite (is_null_text second)) (compares_fields first comparison second))
 
 -- Names and ranges
 
@@ -263,6 +348,18 @@ abbrev pub asks_has_name : List ℕ → ℕ → Bool → Question
 asks_has_name text most true = is_named text most
 asks_has_name text most false = Joined true (test Names LessOrEqual (pos most)) (Opposite (is_named text most))
 
+-- Shapes
+
+-- none of the coordinates where a segment starts and ends is NULL
+abbrev pub knows_line : Question
+knows_line =
+    Joined true (has_value (column.Coordinate Frlong))
+    (Joined true (has_value (column.Coordinate Frlat))
+    (Joined true (has_value (column.Coordinate Tolong)) (has_value (column.Coordinate Tolat))))
+
+abbrev pub asks_intersects : {A : Type 0} → Shape A → Bool → Question
+asks_intersects shape asked = Joined true knows_line (if_asked (Coded (meets_shape shape)) asked)
+
 -- Filters
 
 abbrev pub is_null : Column → Question
@@ -277,9 +374,13 @@ asks_whether (Not' p inner) asked = asks_whether inner (not asked)
 asks_whether (IsNull column) asked = if_asked (is_null column) asked
 asks_whether (CompareNumber column comparison literal) asked =
     compares_number column (if asked then comparison else opposite comparison) literal.number
+asks_whether (CompareNumbers first comparison second) asked =
+    compares_numbers first.expression (if asked then comparison else opposite comparison) second.expression
+asks_whether (CompareTexts first comparison second) asked =
+    compares_columns first (if asked then comparison else opposite comparison) second
 asks_whether (CompareText column comparison text) asked =
     compares_text column (if asked then comparison else opposite comparison) text.bytes.items
-asks_whether (Like column pattern) asked = asks_like column pattern.wanted.items pattern.is_open asked
+asks_whether (Like column pattern) asked = asks_like column pattern.parts.items asked
 asks_whether (filter.HasNumber house) asked = asks_has_number house.number asked
 asks_whether (HasName text limit) asked = asks_has_name text.bytes.items limit.number asked
 

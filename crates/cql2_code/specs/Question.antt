@@ -1,5 +1,5 @@
--- Questions about a segment, which always have an answer: yes or no. A test compares a number read from the segment with a constant, and all
--- other questions are made of tests.
+-- Questions about a segment, which always have an answer: yes or no. A test compares a number read from the segment with a constant, a block
+-- brings its code with it, and all other questions are made of these.
 use Rattle.std.specs.Prelude.{ℕ, ◌+◌, ◌*◌, ◌≤◌, ◌<◌, ◌^◌, Bool, not, List, [], ◌∷◌, length, take, drop, is_some, slice_get, FitsSigned, if◌then◌else◌}
 use Rattle.std.specs.Bool.{beq}
 use Rattle.std.specs.Int.{w64}
@@ -7,6 +7,7 @@ use Rattle.bpf_helpers.specs.Meaning.{truth, coordinate, field_number, is_name, 
 use Rattle.bpf_insn.specs.Arithmetic.{immediate_operand, condition_holds}
 use Rattle.bpf_insn.specs.declared.instruction.Condition.{Condition}
 use Rattle.bpf_insn.specs.declared.instruction.Condition.TheVariants as condition
+use Rattle.bpf_insn.specs.declared.instruction.Insn.{Insn}
 use Rattle.bpf_insn.specs.declared.instruction.Width.TheVariants.{Bits64}
 use Rattle.cql2.specs.declared.column.CoordinateColumn.{CoordinateColumn}
 use Rattle.cql2.specs.declared.column.CoordinateColumn.TheVariants.{Frlong, Frlat, Tolong, Tolat}
@@ -98,6 +99,11 @@ condition_of GreaterOrEqual = condition.SignedGreaterOrEqual
 abbrev pub is_so : Test → SegmentParts → Bool
 is_so test segment = condition_holds (condition_of test.comparison) Bits64 (value test.subject segment) (immediate_operand test.operand)
 
+-- A block: its code, by the answer that falls through its end and by the number of words to skip past the end otherwise; and its answer.
+pub record Block : Type 0 where
+  pub code : Bool → ℕ → List Insn
+  pub answer : SegmentParts → Bool
+
 -- Questions. One kind is already decided. Two questions are joined with one of the two answers as the neutral one: if the first question has that
 -- answer, the second one decides, and otherwise the first one does. With neutral answer yes this is AND, with no it is OR.
 pub data Question : Type 0 where
@@ -105,6 +111,7 @@ pub data Question : Type 0 where
   Holds : (test : Test) → Question
   Opposite : (question : Question) → Question
   Joined : (neutral : Bool) (first second : Question) → Question
+  Coded : (block : Block) → Question
 
 abbrev pub joined : Bool → Bool → Bool → Bool
 joined neutral first second = if beq first neutral then second else first
@@ -115,10 +122,4 @@ answer (Decided found) segment = found
 answer (Holds test) segment = is_so test segment
 answer (Opposite question) segment = not (answer question segment)
 answer (Joined neutral first second) segment = joined neutral (answer first segment) (answer second segment)
-
--- each test of the question is sound
-abbrev pub IsSound : Question → Type 0
-IsSound (Decided found) = Unit {0}
-IsSound (Holds test) = IsSoundTest test
-IsSound (Opposite question) = IsSound question
-IsSound (Joined neutral first second) = IsSound first × IsSound second
+answer (Coded block) segment = block.answer segment

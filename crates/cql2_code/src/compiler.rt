@@ -5,20 +5,23 @@ ghost use Rattle.bpf_insn.specs.Code.{word_count};
 ghost use Rattle.bpf_verify.specs.Annotation.{HasGoodAnnotation};
 ghost use Rattle.cql2_code.specs.Chosen.{Chooses};
 ghost use Rattle.cql2_code.specs.Layout as layout;
-ghost use Rattle.cql2_code.specs.Layout.{IsPrepended, IsTooLong, Prepends, answer_code, score_code};
+ghost use Rattle.cql2_code.specs.Layout.{IsPrepended, IsTooLong, Prepends, answer_code, begun, score_code};
 ghost use Rattle.cql2_code.specs.Lowering.{asks_whether, if_asked, is_null, program_of};
 ghost use Rattle.cql2_code.specs.declared.fault.CompileFault.TheVariants.{TooLong};
 
+use crate::column_texts::prepend_columns;
+use crate::expressions::prepend_numbers;
 use crate::fault::CompileFault;
 use crate::instructions::{
-    call, copy, from_argument_1, from_result, into_argument_1, into_record, into_result,
+    call, copy, from_argument_1, from_result, into_argument_1, into_kept, into_record, into_result,
     move_number,
 };
 use crate::names::{prepend_has_name, prepend_has_number};
 use crate::numbers::{has_value, number_of, prepend_number};
+use crate::patterns::prepend_like;
 use crate::question::{Exits, opposite};
 use crate::suffix::CodeSuffix;
-use crate::texts::{prepend_is_null_text, prepend_like, prepend_text};
+use crate::texts::{prepend_is_null_text, prepend_text};
 use bpf_helpers::Helper;
 use bpf_insn::{Code, Insn};
 use cql2::{Column, Comparison, Filter, NumericColumn};
@@ -46,8 +49,20 @@ pub fn compile<A: Allocator + Copy>(
     let skip = code.words() - words;
     let exits = Exits { falls: true, skip };
     prepend_filter(&mut code, filter, true, exits)?;
-    code.prepend(copy(into_record(), from_argument_1()))?;
+    prepend_beginning(&mut code)?;
     code.into_code(alloc)
+}
+
+/// Writes the beginning of a program, which keeps the record's pointer, and sets the registers that keep numbers if the rest writes one of them.
+fn prepend_beginning<A: Allocator + Copy>(code: &mut CodeSuffix<A>) -> Result<(), CompileFault>
+    ensures { IsPrepended result (begun code.old) code.new }
+{
+    if code.writes_kept() {
+        code.prepend(move_number(into_kept(2), 0))?;
+        code.prepend(move_number(into_kept(1), 0))?;
+        code.prepend(move_number(into_kept(0), 0))?;
+    }
+    code.prepend(copy(into_record(), from_argument_1()))
 }
 
 /// Writes the end of a program, with its answer.
@@ -112,6 +127,20 @@ fn prepend_filter<A: Allocator + Copy>(
             Filter::CompareNumber(column, comparison, literal) => {
                 let comparison = asked_for(*comparison, asked);
                 return prepend_number(code, *column, comparison, literal.number, exits);
+            }
+            Filter::CompareNumbers(first, comparison, second) => {
+                let comparison = asked_for(*comparison, asked);
+                return prepend_numbers(
+                    code,
+                    &first.expression,
+                    comparison,
+                    &second.expression,
+                    exits,
+                );
+            }
+            Filter::CompareTexts(first, comparison, second) => {
+                let comparison = asked_for(*comparison, asked);
+                return prepend_columns(code, *first, comparison, *second, exits);
             }
             Filter::CompareText(column, comparison, text) => {
                 let comparison = asked_for(*comparison, asked);

@@ -9,7 +9,7 @@ use thiserror::Error;
 /// Why a filter can't be compiled. The derived text is for people.
 #[derive(Clone, Copy, Debug, PartialEq, Eq, Error)]
 pub enum CompileFault {
-    #[error("the program would have more than 65,536 words, or a jump over more than 32,767")]
+    #[error("the program would have more than 65,536 words")]
     TooLong,
     #[error("out of memory")]
     Memory,

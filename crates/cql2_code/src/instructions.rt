@@ -1,5 +1,6 @@
 //! The instructions of a filter's program.
-ghost use Rattle.std.specs.Prelude.{◌≡◌, ◌≤◌};
+ghost use Rattle.std.specs.Prelude.{◌≡◌, ◌≤◌, pos};
+ghost use Rattle.bpf_insn.specs.declared.code.TheConstants.{MAX_WORDS};
 ghost use Rattle.bpf_insn.specs.declared.instruction.Insn.{Insn};
 ghost use Rattle.cql2_code.specs.Layout as layout;
 ghost use Rattle.cql2_code.specs.Layout.{call, copy, jump, jump_if, load, move, move_to_name, set_number, store_word, wide_load};
@@ -8,7 +9,8 @@ use crate::bytes::signed_word;
 use crate::question::{Chunk, condition_of};
 use bpf_helpers::Helper;
 use bpf_insn::{
-    Insn, JumpDistance, LoadFormat, Operation, Register, Source, StoreSize, Width, WritableRegister,
+    Insn, JumpDistance, LoadFormat, MAX_WORDS, Operation, Register, Source, StoreSize, Width,
+    WritableRegister,
 };
 use cql2::Comparison;
 
@@ -45,6 +47,38 @@ pub(crate) fn into_record() -> WritableRegister
     ensures { result ≡ layout.into_record }
 {
     WritableRegister { number: 6 }
+}
+
+/// Returns the register that keeps the numbers of a level, 7, 8 or 9, for writing.
+pub(crate) fn into_kept(level: u8) -> WritableRegister
+    ensures { result ≡ layout.into_kept level }
+{
+    match level {
+        0 => WritableRegister { number: 7 },
+        1 => WritableRegister { number: 8 },
+        _ => WritableRegister { number: 9 },
+    }
+}
+
+/// Returns the register that keeps the numbers of a level, 7, 8 or 9, for reading.
+pub(crate) fn from_kept(level: u8) -> Register
+    ensures { result ≡ layout.from_kept level }
+{
+    match level {
+        0 => Register { number: 7 },
+        1 => Register { number: 8 },
+        _ => Register { number: 9 },
+    }
+}
+
+/// Returns whether an instruction writes a register that keeps numbers.
+pub(crate) fn writes_kept(insn: Insn) -> bool
+    ensures { result ≡ layout.writes_kept insn }
+{
+    match insn {
+        Insn::Alu { destination, .. } => destination.number >= 7,
+        _ => false,
+    }
 }
 
 /// Returns the register of the answer, for reading.
@@ -145,10 +179,15 @@ pub(crate) fn call(helper: Helper) -> Insn
 }
 
 /// Jumps past the next `distance` words.
-pub(crate) fn jump(distance: i16) -> Insn
-    ensures { result ≡ jump distance }
+#[tactic(auto, unfolding(crate::specs::Layout::in_field))]
+pub(crate) fn jump(distance: usize) -> Insn
+    requires { distance ≤ MAX_WORDS }
+    ensures { result ≡ jump (pos distance) }
 {
-    Insn::Jump(JumpDistance::Short(distance))
+    Insn::Jump(match i16::try_from(distance) {
+        Ok(distance) => JumpDistance::Short(distance),
+        Err(_) => JumpDistance::Long(distance as i32),
+    })
 }
 
 /// Jumps past the next `distance` words if a comparison of register 0 with the operand holds.

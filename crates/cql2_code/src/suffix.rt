@@ -1,16 +1,20 @@
 //! Code written back to front, so that each jump's distance is known when it is written.
-ghost use Rattle.std.specs.Prelude.{◌≡◌, ◌≤◌, ◌<◌, ◌-◌, ◌∷◌, ◌++◌, [], pos, IfErr, IfOk, MatchResult};
+ghost use Rattle.std.specs.Prelude.{◌≡◌, ◌≤◌, ◌-◌, ◌∷◌, ◌++◌, [], pos, IfErr, IfOk};
+ghost use Rattle.std.specs.List.{list_any};
 ghost use Rattle.bpf_insn.specs.Code.{word_count};
 ghost use Rattle.bpf_insn.specs.declared.code.TheConstants.{MAX_WORDS};
-ghost use Rattle.cql2_code.specs.Layout.{IsBefore, IsPrepended, IsTooLong, Prepends, call, comparison_code, move, store_name, subject_code, into_argument_1};
+ghost use Rattle.cql2_code.specs.Expressions.{zero_comparison};
+ghost use Rattle.cql2_code.specs.Layout as layout;
+ghost use Rattle.cql2_code.specs.Layout.{IsBefore, IsPrepended, IsTooLong, Prepends, call, comparison_code, jump, move, skip_if, store_name, subject_code};
+ghost use Rattle.cql2_code.specs.Layout.{into_argument_1};
 ghost use Rattle.cql2_code.specs.Question.{Decided, Holds};
-ghost use Rattle.cql2_code.specs.declared.fault.CompileFault.TheVariants.{Memory, TooLong};
+ghost use Rattle.cql2_code.specs.declared.fault.CompileFault.TheVariants.{Memory};
 ghost use Rattle.cql2_code.specs.declared.question.Subject.TheVariants.{InRange, NameIs};
 
 use crate::fault::CompileFault;
 use crate::instructions::{
     call, copy, from_argument_1, from_frame, into_argument_1, into_argument_2, into_argument_3,
-    jump, jump_if, load, move_number, move_to_name, set_number, store_word, wide_load,
+    jump, jump_if, load, move_number, move_to_name, set_number, store_word, wide_load, writes_kept,
 };
 use crate::question::{Exits, Subject, Test, coordinate_id, field_id, opposite};
 use bpf_helpers::Helper;
@@ -24,12 +28,13 @@ use std::marker::Model;
 pub(crate) struct CodeSuffix<A: Allocator> {
     reversed: Vec<Insn, A>,
     words: usize,
+    keeps_numbers: bool,
 }
 
 impl<A: Allocator> Model for CodeSuffix<A> {
-    ghost use Rattle.std.specs.Prelude.{◌≡◌, ◌≤◌, IsFalse, List, reverse};
+    ghost use Rattle.std.specs.Prelude.{◌≡◌, ◌≤◌, List, reverse};
     ghost use Rattle.std.specs.List.{list_any};
-    ghost use Rattle.cql2_code.specs.Layout.{is_far_jump};
+    ghost use Rattle.cql2_code.specs.Layout.{writes_kept};
     ghost use Rattle.bpf_insn.specs.Code.{word_count};
     ghost use Rattle.bpf_insn.specs.declared.code.TheConstants.{MAX_WORDS};
     ghost use Rattle.bpf_insn.specs.declared.instruction.Insn.{Insn};
@@ -39,7 +44,7 @@ impl<A: Allocator> Model for CodeSuffix<A> {
     ghost view = { λ suffix. reverse suffix.reversed.items };
 
     ghost invariant = { λ suffix. (suffix.words ≡ word_count (reverse suffix.reversed.items)) × (suffix.words ≤ MAX_WORDS)
-        × IsFalse (list_any is_far_jump (reverse suffix.reversed.items)) };
+        × (suffix.keeps_numbers ≡ list_any writes_kept (reverse suffix.reversed.items)) };
 }
 
 impl<A: Allocator + Copy> CodeSuffix<A> {
@@ -50,6 +55,7 @@ impl<A: Allocator + Copy> CodeSuffix<A> {
         CodeSuffix {
             reversed: Vec::new(alloc),
             words: 0,
+            keeps_numbers: false,
         }
     }
 
@@ -59,6 +65,13 @@ impl<A: Allocator + Copy> CodeSuffix<A> {
         ensures few { result ≤ MAX_WORDS }
     {
         self.words
+    }
+
+    /// Returns whether an instruction writes a register that keeps numbers.
+    pub fn writes_kept(&self) -> bool
+        ensures { result ≡ list_any layout.writes_kept self.now }
+    {
+        self.keeps_numbers
     }
 
     /// Adds an instruction before the others.
@@ -72,7 +85,19 @@ impl<A: Allocator + Copy> CodeSuffix<A> {
         self.reversed.reserve(1)?;
         self.reversed.push_reserved(insn);
         self.words = words;
+        self.keeps_numbers |= writes_kept(insn);
         Ok(())
+    }
+
+    /// Adds instructions before the others.
+    pub fn prepend_all(&mut self, insns: &[Insn]) -> Result<(), CompileFault>
+        ensures { IsPrepended result (insns.now ++ self.old) self.new }
+    {
+        let Some((first, rest)) = insns.split_first() else {
+            return Ok(());
+        };
+        self.prepend_all(rest)?;
+        self.prepend(*first)
     }
 
     /// Returns the completed code.
@@ -114,17 +139,28 @@ impl<A: Allocator + Copy> CodeSuffix<A> {
 
     /// Writes the code of a question whose answer is known.
     pub fn prepend_constant(&mut self, found: bool, exits: Exits) -> Result<(), CompileFault>
+        requires { exits.skip ≤ word_count self.old }
         ensures { Prepends result (Decided found) exits self.old self.new }
     {
         if found == exits.falls {
             return Ok(());
         }
-        let distance = distance_of(exits)?;
-        self.prepend(jump(distance))
+        self.prepend_jump(exits)
+    }
+
+    /// Writes a jump that is always taken.
+    fn prepend_jump(&mut self, exits: Exits) -> Result<(), CompileFault>
+        requires { exits.skip ≤ word_count self.old }
+        ensures { IsPrepended result (jump (pos exits.skip) ∷ self.old) self.new }
+    {
+        // No distance is greater than the number of words, which has its limit.
+        let _words = self.words();
+        self.prepend(jump(exits.skip))
     }
 
     /// Writes the code of a test.
     pub fn prepend_test(&mut self, test: Test, exits: Exits) -> Result<(), CompileFault>
+        requires { exits.skip ≤ word_count self.old }
         ensures { Prepends result (Holds test) exits self.old self.new }
     {
         let comparison = if exits.falls {
@@ -137,21 +173,58 @@ impl<A: Allocator + Copy> CodeSuffix<A> {
         Ok(())
     }
 
-    /// Writes a jump that is taken if a comparison of register 0 holds.
+    /// Writes a comparison of register 0 with 0, which jumps unless the answer is the one that falls through.
+    pub fn prepend_zero_comparison(
+        &mut self,
+        comparison: Comparison,
+        exits: Exits,
+    ) -> Result<(), CompileFault>
+        requires { exits.skip ≤ word_count self.old }
+        ensures { IsPrepended result (zero_comparison comparison exits.falls exits.skip ++ self.old) self.new }
+    {
+        let comparison = if exits.falls {
+            opposite(comparison)
+        } else {
+            comparison
+        };
+        self.prepend_comparison(comparison, 0, exits)
+    }
+
+    /// Writes the code that compares register 0 with a number, and jumps if the comparison holds.
     fn prepend_comparison(
         &mut self,
         comparison: Comparison,
         operand: i64,
         exits: Exits,
     ) -> Result<(), CompileFault>
+        requires { exits.skip ≤ word_count self.old }
         ensures { IsPrepended result (comparison_code comparison operand exits.skip ++ self.old) self.new }
     {
-        let distance = distance_of(exits)?;
         match i32::try_from(operand) {
-            Ok(operand) => self.prepend(jump_if(comparison, Source::Immediate(operand), distance)),
+            Ok(operand) => self.prepend_skip_if(comparison, Source::Immediate(operand), exits),
             Err(_) => {
-                self.prepend(jump_if(comparison, Source::Register(from_argument_1()), distance))?;
+                self.prepend_skip_if(comparison, Source::Register(from_argument_1()), exits)?;
                 self.prepend(wide_load(into_argument_1(), operand.cast_unsigned()))
+            }
+        }
+    }
+
+    /// Writes a jump that is taken if a comparison of register 0 with an operand holds.
+    #[tactic(auto, unfolding(crate::specs::Layout::skip_if))]
+    pub fn prepend_skip_if(
+        &mut self,
+        comparison: Comparison,
+        operand: Source,
+        exits: Exits,
+    ) -> Result<(), CompileFault>
+        requires { exits.skip ≤ word_count self.old }
+        ensures { IsPrepended result (skip_if comparison operand exits.skip ++ self.old) self.new }
+    {
+        match i16::try_from(exits.skip) {
+            Ok(distance) => self.prepend(jump_if(comparison, operand, distance)),
+            Err(_) => {
+                self.prepend_jump(exits)?;
+                self.prepend(jump_if(opposite(comparison), operand, 1))
             }
         }
     }
@@ -213,15 +286,5 @@ impl<A: Allocator + Copy> CodeSuffix<A> {
         self.prepend(store_word(2, wanted))?;
         self.prepend(store_word(1, wanted))?;
         self.prepend(store_word(0, wanted))
-    }
-}
-
-/// Returns the distance that a question's code jumps past its end, in the type of a jump's field.
-fn distance_of(exits: Exits) -> Result<i16, CompileFault>
-    ensures { MatchResult result (λ distance. distance ≡ pos exits.skip) (λ fault. (fault ≡ TooLong) × (32767 < exits.skip)) }
-{
-    match i16::try_from(exits.skip) {
-        Ok(distance) => Ok(distance),
-        Err(_) => Err(CompileFault::TooLong),
     }
 }

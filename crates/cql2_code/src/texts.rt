@@ -1,11 +1,12 @@
 //! Questions about text columns.
-ghost use Rattle.std.specs.Prelude.{◌≡◌, ◌≤◌, ◌<◌, ◌+◌, ◌-◌, length, map, IfOk, IfSome, IfNone, IsTrue, None, Some};
+ghost use Rattle.std.specs.Prelude.{◌≡◌, ◌≤◌, ◌<◌, ◌+◌, ◌-◌, length, map, false, IfOk, IsTrue};
 ghost use Rattle.bpf_insn.specs.Code.{word_count};
 ghost use Rattle.cql2.specs.Text.{is_text};
-ghost use Rattle.cql2.specs.declared.pattern.PatternByte.TheVariants.{Exactly};
+ghost use Rattle.cql2.specs.declared.pattern.PatternPart.TheVariants.{Exactly};
 ghost use Rattle.cql2_code.specs.Layout.{Prepends};
 ghost use Rattle.cql2_code.specs.Lowering as lowering;
-ghost use Rattle.cql2_code.specs.Lowering.{PrependsBefore, asks_like, byte_test, compares_text, ends_filled, ends_so, exact_bytes, has_bytes, has_each, has_few, is_blank, is_each_wanted, is_filled, is_greater, is_less, is_like, is_null_text, is_wanted, offset_of, width_of};
+ghost use Rattle.cql2_code.specs.Lowering.{PrependsBefore, byte_test, compares_text, ends_so, has_bytes, has_each, has_few, is_blank, is_greater, is_less};
+ghost use Rattle.cql2_code.specs.Lowering.{is_null_text, is_piece, offset_of, width_of};
 ghost use Rattle.cql2_code.specs.Question.{Holds};
 ghost use Rattle.tl_records.specs.declared.layout.TheConstants.{RECORD_LENGTH};
 
@@ -13,8 +14,7 @@ use crate::bytes::{double_word, word};
 use crate::fault::CompileFault;
 use crate::question::{Chunk, Exits, Subject, Test};
 use crate::suffix::CodeSuffix;
-use arrayvec::ArrayVec;
-use cql2::{Comparison, Pattern, PatternByte, TextColumn};
+use cql2::{Comparison, TextColumn};
 use std::alloc::Allocator;
 use tl_records::Places;
 use tl_segments::NAME_LENGTH;
@@ -67,8 +67,8 @@ fn prepend_compared<A: Allocator + Copy>(
 {
     let (at, left) = (offset_of(column), width_of(column));
     match comparison {
-        Comparison::Equal => prepend_like_bytes(code, column, text, false, exits),
-        Comparison::NotEqual => prepend_like_bytes(code, column, text, false, exits.asked(false)),
+        Comparison::Equal => prepend_equal(code, column, text, exits),
+        Comparison::NotEqual => prepend_equal(code, column, text, exits.asked(false)),
         Comparison::Less => prepend_less(code, at, left, text, exits),
         Comparison::GreaterOrEqual => prepend_less(code, at, left, text, exits.asked(false)),
         Comparison::Greater => prepend_greater(code, at, left, text, exits),
@@ -76,96 +76,22 @@ fn prepend_compared<A: Allocator + Copy>(
     }
 }
 
-/// Writes the code that asks whether a text column matches a pattern, or whether it doesn't.
-pub(crate) fn prepend_like<A: Allocator + Copy>(
-    code: &mut CodeSuffix<A>,
-    column: TextColumn,
-    pattern: &Pattern<A>,
-    asked: bool,
-    exits: Exits,
-) -> Result<(), CompileFault>
-    requires { exits.skip ≤ word_count code.old }
-    ensures { Prepends result (asks_like column pattern.now.wanted.items pattern.now.is_open asked) exits code.old code.new }
-{
-    let words = code.words();
-    prepend_pattern(code, column, pattern, exits.asked(asked))?;
-    if asked {
-        return Ok(());
-    }
-    let exits = code.exits_before(words, true, exits);
-    prepend_is_null_text(code, column, exits.asked(false))
-}
-
-fn prepend_pattern<A: Allocator + Copy>(
-    code: &mut CodeSuffix<A>,
-    column: TextColumn,
-    pattern: &Pattern<A>,
-    exits: Exits,
-) -> Result<(), CompileFault>
-    requires { exits.skip ≤ word_count code.old }
-    ensures { Prepends result (is_like column pattern.now.wanted.items pattern.now.is_open) exits code.old code.new }
-{
-    let wanted = pattern.wanted.as_slice();
-    if wanted.len() > usize::from(width_of(column)) {
-        return code.prepend_constant(false, exits);
-    }
-    if let Some(bytes) = exact_bytes(wanted) {
-        return prepend_like_bytes(code, column, bytes.as_slice(), pattern.is_open, exits);
-    }
-    let ends = Ending {
-        count: wanted.len() as u8,
-        is_open: pattern.is_open,
-        is_filled: ends_filled(wanted),
-    };
-    let exits = prepend_ending(code, column, ends, exits)?;
-    prepend_each_wanted(code, offset_of(column), wanted, exits)
-}
-
-/// Returns the bytes of a pattern that wants each of them exactly.
-fn exact_bytes(wanted: &[PatternByte]) -> Option<ArrayVec<u8, NAME_LENGTH>>
-    requires { length wanted.now ≤ NAME_LENGTH }
-    ensures some { IfSome result (λ bytes. exact_bytes wanted.now ≡ Some bytes.items) }
-    ensures none { IfNone result (exact_bytes wanted.now ≡ None) }
-{
-    let mut bytes = ArrayVec::new();
-    for byte in wanted {
-        match *byte {
-            PatternByte::Exactly(byte) => bytes.push(byte),
-            _ => return None,
-        }
-    }
-    Some(bytes)
-}
-
-/// Returns whether a pattern's last byte is not a blank.
-fn ends_filled(wanted: &[PatternByte]) -> bool
-    ensures { result ≡ ends_filled wanted.now }
-{
-    match wanted.last() {
-        Some(PatternByte::Exactly(byte)) => *byte != b' ',
-        Some(PatternByte::EitherCase(_)) => true,
-        Some(PatternByte::Any) => false,
-        None => false,
-    }
-}
-
-/// Writes the code that asks whether a column matches a pattern of exact bytes.
-fn prepend_like_bytes<A: Allocator + Copy>(
+/// Writes the code that asks whether a column has these bytes and then no more.
+fn prepend_equal<A: Allocator + Copy>(
     code: &mut CodeSuffix<A>,
     column: TextColumn,
     bytes: &[u8],
-    is_open: bool,
     exits: Exits,
 ) -> Result<(), CompileFault>
     requires { exits.skip ≤ word_count code.old }
-    ensures { Prepends result (is_like column (map Exactly bytes.now) is_open) exits code.old code.new }
+    ensures { Prepends result (is_piece column (map Exactly bytes.now) false) exits code.old code.new }
 {
     if bytes.len() > usize::from(width_of(column)) {
         return code.prepend_constant(false, exits);
     }
     let ends = Ending {
         count: bytes.len() as u8,
-        is_open,
+        is_open: false,
         is_filled: is_filled(bytes),
     };
     let exits = prepend_ending(code, column, ends, exits)?;
@@ -184,16 +110,17 @@ fn is_filled(bytes: &[u8]) -> bool
 
 /// The end of a pattern.
 #[derive(Clone, Copy)]
-struct Ending {
-    /// The number of bytes that the pattern wants.
-    count: u8,
-    is_open: bool,
-    /// Whether the last of them is not a blank.
-    is_filled: bool,
+pub(crate) struct Ending {
+    /// The number of bytes of the field before it.
+    pub count: u8,
+    /// Whether more bytes may follow.
+    pub is_open: bool,
+    /// Whether the last of these is not a blank.
+    pub is_filled: bool,
 }
 
 /// Writes the code that checks the bytes after the wanted ones, and returns the exits for the code that checks the wanted ones.
-fn prepend_ending<A: Allocator + Copy>(
+pub(crate) fn prepend_ending<A: Allocator + Copy>(
     code: &mut CodeSuffix<A>,
     column: TextColumn,
     ends: Ending,
@@ -256,8 +183,23 @@ fn prepend_blank<A: Allocator + Copy>(
     prepend_bytes(code, offset_of(column) + from, &BLANKS[..left], exits)
 }
 
+/// Writes the code that asks whether bytes of the record are blank.
+pub(crate) fn prepend_blanks<A: Allocator + Copy>(
+    code: &mut CodeSuffix<A>,
+    at: u8,
+    count: u8,
+    exits: Exits,
+) -> Result<(), CompileFault>
+    requires inside { exits.skip ≤ word_count code.old }
+    requires fits { at + count ≤ RECORD_LENGTH }
+    requires short { count ≤ NAME_LENGTH }
+    ensures { Prepends result (is_blank at count) exits code.old code.new }
+{
+    prepend_bytes(code, at, &BLANKS[..usize::from(count)], exits)
+}
+
 /// Writes the code that asks whether the record has these bytes at an offset.
-fn prepend_bytes<A: Allocator + Copy>(
+pub(crate) fn prepend_bytes<A: Allocator + Copy>(
     code: &mut CodeSuffix<A>,
     at: u8,
     bytes: &[u8],
@@ -336,54 +278,6 @@ fn prepend_each<A: Allocator + Copy>(
     code.prepend_test(test, exits)
 }
 
-/// Writes the code that asks whether the bytes at an offset match a pattern.
-fn prepend_each_wanted<A: Allocator + Copy>(
-    code: &mut CodeSuffix<A>,
-    at: u8,
-    wanted: &[PatternByte],
-    exits: Exits,
-) -> Result<(), CompileFault>
-    requires inside { exits.skip ≤ word_count code.old }
-    requires fits { at + length wanted.now ≤ RECORD_LENGTH }
-    ensures { Prepends result (is_each_wanted at wanted.now) exits code.old code.new }
-{
-    let Some((first, rest)) = wanted.split_first() else {
-        return code.prepend_constant(true, exits);
-    };
-    if rest.is_empty() {
-        return prepend_wanted(code, at, *first, exits);
-    }
-    let words = code.words();
-    prepend_each_wanted(code, at + 1, rest, exits)?;
-    let exits = code.exits_before(words, true, exits);
-    prepend_wanted(code, at, *first, exits)
-}
-
-fn prepend_wanted<A: Allocator + Copy>(
-    code: &mut CodeSuffix<A>,
-    at: u8,
-    wanted: PatternByte,
-    exits: Exits,
-) -> Result<(), CompileFault>
-    requires { exits.skip ≤ word_count code.old }
-    ensures { Prepends result (is_wanted at wanted) exits code.old code.new }
-{
-    match wanted {
-        PatternByte::Exactly(byte) => code.prepend_test(
-            byte_test(at, Comparison::Equal, byte),
-            exits,
-        ),
-        PatternByte::EitherCase(letter) => {
-            let words = code.words();
-            let capital = letter.saturating_sub(32);
-            code.prepend_test(byte_test(at, Comparison::Equal, capital), exits)?;
-            let exits = code.exits_before(words, false, exits);
-            code.prepend_test(byte_test(at, Comparison::Equal, letter), exits)
-        }
-        PatternByte::Any => code.prepend_constant(true, exits),
-    }
-}
-
 /// Writes the code that asks whether the rest of a field is less than a text.
 fn prepend_less<A: Allocator + Copy>(
     code: &mut CodeSuffix<A>,
@@ -438,7 +332,7 @@ fn prepend_greater<A: Allocator + Copy>(
 }
 
 /// Returns the test that compares a byte of the record.
-fn byte_test(at: u8, comparison: Comparison, byte: u8) -> Test
+pub(crate) fn byte_test(at: u8, comparison: Comparison, byte: u8) -> Test
     ensures { Holds result ≡ byte_test at comparison byte }
 {
     Test {
@@ -449,7 +343,7 @@ fn byte_test(at: u8, comparison: Comparison, byte: u8) -> Test
 }
 
 /// Returns the number of bytes in the record before a column's field.
-fn offset_of(column: TextColumn) -> u8
+pub(crate) fn offset_of(column: TextColumn) -> u8
     ensures value { result ≡ offset_of column }
     ensures inside { result + width_of column ≤ RECORD_LENGTH }
 {
@@ -458,7 +352,7 @@ fn offset_of(column: TextColumn) -> u8
 }
 
 /// Returns the number of bytes in a column's field.
-fn width_of(column: TextColumn) -> u8
+pub(crate) fn width_of(column: TextColumn) -> u8
     ensures value { result ≡ width_of column }
     ensures short { result ≤ NAME_LENGTH }
 {

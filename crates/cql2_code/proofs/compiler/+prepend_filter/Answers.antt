@@ -3,7 +3,8 @@ use Rattle.std.proofs.lemmas.Int.{to_z-of_z}
 use Rattle.cql2.specs.declared.filter.Comparison.{Comparison}
 use Rattle.cql2.specs.declared.filter.Filter.{the_lemmas}
 use Rattle.std.specs.Prelude.{ℕ}
-use Rattle.cql2_code.specs.Lowering.{compares_number, compares_text}
+use Rattle.cql2_code.specs.Expressions.{compares_numbers}
+use Rattle.cql2_code.specs.Lowering.{compares_columns, compares_number, compares_text}
 use Rattle.cql2_code.proofs.Compiled.{asks_as}
 use Rattle.cql2_code.proofs.Refused.{prepends_as, prepends_refused, refuses_as, second_refused}
 use Rattle.cql2_code.proofs.Written.{joined, written_as}
@@ -70,6 +71,34 @@ returns-in-CompareText g t c =
     (λ all written. c.loop-filter.invariant.written all
     (asks_as c.loop-filter.asked c.in-CompareText.is (written_as same written)))
     c.prepend_text.ensures
+
+pub returns-in-CompareNumbers : goal.returns-in-CompareNumbers
+returns-in-CompareNumbers g t c =
+    let first = c.in-CompareNumbers.first.expression in
+    let second = c.in-CompareNumbers.second.expression in
+    let same =
+    ap (λ (comparison : Comparison). compares_numbers first comparison second) c.asked_for-comparison-in-CompareNumbers.ensures in
+    prepends_as c.prepend_numbers.result _
+    (λ all written. c.loop-filter.invariant.written all
+    (asks_as c.loop-filter.asked c.in-CompareNumbers.is (written_as same written)))
+    c.prepend_numbers.ensures
+
+pub returns-in-CompareTexts : goal.returns-in-CompareTexts
+returns-in-CompareTexts g t c =
+    let first = c.in-CompareTexts.first in
+    let second = c.in-CompareTexts.second in
+    let same =
+    ap (λ (comparison : Comparison). compares_columns first comparison second) c.asked_for-comparison-in-CompareTexts.ensures in
+    prepends_as c.prepend_columns.result _
+    (λ all written. c.loop-filter.invariant.written all
+    (asks_as c.loop-filter.asked c.in-CompareTexts.is (written_as same written)))
+    c.prepend_columns.ensures
+
+pub returns-in-Like : goal.returns-in-Like
+returns-in-Like g t c =
+    prepends_as c.prepend_like.result _
+    (λ all written. c.loop-filter.invariant.written all (asks_as c.loop-filter.asked c.in-Like.is written))
+    c.prepend_like.ensures
 
 pub returns-in_err-prepend_filter-in-And : goal.returns-in_err-prepend_filter-in-And
 returns-in_err-prepend_filter-in-And g t c =

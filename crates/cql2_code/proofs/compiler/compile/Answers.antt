@@ -1,14 +1,12 @@
-use Rattle.std.proofs.Common.{◌≡◌, ℕ, ◌-◌, true, List, [], ◌∷◌, ◌++◌, refl, sym, ap, ◌∙◌, subst}
+use Rattle.std.proofs.Common.{◌≡◌, ℕ, ◌-◌, true, List, [], ◌++◌, refl, sym, ap, ◌∙◌, subst}
 use Rattle.std.proofs.lemmas.Result.{IfErr-weaker}
 use Rattle.bpf_flow.specs.Flow.{IsForward}
 use Rattle.bpf_insn.specs.Code.{word_count}
 use Rattle.bpf_insn.specs.declared.instruction.Insn.{Insn}
-use Rattle.bpf_insn.specs.declared.register.Register.{Register}
-use Rattle.bpf_insn.specs.declared.register.WritableRegister.{WritableRegister}
 use Rattle.bpf_verify.specs.Annotation.{HasGoodAnnotation}
 use Rattle.cql2_code.specs.Chosen.{Chooses}
 use Rattle.cql2_code.specs.declared.fault.CompileFault.TheVariants.{Memory, TooLong}
-use Rattle.cql2_code.specs.Layout.{IsTooLong, MayBeRefused, answer_code, chosen_code, copy, program, from_argument_1, score_code, into_record}
+use Rattle.cql2_code.specs.Layout.{IsTooLong, MayBeRefused, answer_code, begun, chosen_code, program, score_code}
 use Rattle.cql2_code.specs.Lowering.{asks_whether}
 use Rattle.cql2_code.proofs.Compiled.{accepted, chooses, chosen_words, end_refused, end_written, forward, if_ok, program_written, question_refused}
 use Rattle.cql2_code.proofs.Refused.{refused_by}
@@ -52,8 +50,8 @@ returns-in_err-prepend_filter-clause-err g c =
     refused_by c.from_residual-in_err-prepend_filter.result c.from_residual-in_err-prepend_filter.ensures.1
     (question_refused score end refl skip c.in_err-prepend_filter.ensures)
 
-pub returns-in_err-prepend-clause-err : goal.returns-in_err-prepend-clause-err
-returns-in_err-prepend-clause-err g c =
+pub returns-in_err-prepend_beginning-clause-err : goal.returns-in_err-prepend_beginning-clause-err
+returns-in_err-prepend_beginning-clause-err g c =
     let filter = c.args.filter.now in
     let score = c.args.score in
     let first : c.prepend_answer.new.code ≡ answer_code 0 =
@@ -63,13 +61,10 @@ returns-in_err-prepend-clause-err g c =
     ap (λ (n : ℕ). n - c.words-words.result) c.words.ensures.value
     ∙ ap (λ (n : ℕ). word_count c.prepend_score.new.code - n) c.words-words.ensures.value
     ∙ chosen_words score first end in
-    let keep : c.copy.result ≡ copy into_record from_argument_1 =
-    c.copy.ensures ∙ ap (λ (register : WritableRegister). copy register c.from_argument_1.result) c.into_record.ensures
-    ∙ ap (λ (source : Register). copy into_record source) c.from_argument_1.ensures in
-    let whole : c.copy.result ∷ c.prepend_filter.new.code ≡ program score (asks_whether filter true) =
-    ap (λ (insn : Insn). insn ∷ c.prepend_filter.new.code) keep ∙ program_written score end refl skip c.in_ok-prepend_filter.ensures in
-    refused_by c.from_residual-in_err-prepend.result c.from_residual-in_err-prepend.ensures.1
-    (subst (λ (code : List Insn). MayBeRefused code c.in_err-prepend.field-0.0) whole c.in_err-prepend.ensures)
+    let whole : begun c.prepend_filter.new.code ≡ program score (asks_whether filter true) =
+    program_written score end refl skip c.in_ok-prepend_filter.ensures in
+    refused_by c.from_residual-in_err-prepend_beginning.result c.from_residual-in_err-prepend_beginning.ensures.1
+    (subst (λ (code : List Insn). MayBeRefused code c.in_err-prepend_beginning.field-0.0) whole c.in_err-prepend_beginning.ensures)
 
 pub returns : goal.returns
 returns g c =
@@ -82,12 +77,8 @@ returns g c =
     ap (λ (n : ℕ). n - c.words-words.result) c.words.ensures.value
     ∙ ap (λ (n : ℕ). word_count c.prepend_score.new.code - n) c.words-words.ensures.value
     ∙ chosen_words score first end in
-    let keep : c.copy.result ≡ copy into_record from_argument_1 =
-    c.copy.ensures ∙ ap (λ (register : WritableRegister). copy register c.from_argument_1.result) c.into_record.ensures
-    ∙ ap (λ (source : Register). copy into_record source) c.from_argument_1.ensures in
-    let whole : c.prepend.new.self ≡ program score (asks_whether filter true) =
-    c.in_ok-prepend.ensures ∙ ap (λ (insn : Insn). insn ∷ c.prepend_filter.new.code) keep
-    ∙ program_written score end refl skip c.in_ok-prepend_filter.ensures in
+    let whole : c.prepend_beginning.new.code ≡ program score (asks_whether filter true) =
+    c.in_ok-prepend_beginning.ensures ∙ program_written score end refl skip c.in_ok-prepend_filter.ensures in
     record {
       chooses = if_ok (λ code. Chooses code filter score) c.into_code.result c.into_code.ensures.ok (chooses _ filter score whole);
       forward = if_ok IsForward c.into_code.result c.into_code.ensures.ok (forward _ filter score whole);

@@ -1,0 +1,364 @@
+-- A pattern as it is cut while its code is written.
+use Rattle.std.proofs.Common.{◌≡◌, ℕ, suc, ◌+◌, ◌-◌, ◌<◌, ◌≤◌, ◌==◌, nat_le, Bool, not, true, false, List, [], ◌∷◌, ◌++◌, length, get_or, take, drop}
+use Rattle.std.proofs.Common.{if◌then◌else◌, refl, sym, ap, ◌∙◌, arith, append_assoc, append-nil}
+use Rattle.std.proofs.lemmas.Bool.{false≢true, le-leb}
+use Rattle.std.proofs.lemmas.Bool.Decides.{nat_tests}
+use Rattle.std.proofs.lemmas.List.{drop_more}
+use Rattle.cql2.specs.declared.column.TextColumn.{TextColumn}
+use Rattle.cql2.specs.declared.pattern.PatternPart.{PatternPart}
+use Rattle.cql2.specs.declared.pattern.PatternPart.TheVariants.{Exactly, Alike, One, Many}
+use Rattle.cql2_code.specs.Grid.{grid}
+use Rattle.cql2_code.specs.Lowering.{are_pieces, are_wanted, bytes_where, cell, is_last, is_like, is_piece, offset_of, rows_of, width_of}
+use Rattle.cql2_code.specs.Pieces.{behind_many, pieces_of, taken}
+use Rattle.cql2_code.specs.Question.{Coded, Decided, Joined, Question}
+use Rattle.cql2_code.proofs.PieceLemmas.{lengths}
+
+-- The first `%`
+
+behind_none : (first : List PatternPart) (others : List (List PatternPart)) (is_open : Bool) → (behind_many first others is_open).first ≡ []
+behind_none [] [] is_open = refl
+behind_none [] (piece ∷ others) is_open = refl
+behind_none (part ∷ first) others is_open = refl
+
+pub first_none : (pattern : List PatternPart) → (pieces_of (Many ∷ pattern)).first ≡ []
+first_none pattern = let rest = pieces_of pattern in behind_none rest.first rest.others rest.is_open
+
+-- another part begins the first piece, and takes a byte
+pub record IsMore (part : PatternPart) (pattern : List PatternPart) : Type 0 where
+  pub first : (pieces_of (part ∷ pattern)).first ≡ part ∷ (pieces_of pattern).first
+  pub others : (pieces_of (part ∷ pattern)).others ≡ (pieces_of pattern).others
+  pub is_open : (pieces_of (part ∷ pattern)).is_open ≡ (pieces_of pattern).is_open
+  pub takes : taken (part ∷ pattern) ≡ suc (taken pattern)
+
+pub one_part : (part : PatternPart) (pattern : List PatternPart) → (part ≡ Many → ⊥) → IsMore part pattern
+one_part (Exactly wanted) pattern other = record { first = refl; others = refl; is_open = refl; takes = refl }
+one_part (Alike folding wanted) pattern other = record { first = refl; others = refl; is_open = refl; takes = refl }
+one_part One pattern other = record { first = refl; others = refl; is_open = refl; takes = refl }
+one_part Many pattern other = absurd (other refl)
+
+-- the part at a place
+pub first_at : (pattern : List PatternPart) (at : ℕ) (default : PatternPart) → at < length pattern → get_or pattern at default ≡ Many
+    → (pieces_of (drop at pattern)).first ≡ []
+first_at pattern at default within is =
+    ap (λ (rest : List PatternPart). (pieces_of rest).first) (drop_more pattern at default within)
+    ∙ ap (λ (part : PatternPart). (pieces_of (part ∷ drop (at + 1) pattern)).first) is ∙ first_none (drop (at + 1) pattern)
+
+pub first_next : (pattern : List PatternPart) (at : ℕ) (default : PatternPart) → at < length pattern → (get_or pattern at default ≡ Many → ⊥)
+    → length (pieces_of (drop at pattern)).first ≡ suc (length (pieces_of (drop (at + 1) pattern)).first)
+first_next pattern at default within other =
+    ap (λ (rest : List PatternPart). length (pieces_of rest).first) (drop_more pattern at default within)
+    ∙ ap length (one_part (get_or pattern at default) (drop (at + 1) pattern) other).first
+
+pub taken_at : (pattern : List PatternPart) (at : ℕ) (default : PatternPart) → at < length pattern → get_or pattern at default ≡ Many
+    → taken (drop at pattern) ≡ taken (drop (at + 1) pattern)
+taken_at pattern at default within is =
+    ap taken (drop_more pattern at default within) ∙ ap (λ (part : PatternPart). taken (part ∷ drop (at + 1) pattern)) is
+
+pub taken_next : (pattern : List PatternPart) (at : ℕ) (default : PatternPart) → at < length pattern → (get_or pattern at default ≡ Many → ⊥)
+    → taken (drop at pattern) ≡ suc (taken (drop (at + 1) pattern))
+taken_next pattern at default within other =
+    ap taken (drop_more pattern at default within) ∙ (one_part (get_or pattern at default) (drop (at + 1) pattern) other).takes
+
+-- a pattern is its first piece, and then a pattern that begins with `%` or is empty
+pub record IsSplit (pattern : List PatternPart) (count : ℕ) : Type 0 where
+  pub front : take count pattern ≡ (pieces_of pattern).first
+  pub first : (pieces_of (drop count pattern)).first ≡ []
+  pub others : (pieces_of (drop count pattern)).others ≡ (pieces_of pattern).others
+  pub is_open : (pieces_of (drop count pattern)).is_open ≡ (pieces_of pattern).is_open
+  pub takes : taken pattern ≡ count + taken (drop count pattern)
+
+split_more : (part : PatternPart) (pattern : List PatternPart) → IsMore part pattern → IsSplit pattern (length (pieces_of pattern).first)
+    → IsSplit (part ∷ pattern) (length (pieces_of (part ∷ pattern)).first)
+split_more part pattern more split =
+    let same : length (pieces_of (part ∷ pattern)).first ≡ suc (length (pieces_of pattern).first) = ap length more.first in
+    let takes = more.takes in
+    let rest = split.takes in
+    rw same (record {
+      front = ap (λ (front : List PatternPart). part ∷ front) split.front ∙ sym more.first;
+      first = split.first;
+      others = split.others ∙ sym more.others;
+      is_open = split.is_open ∙ sym more.is_open;
+      takes = omega arith;
+    })
+
+pub split_first : (pattern : List PatternPart) → IsSplit pattern (length (pieces_of pattern).first)
+split_first [] = record { front = refl; first = refl; others = refl; is_open = refl; takes = refl }
+split_first (Many ∷ pattern) =
+    let none = first_none pattern in
+    rw (ap length none) (record { front = sym none; first = none; others = refl; is_open = refl; takes = omega arith })
+split_first (Exactly wanted ∷ pattern) =
+    split_more (Exactly wanted) pattern (record { first = refl; others = refl; is_open = refl; takes = refl }) (split_first pattern)
+split_first (Alike folding wanted ∷ pattern) =
+    split_more (Alike folding wanted) pattern (record { first = refl; others = refl; is_open = refl; takes = refl }) (split_first pattern)
+split_first (One ∷ pattern) = split_more One pattern (record { first = refl; others = refl; is_open = refl; takes = refl }) (split_first pattern)
+
+-- Bytes that a test chooses, in descending order
+
+pub where_none : (good : ℕ → Bool) → bytes_where good 0 ≡ []
+unfolding bytes_where
+where_none good = refl
+
+where_first : (good : ℕ → Bool) (byte : ℕ) (chosen : Bool) → good byte ≡ chosen
+    → bytes_where good (suc byte) ≡ (if chosen then byte ∷ bytes_where good byte else bytes_where good byte)
+unfolding bytes_where
+where_first good byte chosen is = ap (λ (b : Bool). if b then byte ∷ bytes_where good byte else bytes_where good byte) is
+
+-- the next byte is chosen, or not
+pub where_chosen : (good : ℕ → Bool) (bytes all : List ℕ) (above byte : ℕ) → above < 256 → byte ≡ 255 - above → good byte ≡ true
+    → bytes ++ bytes_where good (256 - above) ≡ all → (bytes ++ byte ∷ []) ++ bytes_where good (256 - (above + 1)) ≡ all
+where_chosen good bytes all above byte few is chosen before =
+    let limit : 256 - above ≡ suc byte = omega arith in
+    let next : 256 - (above + 1) ≡ byte = omega arith in
+    append_assoc bytes (byte ∷ []) (bytes_where good (256 - (above + 1)))
+    ∙ ap (λ (n : ℕ). bytes ++ byte ∷ bytes_where good n) next
+    ∙ sym (ap (λ (rest : List ℕ). bytes ++ rest) (ap (bytes_where good) limit ∙ where_first good byte true chosen)) ∙ before
+
+pub where_passed : (good : ℕ → Bool) (bytes all : List ℕ) (above byte : ℕ) → above < 256 → byte ≡ 255 - above → good byte ≡ false
+    → bytes ++ bytes_where good (256 - above) ≡ all → bytes ++ bytes_where good (256 - (above + 1)) ≡ all
+where_passed good bytes all above byte few is passed before =
+    let limit : 256 - above ≡ suc byte = omega arith in
+    let next : 256 - (above + 1) ≡ byte = omega arith in
+    ap (λ (n : ℕ). bytes ++ bytes_where good n) next
+    ∙ sym (ap (λ (rest : List ℕ). bytes ++ rest) (ap (bytes_where good) limit ∙ where_first good byte false passed)) ∙ before
+
+pub where_all : (good : ℕ → Bool) (bytes all : List ℕ) (above : ℕ) → 256 ≤ above → bytes ++ bytes_where good (256 - above) ≡ all → bytes ≡ all
+where_all good bytes all above end before =
+    let none : 256 - above ≡ 0 = omega arith in
+    sym (append-nil bytes) ∙ sym (ap (λ (rest : List ℕ). bytes ++ rest) (ap (bytes_where good) none ∙ where_none good)) ∙ before
+
+-- A piece and what follows it
+
+pub record IsFirstAndRest (pattern piece rest : List PatternPart) : Type 0 where
+  pub piece_is : piece ≡ (pieces_of pattern).first
+  pub first : (pieces_of rest).first ≡ []
+  pub others : (pieces_of rest).others ≡ (pieces_of pattern).others
+  pub is_open : (pieces_of rest).is_open ≡ (pieces_of pattern).is_open
+  pub takes : taken pattern ≡ length piece + taken rest
+
+pub first_and_rest : (pattern piece rest : List PatternPart) (count : ℕ) → count ≡ length (pieces_of pattern).first → piece ≡ take count pattern
+    → rest ≡ drop count pattern → IsFirstAndRest pattern piece rest
+first_and_rest pattern piece rest count counted front back =
+    let split = split_first pattern in
+    let piece_is = front ∙ ap (λ (n : ℕ). take n pattern) counted ∙ split.front in
+    let rest_is = back ∙ ap (λ (n : ℕ). drop n pattern) counted in
+    let length_is = ap length piece_is in
+    let taken_is = ap taken rest_is in
+    let sum = split.takes in
+    record {
+      piece_is = piece_is;
+      first = ap (λ (parts : List PatternPart). (pieces_of parts).first) rest_is ∙ split.first;
+      others = ap (λ (parts : List PatternPart). (pieces_of parts).others) rest_is ∙ split.others;
+      is_open = ap (λ (parts : List PatternPart). (pieces_of parts).is_open) rest_is ∙ split.is_open;
+      takes = omega arith;
+    }
+
+-- what is taken by pieces that have a part, and whether a pattern of no piece is open
+abbrev pub AreFilled : List (List PatternPart) → Type 0
+AreFilled [] = Unit {0}
+AreFilled (piece ∷ pieces) = (1 ≤ length piece) × AreFilled pieces
+
+record IsCounted (pattern first : List PatternPart) (others : List (List PatternPart)) (is_open : Bool) : Type 0 where
+  takes : taken pattern ≡ length first + lengths others
+  filled : AreFilled others
+  open_is : length first ≡ 0 → length others ≡ 0 → is_open ≡ not (length pattern == 0)
+
+not_none : (count : ℕ) → true ≡ not (suc count == 0)
+not_none count = grind (arith, nat_tests)
+
+counted_many : (pattern first : List PatternPart) (others : List (List PatternPart)) (is_open : Bool) → IsCounted pattern first others is_open
+    → (let cut = behind_many first others is_open in IsCounted (Many ∷ pattern) cut.first cut.others cut.is_open)
+counted_many pattern [] [] is_open counted =
+    record { takes = counted.takes; filled = tt; open_is = λ none no_others. not_none (length pattern) }
+counted_many pattern [] (piece ∷ others) is_open counted =
+    record { takes = counted.takes; filled = counted.filled; open_is = λ none no_others. absurd (omega arith) }
+counted_many pattern (part ∷ first) others is_open counted =
+    let sum = counted.takes in
+    record { takes = omega arith; filled = (omega arith, counted.filled); open_is = λ none no_others. absurd (omega arith) }
+
+counted_part : (part : PatternPart) (pattern first : List PatternPart) (others : List (List PatternPart)) (is_open : Bool)
+    → taken (part ∷ pattern) ≡ suc (taken pattern) → IsCounted pattern first others is_open
+    → IsCounted (part ∷ pattern) (part ∷ first) others is_open
+counted_part part pattern first others is_open more counted =
+    let sum = counted.takes in
+    record { takes = omega arith; filled = counted.filled; open_is = λ none no_others. absurd (omega arith) }
+
+count_pieces : (pattern : List PatternPart) → (let pieces = pieces_of pattern in IsCounted pattern pieces.first pieces.others pieces.is_open)
+count_pieces [] = record { takes = refl; filled = tt; open_is = λ none no_others. refl }
+count_pieces (Many ∷ pattern) =
+    let pieces = pieces_of pattern in counted_many pattern pieces.first pieces.others pieces.is_open (count_pieces pattern)
+count_pieces (Exactly wanted ∷ pattern) =
+    let pieces = pieces_of pattern in
+    counted_part (Exactly wanted) pattern pieces.first pieces.others pieces.is_open refl (count_pieces pattern)
+count_pieces (Alike folding wanted ∷ pattern) =
+    let pieces = pieces_of pattern in
+    counted_part (Alike folding wanted) pattern pieces.first pieces.others pieces.is_open refl (count_pieces pattern)
+count_pieces (One ∷ pattern) =
+    let pieces = pieces_of pattern in counted_part One pattern pieces.first pieces.others pieces.is_open refl (count_pieces pattern)
+
+-- no piece follows exactly if no byte is taken
+none_taken : (others : List (List PatternPart)) (taken : ℕ) → AreFilled others → taken ≡ lengths others → is_last others ≡ (taken == 0)
+none_taken [] taken filled sum = sym (ap (λ (n : ℕ). n == 0) sum)
+none_taken (piece ∷ others) taken filled sum =
+    let some = filled.0 in some_taken taken (omega arith)
+  where
+    some_taken : (taken : ℕ) → 1 ≤ taken → false ≡ (taken == 0)
+    some_taken taken some = grind (arith, nat_tests)
+
+pub last_taken : (pattern : List PatternPart) → (pieces_of pattern).first ≡ [] → is_last (pieces_of pattern).others ≡ (taken pattern == 0)
+last_taken pattern none =
+    let counted = count_pieces pattern in
+    let sum = counted.takes in
+    let no_first = ap length none in
+    none_taken (pieces_of pattern).others (taken pattern) counted.filled (omega arith)
+
+pub none_others : (pattern : List PatternPart) → (pieces_of pattern).first ≡ [] → taken pattern ≡ 0 → (pieces_of pattern).others ≡ []
+none_others pattern none zero_taken = by_others (pieces_of pattern).others (last_taken pattern none ∙ ap (λ (n : ℕ). n == 0) zero_taken)
+  where
+    by_others : (others : List (List PatternPart)) → is_last others ≡ true → others ≡ []
+    by_others [] is = refl
+    by_others (piece ∷ others) is = absurd (false≢true is)
+
+pub open_length : (pattern : List PatternPart) → (pieces_of pattern).first ≡ [] → taken pattern ≡ 0
+    → (pieces_of pattern).is_open ≡ not (length pattern == 0)
+open_length pattern none zero_taken =
+    (count_pieces pattern).open_is (ap length none) (ap length (none_others pattern none zero_taken))
+
+-- a pattern that begins with `%`
+behind_is : (part : PatternPart) (behind : List PatternPart) → (pieces_of (part ∷ behind)).first ≡ [] → part ≡ Many
+behind_is Many behind none = refl
+behind_is (Exactly wanted) behind none = absurd cc
+behind_is (Alike folding wanted) behind none = absurd cc
+behind_is One behind none = absurd cc
+
+abbrev pub rows_behind : TextColumn → ℕ → List PatternPart → List (ℕ → Question)
+rows_behind column from pattern = rows_of column (pieces_of pattern).is_open from (pieces_of pattern).others
+
+abbrev rows_cut : TextColumn → ℕ → List PatternPart → List (List PatternPart) → Bool → List (ℕ → Question)
+rows_cut column from first others is_open =
+    let cut = behind_many first others is_open in rows_of column cut.is_open from cut.others
+
+no_row : (column : TextColumn) (from : ℕ) (others : List (List PatternPart)) (is_open : Bool)
+    → rows_cut column from [] others is_open ≡ rows_of column is_open from others
+no_row column from [] is_open = refl
+no_row column from (piece ∷ others) is_open = refl
+
+-- `%` before another one, or at the end
+pub rows_skip : (column : TextColumn) (from : ℕ) (pattern : List PatternPart) (part : PatternPart) (behind piece rest : List PatternPart)
+    → pattern ≡ part ∷ behind → (pieces_of pattern).first ≡ [] → IsFirstAndRest behind piece rest → length piece ≡ 0
+    → rows_behind column from pattern ≡ rows_behind column from rest
+rows_skip column from pattern part behind piece rest is begins split none =
+    let many = behind_is part behind (sym (ap (λ (parts : List PatternPart). (pieces_of parts).first) is) ∙ begins) in
+    let no_first = none_of (pieces_of behind).first (sym (ap length split.piece_is) ∙ none) in
+    ap (rows_behind column from) is ∙ ap (λ (first : PatternPart). rows_behind column from (first ∷ behind)) many
+    ∙ ap (λ (first : List PatternPart). rows_cut column from first (pieces_of behind).others (pieces_of behind).is_open) no_first
+    ∙ no_row column from (pieces_of behind).others (pieces_of behind).is_open
+    ∙ ap (λ (b : Bool). rows_of column b from (pieces_of behind).others) (sym split.is_open)
+    ∙ ap (rows_of column (pieces_of rest).is_open from) (sym split.others)
+  where
+    none_of : (parts : List PatternPart) → length parts ≡ 0 → parts ≡ []
+    none_of [] none = refl
+    none_of (part ∷ parts) none = absurd (omega arith)
+
+-- the row of a piece
+abbrev pub row_of : TextColumn → ℕ → List PatternPart → List PatternPart → ℕ → Question
+row_of column from piece rest shift = cell column piece (taken rest == 0) (not (length rest == 0)) (from + shift)
+
+row_is : (column : TextColumn) (from : ℕ) (piece rest : List PatternPart) (others : List (List PatternPart)) (is_open : Bool)
+    → (pieces_of rest).first ≡ [] → (pieces_of rest).others ≡ others → (pieces_of rest).is_open ≡ is_open
+    → (let first : ℕ → Question = λ shift. cell column piece (is_last others) is_open (from + shift) in first) ≡ row_of column from piece rest
+row_is column from piece rest [] is_open none others_are open_is =
+    let sum = (count_pieces rest).takes in
+    let no_first = ap length none in
+    let no_others = ap lengths others_are in
+    let zero_taken : taken rest ≡ 0 = omega arith in
+    ap (λ (b : Bool). (let first : ℕ → Question = λ shift. cell column piece true b (from + shift) in first))
+    (sym open_is ∙ open_length rest none zero_taken)
+    ∙ ap (λ (b : Bool). (let first : ℕ → Question = λ shift. cell column piece b (not (length rest == 0)) (from + shift) in first))
+    (sym (ap is_last others_are) ∙ last_taken rest none)
+row_is column from piece rest (next ∷ others) is_open none others_are open_is =
+    ap (λ (b : Bool). (let first : ℕ → Question = λ shift. cell column piece b (not (length rest == 0)) (from + shift) in first))
+    (sym (ap is_last others_are) ∙ last_taken rest none)
+
+pub rows_next : (column : TextColumn) (from : ℕ) (pattern : List PatternPart) (part : PatternPart) (behind piece rest : List PatternPart)
+    → pattern ≡ part ∷ behind → (pieces_of pattern).first ≡ [] → IsFirstAndRest behind piece rest → 0 < length piece
+    → rows_behind column from pattern ≡ row_of column from piece rest ∷ rows_behind column (from + length piece) rest
+rows_next column from pattern part behind [] rest is begins split some = absurd (omega arith)
+rows_next column from pattern part behind (first ∷ piece) rest is begins split some =
+    let many = behind_is part behind (sym (ap (λ (parts : List PatternPart). (pieces_of parts).first) is) ∙ begins) in
+    let others = (pieces_of behind).others in
+    let is_open = (pieces_of behind).is_open in
+    let later = rows_of column is_open (from + length (first ∷ piece)) others in
+    ap (rows_behind column from) is ∙ ap (λ (begin : PatternPart). rows_behind column from (begin ∷ behind)) many
+    ∙ ap (λ (parts : List PatternPart). rows_cut column from parts others is_open) (sym split.piece_is)
+    ∙ ap (λ (row : ℕ → Question). row ∷ later)
+    (row_is column from (first ∷ piece) rest others is_open split.first split.others split.is_open)
+    ∙ ap (λ (rows : List (ℕ → Question)). row_of column from (first ∷ piece) rest ∷ rows)
+    (ap (λ (b : Bool). rows_of column b (from + length (first ∷ piece)) others) (sym split.is_open)
+    ∙ ap (rows_of column (pieces_of rest).is_open (from + length (first ∷ piece))) (sym split.others))
+
+pub rows_empty : (column : TextColumn) (from : ℕ) (pattern : List PatternPart) → length pattern ≡ 0 → rows_behind column from pattern ≡ []
+rows_empty column from [] none = refl
+rows_empty column from (part ∷ pattern) none = absurd (omega arith)
+
+-- what is taken behind a `%`
+pub taken_behind : (pattern : List PatternPart) (part : PatternPart) (behind piece rest : List PatternPart) → pattern ≡ part ∷ behind
+    → (pieces_of pattern).first ≡ [] → IsFirstAndRest behind piece rest → taken pattern ≡ length piece + taken rest
+taken_behind pattern part behind piece rest is begins split =
+    let many = behind_is part behind (sym (ap (λ (parts : List PatternPart). (pieces_of parts).first) is) ∙ begins) in
+    ap taken is ∙ ap (λ (first : PatternPart). taken (first ∷ behind)) many ∙ split.takes
+
+-- Whole patterns
+
+pub like_one : (column : TextColumn) (pattern piece rest : List PatternPart) → IsFirstAndRest pattern piece rest → taken rest ≡ 0
+    → is_like column pattern ≡ is_piece column piece (not (length rest == 0))
+like_one column pattern piece rest split zero_taken =
+    ap (λ (others : List (List PatternPart)).
+    are_pieces column (pieces_of pattern).first others (pieces_of pattern).is_open (taken pattern))
+    (sym split.others ∙ none_others rest split.first zero_taken)
+    ∙ ap (is_piece column (pieces_of pattern).first) (sym split.is_open ∙ open_length rest split.first zero_taken)
+    ∙ ap (λ (first : List PatternPart). is_piece column first (not (length rest == 0))) (sym split.piece_is)
+
+-- a pattern with a piece behind a `%`
+are_several : (column : TextColumn) (first : List PatternPart) (others : List (List PatternPart)) (is_open : Bool) (total : ℕ)
+    → is_last others ≡ false
+    → are_pieces column first others is_open total
+    ≡ (if nat_le total (width_of column)
+    then Joined true (are_wanted (offset_of column) first)
+    (Coded (grid (rows_of column is_open (length first) others) (suc (width_of column - total))))
+    else Decided false)
+are_several column first [] is_open total more = absurd (false≢true (sym more))
+are_several column first (piece ∷ others) is_open total more = refl
+
+several : (rest : List PatternPart) → (pieces_of rest).first ≡ [] → 0 < taken rest → is_last (pieces_of rest).others ≡ false
+several rest none some = last_taken rest none ∙ some_taken (taken rest) some
+  where
+    some_taken : (count : ℕ) → 0 < count → (count == 0) ≡ false
+    some_taken count some = grind (arith, nat_tests)
+
+pub like_long : (column : TextColumn) (pattern piece rest : List PatternPart) → IsFirstAndRest pattern piece rest → 0 < taken rest
+    → width_of column < taken pattern → is_like column pattern ≡ Decided false
+like_long column pattern piece rest split some long =
+    are_several column (pieces_of pattern).first (pieces_of pattern).others (pieces_of pattern).is_open (taken pattern)
+    (sym (ap is_last split.others) ∙ several rest split.first some)
+    ∙ rw (lt-leb-false (taken pattern) (width_of column) long) refl
+  where
+    lt-leb-false : (m n : ℕ) → n < m → nat_le m n ≡ false
+    lt-leb-false m n less = grind (arith, nat_tests)
+
+pub like_several : (column : TextColumn) (pattern piece rest : List PatternPart) (columns : ℕ) → IsFirstAndRest pattern piece rest
+    → 0 < taken rest → taken pattern ≤ width_of column → columns ≡ width_of column - taken pattern + 1
+    → is_like column pattern
+    ≡ Joined true (are_wanted (offset_of column) piece) (Coded (grid (rows_behind column (length piece) rest) columns))
+like_several column pattern piece rest columns split some short counted =
+    let next : columns ≡ suc (width_of column - taken pattern) = omega arith in
+    are_several column (pieces_of pattern).first (pieces_of pattern).others (pieces_of pattern).is_open (taken pattern)
+    (sym (ap is_last split.others) ∙ several rest split.first some)
+    ∙ rw (le-leb (taken pattern) (width_of column) short)
+    (ap (λ (n : ℕ). asks (pieces_of pattern).first (pieces_of pattern).others (pieces_of pattern).is_open n) (sym next)
+    ∙ ap (λ (first : List PatternPart). asks first (pieces_of pattern).others (pieces_of pattern).is_open columns) (sym split.piece_is)
+    ∙ ap (λ (others : List (List PatternPart)). asks piece others (pieces_of pattern).is_open columns) (sym split.others)
+    ∙ ap (λ (b : Bool). asks piece (pieces_of rest).others b columns) (sym split.is_open))
+  where
+    asks : List PatternPart → List (List PatternPart) → Bool → ℕ → Question
+    asks first others is_open columns =
+        Joined true (are_wanted (offset_of column) first) (Coded (grid (rows_of column is_open (length first) others) columns))

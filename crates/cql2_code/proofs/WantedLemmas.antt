@@ -1,0 +1,441 @@
+-- The questions about a piece of a pattern answer whether the record or a column has it.
+use Rattle.std.proofs.Common.{◌≡◌, ℕ, zero, suc, ◌+◌, ◌-◌, ◌<◌, ◌≤◌, ◌==◌, nat_le, Bool, true, false, not, ◌&&◌, ◌||◌, List, [], ◌∷◌, ◌++◌}
+use Rattle.std.proofs.Common.{length, length-drop, map, get_or, take, drop, Option, Some, None, if◌then◌else◌, refl, sym, ap, ◌∙◌, arith}
+use Rattle.std.specs.List.{list_any}
+use Rattle.std.proofs.lemmas.Bool.{and_parts, eqb-false, eqb-true, false≢true, leb-false, leb-true, ltb-true}
+use Rattle.std.proofs.lemmas.Bool.Decides.{nat_tests}
+use Rattle.std.proofs.lemmas.List.{drop-drop, drop-take, drop_all, length-map}
+use Rattle.tl_fields.specs.Number.{is_blank as are_blank}
+use Rattle.tl_segments.specs.Segment.{SegmentParts, IsSegment}
+use Rattle.cql2.specs.Folding.{is_alike}
+use Rattle.cql2.specs.Pattern.{are_bytes, is_byte, is_like as is_text_like}
+use Rattle.cql2.specs.declared.column.TextColumn.{TextColumn}
+use Rattle.cql2.specs.declared.pattern.PatternPart.{PatternPart}
+use Rattle.cql2.specs.declared.pattern.PatternPart.TheVariants.{Exactly, Alike, One, Many}
+use Rattle.cql2_code.specs.Lowering.{are_wanted, both, bytes_alike, bytes_where, ends_at, ends_filled, ends_so, exact_bytes, is_among, is_blank}
+use Rattle.cql2_code.specs.Lowering.{is_each_wanted, is_filled, is_piece, is_wanted, offset_of, width_of}
+use Rattle.cql2_code.specs.Pieces.{taken}
+use Rattle.cql2_code.specs.Question.{Decided, answer}
+use Rattle.cql2_code.proofs.ByteLemmas.{AreSmall, begins, byte_equals, byte_read, bytes_found, first_byte}
+use Rattle.cql2_code.proofs.FieldLemmas.{column_within, field_long, field_of, has_text, rest_found}
+use Rattle.cql2_code.proofs.JoinLemmas.{and_assoc, and_false, and_true, and_twice, both_answers}
+use Rattle.cql2_code.proofs.PieceLemmas.{IsPiece, is_single, like, like_none, like_part_field, piece_bytes, respelled, takes}
+use Rattle.cql2_code.proofs.SearchLemmas.{like_long, wants}
+use Rattle.cql2_code.proofs.TrimLemmas.{trimmed, trimmed_blank}
+
+-- Fields
+
+-- the field is blank after the wanted bytes
+abbrev pub closes : List PatternPart → List ℕ → Bool
+closes piece field = are_blank (drop (length piece) field)
+
+-- the field isn't blank from the last wanted byte on
+abbrev pub fills : List PatternPart → List ℕ → Bool
+fills [] field = not (are_blank field)
+fills (wanted ∷ []) field = not (are_blank field)
+fills (wanted ∷ next ∷ piece) [] = false
+fills (wanted ∷ next ∷ piece) (byte ∷ field) = fills (next ∷ piece) field
+
+fills_is : (piece : List PatternPart) (field : List ℕ) → length piece ≤ length field
+    → not (are_blank (drop (length piece - 1) field)) ≡ fills piece field
+fills_is [] field long = refl
+fills_is (wanted ∷ []) field long = refl
+fills_is (wanted ∷ next ∷ piece) [] long = absurd (omega arith)
+fills_is (wanted ∷ next ∷ piece) (byte ∷ field) long =
+    let one_less : length (wanted ∷ next ∷ piece) - 1 ≡ suc (length (next ∷ piece) - 1) = omega arith in
+    ap (λ (count : ℕ). not (are_blank (drop count (byte ∷ field)))) one_less ∙ fills_is (next ∷ piece) field (omega arith)
+
+-- a piece, followed by more bytes if the pattern is open
+abbrev pub ending : List PatternPart → Bool → List PatternPart
+ending piece is_open = piece ++ respelled [] is_open
+
+like_open : (text : List ℕ) → is_text_like (Many ∷ []) text ≡ true
+like_open [] = refl
+like_open (byte ∷ text) = like_open text
+
+-- the text in a field matches a pattern of no bytes: the field is blank, or the pattern is open
+like_nothing : (is_open : Bool) (field : List ℕ) → like (ending [] is_open) field ≡ (is_open || are_blank field)
+like_nothing true field = like_open (trimmed field)
+like_nothing false [] = refl
+like_nothing false (byte ∷ field) = by_blank (are_blank (byte ∷ field))
+  where
+    by_blank : (blank : Bool) → is_text_like [] (if blank then [] else byte ∷ trimmed field) ≡ blank
+    by_blank true = refl
+    by_blank false = refl
+
+has_more : (wanted : PatternPart) (pattern : List PatternPart) (byte : ℕ) (field : List ℕ) → is_single wanted ≡ true
+    → has_text (is_text_like (wanted ∷ pattern)) (byte ∷ field)
+    ≡ (not (are_blank (byte ∷ field)) && (takes wanted byte && like pattern field))
+has_more wanted pattern byte field single =
+    ap (λ (like : Bool). not (are_blank (byte ∷ field)) && like) (like_part_field wanted pattern byte field single)
+    ∙ and_twice (not (are_blank (byte ∷ field))) (takes wanted byte && like pattern field)
+
+last_wanted : (wanted closed filled : Bool) → (wanted && true && (closed && filled)) ≡ (filled && (wanted && closed))
+last_wanted true true true = refl
+last_wanted true true false = refl
+last_wanted true false true = refl
+last_wanted true false false = refl
+last_wanted false true true = refl
+last_wanted false true false = refl
+last_wanted false false true = refl
+last_wanted false false false = refl
+
+-- a blank rest has no text that matches a pattern of one or more bytes
+rest_like : (blank_byte wanted_byte : Bool) (wanted : PatternPart) (pattern : List PatternPart) (field : List ℕ) → is_single wanted ≡ true
+    → (wanted_byte && has_text (is_text_like (wanted ∷ pattern)) field)
+    ≡ (not (blank_byte && are_blank field) && (wanted_byte && like (wanted ∷ pattern) field))
+rest_like blank_byte wanted_byte wanted pattern field single = by_blank blank_byte wanted_byte (are_blank field) refl
+  where
+    none : are_blank field ≡ true → like (wanted ∷ pattern) field ≡ false
+    none is = ap (λ (text : List ℕ). is_text_like (wanted ∷ pattern) text) (trimmed_blank field is) ∙ like_none wanted pattern single
+
+    by_blank : (blank_byte wanted_byte blank : Bool) → are_blank field ≡ blank
+        → (wanted_byte && (not blank && like (wanted ∷ pattern) field))
+        ≡ (not (blank_byte && blank) && (wanted_byte && like (wanted ∷ pattern) field))
+    by_blank true true true is = refl
+    by_blank true false true is = refl
+    by_blank false true true is = sym (none is)
+    by_blank false false true is = refl
+    by_blank true wanted_byte false is = refl
+    by_blank false wanted_byte false is = refl
+
+-- A field isn't blank and its text matches a piece exactly if the field begins with the bytes that the piece wants, is blank after them unless
+-- the pattern is open, and isn't blank from the last wanted byte on.
+pub like_parts : (piece : List PatternPart) (is_open : Bool) (field : List ℕ) → IsPiece piece → length piece ≤ length field
+    → (wants piece field && ((is_open || closes piece field) && fills piece field)) ≡ has_text (is_text_like (ending piece is_open)) field
+like_parts [] is_open field are long =
+    by_blank is_open (are_blank field) ∙ sym (ap (λ (like : Bool). not (are_blank field) && like) (like_nothing is_open field))
+  where
+    by_blank : (is_open blank : Bool) → ((is_open || blank) && not blank) ≡ (not blank && (is_open || blank))
+    by_blank true true = refl
+    by_blank true false = refl
+    by_blank false true = refl
+    by_blank false false = refl
+like_parts (wanted ∷ piece) is_open [] are long = absurd (omega arith)
+like_parts (wanted ∷ []) is_open (byte ∷ field) are long =
+    last_wanted (takes wanted byte) (is_open || are_blank field) (not (are_blank (byte ∷ field)))
+    ∙ ap (λ (like : Bool). not (are_blank (byte ∷ field)) && (takes wanted byte && like)) (sym (like_nothing is_open field))
+    ∙ sym (has_more wanted (ending [] is_open) byte field are.0.single)
+like_parts (wanted ∷ next ∷ piece) is_open (byte ∷ field) are long =
+    sym (and_assoc (takes wanted byte) (wants (next ∷ piece) field) _)
+    ∙ ap (λ (rest : Bool). takes wanted byte && rest) (like_parts (next ∷ piece) is_open field are.1 (omega arith))
+    ∙ rest_like (byte == 32) (takes wanted byte) next (ending piece is_open) field are.1.0.single
+    ∙ sym (has_more wanted (ending (next ∷ piece) is_open) byte field are.0.single)
+
+pub taken_piece : (piece pattern : List PatternPart) → IsPiece piece → taken (piece ++ pattern) ≡ length piece + taken pattern
+taken_piece [] pattern are = omega arith
+taken_piece (part ∷ piece) pattern are = one_more part are.0.single (taken_piece piece pattern are.1)
+  where
+    one_more : (part : PatternPart) → is_single part ≡ true → taken (piece ++ pattern) ≡ length piece + taken pattern
+        → taken (part ∷ (piece ++ pattern)) ≡ suc (length piece) + taken pattern
+    one_more (Exactly wanted) single rest = omega arith
+    one_more (Alike folding wanted) single rest = omega arith
+    one_more One single rest = omega arith
+    one_more Many single rest = absurd (false≢true single)
+
+pub taken_ending : (piece : List PatternPart) (is_open : Bool) → IsPiece piece → taken (ending piece is_open) ≡ length piece
+taken_ending piece true are = let sum = taken_piece piece (Many ∷ []) are in omega arith
+taken_ending piece false are = let sum = taken_piece piece [] are in omega arith
+
+no_blank_by : (good : ℕ → Bool) (byte : ℕ) → not (good 32) ≡ true → good byte ≡ true → (byte == 32) ≡ false
+no_blank_by good byte filled is = by_byte (byte == 32) refl
+  where
+    not_both : (found : Bool) → not found ≡ true → found ≡ true → ⊥
+    not_both true one two = false≢true one
+    not_both false one two = false≢true two
+
+    by_byte : (blank : Bool) → (byte == 32) ≡ blank → blank ≡ false
+    by_byte true same = absurd (not_both (good 32) filled (sym (ap good (eqb-true byte 32 same)) ∙ is))
+    by_byte false same = refl
+
+no_blank : (wanted : PatternPart) (byte : ℕ) → is_filled wanted ≡ true → takes wanted byte ≡ true → (byte == 32) ≡ false
+no_blank (Exactly wanted) byte filled is = grind (arith, nat_tests)
+no_blank (Alike folding wanted) byte filled is = no_blank_by (λ other. is_alike folding other wanted) byte filled is
+no_blank One byte filled is = absurd (false≢true filled)
+no_blank Many byte filled is = absurd (false≢true filled)
+
+-- if the last wanted byte is not a blank, a field that begins with the wanted bytes isn't blank there
+filled_on : (piece : List PatternPart) (field : List ℕ) → ends_filled piece ≡ true → wants piece field ≡ true → fills piece field ≡ true
+filled_on [] field filled is = absurd (false≢true filled)
+filled_on (wanted ∷ piece) [] filled is = absurd (false≢true is)
+filled_on (wanted ∷ []) (byte ∷ field) filled is =
+    ap (λ (blank : Bool). not (blank && are_blank field)) (no_blank wanted byte filled (and_parts (takes wanted byte) true is).0)
+filled_on (wanted ∷ next ∷ piece) (byte ∷ field) filled is = filled_on (next ∷ piece) field filled (and_parts (takes wanted byte) _ is).1
+
+-- Wanted bytes of the record
+
+wants_take : (piece : List PatternPart) (count : ℕ) (bytes : List ℕ) → length piece ≤ count
+    → wants piece bytes ≡ wants piece (take count bytes)
+wants_take [] count bytes few = refl
+wants_take (wanted ∷ piece) zero bytes few = absurd (omega arith)
+wants_take (wanted ∷ piece) (suc count) [] few = refl
+wants_take (wanted ∷ piece) (suc count) (byte ∷ bytes) few =
+    ap (λ (rest : Bool). takes wanted byte && rest) (wants_take piece count bytes (omega arith))
+
+-- a piece wants exactly these bytes, if it has exact bytes
+abbrev pub Spells : Option (List ℕ) → List PatternPart → Type 0
+Spells None piece = Unit {0}
+Spells (Some bytes) piece = piece ≡ map Exactly bytes
+
+spells_more : (byte : ℕ) (piece : List PatternPart) (found : Option (List ℕ)) → exact_bytes piece ≡ found → Spells found piece
+    → Spells (exact_bytes (Exactly byte ∷ piece)) (Exactly byte ∷ piece)
+spells_more byte piece None is spelled = rw is tt
+spells_more byte piece (Some bytes) is spelled = rw is (ap (λ (rest : List PatternPart). Exactly byte ∷ rest) spelled)
+
+pub spells : (piece : List PatternPart) → Spells (exact_bytes piece) piece
+spells [] = refl
+spells (Exactly byte ∷ piece) = spells_more byte piece (exact_bytes piece) refl (spells piece)
+spells (Alike folding wanted ∷ piece) = tt
+spells (One ∷ piece) = tt
+spells (Many ∷ piece) = tt
+
+begins_wants : (bytes wanted : List ℕ) → begins bytes wanted ≡ wants (map Exactly wanted) bytes
+begins_wants bytes [] = refl
+begins_wants [] (byte ∷ wanted) = refl
+begins_wants (first ∷ bytes) (byte ∷ wanted) = ap (λ (rest : Bool). first == byte && rest) (begins_wants bytes wanted)
+
+pub small_wanted : (bytes : List ℕ) → are_bytes (map Exactly bytes) ≡ true → AreSmall bytes
+small_wanted [] are = tt
+small_wanted (byte ∷ bytes) are =
+    let parts = and_parts (is_byte (Exactly byte)) (are_bytes (map Exactly bytes)) are in
+    (ltb-true byte 256 parts.0, small_wanted bytes parts.1)
+
+-- the bytes that a test chooses
+
+pub small_where : (good : ℕ → Bool) (limit : ℕ) → limit ≤ 256 → AreSmall (bytes_where good limit)
+unfolding bytes_where
+small_where good zero few = tt
+small_where good (suc byte) few = by_test (good byte) (small_where good byte (omega arith))
+  where
+    by_test : (chosen : Bool) → AreSmall (bytes_where good byte)
+        → AreSmall (if chosen then byte ∷ bytes_where good byte else bytes_where good byte)
+    by_test true rest = (omega arith, rest)
+    by_test false rest = rest
+
+where_above : (good : ℕ → Bool) (limit byte : ℕ) → limit ≤ byte → list_any (λ other. byte == other) (bytes_where good limit) ≡ false
+unfolding bytes_where
+where_above good zero byte above = refl
+where_above good (suc limit) byte above =
+    by_test (good limit) (eqb-ne (omega arith)) (where_above good limit byte (omega arith))
+  where
+    eqb-ne : limit < byte → (byte == limit) ≡ false
+    eqb-ne less = grind (arith, nat_tests)
+
+    by_test : (chosen : Bool) → (byte == limit) ≡ false → list_any (λ other. byte == other) (bytes_where good limit) ≡ false
+        → list_any (λ other. byte == other) (if chosen then limit ∷ bytes_where good limit else bytes_where good limit) ≡ false
+    by_test true other rest = ap (λ (first : Bool). first || list_any (λ other. byte == other) (bytes_where good limit)) other ∙ rest
+    by_test false other rest = rest
+
+pub where_any : (good : ℕ → Bool) (limit byte : ℕ) → byte < limit → list_any (λ other. byte == other) (bytes_where good limit) ≡ good byte
+unfolding bytes_where
+where_any good zero byte below = absurd (omega arith)
+where_any good (suc limit) byte below = by_byte (byte == limit) refl (λ less. where_any good limit byte less)
+  where
+    others : Bool
+    others = list_any (λ other. byte == other) (bytes_where good limit)
+
+    here : (chosen : Bool) → (byte == limit) ≡ true → others ≡ false
+        → list_any (λ other. byte == other) (if chosen then limit ∷ bytes_where good limit else bytes_where good limit) ≡ chosen
+    here true same rest = ap (λ (first : Bool). first || others) same
+    here false same rest = rest
+
+    later : (chosen : Bool) → (byte == limit) ≡ false
+        → list_any (λ other. byte == other) (if chosen then limit ∷ bytes_where good limit else bytes_where good limit) ≡ others
+    later true other = ap (λ (first : Bool). first || others) other
+    later false other = refl
+
+    by_byte : (same : Bool) → (byte == limit) ≡ same → (byte < limit → others ≡ good byte)
+        → list_any (λ other. byte == other) (if good limit then limit ∷ bytes_where good limit else bytes_where good limit) ≡ good byte
+    by_byte true is rest =
+        let e = eqb-true byte limit is in here (good limit) is (where_above good limit byte (omega arith)) ∙ sym (ap good e)
+    by_byte false is rest = let e = eqb-false byte limit is in later (good limit) is ∙ rest (omega arith)
+
+-- a piece whose bytes are within the record, at an offset
+pub record Fits (at : ℕ) (piece : List PatternPart) : Type 0 where
+  pub within : at + length piece ≤ 228
+  pub are : IsPiece piece
+
+pub fits_first : (at : ℕ) (wanted : PatternPart) (piece : List PatternPart) → Fits at (wanted ∷ piece)
+    → (at < 228) × (is_byte wanted ≡ true)
+fits_first at wanted piece fits = let within = fits.within in (omega arith, fits.are.0.is_byte)
+
+pub fits_rest : (at : ℕ) (wanted : PatternPart) (piece : List PatternPart) → Fits at (wanted ∷ piece) → Fits (at + 1) piece
+fits_rest at wanted piece fits = let within = fits.within in record { within = omega arith; are = fits.are.1 }
+
+module _ (segment : SegmentParts) (is : IsSegment segment) where
+  among_found : (at : ℕ) (bytes : List ℕ) → at < 228 → AreSmall bytes
+      → answer (is_among at bytes) segment ≡ list_any (λ other. get_or segment.bytes at 0 == other) bytes
+  among_found at [] within small = refl
+  among_found at (byte ∷ []) within small = byte_equals segment is at byte within small.0 ∙ sym (or_false (get_or segment.bytes at 0 == byte))
+    where
+      or_false : (a : Bool) → (a || false) ≡ a
+      or_false true = refl
+      or_false false = refl
+  among_found at (byte ∷ next ∷ bytes) within small =
+      ap (λ (number : ℕ). list_any (λ other. number == other) (byte ∷ next ∷ bytes)) (byte_read segment is at within)
+
+  byte_wanted : (at : ℕ) (wanted : PatternPart) → at < 228 → is_byte wanted ≡ true
+      → answer (is_wanted at wanted) segment ≡ takes wanted (get_or segment.bytes at 0)
+  byte_wanted at (Exactly byte) within are = byte_equals segment is at byte within (ltb-true byte 256 are)
+  byte_wanted at (Alike folding wanted) within are =
+      among_found at (bytes_alike folding wanted) within (small_where (λ byte. is_alike folding byte wanted) 256 (omega arith))
+      ∙ where_any (λ byte. is_alike folding byte wanted) 256 (get_or segment.bytes at 0) (is.bytes.bytes at)
+  byte_wanted at One within are = refl
+  byte_wanted at Many within are = refl
+
+  first_wanted : (at : ℕ) (wanted : PatternPart) (piece : List PatternPart) → at < 228 → wants (wanted ∷ piece) (drop at segment.bytes)
+      ≡ (takes wanted (get_or segment.bytes at 0) && wants piece (drop (at + 1) segment.bytes))
+  first_wanted at wanted piece within = ap (λ (bytes : List ℕ). wants (wanted ∷ piece) bytes) (first_byte segment is at within)
+
+  each_wanted : (at : ℕ) (piece : List PatternPart) → Fits at piece
+      → answer (is_each_wanted at piece) segment ≡ wants piece (drop at segment.bytes)
+  each_wanted at [] fits = refl
+  each_wanted at (wanted ∷ []) fits =
+      let first = fits_first at wanted [] fits in
+      byte_wanted at wanted first.0 first.1
+      ∙ sym (and_true (takes wanted (get_or segment.bytes at 0))) ∙ sym (first_wanted at wanted [] first.0)
+  each_wanted at (wanted ∷ next ∷ piece) fits =
+      let first = fits_first at wanted (next ∷ piece) fits in
+      let others = each_wanted (at + 1) (next ∷ piece) (fits_rest at wanted (next ∷ piece) fits) in
+      both_answers (byte_wanted at wanted first.0 first.1) others
+      ∙ sym (first_wanted at wanted (next ∷ piece) first.0)
+
+  wanted_by : (at : ℕ) (piece : List PatternPart) (exact : Option (List ℕ)) → exact_bytes piece ≡ exact → Spells exact piece
+      → Fits at piece → answer (are_wanted at piece) segment ≡ wants piece (drop at segment.bytes)
+  wanted_by at piece None exact spelled fits = rw exact (each_wanted at piece fits)
+  wanted_by at piece (Some bytes) exact spelled fits =
+      let count : length piece ≡ length bytes = ap length spelled ∙ length-map bytes Exactly in
+      let within = fits.within in
+      rw exact (bytes_found segment is at bytes (small_wanted bytes (sym (ap are_bytes spelled) ∙ piece_bytes piece fits.are)) (omega arith)
+      ∙ begins_wants (drop at segment.bytes) bytes
+      ∙ sym (ap (λ (wanted : List PatternPart). wants wanted (drop at segment.bytes)) spelled))
+
+  wanted_found : (at : ℕ) (piece : List PatternPart) → Fits at piece
+      → answer (are_wanted at piece) segment ≡ wants piece (drop at segment.bytes)
+  wanted_found at piece fits = wanted_by at piece (exact_bytes piece) refl (spells piece) fits
+
+-- Columns
+
+with_fills : (wanted filled : Bool) → (wanted ≡ true → filled ≡ true) → wanted ≡ (wanted && filled)
+with_fills true filled so = sym (so refl)
+with_fills false filled so = refl
+
+with_both : (wanted closed filled : Bool) → (wanted ≡ true → filled ≡ true) → (wanted && closed) ≡ (wanted && (closed && filled))
+with_both true closed filled so = sym (ap (λ (b : Bool). closed && b) (so refl) ∙ and_true closed)
+with_both false closed filled so = refl
+
+-- a piece from a byte of a column on
+pub record FitsColumn (column : TextColumn) (from : ℕ) (piece : List PatternPart) : Type 0 where
+  pub within : from + length piece ≤ width_of column
+  pub are : IsPiece piece
+
+pub fits_record : (column : TextColumn) (from : ℕ) (piece : List PatternPart) → FitsColumn column from piece
+    → Fits (offset_of column + from) piece
+fits_record column from piece fits =
+    let short = fits.within in let within = column_within column in record { within = omega arith; are = fits.are }
+
+-- a last piece: it has a last part, or begins with the column
+pub record FitsLast (column : TextColumn) (from : ℕ) (piece : List PatternPart) : Type 0 where
+  pub fits : FitsColumn column from piece
+  pub last : from + length piece - 1 ≡ from + (length piece - 1)
+
+module _ (segment : SegmentParts) (is : IsSegment segment) (column : TextColumn) where
+  -- a column from a byte on
+  field_from : (from : ℕ) → from ≤ width_of column
+      → drop from (field_of column segment) ≡ take (width_of column - from) (drop (offset_of column + from) segment.bytes)
+  field_from from few =
+      let rest = width_of column - from in
+      let whole : width_of column ≡ from + rest = omega arith in
+      ap (λ (width : ℕ). drop from (take width (drop (offset_of column) segment.bytes))) whole
+      ∙ drop-take from rest (drop (offset_of column) segment.bytes)
+      ∙ ap (take rest) (drop-drop from (offset_of column) segment.bytes)
+
+  -- a piece is in a column from a byte on
+  pub wanted_here : (from : ℕ) (piece : List PatternPart) → FitsColumn column from piece
+      → answer (are_wanted (offset_of column + from) piece) segment ≡ wants piece (drop from (field_of column segment))
+  wanted_here from piece fits =
+      let within = fits.within in
+      wanted_found segment is (offset_of column + from) piece (fits_record column from piece fits)
+      ∙ wants_take piece (width_of column - from) (drop (offset_of column + from) segment.bytes) (omega arith)
+      ∙ sym (ap (wants piece) (field_from from (omega arith)))
+
+module _ (segment : SegmentParts) (is : IsSegment segment) (column : TextColumn) (from : ℕ) (piece : List PatternPart)
+    (all : FitsLast column from piece) where
+  fills_here : not (answer (is_blank (offset_of column + (from + length piece - 1)) (width_of column - (from + length piece - 1))) segment)
+      ≡ fills piece (drop from (field_of column segment))
+  fills_here =
+      let within = all.fits.within in
+      let long = field_long segment is column in
+      ap not (rest_found segment is column (from + length piece - 1) (omega arith))
+      ∙ ap (λ (count : ℕ). not (are_blank (drop count (field_of column segment)))) all.last
+      ∙ sym (ap (λ (bytes : List ℕ). not (are_blank bytes)) (drop-drop (length piece - 1) from (field_of column segment)))
+      ∙ fills_is piece (drop from (field_of column segment)) (omega (arith, length-drop from (field_of column segment)))
+
+  closes_here : answer (is_blank (offset_of column + (from + length piece)) (width_of column - (from + length piece))) segment
+      ≡ closes piece (drop from (field_of column segment))
+  closes_here =
+      rest_found segment is column (from + length piece) all.fits.within
+      ∙ sym (ap are_blank (drop-drop (length piece) from (field_of column segment)))
+
+  filled_here : ends_filled piece ≡ true → wants piece (drop from (field_of column segment)) ≡ true
+      → fills piece (drop from (field_of column segment)) ≡ true
+  filled_here filled wanted = filled_on piece (drop from (field_of column segment)) filled wanted
+
+  -- nothing follows after as many bytes as the field has
+  whole_closes : from + length piece ≡ width_of column → closes piece (drop from (field_of column segment)) ≡ true
+  whole_closes whole =
+      let long = field_long segment is column in
+      ap are_blank (drop_all (length piece) (drop from (field_of column segment)) (omega (arith, length-drop from (field_of column segment))))
+
+  ends_closed : (whole : Bool) → (from + length piece == width_of column) ≡ whole → ends_filled piece ≡ true
+      → answer (both (are_wanted (offset_of column + from) piece) (if whole then None
+      else Some (is_blank (offset_of column + (from + length piece)) (width_of column - (from + length piece))))) segment
+      ≡ (wants piece (drop from (field_of column segment))
+      && (closes piece (drop from (field_of column segment)) && fills piece (drop from (field_of column segment))))
+  ends_closed true whole filled =
+      wanted_here segment is column from piece all.fits ∙ with_fills _ _ (filled_here filled)
+      ∙ ap (λ (closed : Bool). wants piece (drop from (field_of column segment)) && (closed && fills piece (drop from (field_of column segment))))
+      (sym (whole_closes (eqb-true (from + length piece) (width_of column) whole)))
+  ends_closed false whole filled =
+      both_answers (wanted_here segment is column from piece all.fits) closes_here ∙ with_both _ _ _ (filled_here filled)
+
+  ends_so_found : (is_open filled : Bool) → ends_filled piece ≡ filled
+      → answer (both (are_wanted (offset_of column + from) piece) (ends_so is_open filled column (from + length piece))) segment
+      ≡ (wants piece (drop from (field_of column segment))
+      && ((is_open || closes piece (drop from (field_of column segment))) && fills piece (drop from (field_of column segment))))
+  ends_so_found true true filled = wanted_here segment is column from piece all.fits ∙ with_fills _ _ (filled_here filled)
+  ends_so_found true false filled = both_answers (wanted_here segment is column from piece all.fits) fills_here
+  ends_so_found false true filled = ends_closed (from + length piece == width_of column) refl filled
+  ends_so_found false false filled =
+      both_answers (wanted_here segment is column from piece all.fits) (both_answers closes_here fills_here)
+
+  -- a pattern's last piece
+  pub ends_found : (is_open : Bool) → answer (ends_at column piece is_open from) segment
+      ≡ has_text (is_text_like (ending piece is_open)) (drop from (field_of column segment))
+  ends_found is_open =
+      let within = all.fits.within in
+      let long = field_long segment is column in
+      ends_so_found is_open (ends_filled piece) refl
+      ∙ like_parts piece is_open (drop from (field_of column segment)) all.fits.are
+      (omega (arith, length-drop from (field_of column segment)))
+
+module _ (segment : SegmentParts) (is : IsSegment segment) (column : TextColumn) (piece : List PatternPart) (are : IsPiece piece) where
+  piece_by : (is_open short : Bool) → nat_le (length piece) (width_of column) ≡ short
+      → answer (if short then ends_at column piece is_open 0 else Decided false) segment
+      ≡ has_text (is_text_like (ending piece is_open)) (field_of column segment)
+  piece_by is_open true short =
+      let few = leb-true (length piece) (width_of column) short in
+      ends_found segment is column 0 piece
+      (record { fits = record { within = omega arith; are = are }; last = omega arith }) is_open
+  piece_by is_open false short =
+      let many = leb-false (length piece) (width_of column) short in
+      let long = field_long segment is column in
+      let takes = taken_ending piece is_open are in
+      let unlike = like_long (ending piece is_open) (field_of column segment) (omega arith) in
+      sym (ap (λ (like : Bool). not (are_blank (field_of column segment)) && like) unlike
+      ∙ and_false (not (are_blank (field_of column segment))))
+
+  -- a column isn't NULL and matches a pattern of one piece
+  pub piece_found : (is_open : Bool) → answer (is_piece column piece is_open) segment
+      ≡ has_text (is_text_like (ending piece is_open)) (field_of column segment)
+  piece_found is_open = piece_by is_open (nat_le (length piece) (width_of column)) refl

@@ -1,0 +1,88 @@
+use Rattle.std.proofs.Common.{◌≡◌, ◌<◌, ◌≤◌, ◌+◌, ◌-◌, ℕ, Bool, true, not, sym, ap, ◌∙◌, arith}
+use Rattle.cql2_code.specs.Lowering.{are_wanted, is_piece, offset_of, width_of}
+use Rattle.cql2_code.specs.Pieces.{taken}
+use Rattle.cql2_code.proofs.CutLemmas.{first_and_rest, like_long, like_one, like_several}
+use Rattle.cql2_code.proofs.FieldLemmas.{column_within}
+use Rattle.cql2_code.proofs.Refused.{prepends_as, prepends_refused, refuses_as, second_refused}
+use Rattle.cql2_code.proofs.Written.{joined, written_as}
+use Rattle.cql2_code.proofs.patterns.prepend_pattern.Goals as goal
+
+pub returns-then-taken-eq0 : goal.returns-then-taken-eq0
+returns-then-taken-eq0 g c =
+    let split = first_and_rest c.args.pattern.now c.split_at.result.0.now c.split_at.result.1.now c.first_length.result
+    c.first_length.ensures.value c.split_at.ensures.front c.split_at.ensures.back in
+    let none = sym c.taken.ensures.value ∙ c.if-taken-eq0.true in
+    let same = ap (λ (empty : Bool). is_piece c.args.column c.split_at.result.0.now (not empty)) c.is_empty.ensures
+    ∙ sym (like_one c.args.column c.args.pattern.now c.split_at.result.0.now c.split_at.result.1.now split none) in
+    prepends_as c.prepend_piece.result _ (λ all written. written_as same written) c.prepend_piece.ensures
+
+pub returns-then-total-width : goal.returns-then-total-width
+returns-then-total-width g c =
+    let split = first_and_rest c.args.pattern.now c.split_at.result.0.now c.split_at.result.1.now c.first_length.result
+    c.first_length.ensures.value c.split_at.ensures.front c.split_at.ensures.back in
+    let some : 0 < taken c.split_at.result.1.now = omega arith in
+    let long : width_of c.args.column < taken c.args.pattern.now = omega arith in
+    let same = sym (like_long c.args.column c.args.pattern.now c.split_at.result.0.now c.split_at.result.1.now split some long) in
+    prepends_as c.prepend_constant.result _ (λ all written. written_as same written) c.prepend_constant.ensures
+
+pub overflow_cast-first : goal.overflow_cast-first
+overflow_cast-first g c =
+    let split = first_and_rest c.args.pattern.now c.split_at.result.0.now c.split_at.result.1.now c.first_length.result
+    c.first_length.ensures.value c.split_at.ensures.front c.split_at.ensures.back in
+    let takes = split.takes in
+    let within = column_within c.args.column in
+    omega arith
+
+pub prepend_search-requires-clause-begins : goal.prepend_search-requires-clause-begins
+prepend_search-requires-clause-begins g c =
+    (first_and_rest c.args.pattern.now c.split_at.result.0.now c.split_at.result.1.now c.first_length.result
+    c.first_length.ensures.value c.split_at.ensures.front c.split_at.ensures.back).first
+
+pub prepend_search-requires-clause-fits : goal.prepend_search-requires-clause-fits
+prepend_search-requires-clause-fits g c =
+    let split = first_and_rest c.args.pattern.now c.split_at.result.0.now c.split_at.result.1.now c.first_length.result
+    c.first_length.ensures.value c.split_at.ensures.front c.split_at.ensures.back in
+    let takes = split.takes in
+    omega arith
+
+pub returns-in_err-prepend_search : goal.returns-in_err-prepend_search
+returns-in_err-prepend_search g c =
+    let split = first_and_rest c.args.pattern.now c.split_at.result.0.now c.split_at.result.1.now c.first_length.result
+    c.first_length.ensures.value c.split_at.ensures.front c.split_at.ensures.back in
+    let some : 0 < taken c.split_at.result.1.now = omega arith in
+    let short : taken c.args.pattern.now ≤ width_of c.args.column = omega arith in
+    let counted : c.from-width.result - c.taken-total.result + 1 ≡ width_of c.args.column - taken c.args.pattern.now + 1 = omega arith in
+    let same = sym (like_several c.args.column c.args.pattern.now c.split_at.result.0.now c.split_at.result.1.now
+    (c.from-width.result - c.taken-total.result + 1) split some short counted) in
+    prepends_refused c.from_residual.result _ c.from_residual.ensures.1
+    (refuses_as (λ all written. written_as same written)
+    (second_refused {neutral = true} {first = are_wanted (offset_of c.args.column) c.split_at.result.0.now} c.in_err-prepend_search.ensures))
+
+pub prepend_are_wanted-requires-clause-fits : goal.prepend_are_wanted-requires-clause-fits
+prepend_are_wanted-requires-clause-fits g c =
+    let split = first_and_rest c.args.pattern.now c.split_at.result.0.now c.split_at.result.1.now c.first_length.result
+    c.first_length.ensures.value c.split_at.ensures.front c.split_at.ensures.back in
+    let takes = split.takes in
+    omega arith
+
+pub prepend_are_wanted-requires-clause-short : goal.prepend_are_wanted-requires-clause-short
+prepend_are_wanted-requires-clause-short g c =
+    let split = first_and_rest c.args.pattern.now c.split_at.result.0.now c.split_at.result.1.now c.first_length.result
+    c.first_length.ensures.value c.split_at.ensures.front c.split_at.ensures.back in
+    let takes = split.takes in
+    omega arith
+
+pub returns : goal.returns
+returns g c =
+    let split = first_and_rest c.args.pattern.now c.split_at.result.0.now c.split_at.result.1.now c.first_length.result
+    c.first_length.ensures.value c.split_at.ensures.front c.split_at.ensures.back in
+    let some : 0 < taken c.split_at.result.1.now = omega arith in
+    let short : taken c.args.pattern.now ≤ width_of c.args.column = omega arith in
+    let counted : c.from-width.result - c.taken-total.result + 1 ≡ width_of c.args.column - taken c.args.pattern.now + 1 = omega arith in
+    let same = sym (like_several c.args.column c.args.pattern.now c.split_at.result.0.now c.split_at.result.1.now
+    (c.from-width.result - c.taken-total.result + 1) split some short counted) in
+    let at = ap (λ (n : ℕ). are_wanted n c.split_at.result.0.now) c.offset_of.ensures.value in
+    prepends_as c.prepend_are_wanted.result _
+    (λ all front. written_as same
+    (joined c.words-words.ensures.value c.in_ok-prepend_search.ensures c.exits_before-exits.ensures.before (written_as at front)))
+    c.prepend_are_wanted.ensures

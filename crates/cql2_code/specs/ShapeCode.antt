@@ -1,0 +1,246 @@
+-- The code that decides whether a segment's line meets a shape. Registers 7 and 8 hold the longitude and latitude where the line starts, registers 9
+-- and 5 those where it ends, and register 0 how far its start lies across it. Register 1 holds the marks: 1 and 2 while the rays from the two ends
+-- have crossed an odd number of a polygon's edges, and 4 once the line meets the shape. Registers 2 to 4 are for computing.
+use Rattle.std.specs.Prelude.{ℕ, ◌+◌, ℤ, pos, ◌-ℤ◌, ◌*ℤ◌, int_lt, Bool, List, [], ◌∷◌, ◌++◌, Option, Some, None, if◌then◌else◌}
+use Rattle.std.specs.Int.{int_max, int_min}
+use Rattle.std.specs.List.{flat_map}
+use Rattle.std.proofs.Common.{lit≤}
+use Rattle.bpf_helpers.specs.declared.helper.Helper.TheVariants.{Coord}
+use Rattle.bpf_insn.specs.Arithmetic.{immediate_operand}
+use Rattle.bpf_insn.specs.declared.instruction.Insn.{Insn}
+use Rattle.bpf_insn.specs.declared.instruction.Insn.TheVariants.{Alu, MoveSignExtended}
+use Rattle.bpf_insn.specs.declared.instruction.Operation.{Operation}
+use Rattle.bpf_insn.specs.declared.instruction.Operation.TheVariants as operation
+use Rattle.bpf_insn.specs.declared.instruction.SignExtension.TheVariants.{Bits32To64}
+use Rattle.bpf_insn.specs.declared.instruction.Source.TheVariants.{Immediate}
+use Rattle.bpf_insn.specs.declared.instruction.Source.TheVariants as source
+use Rattle.bpf_insn.specs.declared.instruction.Width.TheVariants.{Bits64}
+use Rattle.bpf_insn.specs.declared.register.Register.{Register}
+use Rattle.bpf_insn.specs.declared.register.WritableRegister.{WritableRegister}
+use Rattle.cql2.specs.Geometry.{Edge, Point, eastward, edge_of, edges_of_bounds, edges_of_polygon, edges_through, meets, northward}
+use Rattle.cql2.specs.Column.{numeric_value}
+use Rattle.cql2.specs.declared.column.CoordinateColumn.{CoordinateColumn}
+use Rattle.cql2.specs.declared.column.CoordinateColumn.TheVariants.{Frlong, Frlat, Tolong, Tolat}
+use Rattle.cql2.specs.declared.column.NumericColumn.TheVariants.{Coordinate}
+use Rattle.cql2.specs.declared.filter.Comparison.{Comparison}
+use Rattle.cql2.specs.declared.filter.Comparison.TheVariants.{Equal, NotEqual, Less, LessOrEqual, Greater, GreaterOrEqual}
+use Rattle.cql2.specs.declared.geometry.Bounds.{Bounds}
+use Rattle.cql2.specs.declared.geometry.Polygon.{Polygon}
+use Rattle.cql2.specs.declared.geometry.Shape.{Shape}
+use Rattle.cql2.specs.declared.geometry.Shape.TheVariants as shape
+use Rattle.tl_segments.specs.Segment.{SegmentParts}
+use Rattle.cql2_code.specs.Layout.{call, comparison_code, copy, from_argument_1, from_kept}
+use Rattle.cql2_code.specs.Layout.{from_result, into_argument_1, into_kept, into_result, move, wide_load}
+use Rattle.cql2_code.specs.Question.{Block}
+use Rattle.cql2_code.specs.Skipping.{Compared, skip, unless, unless_both}
+
+-- registers 2 to 5; register 2 receives a side, and registers 3 and 4 the operands of what is computed
+abbrev pub into_side : WritableRegister
+into_side = record { number = 2; in_range = lit≤ tt }
+
+abbrev pub from_side : Register
+from_side = record { number = 2; in_range = lit≤ tt }
+
+abbrev pub into_first : WritableRegister
+into_first = record { number = 3; in_range = lit≤ tt }
+
+abbrev pub from_first : Register
+from_first = record { number = 3; in_range = lit≤ tt }
+
+abbrev pub into_second : WritableRegister
+into_second = record { number = 4; in_range = lit≤ tt }
+
+abbrev pub from_second : Register
+from_second = record { number = 4; in_range = lit≤ tt }
+
+abbrev pub into_end_latitude : WritableRegister
+into_end_latitude = record { number = 5; in_range = lit≤ tt }
+
+abbrev pub from_end_latitude : Register
+from_end_latitude = record { number = 5; in_range = lit≤ tt }
+
+abbrev pub from_start_longitude : Register
+from_start_longitude = from_kept 0
+
+abbrev pub from_start_latitude : Register
+from_start_latitude = from_kept 1
+
+abbrev pub from_end_longitude : Register
+from_end_longitude = from_kept 2
+
+abbrev pub combine : Operation → WritableRegister → Register → Insn
+combine operation register other = Alu operation Bits64 register (source.Register other)
+
+abbrev pub combine_number : Operation → WritableRegister → ℤ → Insn
+combine_number operation register number = Alu operation Bits64 register (Immediate number)
+
+abbrev pub compare : Comparison → Register → Register → Compared
+compare comparison left right = record { comparison = comparison; left = left; right = source.Register right }
+
+abbrev pub compare_number : Comparison → Register → ℤ → Compared
+compare_number comparison left number = record { comparison = comparison; left = left; right = Immediate number }
+
+-- how far an edge's start lies across it, to its left
+abbrev pub start_across : Edge → ℤ
+start_across edge = eastward edge *ℤ edge.start.latitude -ℤ northward edge *ℤ edge.start.longitude
+
+-- how far an end of the line lies across an edge's direction, by the registers of its longitude and latitude
+abbrev pub across_by : ℤ → ℤ → Register → Register → List Insn
+across_by east north longitude latitude =
+    copy into_first latitude ∷ combine_number operation.Multiply into_first east
+    ∷ copy into_second longitude ∷ combine_number operation.Multiply into_second north
+    ∷ combine operation.Subtract into_first from_second ∷ []
+
+abbrev pub end_across : Edge → Register → Register → List Insn
+end_across edge longitude latitude = across_by (eastward edge) (northward edge) longitude latitude
+
+-- how far the line goes to the east and to the north
+abbrev pub line_eastward : List Insn
+line_eastward = copy into_first from_end_longitude ∷ combine operation.Subtract into_first from_start_longitude ∷ []
+
+abbrev pub line_northward : List Insn
+line_northward = copy into_second from_end_latitude ∷ combine operation.Subtract into_second from_start_latitude ∷ []
+
+-- how far a point lies across the line
+abbrev pub point_across : Point → List Insn
+point_across point =
+    line_eastward ++ combine_number operation.Multiply into_first point.latitude
+    ∷ (line_northward ++ combine_number operation.Multiply into_second point.longitude ∷ combine operation.Subtract into_first from_second ∷ [])
+
+-- how far the line's start lies across it
+abbrev pub lead_code : List Insn
+lead_code =
+    line_eastward ++ combine operation.Multiply into_first from_start_latitude
+    ∷ (line_northward ++ combine operation.Multiply into_second from_start_longitude ∷ combine operation.Subtract into_first from_second
+    ∷ copy into_result from_first ∷ [])
+
+-- how far the line's start and end lie across an edge, into registers 2 and 3, and the edge's start, into register 4
+abbrev pub sides_code : Edge → List Insn
+sides_code edge =
+    end_across edge from_start_longitude from_start_latitude ++ copy into_side from_first
+    ∷ (end_across edge from_end_longitude from_end_latitude ++ wide_load into_second (immediate_operand (start_across edge)) ∷ [])
+
+-- the ray from an end of the line crosses an edge: its mark is exchanged
+abbrev pub ray_code : Edge → Register → Register → ℤ → List Insn
+ray_code edge latitude side mark =
+    unless (compare_number Less latitude (int_min edge.start.latitude edge.end.latitude))
+    (unless (compare_number GreaterOrEqual latitude (int_max edge.start.latitude edge.end.latitude))
+    (unless (compare (if int_lt edge.start.latitude edge.end.latitude then LessOrEqual else GreaterOrEqual) side from_second)
+    (combine_number operation.ExclusiveOr into_argument_1 mark ∷ [])))
+
+abbrev pub rays_code : Edge → List Insn
+rays_code edge = ray_code edge from_start_latitude from_side (pos 1) ++ ray_code edge from_end_latitude from_first (pos 2)
+
+abbrev pub marks_met : List Insn
+marks_met = combine_number operation.Or into_argument_1 (pos 4) ∷ []
+
+-- a part is skipped if both ends lie beyond an edge in one of the four directions
+abbrev pub unless_apart : Edge → List Insn → List Insn
+unless_apart edge part =
+    let west = int_min edge.start.longitude edge.end.longitude in
+    let east = int_max edge.start.longitude edge.end.longitude in
+    let south = int_min edge.start.latitude edge.end.latitude in
+    let north = int_max edge.start.latitude edge.end.latitude in
+    unless_both (compare_number Less from_start_longitude west) (compare_number Less from_end_longitude west)
+    (unless_both (compare_number Greater from_start_longitude east) (compare_number Greater from_end_longitude east)
+    (unless_both (compare_number Less from_start_latitude south) (compare_number Less from_end_latitude south)
+    (unless_both (compare_number Greater from_start_latitude north) (compare_number Greater from_end_latitude north) part)))
+
+-- a part is skipped if registers 2 and 3 are both greater than another, or both less
+abbrev pub unless_beside : Register → List Insn → List Insn
+unless_beside other part =
+    unless_both (compare Greater from_side other) (compare Greater from_first other)
+    (unless_both (compare Less from_side other) (compare Less from_first other) part)
+
+-- these jumps, past the words of the part
+abbrev pub beside_by : Register → ℕ → List Insn
+beside_by other words =
+    skip (compare LessOrEqual from_side other) 1 ∷ skip (compare Greater from_first other) (words + 2)
+    ∷ skip (compare GreaterOrEqual from_side other) 1 ∷ skip (compare Less from_first other) words ∷ []
+
+-- the line meets an edge, after the sides of the line's ends are known
+abbrev pub meets_code : Edge → List Insn
+meets_code edge =
+    unless_beside from_second
+    (point_across edge.start ++ copy into_side from_first ∷ (point_across edge.end ++ unless_beside from_result (unless_apart edge marks_met)))
+
+abbrev pub edge_code : Edge → List Insn
+edge_code edge = sides_code edge ++ meets_code edge
+
+abbrev pub polygon_edge_code : Edge → List Insn
+polygon_edge_code edge = sides_code edge ++ (rays_code edge ++ meets_code edge)
+
+-- after a polygon's edges: the line meets it if one of its ends lies inside
+abbrev pub inside_code : List Insn
+inside_code =
+    copy into_first from_argument_1 ∷ combine_number operation.And into_first (pos 3)
+    ∷ (unless (compare_number Equal from_first (pos 0)) marks_met ++ combine_number operation.And into_argument_1 (pos 4) ∷ [])
+
+abbrev pub polygon_code : {A : Type 0} → Polygon A → List Insn
+polygon_code polygon = flat_map polygon_edge_code (edges_of_polygon polygon) ++ inside_code
+
+-- an end of the line lies in a box
+abbrev pub end_in_code : Bounds → Register → Register → List Insn
+end_in_code bounds longitude latitude =
+    unless (compare_number Less longitude bounds.southwest.longitude)
+    (unless (compare_number Greater longitude bounds.northeast.longitude)
+    (unless (compare_number Less latitude bounds.southwest.latitude)
+    (unless (compare_number Greater latitude bounds.northeast.latitude) marks_met)))
+
+abbrev pub bounds_code : Bounds → List Insn
+bounds_code bounds =
+    end_in_code bounds from_start_longitude from_start_latitude
+    ++ (end_in_code bounds from_end_longitude from_end_latitude ++ flat_map edge_code (edges_of_bounds bounds))
+
+abbrev pub shape_code : {A : Type 0} → Shape A → List Insn
+shape_code (shape.Point vertex) = edge_code (edge_of vertex vertex)
+shape_code (shape.Line vertices) = flat_map edge_code (edges_through vertices.items)
+shape_code (shape.Bounds bounds) = bounds_code bounds
+shape_code (shape.Polygons several) = flat_map polygon_code several.polygons.items
+
+-- a coordinate of the line, by its id
+abbrev pub read_coordinate : ℕ → List Insn
+read_coordinate id = move into_argument_1 (pos id) ∷ call Coord ∷ []
+
+abbrev pub keep_coordinate : ℕ → List Insn
+keep_coordinate id = read_coordinate id ++ copy (into_kept id) from_result ∷ []
+
+-- The other registers are set, in an order that leaves no doubt which of them are set before an instruction.
+abbrev pub set_registers : List Insn
+set_registers =
+    wide_load into_argument_1 0 ∷ copy into_end_latitude from_result ∷ wide_load into_first 0 ∷ move into_second (pos 0)
+    ∷ MoveSignExtended Bits32To64 into_side from_result ∷ []
+
+-- the line is read
+abbrev pub line_code : List Insn
+line_code = keep_coordinate 0 ++ (keep_coordinate 1 ++ (keep_coordinate 2 ++ (read_coordinate 3 ++ set_registers)))
+
+-- the marks that the code of a shape leaves in register 3
+abbrev pub marks_code : {A : Type 0} → Shape A → List Insn
+marks_code shape = lead_code ++ (shape_code shape ++ copy into_first from_argument_1 ∷ [])
+
+-- the marks are compared with 0
+abbrev pub mark_comparison : Bool → ℕ → List Insn
+mark_comparison falls skip = copy into_result from_first ∷ comparison_code (if falls then Equal else NotEqual) (pos 0) skip
+
+-- a coordinate of a segment's ends; 0 if it is missing
+abbrev pub or_zero : Option ℤ → ℤ
+or_zero None = pos 0
+or_zero (Some millionths) = millionths
+
+abbrev pub coordinate_at : SegmentParts → CoordinateColumn → ℤ
+coordinate_at segment column = or_zero (numeric_value (Coordinate column) segment.bytes)
+
+-- the straight line from a segment's start to its end
+abbrev pub line_of : SegmentParts → Edge
+line_of segment = record {
+  start = record { longitude = coordinate_at segment Frlong; latitude = coordinate_at segment Frlat };
+  end = record { longitude = coordinate_at segment Tolong; latitude = coordinate_at segment Tolat };
+}
+
+-- the line meets a shape
+abbrev pub meets_shape : {A : Type 0} → Shape A → Block
+meets_shape shape = record {
+  code = λ falls skip. line_code ++ (marks_code shape ++ mark_comparison falls skip);
+  answer = λ segment. meets shape (line_of segment);
+}

@@ -1,0 +1,224 @@
+//! Questions whether a text column matches a pattern.
+ghost use Rattle.std.specs.Prelude.{◌≡◌, ◌≤◌, ◌+◌, ◌==◌, [], length, suc, true};
+ghost use Rattle.bpf_insn.specs.Code.{word_count};
+ghost use Rattle.cql2_code.specs.Grid.{IsLaid, grid, lay_row, lay_rows};
+ghost use Rattle.cql2_code.specs.Layout.{Prepends};
+ghost use Rattle.cql2_code.specs.Lowering.{asks_like, cell, ends_at, is_like, is_piece, rows_of, width_of};
+ghost use Rattle.cql2_code.specs.Pieces.{pieces_of, taken};
+ghost use Rattle.cql2_code.specs.Question.{Coded};
+
+use crate::fault::CompileFault;
+use crate::pieces::{ends_filled, first_length, prepend_are_wanted, taken};
+use crate::question::Exits;
+use crate::suffix::CodeSuffix;
+use crate::texts::{Ending, offset_of, prepend_ending, prepend_is_null_text, width_of};
+use cql2::{Pattern, PatternPart, TextColumn};
+use std::alloc::Allocator;
+use tl_segments::NAME_LENGTH;
+
+/// The greatest number of places where a piece can begin in a field.
+const MAX_COLUMNS: usize = NAME_LENGTH + 1;
+
+/// Writes the code that asks whether a text column matches a pattern, or whether it doesn't.
+pub(crate) fn prepend_like<A: Allocator + Copy>(
+    code: &mut CodeSuffix<A>,
+    column: TextColumn,
+    pattern: &Pattern<A>,
+    asked: bool,
+    exits: Exits,
+) -> Result<(), CompileFault>
+    requires { exits.skip ≤ word_count code.old }
+    ensures { Prepends result (asks_like column pattern.now.parts.items asked) exits code.old code.new }
+{
+    let words = code.words();
+    prepend_pattern(code, column, pattern.parts.as_slice(), exits.asked(asked))?;
+    if asked {
+        return Ok(());
+    }
+    let exits = code.exits_before(words, true, exits);
+    prepend_is_null_text(code, column, exits.asked(false))
+}
+
+fn prepend_pattern<A: Allocator + Copy>(
+    code: &mut CodeSuffix<A>,
+    column: TextColumn,
+    pattern: &[PatternPart],
+    exits: Exits,
+) -> Result<(), CompileFault>
+    requires { exits.skip ≤ word_count code.old }
+    ensures { Prepends result (is_like column pattern.now) exits code.old code.new }
+{
+    let (first, others) = pattern.split_at(first_length(pattern));
+    if taken(others) == 0 {
+        return prepend_piece(code, column, first, !others.is_empty(), exits);
+    }
+    let total = taken(pattern);
+    let width = usize::from(width_of(column));
+    if total > width {
+        return code.prepend_constant(false, exits);
+    }
+    let words = code.words();
+    let search = Search {
+        column,
+        words,
+        exits,
+    };
+    prepend_search(code, search, first.len() as u8, others, width - total + 1)?;
+    let exits = code.exits_before(words, true, exits);
+    prepend_are_wanted(code, offset_of(column), first, exits)
+}
+
+/// Writes the code that asks whether a column matches a pattern of one piece.
+fn prepend_piece<A: Allocator + Copy>(
+    code: &mut CodeSuffix<A>,
+    column: TextColumn,
+    piece: &[PatternPart],
+    is_open: bool,
+    exits: Exits,
+) -> Result<(), CompileFault>
+    requires { exits.skip ≤ word_count code.old }
+    ensures { Prepends result (is_piece column piece.now is_open) exits code.old code.new }
+{
+    if piece.len() > usize::from(width_of(column)) {
+        return code.prepend_constant(false, exits);
+    }
+    prepend_ends_at(code, column, piece, is_open, 0, exits)
+}
+
+/// Writes the code that asks whether a pattern's last piece is in a column from a byte on.
+fn prepend_ends_at<A: Allocator + Copy>(
+    code: &mut CodeSuffix<A>,
+    column: TextColumn,
+    piece: &[PatternPart],
+    is_open: bool,
+    from: u8,
+    exits: Exits,
+) -> Result<(), CompileFault>
+    requires inside { exits.skip ≤ word_count code.old }
+    requires fits { from + length piece.now ≤ width_of column }
+    ensures { Prepends result (ends_at column piece.now is_open from) exits code.old code.new }
+{
+    let ends = Ending {
+        count: from + piece.len() as u8,
+        is_open,
+        is_filled: ends_filled(piece),
+    };
+    let exits = prepend_ending(code, column, ends, exits)?;
+    prepend_are_wanted(code, offset_of(column) + from, piece, exits)
+}
+
+/// A search for pieces in a column, with the exits of its code and the number of words behind it.
+#[derive(Clone, Copy)]
+struct Search {
+    column: TextColumn,
+    words: usize,
+    exits: Exits,
+}
+
+/// Writes the code that searches a column, from a byte on, for the pieces of a pattern that begins with `%`.
+fn prepend_search<A: Allocator + Copy>(
+    code: &mut CodeSuffix<A>,
+    search: Search,
+    from: u8,
+    pattern: &[PatternPart],
+    columns: usize,
+) -> Result<(), CompileFault>
+    requires begins { (pieces_of pattern.now).first ≡ [] }
+    requires fits { from + taken pattern.now + columns ≤ width_of search.column + 1 }
+    requires words { search.words ≡ word_count code.old }
+    requires inside { search.exits.skip ≤ word_count code.old }
+    ensures { Prepends result (Coded (grid (rows_of search.column (pieces_of pattern.now).is_open from (pieces_of pattern.now).others) columns))
+        search.exits code.old code.new }
+{
+    code.prepend_constant(true, search.exits)?;
+    let mut starts = [code.words(); MAX_COLUMNS];
+    prepend_rows(code, search, from, pattern, &mut starts[..columns])
+}
+
+/// Writes the rows of a search for the pieces of a pattern, before the end of its code. The starts are the numbers of words from each cell of the
+/// first row to the end of all code; before a row is written, they are those of the row below.
+fn prepend_rows<A: Allocator + Copy>(
+    code: &mut CodeSuffix<A>,
+    search: Search,
+    from: u8,
+    pattern: &[PatternPart],
+    starts: &mut [usize],
+) -> Result<(), CompileFault>
+    requires begins { (pieces_of pattern.now).first ≡ [] }
+    requires fits { from + taken pattern.now + length starts.old ≤ width_of search.column + 1 }
+    requires words { search.words ≤ word_count code.old }
+    requires inside { search.exits.skip ≤ search.words }
+    ensures { IsLaid result (lay_rows (rows_of search.column (pieces_of pattern.now).is_open from (pieces_of pattern.now).others)
+        search.exits.falls search.exits.skip search.words (record { code = code.old; starts = starts.old })) code.new starts.new }
+{
+    let Some((_many, behind)) = pattern.split_first() else {
+        return Ok(());
+    };
+    let (piece, others) = behind.split_at(first_length(behind));
+    if piece.is_empty() {
+        return prepend_rows(code, search, from, others, starts);
+    }
+    prepend_rows(code, search, from + piece.len() as u8, others, starts)?;
+    let past = code.exits_before(search.words, true, search.exits);
+    let row = Row {
+        column: search.column,
+        from,
+        is_last: taken(others) == 0,
+        is_open: !others.is_empty(),
+    };
+    prepend_cells(code, row, piece, 0, starts, past)
+}
+
+/// A piece's row: the first place where it can be in a column, and what follows it.
+#[derive(Clone, Copy)]
+struct Row {
+    column: TextColumn,
+    from: u8,
+    is_last: bool,
+    is_open: bool,
+}
+
+/// Writes the cells of a row, before the rows below, and replaces the starts of the cells below by those of these cells.
+fn prepend_cells<A: Allocator + Copy>(
+    code: &mut CodeSuffix<A>,
+    row: Row,
+    piece: &[PatternPart],
+    shift: u8,
+    starts: &mut [usize],
+    past: Exits,
+) -> Result<(), CompileFault>
+    requires past { past.falls ≡ true }
+    requires inside { past.skip ≤ word_count code.old }
+    requires fits { row.from + shift + length piece.now + length starts.old ≤ width_of row.column + 1 }
+    ensures { IsLaid result (lay_row (λ shift. cell row.column piece.now row.is_last row.is_open (row.from + shift)) shift starts.old past.skip code.old)
+        code.new starts.new }
+{
+    let Some((start, others)) = starts.split_first_mut() else {
+        return code.prepend_constant(false, past);
+    };
+    prepend_cells(code, row, piece, shift + 1, others, past)?;
+    let skip = code.words().saturating_sub(*start);
+    let exits = Exits { falls: false, skip };
+    prepend_cell(code, row, piece, shift, exits)?;
+    *start = code.words();
+    Ok(())
+}
+
+fn prepend_cell<A: Allocator + Copy>(
+    code: &mut CodeSuffix<A>,
+    row: Row,
+    piece: &[PatternPart],
+    shift: u8,
+    exits: Exits,
+) -> Result<(), CompileFault>
+    requires inside { exits.skip ≤ word_count code.old }
+    requires fits { row.from + shift + length piece.now ≤ width_of row.column }
+    ensures { Prepends result (cell row.column piece.now row.is_last row.is_open (row.from + shift)) exits code.old code.new }
+{
+    let at = row.from + shift;
+    if row.is_last {
+        prepend_ends_at(code, row.column, piece, row.is_open, at, exits)
+    } else {
+        prepend_are_wanted(code, offset_of(row.column) + at, piece, exits)
+    }
+}
