@@ -1,0 +1,10 @@
+pub mod WriterLemmas
+pub mod TranslationLemmas
+pub mod ArrayLemmas
+pub mod ObjectLemmas
+pub mod FaultLemmas
+pub mod WithinLemmas
+pub mod LeadLemmas
+pub mod PositionLemmas
+pub mod NumberLemmas
+pub mod CleanLemmas

@@ -1,0 +1,11 @@
+pub mod Fault
+pub mod Form
+pub mod Geometry
+pub mod Meets
+pub mod Members
+pub mod Operation
+pub mod Pointer
+pub mod Position
+pub mod Quoted
+pub mod Translation
+pub mod Writer
