@@ -12,7 +12,7 @@ ghost use Rattle.command_line.specs.declared.fault.ArgumentsFault.TheVariants.{M
 use clap::error::ErrorKind as UsageKind;
 use commands::{DiagnosticLine, Failure, OUT_OF_MEMORY, USAGE};
 use counted_io::{CountedWrite, write_text};
-use cql2_tokens::nearest_column;
+use cql2_tokens::near_column;
 use std::alloc::{AllocError, AllocFailed};
 use std::fmt::Write;
 use std::io::ErrorKind;
@@ -163,13 +163,13 @@ fn end_with_value<E: CountedWrite>(line: &mut DiagnosticLine<'_, E>, text: &str)
     write!(line, "\" isn't\n")
 }
 
-/// Ends a line with the nearest column to a name that is no column.
+/// Ends a line about a name that is no column, with the name of a column that is near.
 fn end_with_nearest<E: CountedWrite>(line: &mut DiagnosticLine<'_, E>, name: &str) -> fmt::Result {
-    let nearest = nearest_column(name.trim().as_bytes());
-    write!(
-        line,
-        "\", which isn't a column, and the nearest is {nearest}\n"
-    )
+    write!(line, "\", which isn't a column")?;
+    if let Some(nearest) = near_column(name.trim().as_bytes()) {
+        write!(line, ", and the nearest is {nearest}")?;
+    }
+    write!(line, "\n")
 }
 
 // The system fails to read the arguments if one isn't UTF-8 or if memory runs out.

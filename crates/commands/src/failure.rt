@@ -412,13 +412,15 @@ fn report_county_file<'p, E: CountedWrite>(
     );
 }
 
-/// Says what is wrong with a filter's text, and which column's name is nearest to an unknown one.
+/// Says what is wrong with a filter's text, and what to write instead if that is likely: a hint, or the name of a column that is near.
 fn filter_note(text: &[u8], fault: FilterFault) -> ArrayString<128> {
     let mut note = ArrayString::new();
     if let FilterFault::At { flaw, .. } = fault {
         let _ = write!(note, "{flaw}");
     }
-    if let Some(name) = fault.nearest_column(text) {
+    if let Some(hint) = fault.hint(text) {
+        let _ = write!(note, ": {hint}");
+    } else if let Some(name) = fault.nearest_column(text) {
         let _ = write!(note, ", and the nearest is {name}");
     }
     note
