@@ -11,7 +11,7 @@ use tl_segments::{RECORD_LENGTH, Segment};
 
 // A filter, a segment's record, and whether the filter selects the segment, worked out by hand.
 const FILTERS: Table = Table {
-    rows: 61,
+    rows: 96,
     text: "\
 TRUE; {rt1}; 1
 FALSE; {rt1}; 0
@@ -48,6 +48,18 @@ CFCC LIKE 'A4_'; {rt1 CFCC=A4}; 0
 CFCC LIKE '%'; {rt1 CFCC=_}; 0
 CFCC NOT LIKE 'B%'; {rt1}; 1
 CFCC NOT LIKE 'B%'; {rt1 CFCC=_}; 0
+CFCC LIKE '%4%'; {rt1}; 1
+CFCC LIKE '%4'; {rt1}; 0
+CFCC LIKE '%41'; {rt1}; 1
+CFCC LIKE '%1%1%'; {rt1}; 0
+CFCC LIKE 'A%1'; {rt1}; 1
+CFCC LIKE '%_'; {rt1 CFCC=A4}; 1
+CFCC LIKE '%4_%'; {rt1 CFCC=A4}; 0
+FENAME LIKE '%a%n%'; {rt1}; 1
+FENAME LIKE '%ana%na'; {rt1 FENAME=banana}; 1
+FENAME LIKE '%anan%na'; {rt1 FENAME=banana}; 0
+FENAME NOT LIKE '%x%'; {rt1}; 1
+FENAME NOT LIKE '%x%'; {rt1 FENAME=_}; 0
 FENAME = 'Main'; {rt1}; 1
 FENAME = 'Main'; {rt1 FENAME=Maine}; 0
 FENAME <> 'Main'; {rt1 FENAME=Maine}; 1
@@ -67,6 +79,29 @@ TOIADDL = '1'; {rt1 TOIADDL=1}; 1
 FRIADDR = '1'; {rt1 FRIADDR=1}; 1
 TOIADDR = '1'; {rt1 TOIADDR=1}; 1
 CASEI(FENAME) = CASEI('mAIN'); {rt1}; 1
+ACCENTI(FENAME) = ACCENTI('Máin'); {rt1}; 1
+CASEI(ACCENTI(FENAME)) LIKE ACCENTI(CASEI('%ÀI%')); {rt1}; 1
+ZIPL = ZIPR; {rt1}; 1
+ZIPL <> ZIPR; {rt1 ZIPL=36068}; 1
+ZIPL <> ZIPR; {rt1 ZIPL=_}; 0
+NOT ZIPL = ZIPR; {rt1 ZIPL=_}; 0
+FRADDL < TOADDL; {rt1}; 1
+FRLONG < TOLONG OR FRLONG > TOLONG; {rt1}; 1
+FRADDL % 2 = 1; {rt1}; 1
+FRADDL % 2 = 1; {rt1 FRADDL=102}; 0
+FRADDL div 100 * 100 = 100; {rt1}; 1
+0 - FRADDL div 2 = -50; {rt1}; 1
+-(FRADDL) div 2 = -50; {rt1}; 1
+-(FRADDL) % 2 = -1; {rt1}; 1
+1 div (FRADDL - 101) = 1; {rt1}; 0
+NOT 1 div (FRADDL - 101) = 1; {rt1}; 0
+(FRADDL - 100) * 99 - (TOADDL - 100) = FRADDL - 101; {rt1}; 1
+FRADDL IN (TLID, FRADDL); {rt1}; 1
+FRADDL + 1 BETWEEN 102 AND 102; {rt1}; 1
+FENAME > CFCC; {rt1}; 1
+FENAME = CFCC; {rt1 FENAME=A41}; 1
+FENAME <= CFCC; {rt1 FENAME=A4}; 1
+FENAME < CFCC; {rt1 FENAME=_}; 0
 HAS_NUMBER(150); {rt1}; 1
 HAS_NUMBER(99); {rt1}; 0
 NOT HAS_NUMBER(99); {rt1}; 1
@@ -78,27 +113,31 @@ NOT HAS_NAME('mai', 0); {rt1}; 1",
 
 // Filters, and the maximum number of words in their programs.
 const SHORT: Table = Table {
-    rows: 3,
+    rows: 4,
     text: "\
 ZIPL = 36067; 8
 CFCC LIKE 'A4%'; 12
-FENAME = 'Main'; 25",
+FENAME = 'Main'; 25
+FENAME LIKE '%creek%'; 500",
 };
 
 // The number of times a filter is repeated, that filter, and the last terms after it, all joined by OR; then the number of words in the program:
 // 5 plus those of the terms.
 // - HAS_NUMBER(1) takes 4 words for each of 1,001 ranges and 2 for each of 10 powers of two: 4,024. As the last term, or before AND FALSE, it
-//   takes one more, and none of its jumps leads past its end. Otherwise its first jump skips everything after its 4th word.
+//   takes one more, and none of its jumps leads past its end. Otherwise the jump of each range skips everything after it. Where that is more
+//   than 32,767 words, the range takes one more: all 1,001 in the first of ten terms, and 857 in the first of nine.
 // - HAS_NAME takes 14 words per name and 2 per power of two: with 39 alternate names, 40 * 14 + 6 * 2 = 572. Before AND FALSE it takes one more:
 //   with 14, 15 * 14 + 4 * 2 + 1 = 219, and with the default of 63, 64 * 14 + 6 * 2 + 1 = 909.
 // - Each number of a ZIPL takes 3 words, and TRUE takes 1.
 const LONG: Table = Table {
-    rows: 6,
+    rows: 8,
     text: "\
 7; HAS_NUMBER(1); HAS_NUMBER(1); 32198
-8; HAS_NUMBER(1); HAS_NUMBER(1); too long
+8; HAS_NUMBER(1); HAS_NUMBER(1); 37079
+13; HAS_NUMBER(1); HAS_NUMBER(1); 62204
+14; HAS_NUMBER(1); HAS_NUMBER(1); too long
 7; HAS_NUMBER(1); HAS_NAME('a', 39) OR ZIPL IN (1, 2) OR HAS_NUMBER(1); 32776
-7; HAS_NUMBER(1); HAS_NAME('a', 39) OR ZIPL IN (1, 2) OR TRUE OR HAS_NUMBER(1); too long
+7; HAS_NUMBER(1); HAS_NAME('a', 39) OR ZIPL IN (1, 2) OR TRUE OR HAS_NUMBER(1); 32778
 16; HAS_NUMBER(1) AND FALSE; HAS_NAME('a') AND FALSE OR HAS_NAME('a', 14) AND FALSE OR ZIPL = 1; 65536
 16; HAS_NUMBER(1) AND FALSE; HAS_NAME('a') AND FALSE OR HAS_NAME('a', 14) AND FALSE OR TRUE OR ZIPL = 1; too long",
 };

@@ -51,7 +51,7 @@ extractd run --program p.bpf --data d --format csv --columns TLID,FRLATT 01001;
 extractd select --where TRUE --data d --format geojsonseq --columns TLID,_cfc 01001;
   error: --columns has " cfc", which isn't a column, and the nearest is CFCC
 extractd run --program p.bpf --data d --format csv --columns TLID,Z\tP 01001;
-  error: --columns has "Z\tP", which isn't a column, and the nearest is RT
+  error: --columns has "Z\tP", which isn't a column
 extractd run --program p.bpf --data d --format csv --columns TLID,CFCC,tlid 01001; error: --columns has "tlid" twice
 extractd select --where TRUE --data d --format csv --columns '' 01001; error: --columns has an empty name
 extractd run --program p.bpf --data d --format geojsonseq --columns TLID,,CFCC 01001; error: --columns has an empty name

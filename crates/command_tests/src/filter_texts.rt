@@ -1,5 +1,7 @@
 //! Filters read from texts, with results worked out by hand.
-use cql2::{Column, Comparison, Filter, NumericColumn, Pattern, PatternByte};
+use cql2::{
+    Column, Comparison, Expression, Filter, Folding, NumericColumn, Operator, Pattern, PatternPart,
+};
 use cql2_text::{Expected, FilterFault, FilterFaultKind, column_named, read};
 use fixtures::{Table, TableFault, bytes, cells};
 use refusals::Fault;
@@ -7,9 +9,9 @@ use std::alloc::{AllocError, Global};
 use std::test::Fail;
 
 // A text and the filter it is read as, in prefix notation. A coordinate is in millionths, and a text in Latin-1. In a pattern, `?` is any byte,
-// `~x` an x in either case, and `*` anything that follows.
+// `~x` an x in either case, `^x` one with or without an accent, `~^x` both, and `*` any number of bytes.
 const READ: Table = Table {
-    rows: 122,
+    rows: 159,
     text: r#"
 ZIPL = 36067; (= ZIPL 36067)
 zipl=+36067; (= ZIPL 36067)
@@ -41,8 +43,35 @@ FRIADDL = 1; 1 11 WrongType
 TOIADDR = '10'; 1 11 LongText
 CFCC = 5; 1 8 WrongType
 ZIPL = '5'; 1 8 WrongType
-ZIPL = ZIPR; 1 8 Syntax
-5 = ZIPL; 1 1 Syntax
+ZIPL = ZIPR; (= ZIPL ZIPR)
+5 = ZIPL; (= ZIPL 5)
+5 < ZIPL AND 5 >= ZIPL; (and (> ZIPL 5) (<= ZIPL 5))
+1 <= 2; (<= 1 2)
+FENAME <> FETYPE; (<> FENAME FETYPE)
+'A41' > CFCC; (< CFCC A41)
+FENAME = FRADDL; 1 10 Syntax
+ZIPL = FENAME; 1 8 WrongType
+FRADDL + 1 = TOADDL; (= (+ FRADDL 1) TOADDL)
+FRADDL - 1 - -2 > 0; (> (- (- FRADDL 1) -2) 0)
+FRADDL-1=0; (= (- FRADDL 1) 0)
+ZIPL + 2 * ZIPR % 3 div 4 = 1; (= (+ ZIPL (div (% (* 2 ZIPR) 3) 4)) 1)
+(ZIPL + 2) * 3 = 1; (= (* (+ ZIPL 2) 3) 1)
+-(ZIPL) < - ZIPR; (< (neg ZIPL) (neg ZIPR))
+NOT (ZIPL + 1) > 2 AND (ZIPL > 2); (and (not (> (+ ZIPL 1) 2)) (> ZIPL 2))
+((ZIPL)) = 5; (= ZIPL 5)
+FRADDL % 2 IN (0, TOADDL); (or (= (% FRADDL 2) 0) (= (% FRADDL 2) TOADDL))
+FRADDL + 1 NOT BETWEEN ZIPL AND 9; (not (and (>= (+ FRADDL 1) ZIPL) (<= (+ FRADDL 1) 9)))
+TOLONG - FRLONG < 0.01; (< (- TOLONG FRLONG) 10000)
+FRLONG + 1 = -86.5; (= (+ FRLONG 1000000) -86500000)
+FRLONG * 2 = 1; 1 8 WrongType
+FRLAT = ZIPL; 1 9 WrongType
+FRADDL + 1.5 = 2; 1 10 WrongType
+FRADDL / 2 = 1; 1 8 Syntax
+FRADDL * FRADDL = 1; 1 8 NumberRange
+FRADDL * 46116861 = 1; 1 8 NumberRange
+FRADDL * 46116860 = 1; (= (* FRADDL 46116860) 1)
+1 + (2 + (3 + ZIPL)) = 1; 1 1 TooDeep
+1 + (2 + ZIPL) = 1; (= (+ 1 (+ 2 ZIPL)) 1)
 ZIPL = 5.0; 1 8 WrongType
 ZIPL = 123456789012345678; (= ZIPL 123456789012345678)
 ZIPL = 1234567890123456789; 1 8 NumberRange
@@ -55,9 +84,16 @@ TOLAT = 1000; 1 9 NumberRange
 TOLAT = 1.0000001; 1 9 NumberRange
 TOLAT = .5; 1 9 Syntax
 TOLAT = 5.; 1 10 Syntax
-TOLAT = - 5; 1 9 Syntax
-CASEI(FENAME) = CASEI('Main 5é'); (like FENAME ~m~a~i~n 5é)
-casei(fename) <> casei('A '); (not (like FENAME ~a))
+TOLAT = - 5; (= TOLAT -5000000)
+CASEI(FENAME) = CASEI('Main 5é'); (like FENAME ~M~a~i~n~ ~5~é)
+casei(fename) <> casei('A '); (not (like FENAME ~A))
+ACCENTI(FENAME) = ACCENTI('Peñ'); (like FENAME ^P^e^ñ)
+accenti(Accenti(FENAME)) IN (ACCENTI('a'), ACCENTI(ACCENTI('b'))); (or (like FENAME ^a) (like FENAME ^b))
+CASEI(ACCENTI(FENAME)) LIKE ACCENTI(CASEI('p_%')); (like FENAME ~^p?*)
+CASEI(FENAME) = ACCENTI('a'); 1 17 WrongType
+CASEI(ACCENTI(FENAME)) = CASEI('a'); 1 26 WrongType
+ACCENTI(ZIPL) = ACCENTI('1'); 1 9 WrongType
+ACCENTI(FENAME) < ACCENTI('a'); 1 17 WrongType
 CASEI(FENAME) < CASEI('A'); 1 15 WrongType
 CASEI(FENAME) = 'A'; 1 17 WrongType
 FENAME = CASEI('A'); 1 10 WrongType
@@ -67,15 +103,18 @@ CASEI(FENAME) IS NULL; 1 18 WrongType
 CASEI(CFCC) = CASEI('A410'); 1 21 LongText
 FENAME LIKE 'Ma_n%'; (like FENAME Ma?n*)
 FENAME NOT LIKE 'Main'; (not (like FENAME Main))
-FENAME LIKE '%n'; 1 14 Syntax
-FENAME LIKE 'ab%%'; 1 16 Syntax
+FENAME LIKE '%n'; (like FENAME *n)
+FENAME LIKE 'ab%%'; (like FENAME ab*)
+FENAME LIKE '%a%_b\x5c%%'; (like FENAME *a*?b%*)
+CFCC LIKE '%%A%41%'; (like CFCC *A*41*)
+CFCC LIKE '%A%410'; 1 11 LongText
 FENAME LIKE '10\x5c%\x5c_\x5c\x5c''s%'; (like FENAME 10%_\x5c's*)
 FENAME LIKE 'a\x5c'; 1 16 Syntax
 FENAME LIKE ''; (like FENAME )
 FENAME LIKE '%'; (like FENAME *)
 CFCC LIKE 'A4_%'; (like CFCC A4?*)
 CFCC LIKE 'A4__'; 1 11 LongText
-CASEI(FENAME) LIKE CASEI('mA_5%'); (like FENAME ~m~a?5*)
+CASEI(FENAME) LIKE CASEI('mA_5%'); (like FENAME ~m~A?~5*)
 CASEI(FENAME) NOT LIKE CASEI('\x5cx%'); (not (like FENAME ~x*))
 ZIPL LIKE '3%'; 1 6 WrongType
 FRADDL BETWEEN 1 AND 9; (and (>= FRADDL 1) (<= FRADDL 9))
@@ -86,7 +125,7 @@ FENAME BETWEEN 'a' AND 'b'; 1 8 WrongType
 ZIPL IN (1); (= ZIPL 1)
 ZIPL IN (1, 2,3); (or (or (= ZIPL 1) (= ZIPL 2)) (= ZIPL 3))
 CFCC NOT IN ('A41', 'A31'); (not (or (= CFCC A41) (= CFCC A31)))
-CASEI(FETYPE) IN (CASEI('st'), CASEI('AVE')); (or (like FETYPE ~s~t) (like FETYPE ~a~v~e))
+CASEI(FETYPE) IN (CASEI('st'), CASEI('AVE')); (or (like FETYPE ~s~t) (like FETYPE ~A~V~E))
 ZIPL IN (); 1 10 Syntax
 ZIPL IN (1 2); 1 12 Syntax
 ZIPL IN 1; 1 9 Syntax
@@ -139,10 +178,10 @@ ZIPL=5AND ZIPR=6; (and (= ZIPL 5) (= ZIPR 6))
 };
 
 // The columns of these filters.
-const COLUMNS: [&str; 22] = [
-    "TLID", "FRADDL", "ZIPL", "ZIPR", "FRLONG", "FRLAT", "TOLONG", "TOLAT", "RT", "VERSION",
-    "SIDE1", "SOURCE", "FEDIRP", "FENAME", "FETYPE", "CFCC", "FRIADDL", "TOIADDL", "FRIADDR",
-    "TOIADDR", "COUSUBL", "COUSUBR",
+const COLUMNS: [&str; 23] = [
+    "TLID", "FRADDL", "TOADDL", "ZIPL", "ZIPR", "FRLONG", "FRLAT", "TOLONG", "TOLAT", "RT",
+    "VERSION", "SIDE1", "SOURCE", "FEDIRP", "FENAME", "FETYPE", "CFCC", "FRIADDL", "TOIADDL",
+    "FRIADDR", "TOIADDR", "COUSUBL", "COUSUBR",
 ];
 
 fn column_name(column: Column) -> &'static str {
@@ -171,20 +210,29 @@ fn push_bytes(text: &mut String, bytes: &[u8]) -> Result<(), AllocError> {
     Ok(())
 }
 
+/// Appends what a comparison ignores.
+fn push_folding(text: &mut String, folding: Folding) -> Result<(), AllocError> {
+    if folding.case {
+        text.push('~')?;
+    }
+    if folding.accents {
+        text.push('^')?;
+    }
+    Ok(())
+}
+
 /// Appends a pattern.
 fn push_pattern(text: &mut String, pattern: &Pattern<Global>) -> Result<(), AllocError> {
-    for wanted in &pattern.wanted {
-        match *wanted {
-            PatternByte::Exactly(byte) => text.push(byte as char)?,
-            PatternByte::EitherCase(byte) => {
-                text.push('~')?;
+    for part in &pattern.parts {
+        match *part {
+            PatternPart::Exactly(byte) => text.push(byte as char)?,
+            PatternPart::Alike(folding, byte) => {
+                push_folding(text, folding)?;
                 text.push(byte as char)?;
             }
-            PatternByte::Any => text.push('?')?,
+            PatternPart::One => text.push('?')?,
+            PatternPart::Many => text.push('*')?,
         }
-    }
-    if pattern.is_open {
-        text.push('*')?;
     }
     Ok(())
 }
@@ -207,6 +255,45 @@ fn push_subject(text: &mut String, operator: &str, column: Column) -> Result<(),
     text.push_str(column_name(column))
 }
 
+fn operator_name(operator: Operator) -> &'static str {
+    match operator {
+        Operator::Add => "+",
+        Operator::Subtract => "-",
+        Operator::Multiply => "*",
+        Operator::Divide => "div",
+        Operator::Remainder => "%",
+    }
+}
+
+/// Appends a numeric expression.
+fn push_expression(
+    alloc: Global,
+    text: &mut String,
+    expression: &Expression<Global>,
+) -> Result<(), AllocError> {
+    match expression {
+        Expression::Literal(literal) => {
+            let number = literal.number;
+            text.push_str(format!(in alloc; "{number}")?.as_str())
+        }
+        Expression::Column(column) => text.push_str(column_name(Column::Numeric(*column))),
+        Expression::Negated(inner) => {
+            text.push_str("(neg ")?;
+            push_expression(alloc, text, inner)?;
+            text.push(')')
+        }
+        Expression::Combined(operator, first, second) => {
+            text.push('(')?;
+            text.push_str(operator_name(*operator))?;
+            text.push(' ')?;
+            push_expression(alloc, text, first)?;
+            text.push(' ')?;
+            push_expression(alloc, text, second)?;
+            text.push(')')
+        }
+    }
+}
+
 /// Appends a filter that has no others in it, without parentheses.
 fn push_leaf(alloc: Global, text: &mut String, filter: &Filter<Global>) -> Result<(), AllocError> {
     match filter {
@@ -216,6 +303,18 @@ fn push_leaf(alloc: Global, text: &mut String, filter: &Filter<Global>) -> Resul
             push_subject(text, sign(*comparison), Column::Numeric(*column))?;
             let number = literal.number;
             text.push_str(format!(in alloc; " {number}")?.as_str())
+        }
+        Filter::CompareNumbers(first, comparison, second) => {
+            text.push_str(sign(*comparison))?;
+            text.push(' ')?;
+            push_expression(alloc, text, &first.expression)?;
+            text.push(' ')?;
+            push_expression(alloc, text, &second.expression)
+        }
+        Filter::CompareTexts(first, comparison, second) => {
+            push_subject(text, sign(*comparison), Column::Text(*first))?;
+            text.push(' ')?;
+            text.push_str(column_name(Column::Text(*second)))
         }
         Filter::CompareText(column, comparison, wanted) => {
             push_subject(text, sign(*comparison), Column::Text(*column))?;
@@ -274,7 +373,7 @@ fn flaw_name(flaw: FilterFaultKind) -> &'static str {
     match flaw {
         FilterFaultKind::Syntax(_expected) => "Syntax",
         FilterFaultKind::UnknownColumn => "UnknownColumn",
-        FilterFaultKind::WrongType => "WrongType",
+        FilterFaultKind::WrongType | FilterFaultKind::Folded => "WrongType",
         FilterFaultKind::NumberRange => "NumberRange",
         FilterFaultKind::LongText => "LongText",
         FilterFaultKind::TooDeep => "TooDeep",
@@ -334,9 +433,9 @@ fn bad_bytes(rt: HostRuntime) {
     assert!(rt; fault.line().as_str() == "refused 90 line 2 column 3 Syntax");
 }
 
-// A text, and the column name nearest to the unknown one in it.
+// A text, and the column name near to the unknown one in it.
 const NEAREST: Table = Table {
-    rows: 9,
+    rows: 11,
     text: r#"
 fenam = 1; FENAME
 NAME = 1; FENAME
@@ -346,11 +445,13 @@ TLIDD=1; TLID
 TRUE AND (frlon > 2); FRLONG
 CFC; CFCC
 FRIADD = '1'; FRIADDL
+STREET = 'x'; none
+FOO = 1; none
 ZIPL = 'x'; none
 "#,
 };
 
-/// Returns the column name nearest to the unknown one in a text.
+/// Returns the column name near to the unknown one in a text.
 fn nearest_in(alloc: Global, text: &[u8]) -> &'static str {
     let fault = read(alloc, text).err();
     fault
@@ -358,7 +459,7 @@ fn nearest_in(alloc: Global, text: &[u8]) -> &'static str {
         .unwrap_or("none")
 }
 
-/// Returns whether the nearest column name is the one in the row.
+/// Returns whether the column name that is near is the one in the row.
 fn is_nearest(alloc: Global, row: &str) -> Result<bool, TableFault> {
     let (text, wanted) = cells(row)?.two()?;
     let text = bytes(alloc, text)?;
@@ -369,5 +470,43 @@ fn is_nearest(alloc: Global, row: &str) -> Result<bool, TableFault> {
 fn nearest_names(rt: HostRuntime) {
     for row in NEAREST.joined(rt.alloc()).expect(&rt, "nearest").lines() {
         assert_eq!(rt; is_nearest(rt.alloc(), row), Ok(true), "{row}");
+    }
+}
+
+// A text as other query languages have it, and what to write.
+const HINTS: Table = Table {
+    rows: 12,
+    text: r#"
+S_CONTAINS(geometry, POINT(1 2)); write STARTS_IN(BBOX(west, south, east, north))
+TRUE AND within(5); write STARTS_IN(BBOX(west, south, east, north))
+UPPER(FENAME) = 'MAIN'; write CASEI on both sides
+lower(FENAME) = 'main'; write CASEI on both sides
+ZIPL != 5; write <>
+ZIPL == 5; write a single sign, such as = or <=
+ZIPL => 5; write a single sign, such as = or <=
+FENAME = "Main"; write single quotes, since double quotes are for the name of a column
+ZIPL = '36067'; write a number, without quotes
+FOO = 5; none
+FENAME = 5; none
+ZIPL = 5 OR; none
+"#,
+};
+
+/// Returns whether the hint for a text is the one in the row.
+fn is_hinted(alloc: Global, row: &str) -> Result<bool, TableFault> {
+    let (text, wanted) = cells(row)?.two()?;
+    let text = bytes(alloc, text)?;
+    let hint = read(alloc, &text).err().and_then(|fault| fault.hint(&text));
+    let written = match hint {
+        Some(hint) => format!(in alloc; "{hint}")?,
+        None => String::from_str(alloc, "none")?,
+    };
+    Ok(written.as_str() == wanted)
+}
+
+#[test]
+fn hints(rt: HostRuntime) {
+    for row in HINTS.joined(rt.alloc()).expect(&rt, "hints").lines() {
+        assert_eq!(rt; is_hinted(rt.alloc(), row), Ok(true), "{row}");
     }
 }

@@ -12,8 +12,8 @@ extractd compile --filter f.cql;; 1; refused 91 line 2 column 1 UnknownColumn\nn
   is FENAME; f.cql: TRUE AND\nFNAME = 'Main'
 extractd compile --filter f.cql;; 1; refused 90 line 1 column 7 Syntax\nexpected a number; f.cql: ZIPL =
 extractd compile --filter f.cql;; 1; refused 90 line 2 column 1 Syntax\nexpected UTF-8; f.cql: \n\xff
-extractd compile --filter f.cql;; 1; refused 96 line 1 column 1 TooLong\nthe program would have more than 65,536 words,
-  or a jump over more than 32,767; f.cql: {text HAS_NUMBER(99999999999) OR *13}HAS_NUMBER(99999999999)
+extractd compile --filter f.cql;; 1; refused 96 line 1 column 1 TooLong\nthe program would have more than 65,536 words;
+  f.cql: {text HAS_NUMBER(99999999999) OR *13}HAS_NUMBER(99999999999)
 extractd compile --filter f.cql;; 1; refused 96 line 1 column 1048577 TooLong\nthe text has more than 1,048,576 bytes;
   f.cql: {text         *131072}TRUE
 extractd compile --filter f.cql; {asm mov r6, r1 | mov r0, 1 | exit | mov r0, 0 | exit}; 0;;
@@ -29,7 +29,7 @@ extractd compile --filter - > /dev/stdin;; 3; error: /dev/stdin: not found
 extractd select --where ZIPL_=_36067 --data d 01001; 0\t{rt1}\n0\t{rt1 TLID=7}\n; 0;;
   d/TGR01001.RT1: {rt1}\n{rt1 ZIPL=36066}\n{rt1 ZIPL=}\n{rt1 TLID=7}
 extractd select --where ZIPL_=_'36067' --data d 01001;; 1; refused 92 line 1 column 8 WrongType\nthe column isn't of this
-  type; d/TGR01001.RT1: {rt1}\n
+  type: write a number, without quotes; d/TGR01001.RT1: {rt1}\n
 extractd select --where FALSE --data d 01001;; 0;; d/TGR01001.RT1: {rt1}\n
 extractd select --where TRUE --score ZIPL --data d 01003 01001; 0\t{rt1 ZIPL=}\n36067\t{rt1}\n; 0;;
   d/TGR01001.RT1: {rt1}\n; d/TGR01003.RT1: {rt1 ZIPL=}\n
