@@ -3,6 +3,7 @@
 
 import re
 import sqlite3
+import unicodedata
 from collections.abc import Iterator
 from enum import Enum
 from pathlib import Path
@@ -80,13 +81,65 @@ def text_of(field: bytes) -> str | None:
     return field.rstrip(b" ").decode("latin-1") or None
 
 
+# ---- Letters that are the same but for their case or their diacritics
+
+
+def without_case(text: str | None) -> str | None:
+    """Folds all letters of Latin-1, as CASEI does. The capitals of ÿ and µ aren't in Latin-1, and ß has none."""
+    return None if text is None else text.lower()
+
+
+def unaccented(character: str) -> str:
+    """Takes the diacritic off. Unicode has none on Ø, Æ, Ð, Þ and ß."""
+    return unicodedata.normalize("NFD", character)[0]
+
+
+def without_accents(text: str | None) -> str | None:
+    """Takes the diacritics off, as ACCENTI does."""
+    return None if text is None else "".join(map(unaccented, text))
+
+
+def read_families() -> dict[str, str]:
+    """Returns the letters of Latin-1 that are the same but for their diacritics, by each of them."""
+    families: dict[str, str] = {}
+    for letter in filter(str.isalpha, map(chr, range(256))):
+        base = unaccented(letter)
+        families[base] = families.get(base, "") + letter
+    return {letter: family for family in families.values() for letter in family}
+
+
+FAMILIES = read_families()
+LOOKALIKES = dict(zip("ØøÆæÐðµ", "OoAaDdu"))
+# Characters that CASEI or ACCENTI may mistake for others, and those others.
+MISTAKABLE = "×÷ßÿÞþØøÆæÐðµ"
+
+
+def swapped(text: str) -> str:
+    """Swaps capital and small letters, except those whose other case isn't a character of Latin-1."""
+    others = ((character, character.swapcase()) for character in text)
+    return "".join(other if len(other) == 1 and other <= "\xff" else character for character, other in others)
+
+
+def reaccented(dice: Random, text: str) -> str:
+    """Draws other diacritics, or none, for some letters."""
+    return "".join(dice.choice(FAMILIES.get(character, character)) if chance(dice, 60) else character for character in text)
+
+
+def mistaken(character: str) -> str:
+    """Returns a character that only a mistake takes for the same: a letter without what no diacritic is, or a code that differs as those of letters do."""
+    return LOOKALIKES.get(character, chr(ord(character) ^ 32))
+
+
 # ---- Counties
 
-# Characters that literals and fields may have, and further ones that only fields have.
-SPELLABLE = "aAbBmMzZ059 '%_\\-.\"~¡éÉÿ\xa0"
+# Characters that fields often have, and some that a literal can't have.
+USUAL = "aAbBmMnNzZ059 '%_\\-.\"~¡\xa0" + "aeiouyncAEIOUYNCàÁâãÄåçÇÈéÉêëìÍîñÑòÓôõÖøØùÚÛüýÝÿßæÆðÐþÞµ×÷"
 UNSPELLABLE = "\t\r\x01\x1f\x7f\x80\x9f"
+# What the texts of a column consist of.
+ALPHABETS = (USUAL, USUAL, USUAL, "an", "Aàn ", MISTAKABLE + "[{@`yYý")
 FAULTY_NUMBERS = ("1 2", "1-4", "x", "+5", "-1", "5.")
 FAULTY_COORDINATES = ("+", "+-1", "86.5", "1 1", "12x", "+0", "-000000", "0")
+EXTREME_COORDINATES = ("999999999", "-99999999", "-999999999")
 ALTERNATE_NAMES = (0, 0, 0, 0, 1, 2, 3, 5, 8)
 MANY_NAMES = (62, 63, 64, 65, 90)
 FURTHER_RANGES = (0, 0, 0, 0, 1, 2, 4, 7)
@@ -95,11 +148,6 @@ MANY_RANGES = (15, 16, 31, 64)
 
 def chance(dice: Random, percent: int) -> bool:
     return dice.randrange(100) < percent
-
-
-def swapped(text: str) -> str:
-    """Swaps capital and small letters, including those that CASEI doesn't fold. Latin-1 has no capital ÿ."""
-    return "".join(character if character == "ÿ" else character.swapcase() for character in text)
 
 
 def justified(dice: Random, text: str, width: int) -> str:
@@ -114,7 +162,7 @@ def draw_number(dice: Random, width: int) -> str:
         return " " * width
     if chance(dice, 8):
         return dice.choice(FAULTY_NUMBERS)[:width].rjust(width)
-    digits = str(dice.randrange(10 ** dice.randint(1, min(width, 11))))
+    digits = "9" * min(width, 11) if chance(dice, 4) else str(dice.randrange(10 ** dice.randint(1, min(width, 11))))
     return digits.zfill(width) if chance(dice, 15) else justified(dice, digits, width)
 
 
@@ -127,19 +175,21 @@ def draw_coordinate(dice: Random, column: Column) -> str:
         return " " * column.width
     if chance(dice, 8):
         return dice.choice(FAULTY_COORDINATES)[: column.width].rjust(column.width)
+    if chance(dice, 2):
+        return dice.choice(EXTREME_COORDINATES)[: column.width].rjust(column.width)
     middle = -86_500_000 if column.name.endswith("LONG") else 32_500_000
     millionths = middle + dice.randrange(-9, 10) * 10 ** dice.randrange(6)
     return justified(dice, str(millionths), column.width) if chance(dice, 20) else f"{millionths:+0{column.width}d}"
 
 
-def draw_texts(dice: Random, width: int, count: int) -> list[str]:
-    """Draws texts of a column. Many of them begin alike."""
+def draw_texts(dice: Random, width: int, count: int, stems: list[str]) -> list[str]:
+    """Draws texts of a column. Many of them begin alike, or as one of the stems does."""
     texts: list[str] = []
     while len(texts) < count:
-        stem = dice.choice(texts) if texts and chance(dice, 60) else ""
-        if stem and chance(dice, 25):
-            stem = swapped(stem)
-        characters = SPELLABLE + UNSPELLABLE if chance(dice, 10) else SPELLABLE
+        stem = dice.choice(texts + stems) if texts + stems and chance(dice, 60) else ""
+        stem = swapped(stem) if chance(dice, 20) else stem
+        stem = reaccented(dice, stem) if chance(dice, 20) else stem
+        characters = USUAL + UNSPELLABLE if chance(dice, 10) else dice.choice(ALPHABETS)
         more = "".join(dice.choices(characters, k=dice.randint(0, width)))
         text = (stem[: dice.randint(0, width)] + more)[:width]
         texts.append("" if chance(dice, 15) else text)
@@ -155,11 +205,12 @@ class Segment(NamedTuple):
 
 
 class Pools:
-    """The values of a county's segments. Many segments have the same ones."""
+    """The values of a county's segments. Many segments have the same ones, and so have many columns."""
 
     def __init__(self, dice: Random) -> None:
         self.dice = dice
-        self.names = draw_texts(dice, 30, 12)
+        self.names = draw_texts(dice, 30, 12, [])
+        self.numbers = [str(dice.randrange(100)) for _ in range(4)]
         self.fields = {column.name: self.draw_fields(column) for column in COLUMNS}
 
     def draw_fields(self, column: Column) -> list[str]:
@@ -171,16 +222,20 @@ class Pools:
         if column.name == "FENAME":
             return self.names
         if column.kind is Kind.TEXT:
-            return draw_texts(self.dice, column.width, count)
+            return draw_texts(self.dice, column.width, count, self.names)
         if column.kind is Kind.COORDINATE:
             return [draw_coordinate(self.dice, column) for _ in range(count)]
-        return [draw_number(self.dice, column.width) for _ in range(count)]
+        shared = self.dice.sample(self.numbers, 2)
+        return [draw_number(self.dice, column.width) for _ in range(count)] + [digits.rjust(column.width) for digits in shared]
 
     def record(self, tlid: int) -> bytes:
         line = [" "] * 228
         for column in COLUMNS:
             text = str(tlid).rjust(10) if column.name == "TLID" else self.dice.choice(self.fields[column.name])
             line[column.first - 1 : column.last] = text.ljust(column.width)
+        for start, end in (("FRLONG", "TOLONG"), ("FRLAT", "TOLAT")):
+            if chance(self.dice, 20):
+                line[BY_NAME[end].first - 1 : BY_NAME[end].last] = line[BY_NAME[start].first - 1 : BY_NAME[start].last]
         return "".join(line).encode("latin-1")
 
     def segment(self, tlid: int) -> Segment:
@@ -225,6 +280,11 @@ class County:
             text = "".join(line + "\r\n" for line in lines)
             (folder / f"TGR{self.code}.RT{number}").write_bytes(text.encode("latin-1"))
 
+    def number(self, sql: str, identity: int) -> int | None:
+        """Returns the value of a numeric expression on a segment."""
+        ((value,),) = self.database.execute(f"SELECT {sql} FROM segments WHERE id = ?", (identity,))
+        return value if isinstance(value, int) else None
+
     def rows(self, sql: str, score: Column | None) -> bytes:
         """Returns the rows of the segments for which an expression is true."""
         selected = self.database.execute(f"SELECT id FROM segments WHERE {sql} ORDER BY id")
@@ -240,6 +300,8 @@ def database_of(segments: list[Segment]) -> sqlite3.Connection:
     """Returns the segments as a table, with two more tables for their names and the sides of their ranges."""
     database = sqlite3.connect(":memory:")
     database.execute("PRAGMA case_sensitive_like = ON")
+    database.create_function("casei", 1, without_case, deterministic=True)
+    database.create_function("accenti", 1, without_accents, deterministic=True)
     database.execute(f"CREATE TABLE segments (id INTEGER PRIMARY KEY, {', '.join(column.name for column in COLUMNS)})")
     database.execute("CREATE TABLE names (segment, number, name)")
     database.execute("CREATE TABLE sides (segment, start, finish)")

@@ -13,5 +13,5 @@ trap 'exit 129' HUP
 trap 'exit 130' INT
 trap 'exit 143' TERM
 rm -f "$2/$code.rows"
-extractd select --where "$1" --data "$(dirname "$3")" "$code" > "$part"
+extractd select --where="$1" --data "$(dirname "$3")" "$code" > "$part"
 mv "$part" "$2/$code.rows"
