@@ -44,7 +44,7 @@ def in_degrees(millionths: int) -> int:
 
 
 def words_of_pattern(pieces: list[list[str]]) -> int:
-    """Returns an upper bound. A piece behind a `%` is looked for at each of up to 31 places."""
+    """Returns an upper bound. A piece after a `%` is looked for at each of up to 31 places."""
     places = 1 if len(pieces) == 1 or len(pieces) == 2 and not pieces[1] else 31
     return 100 + sum(places * (24 * len(piece) + 12) for piece in pieces)
 
@@ -143,7 +143,7 @@ class TermDice:
         return Term([pattern], pattern, words_of_pattern(pieces))
 
     def cut(self, text: str) -> list[str]:
-        """Cuts what is before, between and behind the `%` of a pattern out of a text. Now and then, pieces overlap, or one is there twice."""
+        """Cuts what is before, between and after the `%` of a pattern out of a text. Now and then, pieces overlap, or one is there twice."""
         wildcards = self.dice.choice(WILDCARDS)
         if wildcards == 0:
             return [text if self.chance(70) else text[: self.dice.randint(0, len(text))]]

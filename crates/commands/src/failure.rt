@@ -4,7 +4,9 @@ ghost use Rattle.std.specs.List.{flat_map};
 ghost use Rattle.counted_io.specs.ReaderWriter.{writer};
 ghost use Rattle.counted_io.specs.Writing.{WritesText};
 ghost use Rattle.commands.specs.Escape.{escaped};
-ghost use Rattle.commands.specs.Failure.{IsOfAddresses, IsOfCompile, IsOfFilter, IsReason, Reports, ReportsLine, ReportsText, WritesAs, class_status, file_line, of_county_extract, of_county_file, of_extract, of_file, of_opening, of_program, of_source, reported, status};
+ghost use Rattle.commands.specs.Failure.{IsOfAddresses, IsOfCompile, IsOfFilter, IsReason, Reports, ReportsLine, ReportsText, WritesAs, class_status};
+ghost use Rattle.commands.specs.Failure.{file_line, of_county_extract, of_county_file, of_extract, of_file, of_opening, of_program, of_source, reported};
+ghost use Rattle.commands.specs.Failure.{status};
 ghost use Rattle.commands.specs.declared.failure.Failure.TheVariants.{Memory};
 
 use crate::escape::write_escaped;

@@ -300,7 +300,7 @@ pub rows_empty : (column : TextColumn) (from : ℕ) (pattern : List PatternPart)
 rows_empty column from [] none = refl
 rows_empty column from (part ∷ pattern) none = absurd (omega arith)
 
--- what is taken behind a `%`
+-- what is taken after a `%`
 pub taken_behind : (pattern : List PatternPart) (part : PatternPart) (behind piece rest : List PatternPart) → pattern ≡ part ∷ behind
     → (pieces_of pattern).first ≡ [] → IsFirstAndRest behind piece rest → taken pattern ≡ length piece + taken rest
 taken_behind pattern part behind piece rest is begins split =
@@ -318,7 +318,7 @@ like_one column pattern piece rest split zero_taken =
     ∙ ap (is_piece column (pieces_of pattern).first) (sym split.is_open ∙ open_length rest split.first zero_taken)
     ∙ ap (λ (first : List PatternPart). is_piece column first (not (length rest == 0))) (sym split.piece_is)
 
--- a pattern with a piece behind a `%`
+-- a pattern with a piece after a `%`
 are_several : (column : TextColumn) (first : List PatternPart) (others : List (List PatternPart)) (is_open : Bool) (total : ℕ)
     → is_last others ≡ false
     → are_pieces column first others is_open total

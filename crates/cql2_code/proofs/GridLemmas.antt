@@ -102,7 +102,7 @@ stand_same : (Property : ℕ → Type 0) (end words start count : ℕ) → start
 stand_same Property end words start zero few there = tt
 stand_same Property end words start (suc count) few there = ((few, there), stand_same Property end words start count few there)
 
--- what holds behind instructions that need only the record's pointer holds before them
+-- what holds after instructions that need only the record's pointer holds before them
 abbrev GoesBack : Bool → List Insn → (ℕ → Type 0) → Type 0
 GoesBack keeps code Property = (place : ℕ) (insns : List Insn) → HasAt code place insns → needed_by keeps insns (resting keeps) ≡ resting keeps
     → Property (place + word_count insns) → Property place
@@ -289,7 +289,7 @@ abbrev IsThere : (ℕ → Type 0) → List Insn → List Insn → ℕ → ℕ �
 IsThere Property code insns skip place end =
     HasAt code place insns × (place + word_count insns ≡ end) × Property end × Property (end + skip)
 
--- the code behind a row's, and the place that the row leaves to on no
+-- the code after a row's, and the place that the row leaves to on no
 pub record Behind (Property : ℕ → Type 0) (code : List Insn) (rest : Laid) (falls : Bool) (skip end : ℕ) : Type 0 where
   pub middle : ℕ
   pub has : HasAt code middle rest.code

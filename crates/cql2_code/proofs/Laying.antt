@@ -25,7 +25,7 @@ longer_refused front is refused = record { too_long = λ too_long. subst IsTooLo
 
 -- Rows
 
--- behind the last cell
+-- after the last cell
 pub cells_none : {T : Type 0} (row : ℕ → Question) (at : ℕ) (starts : List ℕ) (past : Exits) (old new : List Insn) (result : Result T CompileFault)
     → length starts ≡ 0 → past.falls ≡ true → Prepends result (Decided false) past old new
     → IsLaid result (lay_row row at starts past.skip old) new starts
@@ -125,7 +125,7 @@ module _ (row : ℕ → Question) (rows : List (ℕ → Question)) (falls : Bool
       ∙ ap (first_skip falls true (word_count middle - words)) skip_is in
       subst (λ (l : Laid). IsLaid result l new starts) (row_laid middle cells past.skip lays past_is) laid
 
--- The code behind a grid
+-- The code after a grid
 
 -- a code is the same before another code, to whose end the starts are counted
 record Shifted (old : List Insn) (alone before : Laid) : Type 0 where

@@ -57,7 +57,7 @@ text_filled pattern field none = by_blank (are_blank field) refl
 choice : {a b c d e f : Bool} → a ≡ b → c ≡ d → e ≡ f → (if a then c else e) ≡ (if b then d else f)
 choice first second third = cc
 
--- The grid of the pieces behind a `%` finds them from a byte on exactly if the pattern matches there. The columns left are as many as there are
+-- The grid of the pieces after a `%` finds them from a byte on exactly if the pattern matches there. The columns left are as many as there are
 -- places for them.
 module _ (segment : SegmentParts) (is : IsSegment segment) (column : TextColumn) (is_open : Bool) where
   first_of : (from : ℕ) → from < width_of column

@@ -105,7 +105,7 @@ abbrev pub lengths : List (List PatternPart) → ℕ
 lengths [] = 0
 lengths (piece ∷ pieces) = length piece + lengths pieces
 
--- the pattern behind its first piece
+-- the pattern after its first piece
 abbrev pub respelled : List (List PatternPart) → Bool → List PatternPart
 respelled [] true = Many ∷ []
 respelled [] false = []

@@ -14,7 +14,8 @@ use Rattle.bpf_insn.proofs.PlaceLemmas.{word_count-append}
 use Rattle.bpf_meaning.specs.Step.{after}
 use Rattle.tl_segments.specs.Segment.{IsSegment}
 use Rattle.cql2.specs.declared.filter.Comparison.{Comparison}
-use Rattle.cql2_code.specs.Layout.{comparison_code, first_skip, is_narrow, jump, opposite, question_code, from_argument_1, subject_code, test_code, into_argument_1}
+use Rattle.cql2_code.specs.Layout.{comparison_code, first_skip, is_narrow, jump, opposite, question_code, from_argument_1, subject_code, test_code}
+use Rattle.cql2_code.specs.Layout.{into_argument_1}
 use Rattle.cql2_code.specs.Layout.{skip_if, wide_load}
 use Rattle.cql2_code.specs.Question.{IsSoundTest, Question, Decided, Holds, Opposite, Joined, Coded, answer, condition_of, is_so, joined}
 use Rattle.cql2_code.specs.Question.{value as number_in}

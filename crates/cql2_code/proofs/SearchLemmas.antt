@@ -1,4 +1,4 @@
--- A search for the pieces of a pattern, each at the leftmost place behind the one before, finds them exactly if the pattern matches.
+-- A search for the pieces of a pattern, each at the leftmost place after the previous one, finds them exactly if the pattern matches.
 use Rattle.std.proofs.Common.{◌≡◌, ℕ, zero, suc, ◌<◌, ◌≤◌, Bool, true, false, not, ◌&&◌, ◌||◌, List, [], ◌∷◌, ◌++◌, length, drop}
 use Rattle.std.proofs.Common.{if◌then◌else◌, refl, sym, ap, ◌∙◌, arith}
 use Rattle.std.proofs.lemmas.Bool.{and_parts, false≢true}
@@ -38,7 +38,7 @@ not_blank : (blank : Bool) → (blank ≡ true → ⊥) → not blank ≡ true
 not_blank true never = absurd (never refl)
 not_blank false never = refl
 
--- if the field isn't blank behind the bytes, these are the text's
+-- if the field isn't blank after the bytes, these are the text's
 pub wants_begins : (piece : List PatternPart) (field : List ℕ) → wants piece field ≡ true
     → are_blank (drop (length piece) field) ≡ false → begins_so piece field ≡ true
 wants_begins [] field wanted filled = refl
@@ -94,7 +94,7 @@ or_cases : (a b : Bool) {C : Type 0} → (a || b) ≡ true → (a ≡ true → C
 or_cases true b either first second = first refl
 or_cases false b either first second = second either
 
--- what follows a piece that is found somewhere is found behind the first place where the piece could be
+-- what follows a piece that is found somewhere is found after the first place where the piece could be
 found_behind : (piece rest : List PatternPart) (field : List ℕ) → IsPiece piece → like (Many ∷ (piece ++ Many ∷ rest)) field ≡ true
     → like (Many ∷ rest) (drop (length piece) field) ≡ true
 found_behind piece rest [] are found =
@@ -115,7 +115,7 @@ some_text rest field none found = by_blank (are_blank field) refl
     by_blank true is = absurd (false≢true (sym none ∙ sym (ap (is_like rest) (trimmed_blank field is)) ∙ found))
     by_blank false is = refl
 
--- A piece that isn't the last one: if it is wanted here, the search goes on behind it, and otherwise the search for it goes on.
+-- A piece that isn't the last one: if it is wanted here, the search goes on after it, and otherwise the search for it goes on.
 pub next_piece : (piece rest : List PatternPart) (byte : ℕ) (field : List ℕ) → IsPiece piece → is_like (Many ∷ rest) [] ≡ false
     → like (Many ∷ (piece ++ Many ∷ rest)) (byte ∷ field)
     ≡ (if wants piece (byte ∷ field) then like (Many ∷ rest) (drop (length piece) (byte ∷ field)) else like (Many ∷ (piece ++ Many ∷ rest)) field)

@@ -176,7 +176,7 @@ module _ (column : TextColumn) (piece : List PatternPart) (are : IsPiece piece) 
   piece_sound : IsSound (is_piece column piece is_open)
   piece_sound = piece_by (nat_le (length piece) (width_of column)) refl
 
--- the pieces behind a `%`
+-- the pieces after a `%`
 
 cells_sound : (column : TextColumn) (piece : List PatternPart) (last is_open : Bool) (from at left : ℕ) → IsPiece piece
     → from + at + length piece + left ≤ suc (width_of column)

@@ -26,19 +26,19 @@ lay_cell cell below others =
     let code = question_code cell false (word_count others.code - below) ++ others.code in
     record { code = code; starts = word_count code ∷ others.starts }
 
--- a row's code before the rows below, where its cells lead to: behind the last one the answer is no
+-- a row's code before the rows below, where its cells lead to: after the last one the answer is no
 unfoldable pub lay_row : (ℕ → Question) → ℕ → List ℕ → ℕ → List Insn → Laid
 lay_row row at [] skip rest = record { code = question_code (Decided false) true skip ++ rest; starts = [] }
 lay_row row at (below ∷ others) skip rest = lay_cell (row at) below (lay_row row (at + 1) others skip rest)
 
--- the code of rows before the code below them, and with it a code of this many words behind the grid
+-- the code of rows before the code below them, and with it a code of this many words after the grid
 unfoldable pub lay_rows : List (ℕ → Question) → Bool → ℕ → ℕ → Laid → Laid
 lay_rows [] falls skip words below = below
 lay_rows (row ∷ rows) falls skip words below =
     let rest = lay_rows rows falls skip words below in
     lay_row row 0 rest.starts (first_skip falls true (word_count rest.code - words) skip) rest.code
 
--- behind the last row the answer is yes
+-- after the last row the answer is yes
 abbrev pub lay_end : ℕ → Bool → ℕ → List Insn → Laid
 lay_end columns falls skip old =
     let code = question_code (Decided true) falls skip ++ old in record { code = code; starts = replicate columns (word_count code) }

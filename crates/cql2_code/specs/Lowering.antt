@@ -182,7 +182,7 @@ abbrev pub PrependsBefore : Result Exits CompileFault → Option Question → Ex
 PrependsBefore result second exits old new = MatchResult result (λ first. WritesBefore second exits first old new)
     (λ fault. (wanted : Question) → Refuses (both wanted second) exits old fault)
 
--- a pattern's last piece is in a column from a byte on, which isn't blank there: the text ends behind it, or later if the pattern is open
+-- a pattern's last piece is in a column from a byte on, which isn't blank there: the text ends after it, or later if the pattern is open
 abbrev pub ends_at : TextColumn → List PatternPart → Bool → ℕ → Question
 ends_at column piece is_open from =
     both (are_wanted (offset_of column + from) piece) (ends_so is_open (ends_filled piece) column (from + length piece))
@@ -191,7 +191,7 @@ ends_at column piece is_open from =
 abbrev pub is_piece : TextColumn → List PatternPart → Bool → Question
 is_piece column piece is_open = if nat_le (length piece) (width_of column) then ends_at column piece is_open 0 else Decided false
 
--- a piece behind a `%` is in a column from a byte on
+-- a piece after a `%` is in a column from a byte on
 abbrev pub cell : TextColumn → List PatternPart → Bool → Bool → ℕ → Question
 cell column piece true is_open at = ends_at column piece is_open at
 cell column piece false is_open at = are_wanted (offset_of column + at) piece
@@ -201,13 +201,13 @@ abbrev pub is_last : List (List PatternPart) → Bool
 is_last [] = true
 is_last (piece ∷ pieces) = false
 
--- the pieces behind a `%`, by the number of bytes that the `%`s before them take
+-- the pieces after a `%`, by the number of bytes that the `%`s before them take
 abbrev pub rows_of : TextColumn → Bool → ℕ → List (List PatternPart) → List (ℕ → Question)
 rows_of column is_open from [] = []
 rows_of column is_open from (piece ∷ pieces) =
     (λ shift. cell column piece (is_last pieces) is_open (from + shift)) ∷ rows_of column is_open (from + length piece) pieces
 
--- A column isn't NULL and matches a pattern: each piece is searched for behind the one before. What follows a `%` matches all the more the earlier
+-- A column isn't NULL and matches a pattern: each piece is searched for after the previous one. What follows a `%` matches all the more the earlier
 -- it may begin, so the leftmost place will do.
 abbrev pub are_pieces : TextColumn → List PatternPart → List (List PatternPart) → Bool → ℕ → Question
 are_pieces column first [] is_open total = is_piece column first is_open

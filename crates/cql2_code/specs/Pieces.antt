@@ -3,7 +3,7 @@ use Rattle.std.specs.Prelude.{ℕ, suc, Bool, true, false, List, [], ◌∷◌}
 use Rattle.cql2.specs.declared.pattern.PatternPart.{PatternPart}
 use Rattle.cql2.specs.declared.pattern.PatternPart.TheVariants.{Many}
 
--- what comes before the first `%`, the pieces behind a `%` that have a part, and whether the pattern ends in `%`
+-- what comes before the first `%`, the pieces after a `%` that have a part, and whether the pattern ends in `%`
 pub record Pieces : Type 0 where
   pub first : List PatternPart
   pub others : List (List PatternPart)

@@ -107,7 +107,7 @@ fn prepend_ends_at<A: Allocator + Copy>(
     prepend_are_wanted(code, offset_of(column) + from, piece, exits)
 }
 
-/// A search for pieces in a column, with the exits of its code and the number of words behind it.
+/// A search for pieces in a column, with the exits of its code and the number of words after it.
 #[derive(Clone, Copy)]
 struct Search {
     column: TextColumn,
