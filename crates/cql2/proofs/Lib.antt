@@ -1,3 +1,4 @@
 pub mod Edges
 pub mod Products
 pub mod Sides
+pub mod Starts

@@ -1,8 +1,8 @@
 -- The columns that a filter can name, and their values (TIGER/Line 2006, record type 1).
-use Rattle.std.specs.Prelude.{ℕ, ℤ, pos, List, reverse, Option, Some, None, option_map, if◌then◌else◌}
+use Rattle.std.specs.Prelude.{ℕ, ℤ, pos, Bool, true, false, List, reverse, Option, Some, None, option_map, if◌then◌else◌}
 use Rattle.std.specs.Ordering.{int_eq}
 use Rattle.tl_fields.specs.Coordinate.{coordinate_of}
-use Rattle.tl_fields.specs.Number.{is_blank, number_of, without_blanks_before}
+use Rattle.tl_fields.specs.Number.{is_blank, number_of, trim, without_blanks_before}
 use Rattle.tl_records.specs.Layout.{field_at, places}
 use Rattle.tl_records.specs.declared.layout.Places.{Places}
 use Rattle.tl_records.specs.declared.layout.TheConstants.Type1 as type1
@@ -13,7 +13,8 @@ use Rattle.cql2.specs.declared.column.NumberColumn.TheVariants.{Tlid, Fraddl, To
 use Rattle.cql2.specs.declared.column.NumericColumn.{NumericColumn}
 use Rattle.cql2.specs.declared.column.NumericColumn.TheVariants.{Number, Coordinate}
 use Rattle.cql2.specs.declared.column.TextColumn.{TextColumn}
-use Rattle.cql2.specs.declared.column.TextColumn.TheVariants.{Rt, Version, Side1, Source, Fedirp, Fename, Fetype, Fedirs, Cfcc, Friaddl, Toiaddl, Friaddr, Toiaddr, Cousubl, Cousubr}
+use Rattle.cql2.specs.declared.column.TextColumn.TheVariants.{Rt, Version, Side1, Source, Fedirp, Fename, Fetype, Fedirs, Cfcc, FraddlText, ToaddlText, FraddrText, ToaddrText}
+use Rattle.cql2.specs.declared.column.TextColumn.TheVariants.{Friaddl, Toiaddl, Friaddr, Toiaddr, Cousubl, Cousubr}
 
 abbrev pub number_places : NumberColumn → Places
 number_places Tlid = type1.TLID
@@ -50,6 +51,10 @@ text_places Fename = type1.FENAME
 text_places Fetype = type1.FETYPE
 text_places Fedirs = type1.FEDIRS
 text_places Cfcc = type1.CFCC
+text_places FraddlText = type1.FRADDL
+text_places ToaddlText = type1.TOADDL
+text_places FraddrText = type1.FRADDR
+text_places ToaddrText = type1.TOADDR
 text_places Friaddl = places 103 103
 text_places Toiaddl = places 104 104
 text_places Friaddr = places 105 105
@@ -71,7 +76,19 @@ numeric_value (Coordinate column) line = unless_zero (coordinate_of (field_at (c
 abbrev pub trim_end : List ℕ → List ℕ
 trim_end bytes = reverse (without_blanks_before (reverse bytes))
 
+-- the fields of house numbers are right-justified, all others left-justified
+abbrev pub is_right_justified : TextColumn → Bool
+is_right_justified FraddlText = true
+is_right_justified ToaddlText = true
+is_right_justified FraddrText = true
+is_right_justified ToaddrText = true
+is_right_justified column = false
+
+-- the text in a column's field: without the blanks that fill it up
+abbrev pub text_in : TextColumn → List ℕ → List ℕ
+text_in column field = if is_right_justified column then trim field else trim_end field
+
 -- the value of a text column; none, that is NULL, if its field is blank
 abbrev pub text_value : TextColumn → List ℕ → Option (List ℕ)
 text_value column line =
-    let field = field_at (text_places column) line in if is_blank field then None else Some (trim_end field)
+    let field = field_at (text_places column) line in if is_blank field then None else Some (text_in column field)

@@ -2,6 +2,7 @@ pub mod Column
 pub mod Expression
 pub mod Filter
 pub mod Folding
+pub mod Function
 pub mod Geometry
 pub mod Pattern
 pub mod Text

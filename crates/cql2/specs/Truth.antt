@@ -1,20 +1,17 @@
 -- The truth of a filter on a segment (CQL2, 21-065r2: an expression is true, false or NULL). A filter selects a segment if it is true on it.
-use Rattle.std.specs.Prelude.{ℕ, ◌+◌, Bool, true, false, not, ◌||◌, nat_le, List, length, take, Option, Some, None, is_none, option_map, if◌then◌else◌}
+use Rattle.std.specs.Prelude.{ℕ, Bool, true, false, not, List, Option, Some, None, is_none, option_map}
 use Rattle.std.specs.Bool.{beq}
-use Rattle.std.specs.List.{list_any}
-use Rattle.tl_segments.specs.Name.{name_equals}
-use Rattle.tl_segments.specs.Range.{lies_on}
-use Rattle.tl_segments.specs.Segment.{SegmentParts, names_of, ranges_of}
-use Rattle.tl_segments.specs.declared.range.RangeFields.{RangeFields}
+use Rattle.tl_segments.specs.Segment.{SegmentParts}
 use Rattle.cql2.specs.Column.{numeric_value, text_value}
 use Rattle.cql2.specs.Expression.{value_of}
 use Rattle.cql2.specs.Filter.{compares, compares_text}
+use Rattle.cql2.specs.Function.{truth_of}
 use Rattle.cql2.specs.Pattern.{is_like}
 use Rattle.cql2.specs.declared.column.Column.{Column}
 use Rattle.cql2.specs.declared.column.Column.TheVariants.{Numeric, Text}
 use Rattle.cql2.specs.declared.filter.Filter.{Filter}
 use Rattle.cql2.specs.declared.filter.Filter.TheVariants.{Constant, And', Or', Not', IsNull, CompareNumber, CompareNumbers, CompareText, CompareTexts, Like}
-use Rattle.cql2.specs.declared.filter.Filter.TheVariants.{HasNumber, HasName}
+use Rattle.cql2.specs.declared.filter.Filter.TheVariants.{Function}
 
 -- the truth tables of AND, OR and NOT: false decides AND, and true decides OR, whatever the other operand is
 abbrev pub and : Option Bool → Option Bool → Option Bool
@@ -38,17 +35,6 @@ abbrev pub is_null : Column → List ℕ → Bool
 is_null (Numeric column) line = is_none (numeric_value column line)
 is_null (Text column) line = is_none (text_value column line)
 
--- a house number lies on one of the sides of a range
-abbrev pub has_number : ℕ → RangeFields → Bool
-has_number number range = lies_on number range.fraddl range.toaddl || lies_on number range.fraddr range.toaddr
-
--- The segment has this name, as its own or as one of its first `most` alternate names. If it has more alternate names and none of those is this
--- one, the answer is unknown.
-abbrev pub has_name : List ℕ → ℕ → SegmentParts → Option Bool
-has_name text most segment =
-    if list_any (λ name. name_equals name text) (take (1 + most) (names_of segment)) then Some true
-    else (if nat_le (length segment.names) most then Some false else None)
-
 -- a comparison of two values is unknown if one of them is NULL
 abbrev pub if_both : {T : Type 0} → (T → T → Bool) → Option T → Option T → Option Bool
 if_both compare (Some x) (Some y) = Some (compare x y)
@@ -71,8 +57,7 @@ truth (CompareTexts first comparison second) segment =
     if_both (compares_text comparison) (text_value first segment.bytes) (text_value second segment.bytes)
 truth (Like column pattern) segment =
     option_map (λ value. is_like pattern.parts.items value) (text_value column segment.bytes)
-truth (HasNumber house) segment = Some (list_any (has_number house.number) (ranges_of segment))
-truth (HasName text limit) segment = has_name text.bytes.items limit.number segment
+truth (Function function) segment = truth_of function segment
 
 -- the truth is known to be this
 abbrev pub is : Option Bool → Bool → Bool

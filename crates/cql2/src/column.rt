@@ -1,6 +1,6 @@
 //! The columns of a segment's record that a filter can name (TIGER/Line 2006, record type 1).
 ghost use Rattle.std.specs.Prelude.{◌≡◌};
-ghost use Rattle.cql2.specs.Column.{coordinate_places, number_places, text_places};
+ghost use Rattle.cql2.specs.Column.{coordinate_places, is_right_justified, number_places, text_places};
 
 use tl_records::{Places, Type1};
 
@@ -54,6 +54,11 @@ pub enum TextColumn {
     Fetype,
     Fedirs,
     Cfcc,
+    /// FRADDL as a text, which may have more than digits: `164-20`. The next three are likewise.
+    FraddlText,
+    ToaddlText,
+    FraddrText,
+    ToaddrText,
     Friaddl,
     Toiaddl,
     Friaddr,
@@ -125,6 +130,10 @@ impl TextColumn {
             TextColumn::Fetype => Type1::FETYPE,
             TextColumn::Fedirs => Type1::FEDIRS,
             TextColumn::Cfcc => Type1::CFCC,
+            TextColumn::FraddlText => Type1::FRADDL,
+            TextColumn::ToaddlText => Type1::TOADDL,
+            TextColumn::FraddrText => Type1::FRADDR,
+            TextColumn::ToaddrText => Type1::TOADDR,
             // The flags of imputed addresses, which `Type1` doesn't name.
             TextColumn::Friaddl => Places(103, 103),
             TextColumn::Toiaddl => Places(104, 104),
@@ -133,5 +142,18 @@ impl TextColumn {
             TextColumn::Cousubl => Type1::COUSUBL,
             TextColumn::Cousubr => Type1::COUSUBR,
         }
+    }
+
+    /// Returns whether the column's fields are right-justified, so that blanks before a text aren't part of it.
+    pub fn is_right_justified(self) -> bool
+        ensures { result ≡ is_right_justified self }
+    {
+        matches!(
+            self,
+            TextColumn::FraddlText
+                | TextColumn::ToaddlText
+                | TextColumn::FraddrText
+                | TextColumn::ToaddrText,
+        )
     }
 }

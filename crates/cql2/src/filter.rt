@@ -1,7 +1,8 @@
 //! Filters.
 use crate::column::{Column, NumericColumn, TextColumn};
 use crate::expression::Number;
-use crate::number::{HouseNumber, Literal, NameLimit};
+use crate::function::Function;
+use crate::number::Literal;
 use crate::pattern::Pattern;
 use crate::text::Text;
 use std::alloc::Allocator;
@@ -32,10 +33,7 @@ pub enum Filter<A: Allocator> {
     /// A comparison of two columns.
     CompareTexts(TextColumn, Comparison, TextColumn),
     Like(TextColumn, Pattern<A>),
-    /// The house number lies on some side of some range of the segment.
-    HasNumber(HouseNumber),
-    /// The segment's own name or one of its first alternate names is this text.
-    HasName(Text<A>, NameLimit),
+    Function(Function<A>),
 }
 
 impl<A: Allocator> Drop for Filter<A> {
@@ -53,8 +51,7 @@ impl<A: Allocator> Drop for Filter<A> {
                 Filter::CompareText(_column, _comparison, _text) => return,
                 Filter::CompareTexts(_first, _comparison, _second) => return,
                 Filter::Like(_column, _pattern) => return,
-                Filter::HasNumber(_house) => return,
-                Filter::HasName(_name, _limit) => return,
+                Filter::Function(_function) => return,
             }
         }
     }

@@ -4,6 +4,7 @@
 mod column;
 mod expression;
 mod filter;
+mod function;
 mod geometry;
 mod number;
 mod pattern;
@@ -12,6 +13,7 @@ mod text;
 pub use column::{Column, CoordinateColumn, NumberColumn, NumericColumn, TextColumn};
 pub use expression::{Expression, Number, Operator};
 pub use filter::{Comparison, Filter};
+pub use function::Function;
 pub use geometry::{Bounds, Polygon, Polygons, Ring, Shape, Vertex};
 pub use number::{HouseNumber, Literal, NameLimit};
 pub use pattern::{Folding, Pattern, PatternPart};

@@ -1,0 +1,18 @@
+//! Functions of a segment, which are true, false or NULL.
+use crate::geometry::{Polygons, Shape};
+use crate::number::{HouseNumber, NameLimit};
+use crate::text::Text;
+use std::alloc::Allocator;
+
+/// A function with its arguments.
+#[derive(Drop)]
+pub enum Function<A: Allocator> {
+    /// The house number lies on some side of some range of the segment.
+    HasNumber(HouseNumber),
+    /// The segment's own name or one of its first alternate names is this text.
+    HasName(Text<A>, NameLimit),
+    /// The straight line from the segment's start to its end has a point in common with a shape.
+    Intersects(Shape<A>),
+    /// The segment starts inside one of these polygons or on its edge.
+    StartsIn(Polygons<A>),
+}
