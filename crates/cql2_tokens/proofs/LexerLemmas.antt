@@ -12,7 +12,7 @@ use Rattle.cql2_tokens.specs.Lexed.{ArePaired, HasDecimals, IsClosingQuote, IsLo
 use Rattle.cql2_tokens.specs.Lexed.{is_name_byte, is_name_start, is_quote, sign_of}
 use Rattle.cql2_tokens.specs.Lexed.{no_point, no_decimals, decimals, left_paren, right_paren, comma, plus_sign, minus_sign, asterisk, percent_sign}
 use Rattle.cql2_tokens.specs.Lexed.{comparison_operator, keyword, property_name, unknown_name}
-use Rattle.cql2_tokens.specs.Lexed.{quoted_property_name, quoted_unknown_name, unsigned_numeric_literal, character_literal}
+use Rattle.cql2_tokens.specs.Lexed.{quoted_name, unsigned_numeric_literal, character_literal}
 use Rattle.cql2_tokens.specs.Lexed.{Lexes, white_space, is_white_space}
 use Rattle.cql2_tokens.specs.declared.token.Token.{Token}
 use Rattle.cql2_tokens.specs.declared.token.Token.TheVariants.{Compared, Text}
@@ -103,8 +103,7 @@ token-shorter _ _ _ (keyword word rest named is known) = omega (arith, begins-so
 token-shorter _ _ _ (property_name word rest column is no_keyword known) =
     omega (arith, begins-some _ word is.starts, length-append word rest)
 token-shorter _ _ _ (unknown_name word rest is no_keyword unknown) = omega (arith, begins-some _ word is.starts, length-append word rest)
-token-shorter _ _ _ (quoted_property_name word rest column names known) = omega (arith, length-append word (34 ∷ rest))
-token-shorter _ _ _ (quoted_unknown_name word rest names unknown) = omega (arith, length-append word (34 ∷ rest))
+token-shorter _ _ _ (quoted_name word rest names) = omega (arith, length-append word (34 ∷ rest))
 token-shorter _ _ _ (unsigned_numeric_literal numeral after rest unsigned are fraction) =
     omega (arith, are.some, decimals-le _ _ _ fraction, length-append numeral.whole.now after)
 token-shorter _ _ _ (character_literal spelling rest paired single) = omega (arith, length-append spelling.now (39 ∷ rest))

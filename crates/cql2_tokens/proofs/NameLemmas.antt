@@ -7,11 +7,14 @@ use Rattle.cql2.specs.declared.column.NumberColumn.TheVariants.{Tlid, Fraddl, To
 use Rattle.cql2.specs.declared.column.NumberColumn.TheVariants.{Countyl, Countyr, Placel, Placer, Tractl, Tractr, Blockl, Blockr}
 use Rattle.cql2.specs.declared.column.NumericColumn.TheVariants.{Number, Coordinate}
 use Rattle.cql2.specs.declared.column.TextColumn.TheVariants.{Rt, Version, Side1, Source, Fedirp, Fename, Fetype, Fedirs, Cfcc}
-use Rattle.cql2.specs.declared.column.TextColumn.TheVariants.{Friaddl, Toiaddl, Friaddr, Toiaddr, Cousubl, Cousubr}
+use Rattle.cql2.specs.declared.column.TextColumn.TheVariants.{FraddlText, ToaddlText, FraddrText, ToaddrText, Friaddl, Toiaddl, Friaddr, Toiaddr}
+use Rattle.cql2.specs.declared.column.TextColumn.TheVariants.{Cousubl, Cousubr}
 use Rattle.cql2_tokens.specs.Name.{column_name, column_named, keyword_named, keyword_text}
+use Rattle.cql2_tokens.specs.declared.token.FunctionName.TheVariants as function
 use Rattle.cql2_tokens.specs.declared.token.Keyword.{Keyword}
-use Rattle.cql2_tokens.specs.declared.token.Keyword.TheVariants.{And, Or, Not, True, False, Is, Null, Like, Between, In, Casei, HasNumber, HasName}
-use Rattle.cql2_tokens.specs.declared.token.Keyword.TheVariants.{Accenti, StartsIn, Bbox, Div}
+use Rattle.cql2_tokens.specs.declared.token.Keyword.TheVariants.{And, Or, Not, True, False, Is, Null, Like, Between, In, Casei, Accenti, Div}
+use Rattle.cql2_tokens.specs.declared.token.Keyword.TheVariants.{Geometry, Function, Shape}
+use Rattle.cql2_tokens.specs.declared.token.ShapeTag.TheVariants as shape
 
 pub column-found : (column : AColumn) → column_named (column_name column) ≡ Some column
 column-found (Numeric (Number Tlid)) = refl
@@ -44,6 +47,10 @@ column-found (Text Fename) = refl
 column-found (Text Fetype) = refl
 column-found (Text Fedirs) = refl
 column-found (Text Cfcc) = refl
+column-found (Text FraddlText) = refl
+column-found (Text ToaddlText) = refl
+column-found (Text FraddrText) = refl
+column-found (Text ToaddrText) = refl
 column-found (Text Friaddl) = refl
 column-found (Text Toiaddl) = refl
 column-found (Text Friaddr) = refl
@@ -82,6 +89,10 @@ column-no_keyword (Text Fename) = refl
 column-no_keyword (Text Fetype) = refl
 column-no_keyword (Text Fedirs) = refl
 column-no_keyword (Text Cfcc) = refl
+column-no_keyword (Text FraddlText) = refl
+column-no_keyword (Text ToaddlText) = refl
+column-no_keyword (Text FraddrText) = refl
+column-no_keyword (Text ToaddrText) = refl
 column-no_keyword (Text Friaddl) = refl
 column-no_keyword (Text Toiaddl) = refl
 column-no_keyword (Text Friaddr) = refl
@@ -102,8 +113,16 @@ keyword-found Between = refl
 keyword-found In = refl
 keyword-found Casei = refl
 keyword-found Accenti = refl
-keyword-found HasNumber = refl
-keyword-found HasName = refl
-keyword-found StartsIn = refl
-keyword-found Bbox = refl
 keyword-found Div = refl
+keyword-found Geometry = refl
+keyword-found (Function function.HasNumber) = refl
+keyword-found (Function function.HasName) = refl
+keyword-found (Function function.StartsIn) = refl
+keyword-found (Function function.Intersects) = refl
+keyword-found (Function function.Disjoint) = refl
+keyword-found (Function function.Within) = refl
+keyword-found (Shape shape.Point) = refl
+keyword-found (Shape shape.LineString) = refl
+keyword-found (Shape shape.Polygon) = refl
+keyword-found (Shape shape.MultiPolygon) = refl
+keyword-found (Shape shape.Bbox) = refl

@@ -14,8 +14,8 @@ use Rattle.cql2_tokens.specs.Lexed.{AreDigits, ArePaired, none, other, pair, Has
 use Rattle.cql2_tokens.specs.Lexed.{is_name_byte, is_name_start, is_quote, is_white_space}
 use Rattle.cql2_tokens.specs.Lexed.{no_point, no_decimals, decimals, left_paren, right_paren, comma, plus_sign, minus_sign, asterisk, percent_sign}
 use Rattle.cql2_tokens.specs.Lexed.{comparison_operator, keyword, property_name, unknown_name}
-use Rattle.cql2_tokens.specs.Lexed.{quoted_property_name, quoted_unknown_name, unsigned_numeric_literal, character_literal}
-use Rattle.cql2_tokens.specs.Name.{column_named, keyword_named}
+use Rattle.cql2_tokens.specs.Lexed.{property, quoted_name, unsigned_numeric_literal, character_literal}
+use Rattle.cql2_tokens.specs.Name.{column_named, is_geometry, keyword_named}
 use Rattle.cql2_tokens.specs.declared.token.Keyword.{Keyword as AKeyword}
 use Rattle.cql2_tokens.specs.declared.token.Numeral.{Numeral}
 use Rattle.cql2_tokens.specs.declared.token.Sign.TheVariants.{Plus, Minus, Asterisk, Percent}
@@ -48,9 +48,8 @@ word_token (Some named) column = Keyword named
 word_token None (Some column) = Column column
 word_token None None = UnknownColumn
 
-abbrev pub quoted_token : Option AColumn → Token
-quoted_token (Some column) = Column column
-quoted_token None = UnknownColumn
+abbrev pub quoted_token : List ℕ → Token
+quoted_token word = property (is_geometry word) (column_named word)
 
 -- a number without its sign
 pub record AreNumber (numeral : Numeral) (text rest : List ℕ) : Type 0 where
@@ -86,7 +85,7 @@ pub data View : Kind → ℕ → List ℕ → List ℕ → Token → Type 0 wher
   literal : (byte : ℕ) (spelling : Bor (List ℕ)) (text rest : List ℕ) → text ≡ spelling.now ++ 39 ∷ rest → ArePaired spelling.now
       → begins is_quote rest ≡ false → View TextKind byte text rest (Text spelling)
   quoted : (byte : ℕ) (word text rest : List ℕ) (token : Token) → text ≡ word ++ 34 ∷ rest → list_all is_name_byte word ≡ true
-      → token ≡ quoted_token (column_named word) → View QuotedKind byte text rest token
+      → token ≡ quoted_token word → View QuotedKind byte text rest token
   plus : (byte : ℕ) (rest : List ℕ) → View PlusKind byte rest rest (Sign Plus)
   minus : (byte : ℕ) (rest : List ℕ) → View MinusKind byte rest rest (Sign Minus)
   times : (byte : ℕ) (rest : List ℕ) → View AsteriskKind byte rest rest (Sign Asterisk)
@@ -155,19 +154,12 @@ first-byte _ _ _ (keyword word rest known is found) = named-view word rest (Keyw
 first-byte _ _ _ (property_name word rest column is no_keyword found) =
     named-view word rest (Column column) is (rw (no_keyword, found) refl)
 first-byte _ _ _ (unknown_name word rest is no_keyword missing) = named-view word rest UnknownColumn is (rw (no_keyword, missing) refl)
-first-byte _ _ _ (quoted_property_name word rest column names found) =
+first-byte _ _ _ (quoted_name word rest names) =
     record {
       byte = 34;
       after = word ++ 34 ∷ rest;
       is = refl;
-      view = quoted 34 word _ rest (Column column) refl names (rw found refl);
-    }
-first-byte _ _ _ (quoted_unknown_name word rest names missing) =
-    record {
-      byte = 34;
-      after = word ++ 34 ∷ rest;
-      is = refl;
-      view = quoted 34 word _ rest UnknownColumn refl names (rw missing refl);
+      view = quoted 34 word _ rest _ refl names refl;
     }
 first-byte _ _ _ (unsigned_numeric_literal numeral after rest unsigned are fraction) =
     digits-view numeral numeral.whole.now after rest refl unsigned are fraction
@@ -318,7 +310,7 @@ one-view _ _ _ _ _ (quoted byte word text rest token is names found) (quoted _ o
     let quotes_too : IsLongest is_name_byte other_word (34 ∷ after) = record { such = names_too; longest = refl } in
     let one = one-name word (34 ∷ rest) other_word (34 ∷ after) quotes quotes_too (sym is ∙ also) in
     let rests : rest ≡ after = cc (one.1) in
-    (rests, like-by token another (found ∙ ap (λ (w : List ℕ). quoted_token (column_named w)) one.0 ∙ sym found_too))
+    (rests, like-by token another (found ∙ ap (λ (w : List ℕ). quoted_token w) one.0 ∙ sym found_too))
 one-view _ _ _ _ _ (number byte numeral text rest sign are) (number _ another _ after sign_too also) =
     one-number numeral another (byte ∷ text) rest after (sign ∙ sym sign_too) are also
 one-view _ _ _ _ _ (named byte word text rest token is longest found) (named _ other_word _ after another also longest_too found_too) =

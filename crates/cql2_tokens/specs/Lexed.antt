@@ -1,13 +1,14 @@
 -- The tokens of a filter's text (CQL2, 21-065r2, Text encoding).
-use Rattle.std.specs.Prelude.{◌≡◌, ℕ, Bool, true, false, ◌||◌, ◌==◌, List, [], ◌∷◌, ◌++◌, length, Some, None, ◌≤◌, ◌<◌, ◌+◌, take, drop}
+use Rattle.std.specs.Prelude.{◌≡◌, ℕ, Bool, true, false, ◌||◌, ◌==◌, List, [], ◌∷◌, ◌++◌, length, Option, Some, None, ◌≤◌, ◌<◌, ◌+◌, take, drop}
 use Rattle.std.specs.Char.{is_ascii_alphabetic, is_ascii_alphanumeric, is_ascii_digit}
 use Rattle.std.specs.List.{list_all}
 use denote.Ref.{Bor}
 use Rattle.cql2.specs.declared.column.Column.{Column as AColumn}
 use Rattle.cql2.specs.declared.filter.Comparison.{Comparison}
 use Rattle.cql2.specs.declared.filter.Comparison.TheVariants.{Equal, NotEqual, Less, LessOrEqual, Greater, GreaterOrEqual}
-use Rattle.cql2_tokens.specs.Name.{column_named, keyword_named}
+use Rattle.cql2_tokens.specs.Name.{column_named, is_geometry, keyword_named}
 use Rattle.cql2_tokens.specs.declared.token.Keyword.{Keyword as AKeyword}
+use Rattle.cql2_tokens.specs.declared.token.Keyword.TheVariants.{Geometry}
 use Rattle.cql2_tokens.specs.declared.token.Numeral.{Numeral}
 use Rattle.cql2_tokens.specs.declared.token.Sign.TheVariants.{Plus, Minus, Asterisk, Percent}
 use Rattle.cql2_tokens.specs.declared.token.Token.{Token}
@@ -83,6 +84,12 @@ pub record IsClosingQuote (text : List ℕ) (index : ℕ) : Type 0 where
   pub split : text ≡ take index text ++ 39 ∷ drop (index + 1) text
   pub single : begins is_quote (drop (index + 1) text) ≡ false
 
+-- the property with a name in double quotes: the geometry, or a column
+abbrev pub property : Bool → Option AColumn → Token
+property true column = Keyword Geometry
+property false (Some column) = Column column
+property false None = UnknownColumn
+
 -- a text, the rest of it after its first token, and that token
 pub data IsToken : List ℕ → List ℕ → Token → Type 0 where
   left_paren : (rest : List ℕ) → IsToken (40 ∷ rest) rest Open
@@ -100,10 +107,8 @@ pub data IsToken : List ℕ → List ℕ → Token → Type 0 where
       → IsToken (word ++ rest) rest (Column column)
   unknown_name : (word rest : List ℕ) → IsWord word rest → keyword_named word ≡ None → column_named word ≡ None
       → IsToken (word ++ rest) rest UnknownColumn
-  quoted_property_name : (word rest : List ℕ) (column : AColumn) → list_all is_name_byte word ≡ true → column_named word ≡ Some column
-      → IsToken (34 ∷ (word ++ 34 ∷ rest)) rest (Column column)
-  quoted_unknown_name : (word rest : List ℕ) → list_all is_name_byte word ≡ true → column_named word ≡ None
-      → IsToken (34 ∷ (word ++ 34 ∷ rest)) rest UnknownColumn
+  quoted_name : (word rest : List ℕ) → list_all is_name_byte word ≡ true
+      → IsToken (34 ∷ (word ++ 34 ∷ rest)) rest (property (is_geometry word) (column_named word))
   unsigned_numeric_literal : (numeral : Numeral) (after rest : List ℕ) → numeral.is_negative ≡ false → AreDigits numeral.whole.now after
       → HasDecimals after rest numeral.decimals.now → IsToken (numeral.whole.now ++ after) rest (Number numeral)
   character_literal : (spelling : Bor (List ℕ)) (rest : List ℕ) → ArePaired spelling.now → begins is_quote rest ≡ false

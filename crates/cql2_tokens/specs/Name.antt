@@ -1,5 +1,5 @@
 -- Keywords and column names, in upper or lower case (TIGER/Line 2006, record type 1).
-use Rattle.std.specs.Prelude.{ℕ, List, codes, Option}
+use Rattle.std.specs.Prelude.{ℕ, Bool, List, codes, Option}
 use Rattle.std.specs.List.{find}
 use Rattle.std.specs.Str.{str_eq_ignore_ascii_case}
 use Rattle.cql2.specs.declared.column.Column.{Column as AColumn}
@@ -11,12 +11,15 @@ use Rattle.cql2.specs.declared.column.NumberColumn.TheVariants.{Tlid, Fraddl, To
 use Rattle.cql2.specs.declared.column.NumberColumn.TheVariants.{Countyl, Countyr, Placel, Placer, Tractl, Tractr, Blockl, Blockr}
 use Rattle.cql2.specs.declared.column.NumericColumn.TheVariants.{Number, Coordinate}
 use Rattle.cql2.specs.declared.column.TextColumn.{TextColumn}
-use Rattle.cql2.specs.declared.column.TextColumn.TheVariants.{Rt, Version, Side1, Source, Fedirp, Fename, Fetype, Fedirs, Cfcc, Friaddl, Toiaddl, Friaddr}
-use Rattle.cql2.specs.declared.column.TextColumn.TheVariants.{Toiaddr, Cousubl, Cousubr}
+use Rattle.cql2.specs.declared.column.TextColumn.TheVariants.{Rt, Version, Side1, Source, Fedirp, Fename, Fetype, Fedirs, Cfcc}
+use Rattle.cql2.specs.declared.column.TextColumn.TheVariants.{FraddlText, ToaddlText, FraddrText, ToaddrText, Friaddl, Toiaddl, Friaddr, Toiaddr}
+use Rattle.cql2.specs.declared.column.TextColumn.TheVariants.{Cousubl, Cousubr}
 use Rattle.cql2_tokens.specs.declared.name.TheConstants.{COLUMNS, KEYWORDS}
+use Rattle.cql2_tokens.specs.declared.token.FunctionName.TheVariants as function
 use Rattle.cql2_tokens.specs.declared.token.Keyword.{Keyword}
-use Rattle.cql2_tokens.specs.declared.token.Keyword.TheVariants.{And, Or, Not, True, False, Is, Null, Like, Between, In, Casei, HasNumber, HasName}
-use Rattle.cql2_tokens.specs.declared.token.Keyword.TheVariants.{Accenti, StartsIn, Bbox, Div}
+use Rattle.cql2_tokens.specs.declared.token.Keyword.TheVariants.{And, Or, Not, True, False, Is, Null, Like, Between, In, Casei, Accenti, Div}
+use Rattle.cql2_tokens.specs.declared.token.Keyword.TheVariants.{Geometry, Function, Shape}
+use Rattle.cql2_tokens.specs.declared.token.ShapeTag.TheVariants as shape
 
 abbrev pub keyword_text : Keyword → List ℕ
 keyword_text And = codes "AND"
@@ -31,11 +34,19 @@ keyword_text Between = codes "BETWEEN"
 keyword_text In = codes "IN"
 keyword_text Casei = codes "CASEI"
 keyword_text Accenti = codes "ACCENTI"
-keyword_text HasNumber = codes "HAS_NUMBER"
-keyword_text HasName = codes "HAS_NAME"
-keyword_text StartsIn = codes "STARTS_IN"
-keyword_text Bbox = codes "BBOX"
 keyword_text Div = codes "DIV"
+keyword_text Geometry = codes "GEOMETRY"
+keyword_text (Function function.HasNumber) = codes "HAS_NUMBER"
+keyword_text (Function function.HasName) = codes "HAS_NAME"
+keyword_text (Function function.StartsIn) = codes "STARTS_IN"
+keyword_text (Function function.Intersects) = codes "S_INTERSECTS"
+keyword_text (Function function.Disjoint) = codes "S_DISJOINT"
+keyword_text (Function function.Within) = codes "S_WITHIN"
+keyword_text (Shape shape.Point) = codes "POINT"
+keyword_text (Shape shape.LineString) = codes "LINESTRING"
+keyword_text (Shape shape.Polygon) = codes "POLYGON"
+keyword_text (Shape shape.MultiPolygon) = codes "MULTIPOLYGON"
+keyword_text (Shape shape.Bbox) = codes "BBOX"
 
 abbrev pub number_name : NumberColumn → List ℕ
 number_name Tlid = codes "TLID"
@@ -72,6 +83,10 @@ text_name Fename = codes "FENAME"
 text_name Fetype = codes "FETYPE"
 text_name Fedirs = codes "FEDIRS"
 text_name Cfcc = codes "CFCC"
+text_name FraddlText = codes "FRADDL_TEXT"
+text_name ToaddlText = codes "TOADDL_TEXT"
+text_name FraddrText = codes "FRADDR_TEXT"
+text_name ToaddrText = codes "TOADDR_TEXT"
 text_name Friaddl = codes "FRIADDL"
 text_name Toiaddl = codes "TOIADDL"
 text_name Friaddr = codes "FRIADDR"
@@ -90,3 +105,7 @@ keyword_named word = find (λ keyword. str_eq_ignore_ascii_case (keyword_text ke
 
 abbrev pub column_named : List ℕ → Option AColumn
 column_named name = find (λ column. str_eq_ignore_ascii_case (column_name column) name) COLUMNS
+
+-- the name of the property `geometry`
+abbrev pub is_geometry : List ℕ → Bool
+is_geometry name = str_eq_ignore_ascii_case (keyword_text Geometry) name

@@ -5,10 +5,11 @@ ghost use Rattle.std.specs.List.{position};
 ghost use Rattle.cql2_tokens.specs.declared.token.Token.{Token as AToken};
 ghost use Rattle.cql2_tokens.specs.Alike.{AreLike};
 ghost use Rattle.cql2_tokens.specs.Lexed.{ArePaired, is_white_space, is_name_start, is_name_byte, begins, is_quote, IsClosingQuote};
-ghost use Rattle.cql2_tokens.specs.Lexed.{IsLongest, IsToken, Lexes, HasDecimals};
+ghost use Rattle.cql2_tokens.specs.Lexed.{IsLongest, IsToken, Lexes, HasDecimals, property};
+ghost use Rattle.cql2_tokens.specs.Name.{column_named, is_geometry};
 
-use crate::name::{column_named, keyword_named};
-use crate::token::{Numeral, Sign, Token};
+use crate::name::{column_named, is_geometry, keyword_named};
+use crate::token::{Keyword, Numeral, Sign, Token};
 use cql2::Comparison;
 use std::alloc::{AllocError, Allocator};
 
@@ -162,16 +163,26 @@ fn closing_quote(text: &[u8]) -> Option<usize>
     None
 }
 
-/// Reads a column's name in double quotes, after the first of them.
+/// Reads the name of a property in double quotes, after the first of them.
 fn quoted_name<'a>(text: &'a [u8]) -> Option<(Token<'a>, &'a [u8])>
     ensures is { IfSome result (λ read. IsToken (34 ∷ text.now) read.1.now read.0) }
     ensures none { IfNone result ((rest : List ℕ) (token : AToken) → IsToken (34 ∷ text.now) rest token → ⊥) }
 {
     let (name, rest) = split_name(text);
     let rest = after_byte(rest, b'"')?;
+    Some((property(name), rest))
+}
+
+/// Returns the property with a name in double quotes.
+fn property<'a>(name: &[u8]) -> Token<'a>
+    ensures { result ≡ property (is_geometry name.now) (column_named name.now) }
+{
+    if is_geometry(name) {
+        return Token::Keyword(Keyword::Geometry);
+    }
     match column_named(name) {
-        Some(column) => Some((Token::Column(column), rest)),
-        None => Some((Token::UnknownColumn, rest)),
+        Some(column) => Token::Column(column),
+        None => Token::UnknownColumn,
     }
 }
 

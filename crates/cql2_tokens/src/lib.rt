@@ -12,4 +12,4 @@ pub use characters::character;
 pub use lexer::Tokens;
 pub use name::{column_name, column_named};
 pub use nearest::{leading_name, near_column, nearest_column};
-pub use token::{Keyword, Numeral, Sign, Token};
+pub use token::{FunctionName, Keyword, Numeral, ShapeTag, Sign, Token};

@@ -16,11 +16,32 @@ pub enum Keyword {
     In,
     Casei,
     Accenti,
+    Div,
+    /// The property `geometry`.
+    Geometry,
+    Function(FunctionName),
+    Shape(ShapeTag),
+}
+
+/// The name of a function.
+#[derive(Clone, Copy)]
+pub enum FunctionName {
     HasNumber,
     HasName,
     StartsIn,
+    Intersects,
+    Disjoint,
+    Within,
+}
+
+/// The word before the coordinates of a shape.
+#[derive(Clone, Copy)]
+pub enum ShapeTag {
+    Point,
+    LineString,
+    Polygon,
+    MultiPolygon,
     Bbox,
-    Div,
 }
 
 /// A sign of arithmetic. A minus or a plus before a number is a token of its own.
