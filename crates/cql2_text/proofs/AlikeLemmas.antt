@@ -1,14 +1,13 @@
--- Tokens that differ only in where their bytes are in memory spell the same filter.
+-- Tokens that differ only in where their bytes are in memory spell the same predicate.
 use Rattle.std.proofs.Common.{◌≡◌, ℕ, zero, suc, Bool, true, false, List, [], ◌∷◌, Some, refl, sym, ap, ◌∙◌, subst}
 use denote.Ref.{Bor}
-use Rattle.tl_segments.specs.declared.name.TheConstants.{NAME_LENGTH}
 use Rattle.std.specs.Prelude.{◌+◌, ◌-◌, nat_lt, not, if◌then◌else◌}
 use Rattle.cql2.specs.declared.column.Column.{Column as AColumn}
 use Rattle.cql2.specs.declared.column.Column.TheVariants as column
 use Rattle.cql2.specs.declared.expression.Expression.{Expression}
 use Rattle.cql2.specs.declared.expression.Number.{Number as ANumber}
 use Rattle.cql2.specs.declared.expression.Operator.{Operator}
-use Rattle.cql2_text.specs.Compared.{SpellsAmong, SpellsBetween, SpellsCompared, SpellsNumbers, SpellsOfNumber, among, comparison, not_among}
+use Rattle.cql2_text.specs.Compared.{SpellsAmong, SpellsBetween, SpellsCompared, SpellsNumbers, SpellsOfNumber, among, comparison, mirrored, not_among}
 use Rattle.cql2_text.specs.Compared as compared_of
 use Rattle.cql2_text.specs.Expression.{Chain, Factor, IsExpression, SpellsNumber, begins_number, goes_on, operator_of}
 use Rattle.cql2_text.specs.Expression.{Production as NumberProduction}
@@ -22,27 +21,24 @@ use Rattle.cql2.specs.declared.column.TextColumn.{TextColumn}
 use Rattle.cql2.specs.declared.filter.Comparison.{Comparison}
 use Rattle.cql2.specs.declared.filter.Comparison.TheVariants.{Equal, NotEqual, Less, LessOrEqual, Greater, GreaterOrEqual}
 use Rattle.cql2.specs.declared.filter.Filter.{Filter}
-use Rattle.cql2.specs.declared.number.HouseNumber.{HouseNumber}
 use Rattle.cql2.specs.declared.number.Literal.{Literal}
-use Rattle.cql2.specs.declared.number.NameLimit.{NameLimit}
 use Rattle.cql2.specs.declared.pattern.Folding.{Folding}
 use Rattle.cql2.specs.declared.pattern.Pattern.{Pattern}
 use Rattle.cql2.specs.declared.text.Text.{Text as AText}
 use Rattle.cql2_tokens.specs.Alike.{AreLike, IsLike, next, none, numbers, same, texts}
 use Rattle.cql2_text.specs.Text.{IsComparedText}
-use Rattle.cql2_text.specs.Number.{count_of, number_of, up_to_name_limit}
+use Rattle.cql2_text.specs.Number.{number_of}
 use Rattle.cql2_text.specs.Clause.{IsClause, Opens, accenti, casei, closed, inside, nothing}
 use Rattle.cql2_text.specs.Numeral.{IsNumber, IsNumeral, below_zero, negative, positive, unsigned}
 use Rattle.cql2_text.specs.Pattern.{IsLikePattern}
-use Rattle.cql2_text.specs.Predicate.{IsFoldedText, IsLikeColumn, IsPoint, IsSubject, IsText, IsTextColumn, SpellsComparison, SpellsNull, SpellsRelation}
+use Rattle.cql2_text.specs.Predicate.{IsFoldedText, IsLikeColumn, IsSubject, IsText, IsTextColumn, SpellsComparison, SpellsNull, SpellsRelation}
 use Rattle.cql2_text.specs.Predicate.{SpellsTextComparison}
-use Rattle.cql2_text.specs.Predicate.{SpellsHasName, SpellsHasNumber, SpellsLike, SpellsLimit, SpellsList, SpellsNegatable, SpellsOf}
-use Rattle.cql2_text.specs.Predicate.{SpellsPredicate, SpellsStartsIn, width_of}
+use Rattle.cql2_text.specs.Predicate.{SpellsLike, SpellsList, SpellsNegatable, SpellsOf}
+use Rattle.cql2_text.specs.Predicate.{width_of}
 use Rattle.cql2_text.specs.Predicate.{one, more, is_like, is_in_list, binary_comparison, with_column, with_literal}
 use Rattle.cql2_text.specs.Predicate.{negatable, negated, null_test, is_null, is_not_null}
-use Rattle.cql2_text.specs.Predicate.{given, usual, true_literal, false_literal, has_number, has_name, starts_in, of_subject, of_number, number_null}
-use Rattle.cql2_text.specs.Predicate.{relation, text_first}
-use Rattle.cql2_text.specs.Spelled.{Production, Spells, one_term, either, one_factor, both, one_primary, not_primary, grouped, predicate}
+use Rattle.cql2_text.specs.Predicate.{of_subject, of_number, number_null, text_first, text_compared, text_among, text_not_among, text_in_list}
+use Rattle.cql2_text.specs.Predicate.{IsTextLiteral, SpellsExchanged, SpellsOfText, SpellsTextAmong}
 use Rattle.cql2_text.specs.declared.unit.Unit.{Unit}
 use Rattle.cql2_text.specs.declared.unit.Unit.TheVariants.{Degrees, Whole}
 use Rattle.cql2_text.specs.declared.predicate.Subject.{Subject}
@@ -55,7 +51,7 @@ use Rattle.cql2_tokens.specs.declared.token.Token.TheVariants.{Close, Column, Co
 use Rattle.cql2_text.proofs.ScanLemmas.{expression-ends}
 
 -- a token that holds no bytes
-abbrev is_plain : Token → Bool
+abbrev pub is_plain : Token → Bool
 is_plain (Number numeral) = false
 is_plain (Text spelling) = false
 is_plain token = true
@@ -71,7 +67,7 @@ pub record SameFirst (token : Token) (tokens others : List Token) : Type 0 where
   pub is : others ≡ token ∷ later
   pub alike : AreLike tokens later
 
-first-by : (words others : List Token) (token : Token) (tokens : List Token) → AreLike words others → words ≡ token ∷ tokens
+pub first-by : (words others : List Token) (token : Token) (tokens : List Token) → AreLike words others → words ≡ token ∷ tokens
     → is_plain token ≡ true → SameFirst token tokens others
 first-by _ _ token tokens none is plain = cc
 first-by _ _ token tokens (next first other rest later like alike) is plain =
@@ -84,7 +80,7 @@ first-by _ _ token tokens (next first other rest later like alike) is plain =
       alike = subst (λ (l : List Token). AreLike l later) rests alike;
     }
 
-same-first : (token : Token) (tokens others : List Token) → is_plain token ≡ true → AreLike (token ∷ tokens) others
+pub same-first : (token : Token) (tokens others : List Token) → is_plain token ≡ true → AreLike (token ∷ tokens) others
     → SameFirst token tokens others
 same-first token tokens others plain alike = first-by (token ∷ tokens) others token tokens alike refl plain
 
@@ -164,13 +160,13 @@ pub record Moved (Spelled : List Token → List Token → Type 0) (words rest : 
   pub alike : AreLike rest after
   pub is : Spelled words after
 
-moved-at : (Spelled : List Token → List Token → Type 0) (others known rest : List Token) → others ≡ known → Moved Spelled known rest
+pub moved-at : (Spelled : List Token → List Token → Type 0) (others known rest : List Token) → others ≡ known → Moved Spelled known rest
     → Moved Spelled others rest
 moved-at Spelled others known rest is moved = rw is moved
 
 module _ {P Q : List Token → List Token → Type 0} where
   -- a token that holds no bytes, followed by tokens that are moved
-  moved-after : (token : Token) (words others rest : List Token) → is_plain token ≡ true → AreLike (token ∷ words) others
+  pub moved-after : (token : Token) (words others rest : List Token) → is_plain token ≡ true → AreLike (token ∷ words) others
       → ((later : List Token) → AreLike words later → Moved P later rest) → ((w r : List Token) → P w r → Q (token ∷ w) r)
       → Moved Q others rest
   moved-after token words others rest plain alike inner whole =
@@ -180,16 +176,16 @@ module _ {P Q : List Token → List Token → Type 0} where
       (record { after = moved.after; alike = moved.alike; is = whole first.later moved.after moved.is })
 
 -- a number with or without a sign that is alike, and the tokens after it
-record SignedLike (numeral : Numeral) (rest others : List Token) : Type 0 where
-  another : Numeral
-  later : List Token
-  is : IsNumeral others later another
-  sign : numeral.is_negative ≡ another.is_negative
-  whole : numeral.whole.now ≡ another.whole.now
-  decimals : numeral.decimals.now ≡ another.decimals.now
-  alike : AreLike rest later
+pub record SignedLike (numeral : Numeral) (rest others : List Token) : Type 0 where
+  pub another : Numeral
+  pub later : List Token
+  pub is : IsNumeral others later another
+  pub sign : numeral.is_negative ≡ another.is_negative
+  pub whole : numeral.whole.now ≡ another.whole.now
+  pub decimals : numeral.decimals.now ≡ another.decimals.now
+  pub alike : AreLike rest later
 
-signed-like : (words others rest : List Token) (numeral : Numeral) → AreLike words others → IsNumeral words rest numeral
+pub signed-like : (words others rest : List Token) (numeral : Numeral) → AreLike words others → IsNumeral words rest numeral
     → SignedLike numeral rest others
 signed-like _ others rest numeral alike unsigned =
     let like = like-number-by (Number numeral ∷ rest) others numeral rest alike refl in
@@ -229,12 +225,12 @@ signed-like _ others rest _ alike (negative {numeral = numeral}) =
       alike = like.alike;
     }
 
-number_of-like : (unit : Unit) (numeral another : Numeral) → numeral.is_negative ≡ another.is_negative
+pub number_of-like : (unit : Unit) (numeral another : Numeral) → numeral.is_negative ≡ another.is_negative
     → numeral.whole.now ≡ another.whole.now → numeral.decimals.now ≡ another.decimals.now → number_of unit numeral ≡ number_of unit another
 number_of-like Whole numeral another sign whole decimals = rw (sign, whole, decimals) refl
 number_of-like Degrees numeral another sign whole decimals = rw (sign, whole, decimals) refl
 
-moved-number : (unit : Unit) (words others rest : List Token) (value : Literal) → AreLike words others
+pub moved-number : (unit : Unit) (words others rest : List Token) (value : Literal) → AreLike words others
     → IsNumber unit words rest value → Moved (λ w r. IsNumber unit w r value) others rest
 moved-number unit words others rest value alike is =
     let like = signed-like words others rest is.numeral alike is.spelled in
@@ -246,18 +242,6 @@ moved-number unit words others rest value alike is =
         spelled = like.is;
         value = sym (number_of-like unit is.numeral like.another like.sign like.whole like.decimals) ∙ is.value;
       };
-    }
-
-moved-point : (words others rest : List Token) (x y : Literal) → AreLike words others → IsPoint words rest x y
-    → Moved (λ w r. IsPoint w r x y) others rest
-moved-point words others rest x y alike is =
-    let first = moved-number Degrees words others (Comma ∷ is.middle) x alike is.first in
-    let between = same-first Comma is.middle first.after refl first.alike in
-    let second = moved-number Degrees is.middle between.later rest y between.alike is.second in
-    record {
-      after = second.after;
-      alike = second.alike;
-      is = record { middle = between.later; first = rw between.is at first.is; second = second.is };
     }
 
 -- an operator holds no bytes
@@ -488,7 +472,7 @@ moved-subject (subject.Folded folding c) words others rest alike is =
     moved-clause (IsTextColumn c) folding words others rest (moved-column c) alike is
 
 module _ {A : Type 0} where
-  moved-text : (width : ℕ) (words others rest : List Token) (text : AText A) → AreLike words others → IsText width words rest text
+  pub moved-text : (width : ℕ) (words others rest : List Token) (text : AText A) → AreLike words others → IsText width words rest text
       → Moved (λ w r. IsText width w r text) others rest
   moved-text width words others rest text alike is =
       let like = like-text-by words others is.spelling rest alike is.spelled in
@@ -548,15 +532,16 @@ module _ {A : Type 0} where
   moved-comparison (subject.Folded folding c) Greater words others rest made alike is = absurd is
   moved-comparison (subject.Folded folding c) GreaterOrEqual words others rest made alike is = absurd is
 
-  moved-list : (s : Subject) (words others rest : List Token) (made : Filter A) → AreLike words others → SpellsList s words rest made
-      → Moved (λ w r. SpellsList s w r made) others rest
-  moved-list s words others rest made alike (one is) =
-      let item = moved-comparison s Equal words others rest made alike is in
+  moved-list : (Item Other : List Token → List Token → Filter A → Type 0) (words others rest : List Token) (made : Filter A)
+      → ((w o r : List Token) (m : Filter A) → AreLike w o → Item w r m → Moved (λ w r. Other w r m) o r) → AreLike words others
+      → SpellsList Item words rest made → Moved (λ w r. SpellsList Other w r made) others rest
+  moved-list Item Other words others rest made move alike (one is) =
+      let item = move words others rest made alike is in
       record { after = item.after; alike = item.alike; is = one item.is }
-  moved-list s words others rest made alike (more {middle = middle} {first = first} {second = second} front is joined) =
-      let before = moved-list s words others (Comma ∷ middle) first alike front in
+  moved-list Item Other words others rest made move alike (more {middle = middle} {first = first} {second = second} front is joined) =
+      let before = moved-list Item Other words others (Comma ∷ middle) first move alike front in
       let between = same-first Comma middle before.after refl before.alike in
-      let item = moved-comparison s Equal middle between.later rest second between.alike is in
+      let item = move middle between.later rest second between.alike is in
       record { after = item.after; alike = item.alike; is = more (rw between.is at before.is) item.is joined }
 
   moved-like : (s : Subject) (words others rest : List Token) (made : Filter A) → AreLike words others → SpellsLike s words rest made
@@ -579,7 +564,8 @@ module _ {A : Type 0} where
   moved-negatable s _ others rest made alike (is_in_list {words = words} is) =
       let first = same-first (Keyword word.In) (Open ∷ words) others refl alike in
       let second = same-first Open words first.later refl first.alike in
-      let inner = moved-list s words second.later (Close ∷ rest) made second.alike is in
+      let Item = SpellsComparison s Equal in
+      let inner = moved-list Item Item words second.later (Close ∷ rest) made (moved-comparison s Equal) second.alike is in
       let closed = same-first Close rest inner.after refl inner.alike in
       moved-at _ others _ rest (first.is ∙ ap (λ (l : List Token). Keyword word.In ∷ l) second.is)
       (record { after = closed.later; alike = closed.alike; is = is_in_list (rw closed.is at inner.is) })
@@ -610,6 +596,59 @@ module _ {A : Type 0} where
       moved-after (Keyword word.Is) words others rest refl alike (λ later also. moved-null c words later rest made also is)
       (λ w r it. null_test known it)
 
+moved-text-literal : (words others rest : List Token) → AreLike words others → IsTextLiteral words rest
+    → Moved IsTextLiteral others rest
+moved-text-literal words others rest alike is =
+    let opened = like-opens is.depth is.folding words others is.inner alike is.opens in
+    let text = like-text-by is.inner opened.later is.inside.spelling (closed is.depth rest) opened.alike is.inside.is in
+    let ends = like-closed is.depth rest text.later text.alike in
+    record {
+      after = ends.0;
+      alike = ends.2;
+      is = record {
+        depth = is.depth;
+        folding = is.folding;
+        inner = opened.later;
+        opens = opened.opens;
+        few = is.few;
+        inside = record { spelling = text.another; is = rw ends.1 at text.is };
+      };
+    }
+
+module _ {A : Type 0} (start others : List Token) (alike : AreLike start others) where
+  moved-exchanged : (k : Comparison) (words later rest : List Token) (made : Filter A) → AreLike words later
+      → SpellsExchanged start k words rest made → Moved (λ w r. SpellsExchanged others k w r made) later rest
+  moved-exchanged k words later rest made also is =
+      let first = moved-subject is.s words later rest also is.is_subject in
+      let second = moved-comparison is.s (mirrored k) start others is.after made alike is.is_comparison in
+      record {
+        after = first.after;
+        alike = first.alike;
+        is = record { s = is.s; after = second.after; is_subject = first.is; is_comparison = second.is };
+      }
+
+  moved-text-among : (words later rest : List Token) (made : Filter A) → AreLike words later → SpellsTextAmong start words rest made
+      → Moved (λ w r. SpellsTextAmong others w r made) later rest
+  moved-text-among _ later rest made also (text_in_list {words = words} is) =
+      let first = same-first (Keyword word.In) (Open ∷ words) later refl also in
+      let second = same-first Open words first.later refl first.alike in
+      let inner = moved-list (SpellsExchanged start Equal) (SpellsExchanged others Equal) words second.later (Close ∷ rest) made
+      (moved-exchanged Equal) second.alike is in
+      let closed = same-first Close rest inner.after refl inner.alike in
+      moved-at _ later _ rest (first.is ∙ ap (λ (l : List Token). Keyword word.In ∷ l) second.is)
+      (record { after = closed.later; alike = closed.alike; is = text_in_list (rw closed.is at inner.is) })
+
+  moved-of-text : (words later rest : List Token) (made : Filter A) → AreLike words later → SpellsOfText start words rest made
+      → Moved (λ w r. SpellsOfText others w r made) later rest
+  moved-of-text _ later rest made also (text_compared {k = k} {words = words} is) =
+      moved-after (Compared k) words later rest refl also (λ l a. moved-exchanged k words l rest made a is) (λ w r it. text_compared it)
+  moved-of-text words later rest made also (text_among is) =
+      let inner = moved-text-among words later rest made also is in
+      record { after = inner.after; alike = inner.alike; is = text_among inner.is }
+  moved-of-text _ later rest made also (text_not_among {words = words} {inner = inner} is inverted) =
+      moved-after (Keyword word.Not) words later rest refl also (λ l a. moved-text-among words l rest inner a is)
+      (λ w r it. text_not_among it inverted)
+
 -- what closes a parenthesis, and what follows it, is alike
 close-like : (d : ℕ) (test : Bool) (tokens others : List Token) → AreLike tokens others → AreLike (closing (d - 1) tokens) (closing (d - 1) others)
     → AreLike (if test then closing (d - 1) tokens else Close ∷ tokens) (if test then closing (d - 1) others else Close ∷ others)
@@ -639,7 +678,7 @@ follows-closing-like : (words others : List Token) → AreLike words others → 
 follows-closing-like _ _ none = refl
 follows-closing-like _ _ (next _ _ tokens later like alike) = follows-like tokens later alike
 
-opens-like : (words others : List Token) → AreLike words others → opens_filter words ≡ opens_filter others
+pub opens-like : (words others : List Token) → AreLike words others → opens_filter words ≡ opens_filter others
 opens-like _ _ none = refl
 opens-like _ _ (next _ _ tokens later (same Open) alike) =
     ap not (follows-closing-like (closing 0 tokens) (closing 0 later) (closing-like tokens later alike 0))
@@ -647,106 +686,20 @@ opens-like _ _ (next _ _ tokens later (same token) alike) = refl
 opens-like _ _ (next _ _ tokens later (numbers numeral other sign whole decimals) alike) = refl
 opens-like _ _ (next _ _ tokens later (texts spelling other bytes) alike) = refl
 
-none-like : (others : List Token) → AreLike [] others → others ≡ []
+pub none-like : (others : List Token) → AreLike [] others → others ≡ []
 none-like _ none = refl
 
-count_of-like : (most : ℕ) (numeral another : Numeral) → numeral.is_negative ≡ another.is_negative
-    → numeral.whole.now ≡ another.whole.now → numeral.decimals.now ≡ another.decimals.now → count_of most numeral ≡ count_of most another
-count_of-like most numeral another sign whole decimals = rw (sign, whole, decimals) refl
-
-moved-limit : (words others rest : List Token) (limit : NameLimit) → AreLike words others → SpellsLimit words rest limit
-    → Moved (λ w r. SpellsLimit w r limit) others rest
-moved-limit _ others rest limit alike (given {words = words} numeral is value) =
-    let first = same-first Comma words others refl alike in
-    let like = signed-like words first.later rest numeral first.alike is in
-    let counts = count_of-like 18 numeral like.another like.sign like.whole like.decimals in
-    moved-at _ others _ rest first.is
-    (record { after = like.later; alike = like.alike; is = given like.another like.is (ap up_to_name_limit (sym counts) ∙ value) })
-moved-limit words others _ limit alike (usual value) = record { after = others; alike = alike; is = usual value }
-
-moved-has_number : (words others rest : List Token) (house : HouseNumber) → AreLike words others → SpellsHasNumber words rest house
-    → Moved (λ w r. SpellsHasNumber w r house) others rest
-moved-has_number words others rest house alike is =
-    let first = first-by words others Open is.inner alike is.opened refl in
-    let like = signed-like is.inner first.later (Close ∷ rest) is.numeral first.alike is.spelled in
-    let closed = same-first Close rest like.later refl like.alike in
-    let counts = count_of-like 11 is.numeral like.another like.sign like.whole like.decimals in
-    record {
-      after = closed.later;
-      alike = closed.alike;
-      is = record {
-        numeral = like.another;
-        inner = first.later;
-        opened = first.is;
-        spelled = rw closed.is at like.is;
-        value = sym counts ∙ is.value;
-      };
-    }
-
 module _ {A : Type 0} where
-  moved-has_name : (words others rest : List Token) (text : AText A) (limit : NameLimit) → AreLike words others
-      → SpellsHasName words rest text limit → Moved (λ w r. SpellsHasName w r text limit) others rest
-  moved-has_name words others rest text limit alike is =
-      let first = first-by words others Open is.inner alike is.opened refl in
-      let name = moved-text NAME_LENGTH is.inner first.later is.after text first.alike is.name in
-      let names = moved-limit is.after name.after (Close ∷ rest) limit name.alike is.names in
-      let closed = same-first Close rest names.after refl names.alike in
-      record {
-        after = closed.later;
-        alike = closed.alike;
-        is = record {
-          inner = first.later;
-          after = name.after;
-          opened = first.is;
-          name = name.is;
-          names = rw closed.is at names.is;
-        };
-      }
-
-  moved-starts_in : (words others rest : List Token) (made : Filter A) → AreLike words others → SpellsStartsIn words rest made
-      → Moved (λ w r. SpellsStartsIn w r made) others rest
-  moved-starts_in words others rest made alike is =
-      let opened = first-by words others Open (Keyword word.Bbox ∷ Open ∷ is.from_w) alike is.opened refl in
-      let bbox = same-first (Keyword word.Bbox) (Open ∷ is.from_w) opened.later refl opened.alike in
-      let inner = same-first Open is.from_w bbox.later refl bbox.alike in
-      let southwest = moved-point is.from_w inner.later (Comma ∷ is.from_e) is.w is.s inner.alike is.southwest in
-      let from_e = same-first Comma is.from_e southwest.after refl southwest.alike in
-      let northeast = moved-point is.from_e from_e.later (Close ∷ Close ∷ rest) is.e is.n from_e.alike is.northeast in
-      let closed = same-first Close (Close ∷ rest) northeast.after refl northeast.alike in
-      let last = same-first Close rest closed.later refl closed.alike in
-      let begins = ap (λ (l : List Token). Keyword word.Bbox ∷ l) inner.is in
-      record {
-        after = last.later;
-        alike = last.alike;
-        is = record {
-          w = is.w;
-          s = is.s;
-          e = is.e;
-          n = is.n;
-          from_w = inner.later;
-          from_e = from_e.later;
-          opened = opened.is ∙ ap (λ (l : List Token). Open ∷ l) (bbox.is ∙ begins);
-          southwest = rw from_e.is at southwest.is;
-          northeast = rw (closed.is, last.is) at northeast.is;
-          across = is.across;
-          along = is.along;
-          is_across = is.is_across;
-          is_along = is.is_along;
-          both = is.both;
-        };
-      }
-
-  moved-relation : (words others rest : List Token) (made : Filter A) → AreLike words others → SpellsRelation words rest made
+  pub moved-relation : (words others rest : List Token) (made : Filter A) → AreLike words others → SpellsRelation words rest made
       → Moved (λ w r. SpellsRelation w r made) others rest
   moved-relation words others rest made alike (of_subject {s = s} {middle = middle} known is) =
       let first = moved-subject s words others middle alike known in
       let inner = moved-of s middle first.after rest made first.alike is in
       record { after = inner.after; alike = inner.alike; is = of_subject first.is inner.is }
-  moved-relation words others rest _ alike (text_first {c = c} {k = k} {text = text} is) =
-      let moved = moved-text (width_of c) words others (Compared k ∷ Column (column.Text c) ∷ rest) text alike is in
-      let sign = same-first (Compared k) (Column (column.Text c) ∷ rest) moved.after refl moved.alike in
-      let named = same-first (Column (column.Text c)) rest sign.later refl sign.alike in
-      record { after = named.later; alike = named.alike; is = text_first (rw (sign.is, named.is) at moved.is) }
+  moved-relation words others rest made alike (text_first {middle = middle} begun is) =
+      let first = moved-text-literal words others middle alike begun in
+      let inner = moved-of-text words others alike middle first.after rest made first.alike is in
+      record { after = inner.after; alike = inner.alike; is = text_first first.is inner.is }
   moved-relation words others rest made alike (of_number {middle = middle} is) =
       let later = operand-alike words others middle alike middle rest made is in
       let moved = moved-of-number words others middle alike middle (after_number others) rest made later is in
@@ -757,68 +710,3 @@ module _ {A : Type 0} where
       let moved = moved-null (column.Numeric c) words second.later rest made second.alike is in
       moved-at _ others _ rest (first.is ∙ ap (λ (l : List Token). Column (column.Numeric c) ∷ l) second.is)
       (record { after = moved.after; alike = moved.alike; is = number_null moved.is })
-
-  moved-predicate : (words others rest : List Token) (made : Filter A) → AreLike words others → SpellsPredicate words rest made
-      → Moved (λ w r. SpellsPredicate w r made) others rest
-  moved-predicate _ others rest _ alike true_literal =
-      let first = same-first (Keyword word.True) rest others refl alike in
-      moved-at _ others _ rest first.is
-      (record { after = first.later; alike = first.alike; is = true_literal })
-  moved-predicate _ others rest _ alike false_literal =
-      let first = same-first (Keyword word.False) rest others refl alike in
-      moved-at _ others _ rest first.is
-      (record { after = first.later; alike = first.alike; is = false_literal })
-  moved-predicate _ others rest _ alike (has_number {words = words} {house = house} is) =
-      moved-after (Keyword word.HasNumber) words others rest refl alike (λ later also. moved-has_number words later rest house also is)
-      (λ w r it. has_number it)
-  moved-predicate _ others rest _ alike (has_name {words = words} {text = text} {limit = limit} is) =
-      moved-after (Keyword word.HasName) words others rest refl alike (λ later also. moved-has_name words later rest text limit also is)
-      (λ w r it. has_name it)
-  moved-predicate _ others rest made alike (starts_in {words = words} is) =
-      moved-after (Keyword word.StartsIn) words others rest refl alike (λ later also. moved-starts_in words later rest made also is)
-      (λ w r it. starts_in it)
-  moved-predicate words others rest made alike (relation is) =
-      let moved = moved-relation words others rest made alike is in
-      record { after = moved.after; alike = moved.alike; is = relation moved.is }
-
-  pub moved-spells : (depth : ℕ) (production : Production) (words others rest : List Token) (made : Filter A) → AreLike words others
-      → Spells depth production words rest made → Moved (λ w r. Spells depth production w r made) others rest
-  moved-spells depth _ words others rest made alike (one_term is) =
-      let inner = moved-spells depth _ words others rest made alike is in
-      record { after = inner.after; alike = inner.alike; is = one_term inner.is }
-  moved-spells depth _ words others rest made alike (either {middle = middle} {first = first} {second = second} left right joined) =
-      let before = moved-spells depth _ words others (Keyword word.Or ∷ middle) first alike left in
-      let between = same-first (Keyword word.Or) middle before.after refl before.alike in
-      let inner = moved-spells depth _ middle between.later rest second between.alike right in
-      record { after = inner.after; alike = inner.alike; is = either (rw between.is at before.is) inner.is joined }
-  moved-spells depth _ words others rest made alike (one_factor is) =
-      let inner = moved-spells depth _ words others rest made alike is in
-      record { after = inner.after; alike = inner.alike; is = one_factor inner.is }
-  moved-spells depth _ words others rest made alike (both {middle = middle} {first = first} {second = second} left right joined) =
-      let before = moved-spells depth _ words others (Keyword word.And ∷ middle) first alike left in
-      let between = same-first (Keyword word.And) middle before.after refl before.alike in
-      let inner = moved-spells depth _ middle between.later rest second between.alike right in
-      record { after = inner.after; alike = inner.alike; is = both (rw between.is at before.is) inner.is joined }
-  moved-spells depth _ words others rest made alike (one_primary is) =
-      let inner = moved-spells depth _ words others rest made alike is in
-      record { after = inner.after; alike = inner.alike; is = one_primary inner.is }
-  moved-spells depth _ _ others rest made alike (not_primary {words = words} {inner = inner} is inverted) =
-      moved-after (Keyword word.Not) words others rest refl alike (λ later also. moved-spells depth _ words later rest inner also is)
-      (λ w r it. not_primary it inverted)
-  moved-spells _ _ _ others rest made alike (grouped {depth = depth} {words = words} opens is) =
-      let first = same-first Open words others refl alike in
-      let opens_too = sym (opens-like (Open ∷ words) (Open ∷ first.later) (next Open Open words first.later (same Open) first.alike)) ∙ opens in
-      let inner = moved-spells depth _ words first.later (Close ∷ rest) made first.alike is in
-      let closed = same-first Close rest inner.after refl inner.alike in
-      moved-at _ others _ rest first.is
-      (record { after = closed.later; alike = closed.alike; is = grouped opens_too (rw closed.is at inner.is) })
-  moved-spells depth _ words others rest made alike (predicate opens is) =
-      let inner = moved-predicate words others rest made alike is in
-      record { after = inner.after; alike = inner.alike; is = predicate (sym (opens-like words others alike) ∙ opens) inner.is }
-
-  -- the same for all tokens
-  pub all-moved : (depth : ℕ) (production : Production) (words others : List Token) (made : Filter A) → AreLike words others
-      → Spells depth production words [] made → Spells depth production others [] made
-  all-moved depth production words others made alike is =
-      let moved = moved-spells depth production words others [] made alike is in
-      rw (none-like moved.after moved.alike) at moved.is

@@ -1,13 +1,11 @@
 -- Parts with a token between them: a definition that recurses on the left, read from the first part on.
 use Rattle.std.proofs.Common.{◌≡◌, ◌≢◌, ℕ, List, ◌∷◌, refl, ap, ◌∙◌}
-use Rattle.cql2.specs.declared.filter.Comparison.TheVariants.{Equal}
 use Rattle.cql2.specs.declared.filter.Filter.{Filter}
 use Rattle.cql2_text.specs.Content.{content}
 use Rattle.cql2_text.specs.Connective.{IsBoth, IsEither}
-use Rattle.cql2_text.specs.Predicate.{SpellsComparison, SpellsList, one, more}
+use Rattle.cql2_text.specs.Predicate.{SpellsList, one, more}
 use Rattle.cql2_text.specs.Read.{IsNotNext}
 use Rattle.cql2_text.specs.Spelled.{Expression, Factor, Spells, Term, both, either, one_factor, one_term}
-use Rattle.cql2_text.specs.declared.predicate.Subject.{Subject}
 use Rattle.cql2_tokens.specs.declared.token.Keyword.TheVariants as word
 use Rattle.cql2_tokens.specs.declared.token.Token.{Token}
 use Rattle.cql2_tokens.specs.declared.token.Token.TheVariants.{Comma, Keyword}
@@ -88,8 +86,8 @@ module _ {A : Type 0} {between : Token} {Part : List Token → List Token → Fi
       let last = no-part so_far.chain stops in (last.0, so_far.same ∙ ap content last.1)
 
 module _ {A : Type 0} where
-  pub list-parts : {s : Subject} {words rest : List Token} {made : Filter A} → SpellsList s words rest made
-      → FirstPart Comma (SpellsComparison s Equal) IsEither words rest made
+  pub list-parts : {Item : List Token → List Token → Filter A → Type 0} {words rest : List Token} {made : Filter A}
+      → SpellsList Item words rest made → FirstPart Comma Item IsEither words rest made
   list-parts {rest = rest} (one {made = made} is) = record { first = made; after = rest; part = is; chain = ends }
   list-parts (more before is joins) = later-part (list-parts before) is joins
 

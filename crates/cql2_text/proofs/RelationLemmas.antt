@@ -1,22 +1,17 @@
 -- How a predicate about a text or a number begins.
-use Rattle.std.proofs.Common.{◌≡◌, ◌≢◌, ◌≤◌, arith, ℕ, true, false, List, ◌∷◌, refl, sym, ap, ◌∙◌, subst}
+use Rattle.std.proofs.Common.{◌≡◌, ◌≢◌, ◌≤◌, arith, ℕ, true, false, List, ◌∷◌, refl, sym, ◌∙◌, subst}
 use denote.Ref.{Bor}
 use Rattle.cql2.specs.declared.column.Column.TheVariants as column
 use Rattle.cql2.specs.declared.column.NumericColumn.{NumericColumn}
-use Rattle.cql2.specs.declared.column.TextColumn.{TextColumn}
 use Rattle.cql2.specs.declared.expression.Expression.{Expression}
-use Rattle.cql2.specs.declared.filter.Comparison.{Comparison}
 use Rattle.cql2.specs.declared.filter.Filter.{Filter}
-use Rattle.cql2.specs.declared.filter.Filter.TheVariants as filter
-use Rattle.cql2.specs.declared.text.Text.{Text as AText}
 use Rattle.cql2.specs.declared.pattern.Folding.{Folding}
-use Rattle.cql2_text.specs.Clause.{Opens, accenti, casei, inside}
-use Rattle.cql2_text.specs.Compared.{SpellsAmong, SpellsNumbers, SpellsOfNumber, among, comparison, is_between, is_in_list, mirrored, more, not_among, one}
+use Rattle.cql2_text.specs.Clause.{Opens, accenti, casei, closed, inside}
+use Rattle.cql2_text.specs.Compared.{SpellsAmong, SpellsNumbers, SpellsOfNumber, among, comparison, is_between, is_in_list, more, not_among, one}
 use Rattle.cql2_text.specs.Expression.{Production, SpellsNumber, combined, grouped, literal, one_part, opposite, property_name}
 use Rattle.cql2_text.specs.Numeral.{IsNumeral, negative, positive, unsigned}
-use Rattle.cql2_text.specs.Predicate.{BeginsText, IsSubject, IsText, SpellsNull, SpellsOf, SpellsRelation, of_number, number_null, of_subject}
-use Rattle.cql2_text.specs.Predicate.{text_first, width_of}
-use Rattle.cql2_text.specs.ReadNumber.{IsNotFirst}
+use Rattle.cql2_text.specs.Predicate.{IsSubject, IsTextLiteral, SpellsNull, SpellsOf, SpellsOfText, SpellsRelation}
+use Rattle.cql2_text.specs.Predicate.{of_number, number_null, of_subject, text_first}
 use Rattle.cql2_text.specs.Scan.{begins_operand}
 use Rattle.cql2_text.specs.declared.predicate.Subject.{Subject}
 use Rattle.cql2_text.specs.declared.predicate.Subject.TheVariants as subject
@@ -24,7 +19,7 @@ use Rattle.cql2_text.specs.declared.unit.Unit.{Unit as AUnit}
 use Rattle.cql2_tokens.specs.declared.token.Keyword.TheVariants as word
 use Rattle.cql2_tokens.specs.declared.token.Numeral.{Numeral}
 use Rattle.cql2_tokens.specs.declared.token.Token.{Token}
-use Rattle.cql2_tokens.specs.declared.token.Token.TheVariants.{Column, Comma, Close, Compared, Keyword, Text}
+use Rattle.cql2_tokens.specs.declared.token.Token.TheVariants.{Column, Comma, Close, Keyword, Text}
 use Rattle.cql2_text.proofs.ComparedLemmas.{is-number-of, number-end}
 
 numeral-begins : (words rest : List Token) (numeral : Numeral) → IsNumeral words rest numeral → begins_operand words ≡ true
@@ -32,18 +27,22 @@ numeral-begins _ rest numeral unsigned = refl
 numeral-begins _ rest numeral positive = refl
 numeral-begins _ rest _ negative = refl
 
--- CASEI or ACCENTI at the start is no operand, and no text
+-- CASEI or ACCENTI at the start is no operand
 opens-operand : (depth : ℕ) (folding : Folding) (words inner : List Token) → Opens depth folding words inner → 1 ≤ depth
     → begins_operand words ≡ false
 opens-operand _ _ _ _ (inside inner) some = absurd (omega arith)
 opens-operand _ _ _ _ (casei is) some = refl
 opens-operand _ _ _ _ (accenti is) some = refl
 
-opens-text : (depth : ℕ) (folding : Folding) (words inner : List Token) (spelling : Bor (List ℕ)) (after : List Token)
-    → words ≡ Text spelling ∷ after → Opens depth folding words inner → 1 ≤ depth → ⊥
-opens-text _ _ _ _ spelling after is (inside inner) some = omega arith
-opens-text _ _ _ _ spelling after is (casei opens) some = cc is
-opens-text _ _ _ _ spelling after is (accenti opens) some = cc is
+-- and neither is a literal
+literal-operand : (depth : ℕ) (folding : Folding) (words inner after : List Token) (spelling : Bor (List ℕ)) → inner ≡ Text spelling ∷ after
+    → Opens depth folding words inner → begins_operand words ≡ false
+literal-operand _ _ _ _ after spelling is (inside inner) = rw is refl
+literal-operand _ _ _ _ after spelling is (casei opens) = refl
+literal-operand _ _ _ _ after spelling is (accenti opens) = refl
+
+text-operand : (words rest : List Token) → IsTextLiteral words rest → begins_operand words ≡ false
+text-operand words rest is = literal-operand is.depth is.folding words is.inner (closed is.depth rest) is.inside.spelling is.inside.is is.opens
 
 no-subject : (s : Subject) (words middle : List Token) → IsSubject s words middle → begins_operand words ≡ true → ⊥
 no-subject (subject.Text c) words middle is begins =
@@ -81,10 +80,6 @@ module _ {A : Type 0} where
   operand-begins start «end» _ rest made (not_among {words = words} {inner = inner} is negation) =
       among-begins start «end» words rest inner is
 
-  no-text : (width : ℕ) (words rest : List Token) (text : AText A) → IsText width words rest text → begins_operand words ≡ true → ⊥
-  no-text width words rest text is begins =
-      let e : begins_operand (Text is.spelling ∷ rest) ≡ true = rw is.spelled at begins in cc e
-
   -- a predicate about a number
   pub record IsOfNumber (words rest : List Token) (made : Filter A) : Type 0 where
     pub middle : List Token
@@ -97,19 +92,18 @@ module _ {A : Type 0} where
     pub is_subject : IsSubject s words middle
     pub is_of : SpellsOf s middle rest made
 
-  -- a text that is compared with a column
+  -- a predicate about a literal
   pub record IsTextFirst (words rest : List Token) (made : Filter A) : Type 0 where
-    pub c : TextColumn
-    pub k : Comparison
-    pub text : AText A
-    pub literal : IsText (width_of c) words (Compared k ∷ Column (column.Text c) ∷ rest) text
-    pub is : made ≡ filter.CompareText c (mirrored k) text
+    pub middle : List Token
+    pub literal : IsTextLiteral words middle
+    pub is_of : SpellsOfText words middle rest made
 
   pub relation-number : (words rest : List Token) (made : Filter A) → begins_operand words ≡ true
       → ((c : NumericColumn) (w : List Token) → words ≢ Column (column.Numeric c) ∷ Keyword word.Is ∷ w) → SpellsRelation words rest made
       → IsOfNumber words rest made
   relation-number words rest made begins none (of_subject {s = s} {middle = middle} known is) = absurd (no-subject s words middle known begins)
-  relation-number words rest _ begins none (text_first {text = text} is) = absurd (no-text _ words _ text is begins)
+  relation-number words rest made begins none (text_first {middle = middle} begun is) =
+      let e = sym (text-operand words middle begun) ∙ begins in absurd (cc e)
   relation-number words rest made begins none (of_number {middle = middle} is) = record { middle = middle; is_of = is }
   relation-number _ rest made begins none (number_null is) = absurd (none _ _ refl)
 
@@ -118,69 +112,27 @@ module _ {A : Type 0} where
   relation-null (of_subject {s = subject.Text c} known is) = cc
   relation-null (of_subject {s = subject.Folded folding c} {middle = middle} known is) =
       absurd (no-subject (subject.Folded folding c) _ middle known refl)
-  relation-null (text_first is) = let e = is.spelled in cc
+  relation-null (text_first {middle = middle} begun is) = let e = text-operand _ middle begun in absurd (cc e)
   relation-null (number_null is) = is
   relation-null {c = c} {words = words} {rest = rest} {made = made} (of_number {middle = middle} is) =
       let start = Column (column.Numeric c) ∷ Keyword word.Is ∷ words in
       let ends : Keyword word.Is ∷ words ≡ middle = number-end start middle middle rest made is in
       absurd (is-number-of (subst (λ (w : List Token). SpellsOfNumber start middle w rest made) (sym ends) is))
 
-  pub relation-text : (words rest : List Token) (made : Filter A) (spelling : Bor (List ℕ)) (after : List Token) → words ≡ Text spelling ∷ after
-      → SpellsRelation words rest made → IsTextFirst words rest made
-  relation-text words rest made spelling after begins (of_subject {s = subject.Text c} known is) =
-      let e = sym known ∙ begins in cc e
-  relation-text words rest made spelling after begins (of_subject {s = subject.Folded folding c} known is) =
-      absurd (opens-text known.depth folding words known.inner spelling after begins known.opened.opens known.opened.some)
-  relation-text words rest _ spelling after begins (text_first {c = c} {k = k} {text = text} is) =
-      record { c = c; k = k; text = text; literal = is; is = refl }
-  relation-text words rest made spelling after begins (of_number {middle = middle} is) =
-      let first = operand-begins words middle middle rest made is in
-      let e : begins_operand (Text spelling ∷ after) ≡ true = rw begins at first in
-      cc e
-  relation-text _ rest made spelling after begins (number_null is) = cc
+  pub relation-text : (words rest : List Token) (made : Filter A) → begins_operand words ≡ false
+      → ((s : Subject) (middle : List Token) → IsSubject s words middle → ⊥) → SpellsRelation words rest made → IsTextFirst words rest made
+  relation-text words rest made stop none (of_subject {s = s} {middle = middle} known is) = absurd (none s middle known)
+  relation-text words rest made stop none (text_first {middle = middle} begun is) =
+      record { middle = middle; literal = begun; is_of = is }
+  relation-text words rest made stop none (of_number {middle = middle} is) =
+      let e = sym (operand-begins words middle middle rest made is) ∙ stop in absurd (cc e)
+  relation-text _ rest made stop none (number_null is) = cc
 
   pub relation-subject : (words rest : List Token) (made : Filter A) → begins_operand words ≡ false
-      → ((spelling : Bor (List ℕ)) → IsNotFirst (Text spelling) words) → SpellsRelation words rest made → IsOfSubject words rest made
+      → ((middle : List Token) → IsTextLiteral words middle → ⊥) → SpellsRelation words rest made → IsOfSubject words rest made
   relation-subject words rest made stop none (of_subject {s = s} {middle = middle} known is) =
       record { s = s; middle = middle; is_subject = known; is_of = is }
-  relation-subject words rest _ stop none (text_first is) = absurd (none is.spelling _ is.spelled)
+  relation-subject words rest made stop none (text_first {middle = middle} begun is) = absurd (none middle begun)
   relation-subject words rest made stop none (of_number {middle = middle} is) =
       let e = sym (operand-begins words middle middle rest made is) ∙ stop in absurd (cc e)
   relation-subject _ rest made stop none (number_null is) = cc
-
-  -- the tokens after the literal
-  pub text-after : (words rest : List Token) (made : Filter A) (after : List Token) → BeginsText words after
-      → (is : IsTextFirst words rest made) → after ≡ Compared is.k ∷ Column (column.Text is.c) ∷ rest
-  text-after words rest made after begins is = let e = sym begins.is ∙ is.literal.spelled in cc e
-
-module _ {A : Type 0} (words after read rest : List Token) (text : AText A) (c : TextColumn) (k : Comparison) (width : ℕ) where
-  -- a literal that was read before a comparison and a column
-  pub literal-read : BeginsText words after → after ≡ Compared k ∷ Column (column.Text c) ∷ rest → width ≡ width_of c
-      → IsText width words read text → IsText (width_of c) words (Compared k ∷ Column (column.Text c) ∷ rest) text
-  literal-read begins known wide is =
-      let same : Text is.spelling ∷ read ≡ Text begins.spelling ∷ after = sym is.spelled ∙ begins.is in
-      let rests : read ≡ after = cc same in
-      let at = subst (λ (w : List Token). IsText width words w text) (rests ∙ known) is in
-      subst (λ (n : ℕ). IsText n words (Compared k ∷ Column (column.Text c) ∷ rest) text) wide at
-
--- a literal that was spelled before the comparison and the column that were read
-pub record TextRead {A : Type 0} (words rest spelled : List Token) (made : Filter A) (is : IsTextFirst words spelled made) (c : TextColumn)
-    (k : Comparison) (width : ℕ) : Type 0 where
-  pub rests : rest ≡ spelled
-  pub columns : is.c ≡ c
-  pub signs : is.k ≡ k
-  pub literal : IsText width words (Compared is.k ∷ Column (column.Text is.c) ∷ spelled) is.text
-
-module _ {A : Type 0} (words after rest spelled : List Token) (made : Filter A) (c : TextColumn) (k : Comparison) (width : ℕ) where
-  pub text-read : BeginsText words after → after ≡ Compared k ∷ Column (column.Text c) ∷ rest → width ≡ width_of c
-      → (is : IsTextFirst words spelled made) → TextRead words rest spelled made is c k width
-  text-read begins known wide is =
-      let same = sym known ∙ text-after words spelled made after begins is in
-      let columns : is.c ≡ c = cc same in
-      let wide_too : width_of is.c ≡ width = ap width_of columns ∙ sym wide in
-      record {
-        rests = cc same;
-        columns = columns;
-        signs = cc same;
-        literal = subst (λ (n : ℕ). IsText n words (Compared is.k ∷ Column (column.Text is.c) ∷ spelled) is.text) wide_too is.literal;
-      }

@@ -1,29 +1,28 @@
 -- Every production consumes tokens.
-use Rattle.std.proofs.Common.{ℕ, zero, suc, ◌<◌, ◌≤◌, List, length, ap, arith}
+use Rattle.std.proofs.Common.{ℕ, zero, suc, ◌<◌, ◌≤◌, List, ◌∷◌, length, ap, arith}
 use Rattle.cql2.specs.declared.column.Column.{Column as AColumn}
 use Rattle.cql2.specs.declared.column.TextColumn.{TextColumn}
 use Rattle.cql2.specs.declared.filter.Comparison.{Comparison}
 use Rattle.cql2.specs.declared.filter.Comparison.TheVariants.{Equal, NotEqual, Less, LessOrEqual, Greater, GreaterOrEqual}
 use Rattle.cql2.specs.declared.filter.Filter.{Filter}
-use Rattle.cql2.specs.declared.number.Literal.{Literal}
-use Rattle.cql2.specs.declared.number.NameLimit.{NameLimit}
 use Rattle.cql2.specs.declared.pattern.Folding.{Folding}
 use Rattle.cql2.specs.declared.pattern.Pattern.{Pattern}
 use Rattle.cql2.specs.declared.text.Text.{Text as AText}
 use Rattle.cql2_text.specs.Predicate.{IsFoldedText, IsLikeColumn, IsSubject, IsText, IsTextColumn, SpellsComparison, SpellsNull, SpellsRelation, width_of}
-use Rattle.cql2_text.specs.Predicate.{SpellsLike, SpellsLimit, SpellsList, SpellsNegatable, SpellsOf, SpellsPredicate, SpellsTextComparison}
+use Rattle.cql2_text.specs.Predicate.{SpellsLike, SpellsList, SpellsNegatable, SpellsOf, SpellsTextComparison}
 use Rattle.cql2_text.specs.Clause.{IsClause, Opens, accenti, casei, closed, inside}
-use Rattle.cql2_text.specs.Predicate.{IsPoint, SpellsStartsIn}
 use Rattle.cql2_text.specs.Predicate.{one, more, is_like, is_in_list, binary_comparison, with_column, with_literal}
 use Rattle.cql2_text.specs.Predicate.{negatable, negated, null_test, is_null, is_not_null}
-use Rattle.cql2_text.specs.Predicate.{given, usual, true_literal, false_literal, has_number, has_name, starts_in, of_subject, of_number, number_null}
-use Rattle.cql2_text.specs.Predicate.{relation, text_first}
+use Rattle.cql2_text.specs.Leaf.{SpellsPredicate, false_literal, function, relation, true_literal}
+use Rattle.cql2_text.specs.Predicate.{of_subject, of_number, number_null, text_first, text_compared, text_among, text_not_among, text_in_list}
+use Rattle.cql2_text.specs.Predicate.{IsTextLiteral, SpellsExchanged, SpellsOfText, SpellsTextAmong}
 use Rattle.cql2_text.specs.Spelled.{Production, Spells, one_term, either, one_factor, both, one_primary, not_primary, grouped, predicate}
 use Rattle.cql2_text.specs.declared.predicate.Subject.{Subject}
 use Rattle.cql2_text.specs.declared.predicate.Subject.TheVariants as subject
 use Rattle.cql2_tokens.specs.declared.token.Token.{Token}
+use Rattle.cql2_tokens.specs.declared.token.Token.TheVariants.{Close, Comma}
 use Rattle.cql2_text.proofs.ComparedLemmas.{after-shorter, operand-shorter}
-use Rattle.cql2_text.proofs.NumeralLemmas.{number-shorter, numeral-shorter}
+use Rattle.cql2_text.proofs.FunctionLemmas.{function-shorter}
 
 text-shorter : {A : Type 0} (width : ℕ) (words rest : List Token) (text : AText A) → IsText width words rest text
     → length rest < length words
@@ -78,13 +77,14 @@ comparison-shorter (subject.Folded folding c) LessOrEqual words rest made is = a
 comparison-shorter (subject.Folded folding c) Greater words rest made is = absurd is
 comparison-shorter (subject.Folded folding c) GreaterOrEqual words rest made is = absurd is
 
-list-shorter : {A : Type 0} (s : Subject) (words rest : List Token) (made : Filter A) → SpellsList s words rest made
-    → length rest < length words
-list-shorter s words rest made (one is) = comparison-shorter s Equal words rest made is
-list-shorter s words rest made (more {middle = middle} {first = first} {second = second} front is joined) =
-    let before = list-shorter s words _ first front in
-    let last = comparison-shorter s Equal middle rest second is in
-    omega arith
+module _ {A : Type 0} (Item : List Token → List Token → Filter A → Type 0) where
+  list-shorter : (words rest : List Token) (made : Filter A) → ((w r : List Token) (m : Filter A) → Item w r m → length r < length w)
+      → SpellsList Item words rest made → length rest < length words
+  list-shorter words rest made shorter (one is) = shorter words rest made is
+  list-shorter words rest made shorter (more {middle = middle} {first = first} {second = second} front is joined) =
+      let before = list-shorter words (Comma ∷ middle) first shorter front in
+      let last = shorter middle rest second is in
+      omega arith
 
 like-shorter : {A : Type 0} (s : Subject) (words rest : List Token) (made : Filter A) → SpellsLike s words rest made
     → length rest < length words
@@ -97,7 +97,7 @@ negatable-shorter : {A : Type 0} (s : Subject) (words rest : List Token) (made :
 negatable-shorter s _ _ _ (is_like {words = words} {rest = rest} {made = made} is) =
     let inner = like-shorter s words rest made is in omega arith
 negatable-shorter s _ _ _ (is_in_list {words = words} {rest = rest} {made = made} is) =
-    let inner = list-shorter s words _ made is in omega arith
+    let inner = list-shorter (SpellsComparison s Equal) words (Close ∷ rest) made (comparison-shorter s Equal) is in omega arith
 
 null-shorter : {A : Type 0} (c : AColumn) (words rest : List Token) (made : Filter A) → SpellsNull c words rest made
     → length rest < length words
@@ -114,28 +114,45 @@ of-shorter s _ _ _ (negated {words = words} {rest = rest} {inner = first} is opp
 of-shorter s _ _ _ (null_test {words = words} {rest = rest} {c = c} {made = made} known is) =
     let inner = null-shorter c words rest made is in omega arith
 
-limit-shorter : (words rest : List Token) (limit : NameLimit) → SpellsLimit words rest limit → length rest ≤ length words
-limit-shorter _ _ _ (given {words = words} {rest = rest} numeral is value) =
-    let inner = numeral-shorter words rest numeral is in omega arith
-limit-shorter _ _ _ (usual value) = omega arith
-
-point-shorter : (words rest : List Token) (x y : Literal) → IsPoint words rest x y → length rest < length words
-point-shorter words rest x y is = omega (arith, number-shorter _ _ _ _ is.first, number-shorter _ _ _ _ is.second)
-
-starts-shorter : {A : Type 0} (words rest : List Token) (made : Filter A) → SpellsStartsIn words rest made → length rest < length words
-starts-shorter words rest made is =
-    omega (arith, ap length is.opened, point-shorter _ _ _ _ is.southwest, point-shorter _ _ _ _ is.northeast)
-
 subject-shorter : (s : Subject) (words rest : List Token) → IsSubject s words rest → length rest < length words
 subject-shorter (subject.Text c) words rest is = column-shorter c words rest is
 subject-shorter (subject.Folded folding c) words rest is = clause-shorter (IsTextColumn c) folding words rest (column-shorter c) is
+
+text-literal-shorter : (words rest : List Token) → IsTextLiteral words rest → length rest < length words
+text-literal-shorter words rest is =
+    omega (
+      arith,
+      opens-shorter is.depth is.folding words is.inner is.opens,
+      ap length is.inside.is,
+      closed-longer is.depth rest,
+    )
+
+pub exchanged-shorter : {A : Type 0} (start : List Token) (k : Comparison) (words rest : List Token) (made : Filter A)
+    → SpellsExchanged start k words rest made → length rest < length words
+exchanged-shorter start k words rest made is = subject-shorter is.s words rest is.is_subject
+
+text-among-shorter : {A : Type 0} (start words rest : List Token) (made : Filter A) → SpellsTextAmong start words rest made
+    → length rest < length words
+text-among-shorter start _ rest made (text_in_list {words = words} is) =
+    let inner = list-shorter (SpellsExchanged start Equal) words (Close ∷ rest) made (exchanged-shorter start Equal) is in omega arith
+
+of-text-shorter : {A : Type 0} (start words rest : List Token) (made : Filter A) → SpellsOfText start words rest made
+    → length rest < length words
+of-text-shorter start _ rest made (text_compared {k = k} {words = words} is) =
+    let inner = exchanged-shorter start k words rest made is in omega arith
+of-text-shorter start words rest made (text_among is) = text-among-shorter start words rest made is
+of-text-shorter start _ rest made (text_not_among {words = words} {inner = inner} is opposite) =
+    let before = text-among-shorter start words rest inner is in omega arith
 
 relation-shorter : {A : Type 0} (words rest : List Token) (made : Filter A) → SpellsRelation words rest made → length rest < length words
 relation-shorter words rest made (of_subject {s = s} {middle = middle} known is) =
     let first = subject-shorter s words middle known in
     let second = of-shorter s middle rest made is in
     omega arith
-relation-shorter words rest _ (text_first {text = text} is) = let inner = text-shorter _ words _ text is in omega arith
+relation-shorter words rest made (text_first {middle = middle} begun is) =
+    let first = text-literal-shorter words middle begun in
+    let second = of-text-shorter words middle rest made is in
+    omega arith
 relation-shorter words rest made (of_number {middle = middle} is) =
     let first = operand-shorter words middle middle rest made is in
     let second = after-shorter words middle middle rest made is in
@@ -146,11 +163,8 @@ relation-shorter _ rest made (number_null {words = words} {c = c} is) =
 predicate-shorter : {A : Type 0} (words rest : List Token) (made : Filter A) → SpellsPredicate words rest made → length rest < length words
 predicate-shorter _ _ _ true_literal = omega arith
 predicate-shorter _ _ _ false_literal = omega arith
-predicate-shorter _ _ _ (has_number is) = omega (arith, ap length is.opened, numeral-shorter _ _ _ is.spelled)
-predicate-shorter _ _ _ (has_name is) =
-    omega (arith, ap length is.opened, text-shorter _ _ _ _ is.name, limit-shorter _ _ _ is.names)
-predicate-shorter _ _ _ (starts_in {words = words} {rest = rest} {made = made} is) =
-    let inner = starts-shorter words rest made is in omega arith
+predicate-shorter _ _ _ (function {name = n} {words = words} {rest = rest} {made = made} is) =
+    let inner = function-shorter n words rest made is in omega arith
 predicate-shorter words rest made (relation is) = relation-shorter words rest made is
 
 pub spells-shorter : {A : Type 0} (depth : ℕ) (production : Production) (words rest : List Token) (made : Filter A)

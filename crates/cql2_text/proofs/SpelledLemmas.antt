@@ -2,24 +2,22 @@
 use Rattle.std.proofs.Common.{◌≡◌, ◌≢◌, ◌≤◌, ◌-◌, ℕ, suc, true, false, sym, Result, Ok, Err, IfOk, [], List, ◌∷◌, Some, refl, ap, ◌∙◌, subst, arith}
 use Rattle.cql2.specs.declared.column.Column.{Column as AColumn}
 use Rattle.cql2.specs.declared.column.Column.TheVariants as column
-use Rattle.cql2.specs.declared.column.NumericColumn.{NumericColumn}
 use Rattle.cql2.specs.declared.filter.Comparison.{Comparison}
 use Rattle.cql2.specs.declared.filter.Comparison.TheVariants.{Equal, NotEqual, Less, LessOrEqual, Greater, GreaterOrEqual}
 use Rattle.cql2.specs.declared.column.TextColumn.{TextColumn}
-use Rattle.cql2.specs.declared.number.Literal.{Literal}
 use Rattle.cql2.specs.declared.pattern.Folding.{Folding}
 use Rattle.cql2.specs.declared.pattern.Pattern.{Pattern}
 use Rattle.cql2.specs.declared.filter.Filter.{Filter}
 use Rattle.cql2.specs.declared.filter.Filter.TheVariants as filter
-use Rattle.cql2_text.specs.Content.{And, CompareNumber, Like, Not, Or, content}
+use Rattle.cql2_text.specs.Content.{And, Like, Not, Or, content}
 use Rattle.cql2_text.specs.Connective.{IsBoth, IsEither, IsNot}
-use Rattle.cql2_text.specs.Predicate.{IsSubject, IsWithin, IsText, SpellsComparison, SpellsLike, SpellsList, SpellsNegatable}
-use Rattle.cql2_text.specs.Predicate.{SpellsOf, SpellsPredicate, SpellsStartsIn, SpellsHasName, SpellsHasNumber, SpellsNull, SpellsRelation}
+use Rattle.cql2_text.specs.Predicate.{IsSubject, IsText, SpellsComparison, SpellsLike, SpellsList, SpellsNegatable}
+use Rattle.cql2_text.specs.Function.{SpellsFunction}
+use Rattle.cql2_text.specs.Leaf.{SpellsPredicate, false_literal, function, relation, true_literal}
+use Rattle.cql2_text.specs.Predicate.{SpellsOf, SpellsNull, SpellsRelation}
 use Rattle.cql2_text.specs.Predicate.{SpellsTextComparison, width_of, with_column, with_literal}
 use Rattle.cql2_text.specs.Predicate.{binary_comparison, is_in_list, is_like, is_not_null, is_null, negatable, negated, null_test, column_of}
-use Rattle.cql2_text.specs.Predicate.{true_literal, false_literal, has_number, has_name, starts_in, of_subject, of_number, relation, text_first}
-use Rattle.cql2.specs.declared.number.HouseNumber.{HouseNumber}
-use Rattle.cql2.specs.declared.number.NameLimit.{NameLimit}
+use Rattle.cql2_text.specs.Predicate.{of_subject, of_number, text_first}
 use Rattle.cql2.specs.declared.text.Text.{Text as AText}
 use denote.Ref.{Bor}
 use Rattle.cql2_text.specs.declared.syntax_fault.SyntaxFault.{SyntaxFault}
@@ -30,6 +28,7 @@ use Rattle.cql2_text.specs.Scan.{begins_operand}
 use Rattle.cql2_text.specs.Spelled.{Expression, Factor, Primary, Spells, grouped, not_primary, one_primary, predicate}
 use Rattle.cql2_text.specs.declared.predicate.Subject.{Subject}
 use Rattle.cql2_text.specs.declared.predicate.Subject.TheVariants as subject
+use Rattle.cql2_tokens.specs.declared.token.FunctionName.{FunctionName}
 use Rattle.cql2_tokens.specs.declared.token.Keyword.{Keyword as AKeyword}
 use Rattle.cql2_tokens.specs.declared.token.Keyword.TheVariants as word
 use Rattle.cql2_tokens.specs.declared.token.Token.{Token}
@@ -49,15 +48,6 @@ module _ {A : Type 0} (one other first second made spelled : Filter A) where
       → content made ≡ content spelled
   same-either left right is also = rw (is.1.1, also.1.1) (ap (λ x. Or x (content other)) left ∙ ap (λ x. Or (content first) x) right)
 
-module _ {A : Type 0} (c : NumericColumn) (low high least most : Literal) (made spelled : Filter A) where
-  pub same-within : low.number ≡ least.number → high.number ≡ most.number → IsWithin c low high made → IsWithin c least most spelled
-      → content made ≡ content spelled
-  same-within first second is also =
-      let at_least = filter.CompareNumber c GreaterOrEqual in
-      let at_most = filter.CompareNumber c LessOrEqual in
-      same-both (at_least low) (at_most high) (at_least least) (at_most most) made spelled
-      (ap (CompareNumber c GreaterOrEqual) first) (ap (CompareNumber c LessOrEqual) second) is also
-
 module _ {A : Type 0} where
   pub negatable-begins : {s : Subject} {words rest : List Token} {made : Filter A} → ((w : List Token) → words ≢ Keyword word.Like ∷ w)
       → ((w : List Token) → words ≢ Keyword word.In ∷ w) → SpellsNegatable s words rest made → ⊥
@@ -69,7 +59,7 @@ module _ {A : Type 0} where
   like-of (is_like is) = is
 
   pub in-of : {s : Subject} {words rest : List Token} {made : Filter A} → SpellsNegatable s (Keyword word.In ∷ Open ∷ words) rest made
-      → SpellsList s words (Close ∷ rest) made
+      → SpellsList (SpellsComparison s Equal) words (Close ∷ rest) made
   in-of (is_in_list is) = is
 
   pub compared-of : {s : Subject} {words rest : List Token} {made : Filter A} → {k : Comparison}
@@ -128,7 +118,10 @@ module _ {A : Type 0} where
       → SpellsRelation (Keyword k ∷ words) rest made → ⊥
   no-keyword k words rest made no_casei no_accenti (of_subject {s = s} {middle = middle} known is) =
       no-subject s k words middle no_casei no_accenti known
-  no-keyword k words rest _ no_casei no_accenti (text_first is) = let e = is.spelled in cc
+  no-keyword k words rest made no_casei no_accenti (text_first begun is) =
+      let none = none-opens (λ w e. no_casei (cc)) (λ w e. no_accenti (cc)) begun.opens in
+      let e = none.2 ∙ begun.inside.is in
+      cc e
   no-keyword k words rest made no_casei no_accenti (of_number {middle = middle} is) =
       let begins : begins_operand (Keyword k ∷ words) ≡ true = operand-begins (Keyword k ∷ words) middle middle rest made is in cc begins
 
@@ -142,18 +135,14 @@ pub record IsGroup {A : Type 0} (depth : ℕ) (words rest : List Token) (made : 
 pub record BeginsNoFunction (words : List Token) : Type 0 where
   pub no_true : (w : List Token) → words ≢ Keyword word.True ∷ w
   pub no_false : (w : List Token) → words ≢ Keyword word.False ∷ w
-  pub no_number : (w : List Token) → words ≢ Keyword word.HasNumber ∷ w
-  pub no_name : (w : List Token) → words ≢ Keyword word.HasName ∷ w
-  pub no_start : (w : List Token) → words ≢ Keyword word.StartsIn ∷ w
+  pub no_function : (n : FunctionName) (w : List Token) → words ≢ Keyword (word.Function n) ∷ w
 
 module _ {A : Type 0} where
   pub relation-of : {words rest : List Token} {made : Filter A} → BeginsNoFunction words → SpellsPredicate words rest made
       → SpellsRelation words rest made
   relation-of none true_literal = absurd (none.no_true _ refl)
   relation-of none false_literal = absurd (none.no_false _ refl)
-  relation-of none (has_number is) = absurd (none.no_number _ refl)
-  relation-of none (has_name is) = absurd (none.no_name _ refl)
-  relation-of none (starts_in is) = absurd (none.no_start _ refl)
+  relation-of none (function is) = absurd (none.no_function _ _ refl)
   relation-of none (relation is) = is
 
   pub true-of : {words rest : List Token} {made : Filter A} → SpellsPredicate (Keyword word.True ∷ words) rest made
@@ -166,20 +155,10 @@ module _ {A : Type 0} where
   false-of false_literal = (refl, refl)
   false-of {words = words} (relation is) = absurd (no-keyword word.False words _ _ (λ e. cc) (λ e. cc) is)
 
-  pub starts-of : {words rest : List Token} {made : Filter A} → SpellsPredicate (Keyword word.StartsIn ∷ words) rest made
-      → SpellsStartsIn words rest made
-  starts-of (starts_in is) = is
-  starts-of {words = words} (relation is) = absurd (no-keyword word.StartsIn words _ _ (λ e. cc) (λ e. cc) is)
-
-  pub has_number-of : {words rest : List Token} {made : Filter A} → SpellsPredicate (Keyword word.HasNumber ∷ words) rest made
-      → (house : HouseNumber) × SpellsHasNumber words rest house × (made ≡ filter.HasNumber house)
-  has_number-of (has_number {house = house} is) = (house, is, refl)
-  has_number-of {words = words} (relation is) = absurd (no-keyword word.HasNumber words _ _ (λ e. cc) (λ e. cc) is)
-
-  pub has_name-of : {words rest : List Token} {made : Filter A} → SpellsPredicate (Keyword word.HasName ∷ words) rest made
-      → (text : AText A) × (limit : NameLimit) × SpellsHasName words rest text limit × (made ≡ filter.HasName text limit)
-  has_name-of (has_name {text = text} {limit = limit} is) = (text, limit, is, refl)
-  has_name-of {words = words} (relation is) = absurd (no-keyword word.HasName words _ _ (λ e. cc) (λ e. cc) is)
+  pub function-of : {n : FunctionName} {words rest : List Token} {made : Filter A} → SpellsPredicate (Keyword (word.Function n) ∷ words) rest made
+      → SpellsFunction n words rest made
+  function-of (function is) = is
+  function-of {n = n} {words = words} (relation is) = absurd (no-keyword (word.Function n) words _ _ (λ e. cc) (λ e. cc) is)
 
   pub same-like : (c : TextColumn) (read pattern : Pattern A) (made : Filter A) → read.parts.items ≡ pattern.parts.items
       → made ≡ filter.Like c pattern

@@ -1,7 +1,7 @@
 -- CASEI and ACCENTI around something (CQL2, 21-065r2, annex B, characterClause).
 use Rattle.std.specs.Prelude.{ℕ, ◌≤◌, zero, suc, true, false, List, ◌∷◌}
 use Rattle.cql2.specs.declared.pattern.Folding.{Folding}
-use Rattle.cql2_text.specs.Read.{IsNotNext}
+use Rattle.cql2_text.specs.ReadNumber.{IsNotFirst}
 use Rattle.cql2_tokens.specs.declared.token.Keyword.TheVariants as word
 use Rattle.cql2_tokens.specs.declared.token.Token.{Token}
 use Rattle.cql2_tokens.specs.declared.token.Token.TheVariants.{Keyword, Open, Close}
@@ -44,5 +44,5 @@ pub record IsClause (Inner : List Token → List Token → Type 0) (folding : Fo
 
 -- the tokens begin with neither
 pub record BeginsNoClause (words : List Token) : Type 0 where
-  pub no_casei : IsNotNext word.Casei words
-  pub no_accenti : IsNotNext word.Accenti words
+  pub no_casei : IsNotFirst (Keyword word.Casei) words
+  pub no_accenti : IsNotFirst (Keyword word.Accenti) words

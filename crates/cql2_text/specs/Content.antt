@@ -8,6 +8,7 @@ use Rattle.cql2.specs.declared.filter.Filter.{Filter}
 use Rattle.cql2.specs.declared.filter.Filter.TheVariants as filter
 use Rattle.cql2.specs.declared.pattern.PatternPart.{PatternPart}
 use Rattle.cql2_text.specs.ExpressionContent.{ExpressionContent, expression_content}
+use Rattle.cql2_text.specs.Function.{FunctionContent, function_content}
 
 pub data Content : Type 0 where
   Constant : Bool → Content
@@ -20,8 +21,7 @@ pub data Content : Type 0 where
   CompareText : TextColumn → Comparison → List ℕ → Content
   CompareTexts : TextColumn → Comparison → TextColumn → Content
   Like : TextColumn → List PatternPart → Content
-  HasNumber : ℕ → Content
-  HasName : List ℕ → ℕ → Content
+  Function : FunctionContent → Content
 
 abbrev pub content : {A : Type 0} → Filter A → Content
 content (filter.Constant value) = Constant value
@@ -35,5 +35,4 @@ content (filter.CompareNumbers first comparison second) =
 content (filter.CompareText column comparison text) = CompareText column comparison text.bytes.items
 content (filter.CompareTexts first comparison second) = CompareTexts first comparison second
 content (filter.Like column pattern) = Like column pattern.parts.items
-content (filter.HasNumber house) = HasNumber house.number
-content (filter.HasName text limit) = HasName text.bytes.items limit.number
+content (filter.Function function) = Function (function_content function)

@@ -2,7 +2,8 @@
 use Rattle.std.specs.Prelude.{codes}
 use Rattle.refusals.specs.Refusal.{RefusalParts, refused}
 use Rattle.cql2_text.specs.declared.fault.FilterFaultKind.{FilterFaultKind}
-use Rattle.cql2_text.specs.declared.fault.FilterFaultKind.TheVariants.{Syntax, UnknownColumn, WrongType, Folded, NumberRange, LongText, TooDeep, TooLong}
+use Rattle.cql2_text.specs.declared.fault.FilterFaultKind.TheVariants.{Syntax, UnknownColumn, WrongType, Folded, NumberRange, LongText}
+use Rattle.cql2_text.specs.declared.fault.FilterFaultKind.TheVariants.{TooDeep, TooLong, ManyVertices}
 
 abbrev pub refusal : FilterFaultKind → RefusalParts
 refusal (Syntax expected) = refused 90 (codes "Syntax")
@@ -13,3 +14,4 @@ refusal NumberRange = refused 93 (codes "NumberRange")
 refusal LongText = refused 94 (codes "LongText")
 refusal TooDeep = refused 95 (codes "TooDeep")
 refusal TooLong = refused 96 (codes "TooLong")
+refusal ManyVertices = refused 96 (codes "TooLong")

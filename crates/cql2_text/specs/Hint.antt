@@ -3,7 +3,7 @@ use Rattle.std.specs.Prelude.{◌≡◌, ℕ, ◌≤◌, Bool, ◌||◌, ◌==�
 use Rattle.std.specs.Str.{str_eq_ignore_ascii_case}
 use Rattle.cql2_text.specs.Nearest.{IsRestFrom}
 use Rattle.cql2_text.specs.declared.fault.Expected.{Expected}
-use Rattle.cql2_text.specs.declared.fault.Expected.TheVariants.{Operator, Number, Text, Casei, Accenti}
+use Rattle.cql2_text.specs.declared.fault.Expected.TheVariants.{Operator, Number, Text, Casei, Accenti, Shape, Operand, Area, Bbox}
 use Rattle.cql2_text.specs.declared.fault.FilterFault.{FilterFault}
 use Rattle.cql2_text.specs.declared.fault.FilterFault.TheVariants.{At, Memory}
 use Rattle.cql2_text.specs.declared.fault.FilterFaultKind.{FilterFaultKind}
@@ -14,19 +14,46 @@ use Rattle.cql2_text.specs.declared.reader.TheConstants.{MAX_TEXT_LENGTH}
 use Rattle.cql2_tokens.specs.Lexed.{begins, is_quote}
 use Rattle.cql2_tokens.specs.Nearest.{LeadsText}
 
--- a spatial function of CQL2 (21-065r2, spatial functions), also without the prefix that it has there
+abbrev pub is_word : List ℕ → List ℕ → Bool
+is_word word name = str_eq_ignore_ascii_case word name
+
+-- a spatial predicate of CQL2 (21-065r2, spatial functions) that there is not, also without its prefix
 abbrev pub is_spatial : List ℕ → Bool
 is_spatial name =
-    str_eq_ignore_ascii_case (codes "S_CONTAINS") name || str_eq_ignore_ascii_case (codes "CONTAINS") name
-    || str_eq_ignore_ascii_case (codes "S_INTERSECTS") name || str_eq_ignore_ascii_case (codes "INTERSECTS") name
-    || str_eq_ignore_ascii_case (codes "S_WITHIN") name || str_eq_ignore_ascii_case (codes "WITHIN") name
+    is_word (codes "S_CONTAINS") name || is_word (codes "CONTAINS") name || is_word (codes "S_TOUCHES") name
+    || is_word (codes "S_CROSSES") name || is_word (codes "S_OVERLAPS") name || is_word (codes "S_EQUALS") name
 
 -- a function of SQL that changes the case
 abbrev pub changes_case : List ℕ → Bool
 changes_case name = str_eq_ignore_ascii_case (codes "UPPER") name || str_eq_ignore_ascii_case (codes "LOWER") name
 
 abbrev pub function_hint : List ℕ → Option Hint
-function_hint name = if is_spatial name then Some hint.StartsIn else (if changes_case name then Some hint.Casei else None)
+function_hint name =
+    if is_word (codes "INTERSECTS") name then Some hint.Intersects
+    else (if is_word (codes "DISJOINT") name then Some hint.Disjoint
+    else (if is_word (codes "WITHIN") name then Some hint.Within
+    else (if is_spatial name then Some hint.Spatial
+    else (if changes_case name then Some hint.Casei else None))))
+
+-- a literal of several shapes that there is not
+abbrev pub is_collection : List ℕ → Bool
+is_collection name =
+    is_word (codes "MULTIPOINT") name || is_word (codes "MULTILINESTRING") name || is_word (codes "GEOMETRYCOLLECTION") name
+
+abbrev pub shape_hint : List ℕ → Option Hint
+shape_hint name =
+    if is_word (codes "ENVELOPE") name then Some hint.Bbox else (if is_collection name then Some hint.Each else None)
+
+abbrev pub is_shape : List ℕ → Bool
+is_shape name =
+    is_word (codes "POINT") name || is_word (codes "LINESTRING") name || is_word (codes "POLYGON") name
+    || is_word (codes "MULTIPOLYGON") name
+
+-- S_WITHIN asks for a box
+abbrev pub box_hint : List ℕ → Option Hint
+box_hint name =
+    if is_word (codes "ENVELOPE") name then Some hint.Bbox
+    else (if is_shape name || is_collection name then Some hint.Within else None)
 
 abbrev pub is_exclamation_mark : ℕ → Bool
 is_exclamation_mark byte = byte == 33
@@ -53,6 +80,10 @@ syntax_hint expected text = None
 -- the hint for a flaw, given the text from it on
 abbrev pub IsHint : FilterFaultKind → List ℕ → Option Hint → Type 0
 IsHint UnknownColumn text given = (name : List ℕ) × LeadsText name text × (given ≡ function_hint name)
+IsHint (Syntax Shape) text given = (name : List ℕ) × LeadsText name text × (given ≡ shape_hint name)
+IsHint (Syntax Operand) text given = (name : List ℕ) × LeadsText name text × (given ≡ shape_hint name)
+IsHint (Syntax Area) text given = (name : List ℕ) × LeadsText name text × (given ≡ shape_hint name)
+IsHint (Syntax Bbox) text given = (name : List ℕ) × LeadsText name text × (given ≡ box_hint name)
 IsHint (Syntax expected) text given = given ≡ syntax_hint expected text
 IsHint WrongType text given = given ≡ (if begins is_quote text then Some hint.Number else None)
 IsHint flaw text given = given ≡ None

@@ -6,7 +6,10 @@ pub mod Expression
 pub mod ExpressionContent
 pub mod FilterFault
 pub mod FilterFaultKind
+pub mod Function
+pub mod Geometry
 pub mod Hint
+pub mod Leaf
 pub mod Nearest
 pub mod Number
 pub mod Numeral

@@ -1,6 +1,8 @@
 -- The values of numericLiterals.
-use Rattle.std.specs.Prelude.{ℕ, ℤ, pos, neg_ℤ, ◌+◌, ◌-◌, ◌*◌, ◌^◌, Bool, nat_le, nat_lt, if◌then◌else◌, List, [], ◌∷◌, length, Option, Some, None}
+use Rattle.std.specs.Prelude.{ℕ, ℤ, pos, neg_ℤ, ◌+◌, ◌-◌, ◌*◌, ◌%◌, ◌^◌, ◌==◌, Bool, false, not, ◌&&◌, ◌||◌, nat_le, nat_lt, if◌then◌else◌, Option, Some, None}
+use Rattle.std.specs.Prelude.{List, [], ◌∷◌, length, take, drop}
 use Rattle.std.specs.Prelude.{Result, Ok, Err}
+use Rattle.std.specs.List.{list_all}
 use Rattle.decimal.specs.Numeral.{decimal_in}
 use Rattle.tl_segments.specs.declared.limits.TheConstants.{MAX_NAMES}
 use Rattle.cql2_text.specs.declared.fault.FilterFaultKind.{FilterFaultKind}
@@ -64,3 +66,35 @@ up_to_name_limit (Err flaw) = Err flaw
 
 abbrev pub name_limit_of : Numeral → Result ℕ FilterFaultKind
 name_limit_of numeral = up_to_name_limit (count_of 18 numeral)
+
+-- Coordinates with any number of decimals. Those after the sixth lie between two millionths: the nearer one counts, and of two as near the even one.
+
+abbrev pub is_zero : ℕ → Bool
+is_zero digit = digit == 48
+
+abbrev pub is_half : List ℕ → Bool
+is_half [] = false
+is_half (digit ∷ decimals) = digit == 53 && list_all is_zero decimals
+
+abbrev pub is_more_than_half : List ℕ → Bool
+is_more_than_half [] = false
+is_more_than_half (digit ∷ decimals) = nat_lt 53 digit || (digit == 53 && not (list_all is_zero decimals))
+
+abbrev pub is_odd : ℕ → Bool
+is_odd number = number % 2 == 1
+
+abbrev pub nearest : ℕ → List ℕ → ℕ
+nearest amount further = if is_more_than_half further || is_half further && is_odd amount then amount + 1 else amount
+
+-- a rounded coordinate is below 1000 degrees, too
+abbrev pub rounded : Result ℕ FilterFaultKind → List ℕ → Result ℕ FilterFaultKind
+rounded (Ok amount) further = if nat_lt (nearest amount further) 1000000000 then Ok (nearest amount further) else Err NumberRange
+rounded (Err flaw) further = Err flaw
+
+abbrev pub rounded_amount : Numeral → Result ℕ FilterFaultKind
+rounded_amount numeral =
+    rounded (millionths (decimal_in 18 numeral.whole.now) (parts_of (take 6 numeral.decimals.now))) (drop 6 numeral.decimals.now)
+
+-- the coordinate of a vertex, in millionths of a degree
+abbrev pub coordinate_of : Numeral → Result ℤ FilterFaultKind
+coordinate_of numeral = signed_by numeral.is_negative (rounded_amount numeral)

@@ -1,36 +1,26 @@
--- Predicates and functions in terms of their tokens (CQL2, 21-065r2, annex B).
-use Rattle.std.specs.Prelude.{◌≡◌, ◌+◌, ◌-◌, ℕ, Bool, true, false, List, ◌∷◌, map, Ok, Option, Some, None}
+-- Predicates in terms of their tokens (CQL2, 21-065r2, annex B).
+use Rattle.std.specs.Prelude.{◌≡◌, ◌≤◌, ◌+◌, ◌-◌, ℕ, Bool, true, false, List, ◌∷◌, map, Option, Some, None}
 use denote.Ref.{Bor}
-use Rattle.tl_segments.specs.declared.name.TheConstants.{NAME_LENGTH}
 use Rattle.cql2.specs.Column.{text_places}
 use Rattle.cql2.specs.declared.column.Column.{Column as AColumn}
 use Rattle.cql2.specs.declared.column.Column.TheVariants as column
-use Rattle.cql2.specs.declared.column.CoordinateColumn.TheVariants.{Frlong, Frlat}
 use Rattle.cql2.specs.declared.column.NumericColumn.{NumericColumn}
-use Rattle.cql2.specs.declared.column.NumericColumn.TheVariants.{Coordinate}
 use Rattle.cql2.specs.declared.column.TextColumn.{TextColumn}
 use Rattle.cql2.specs.declared.filter.Comparison.{Comparison}
-use Rattle.cql2.specs.declared.filter.Comparison.TheVariants.{Equal, NotEqual, LessOrEqual, GreaterOrEqual}
+use Rattle.cql2.specs.declared.filter.Comparison.TheVariants.{Equal, NotEqual}
 use Rattle.cql2.specs.declared.filter.Filter.{Filter}
 use Rattle.cql2.specs.declared.filter.Filter.TheVariants as filter
-use Rattle.cql2.specs.declared.number.HouseNumber.{HouseNumber}
-use Rattle.cql2.specs.declared.number.Literal.{Literal}
-use Rattle.cql2.specs.declared.number.NameLimit.{NameLimit}
 use Rattle.cql2.specs.declared.pattern.Folding.{Folding}
 use Rattle.cql2.specs.declared.pattern.Pattern.{Pattern}
 use Rattle.cql2.specs.declared.text.Text.{Text as AText}
 use Rattle.cql2_text.specs.Compared.{SpellsOfNumber, mirrored}
-use Rattle.cql2_text.specs.Connective.{IsBoth, IsEither, IsNot}
+use Rattle.cql2_text.specs.Connective.{IsEither, IsNot}
 use Rattle.cql2_text.specs.Text.{IsComparedText}
-use Rattle.cql2_text.specs.Numeral.{IsNumber, IsNumeral}
-use Rattle.cql2_text.specs.Number.{house_number_of, name_limit_of}
-use Rattle.cql2_text.specs.Clause.{IsClause, nothing}
+use Rattle.cql2_text.specs.Clause.{IsClause, Opens, closed, nothing}
 use Rattle.cql2_text.specs.Pattern.{IsLikePattern, character_pattern}
-use Rattle.cql2_text.specs.declared.unit.Unit.TheVariants.{Degrees}
 use Rattle.cql2_text.specs.declared.predicate.Subject.{Subject}
 use Rattle.cql2_text.specs.declared.predicate.Subject.TheVariants as subject
 use Rattle.cql2_tokens.specs.declared.token.Keyword.TheVariants as word
-use Rattle.cql2_tokens.specs.declared.token.Numeral.{Numeral}
 use Rattle.cql2_tokens.specs.declared.token.Token.{Token}
 use Rattle.cql2_tokens.specs.declared.token.Token.TheVariants.{Keyword, Column, Compared, Open, Close, Comma, Text}
 
@@ -93,11 +83,12 @@ SpellsComparison {A = A} (subject.Folded folding c) NotEqual words rest made =
     (pattern : Pattern A) × IsFoldedText folding c words rest pattern × IsNot (filter.Like c pattern) made
 SpellsComparison {A = A} (subject.Folded folding c) comparison words rest made = ⊥
 
--- inList, without its parentheses
-pub data SpellsList {A : Type 0} (subject : Subject) (words : List Token) : List Token → Filter A → Type 0 where
-  one : {rest : List Token} {made : Filter A} → SpellsComparison subject Equal words rest made → SpellsList subject words rest made
-  more : {middle rest : List Token} {first second made : Filter A} → SpellsList subject words (Comma ∷ middle) first
-      → SpellsComparison subject Equal middle rest second → IsEither first second made → SpellsList subject words rest made
+-- inList, without its parentheses: one of the items, each of which is compared
+pub data SpellsList {A : Type 0} (Item : List Token → List Token → Filter A → Type 0) (words : List Token)
+    : List Token → Filter A → Type 0 where
+  one : {rest : List Token} {made : Filter A} → Item words rest made → SpellsList Item words rest made
+  more : {middle rest : List Token} {first second made : Filter A} → SpellsList Item words (Comma ∷ middle) first
+      → Item middle rest second → IsEither first second made → SpellsList Item words rest made
 
 -- isLikePredicate, after LIKE
 abbrev pub SpellsLike : {A : Type 0} → Subject → List Token → List Token → Filter A → Type 0
@@ -107,15 +98,11 @@ SpellsLike {A = A} (subject.Folded folding c) words rest made =
     (pattern : Pattern A) × IsClause (λ inner after. IsLikeColumn c folding inner after pattern) folding words rest
     × (made ≡ filter.Like c pattern)
 
--- at least one number and at most another
-abbrev pub IsWithin : {A : Type 0} → NumericColumn → Literal → Literal → Filter A → Type 0
-IsWithin c low high made = IsBoth (filter.CompareNumber c GreaterOrEqual low) (filter.CompareNumber c LessOrEqual high) made
-
 -- the predicates about texts that NOT may precede
 pub data SpellsNegatable {A : Type 0} : Subject → List Token → List Token → Filter A → Type 0 where
   is_like : {s : Subject} {words rest : List Token} {made : Filter A} → SpellsLike s words rest made
       → SpellsNegatable s (Keyword word.Like ∷ words) rest made
-  is_in_list : {s : Subject} {words rest : List Token} {made : Filter A} → SpellsList s words (Close ∷ rest) made
+  is_in_list : {s : Subject} {words rest : List Token} {made : Filter A} → SpellsList (SpellsComparison s Equal) words (Close ∷ rest) made
       → SpellsNegatable s (Keyword word.In ∷ Open ∷ words) rest made
 
 -- the column of a subject of which nothing is ignored
@@ -139,76 +126,41 @@ pub data SpellsOf {A : Type 0} (s : Subject) : List Token → List Token → Fil
   null_test : {words rest : List Token} {c : AColumn} {made : Filter A} → column_of s ≡ Some c → SpellsNull c words rest made
       → SpellsOf s (Keyword word.Is ∷ words) rest made
 
--- HAS_NUMBER, after the word
-pub record SpellsHasNumber (words rest : List Token) (house : HouseNumber) : Type 0 where
-  pub numeral : Numeral
+-- characterLiteral, which may be in CASEI and ACCENTI
+pub record IsTextLiteral (words rest : List Token) : Type 0 where
+  pub depth : ℕ
+  pub folding : Folding
   pub inner : List Token
-  pub opened : words ≡ Open ∷ inner
-  pub spelled : IsNumeral inner (Close ∷ rest) numeral
-  pub value : house_number_of numeral ≡ Ok house.number
+  pub opens : Opens depth folding words inner
+  pub few : depth ≤ 64
+  pub inside : BeginsText inner (closed depth rest)
 
--- the number of alternate names that HAS_NAME checks
-pub data SpellsLimit : List Token → List Token → NameLimit → Type 0 where
-  given : {words rest : List Token} {limit : NameLimit} (numeral : Numeral) → IsNumeral words rest numeral
-      → name_limit_of numeral ≡ Ok limit.number → SpellsLimit (Comma ∷ words) rest limit
-  usual : {rest : List Token} {limit : NameLimit} → limit.number ≡ 63 → SpellsLimit rest rest limit
-
--- HAS_NAME, after the word
-pub record SpellsHasName {A : Type 0} (words rest : List Token) (text : AText A) (limit : NameLimit) : Type 0 where
-  pub inner : List Token
+-- the comparison of the literal at the start with a subject: that of the subject with the literal, with its sides exchanged
+pub record SpellsExchanged {A : Type 0} (start : List Token) (k : Comparison) (words rest : List Token) (made : Filter A) : Type 0 where
+  pub s : Subject
   pub after : List Token
-  pub opened : words ≡ Open ∷ inner
-  pub name : IsText NAME_LENGTH inner after text
-  pub names : SpellsLimit after (Close ∷ rest) limit
+  pub is_subject : IsSubject s words rest
+  pub is_comparison : SpellsComparison s (mirrored k) start after made
 
-abbrev pub longitude : NumericColumn
-longitude = Coordinate Frlong
+-- isInListPredicate about the literal at the start, after the literal
+pub data SpellsTextAmong {A : Type 0} (start : List Token) : List Token → List Token → Filter A → Type 0 where
+  text_in_list : {words rest : List Token} {made : Filter A} → SpellsList (SpellsExchanged start Equal) words (Close ∷ rest) made
+      → SpellsTextAmong start (Keyword word.In ∷ Open ∷ words) rest made
 
-abbrev pub latitude : NumericColumn
-latitude = Coordinate Frlat
-
--- a longitude and a latitude with a comma between them
-pub record IsPoint (words rest : List Token) (x y : Literal) : Type 0 where
-  pub middle : List Token
-  pub first : IsNumber Degrees words (Comma ∷ middle) x
-  pub second : IsNumber Degrees middle rest y
-
--- STARTS_IN, after the word: a box, by its southwest and northeast corners
-pub record SpellsStartsIn {A : Type 0} (words rest : List Token) (made : Filter A) : Type 0 where
-  pub w : Literal
-  pub s : Literal
-  pub e : Literal
-  pub n : Literal
-  pub from_w : List Token
-  pub from_e : List Token
-  pub opened : words ≡ Open ∷ Keyword word.Bbox ∷ Open ∷ from_w
-  pub southwest : IsPoint from_w (Comma ∷ from_e) w s
-  pub northeast : IsPoint from_e (Close ∷ Close ∷ rest) e n
-  pub across : Filter A
-  pub along : Filter A
-  pub is_across : IsWithin longitude w e across
-  pub is_along : IsWithin latitude s n along
-  pub both : IsBoth across along made
+-- a predicate about the literal at the start, after the literal
+pub data SpellsOfText {A : Type 0} (start : List Token) : List Token → List Token → Filter A → Type 0 where
+  text_compared : {k : Comparison} {words rest : List Token} {made : Filter A} → SpellsExchanged start k words rest made
+      → SpellsOfText start (Compared k ∷ words) rest made
+  text_among : {words rest : List Token} {made : Filter A} → SpellsTextAmong start words rest made → SpellsOfText start words rest made
+  text_not_among : {words rest : List Token} {inner made : Filter A} → SpellsTextAmong start words rest inner → IsNot inner made
+      → SpellsOfText start (Keyword word.Not ∷ words) rest made
 
 -- a predicate about a text or a number
 pub data SpellsRelation {A : Type 0} : List Token → List Token → Filter A → Type 0 where
   of_subject : {s : Subject} {words middle rest : List Token} {made : Filter A} → IsSubject s words middle → SpellsOf s middle rest made
       → SpellsRelation words rest made
-  text_first : {words rest : List Token} {c : TextColumn} {k : Comparison} {text : AText A}
-      → IsText (width_of c) words (Compared k ∷ Column (column.Text c) ∷ rest) text
-      → SpellsRelation words rest (filter.CompareText c (mirrored k) text)
+  text_first : {words middle rest : List Token} {made : Filter A} → IsTextLiteral words middle → SpellsOfText words middle rest made
+      → SpellsRelation words rest made
   of_number : {words middle rest : List Token} {made : Filter A} → SpellsOfNumber words middle middle rest made → SpellsRelation words rest made
   number_null : {words rest : List Token} {c : NumericColumn} {made : Filter A} → SpellsNull (column.Numeric c) words rest made
       → SpellsRelation (Column (column.Numeric c) ∷ Keyword word.Is ∷ words) rest made
-
--- predicate, function and booleanLiteral
-pub data SpellsPredicate {A : Type 0} : List Token → List Token → Filter A → Type 0 where
-  true_literal : {rest : List Token} → SpellsPredicate (Keyword word.True ∷ rest) rest (filter.Constant true)
-  false_literal : {rest : List Token} → SpellsPredicate (Keyword word.False ∷ rest) rest (filter.Constant false)
-  has_number : {words rest : List Token} {house : HouseNumber} → SpellsHasNumber words rest house
-      → SpellsPredicate (Keyword word.HasNumber ∷ words) rest (filter.HasNumber house)
-  has_name : {words rest : List Token} {text : AText A} {limit : NameLimit} → SpellsHasName words rest text limit
-      → SpellsPredicate (Keyword word.HasName ∷ words) rest (filter.HasName text limit)
-  starts_in : {words rest : List Token} {made : Filter A} → SpellsStartsIn words rest made
-      → SpellsPredicate (Keyword word.StartsIn ∷ words) rest made
-  relation : {words rest : List Token} {made : Filter A} → SpellsRelation words rest made → SpellsPredicate words rest made

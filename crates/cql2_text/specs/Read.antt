@@ -13,6 +13,11 @@ abbrev pub IsRead : {A : Type 0} → Result (Filter A × Bor (List Token)) Synta
 IsRead {A = A} result rest made =
     MatchResult result (λ read. (read.1.now ≡ rest) × (content read.0 ≡ content made)) (λ fault. fault ≡ Memory)
 
+-- the same for tokens that spell something with this content
+abbrev pub IsReadAs : {T C : Type 0} → (T → C) → Result (T × Bor (List Token)) SyntaxFault → List Token → C → Type 0
+IsReadAs {T = T} {C = C} content_of result rest made =
+    MatchResult result (λ read. (read.1.now ≡ rest) × (content_of read.0 ≡ made)) (λ fault. fault ≡ Memory)
+
 -- the keyword is not the first of the tokens
 abbrev pub IsNotNext : AKeyword → List Token → Type 0
 IsNotNext word words = (rest : List Token) → words ≢ Keyword word ∷ rest

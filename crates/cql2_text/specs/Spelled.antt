@@ -4,7 +4,7 @@ use Rattle.cql2.specs.declared.filter.Filter.{Filter}
 use Rattle.cql2_tokens.specs.Lexed.{Lexes}
 use Rattle.cql2_text.specs.Connective.{IsBoth, IsEither, IsNot}
 use Rattle.cql2_text.specs.Parenthesis.{opens_filter}
-use Rattle.cql2_text.specs.Predicate.{SpellsPredicate}
+use Rattle.cql2_text.specs.Leaf.{SpellsPredicate}
 use Rattle.cql2_tokens.specs.declared.token.Keyword.TheVariants as word
 use Rattle.cql2_tokens.specs.declared.token.Token.{Token}
 use Rattle.cql2_tokens.specs.declared.token.Token.TheVariants.{Keyword, Open, Close}

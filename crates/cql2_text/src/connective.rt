@@ -1,7 +1,7 @@
 //! AND, OR and NOT of filters.
 ghost use Rattle.std.specs.Prelude.{◌≡◌, MatchResult};
 ghost use Rattle.cql2_text.specs.Connective.{IsBoth, IsEither, IsNot};
-ghost use Rattle.cql2_text.specs.Predicate.{IsWithin};
+ghost use Rattle.cql2_text.specs.Function.{IsWithin};
 ghost use Rattle.cql2_text.specs.declared.syntax_fault.SyntaxFault.TheVariants as syntax_fault;
 
 use crate::syntax_fault::SyntaxFault;

@@ -32,6 +32,16 @@ pub enum Expected {
     Accenti,
     #[error("BBOX")]
     Bbox,
+    #[error("the property geometry")]
+    Geometry,
+    #[error("POINT, LINESTRING, POLYGON, MULTIPOLYGON or BBOX")]
+    Shape,
+    #[error("the property geometry or a shape")]
+    Operand,
+    #[error("BBOX, POLYGON or MULTIPOLYGON")]
+    Area,
+    #[error("the ring's first point")]
+    FirstPoint,
     #[error("AND")]
     And,
     #[error("a comma")]
@@ -67,6 +77,8 @@ pub enum FilterFaultKind {
     TooDeep,
     #[error("the text has more than 1,048,576 bytes")]
     TooLong,
+    #[error("a shape has more than 1,000 vertices")]
+    ManyVertices,
 }
 
 /// Why a text is not a filter, or that an allocation failed.
@@ -114,6 +126,7 @@ impl FilterFaultKind {
             FilterFaultKind::LongText => Refusal::refused(94, "LongText"),
             FilterFaultKind::TooDeep => Refusal::refused(95, "TooDeep"),
             FilterFaultKind::TooLong => Refusal::refused(96, "TooLong"),
+            FilterFaultKind::ManyVertices => Refusal::refused(96, "TooLong"),
         }
     }
 }

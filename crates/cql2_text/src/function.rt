@@ -1,64 +1,80 @@
 //! Functions.
 ghost use Rattle.std.specs.Prelude.{◌≡◌, ◌∷◌, List, IfOk, MatchResult};
 ghost use Rattle.cql2.specs.declared.filter.Filter.{Filter};
-ghost use Rattle.cql2.specs.declared.number.Literal.{Literal as ALiteral};
 ghost use Rattle.cql2.specs.declared.number.NameLimit.{NameLimit as ALimit};
-ghost use Rattle.cql2_text.specs.Predicate.{IsPoint, SpellsLimit, SpellsPredicate};
-ghost use Rattle.cql2_text.specs.Read.{IsRead};
+ghost use Rattle.cql2_text.specs.Function.{IsInBox, SpellsDisjoint, SpellsFunction, SpellsHasName, SpellsHasNumber, SpellsIntersects, SpellsLimit};
+ghost use Rattle.cql2_text.specs.Function.{SpellsOperands, SpellsStartsIn, SpellsWithin};
+ghost use Rattle.cql2_text.specs.Geometry.{ShapeContent, shape_content};
+ghost use Rattle.cql2_text.specs.Read.{IsNotNext, IsRead, IsReadAs};
+ghost use Rattle.cql2_text.specs.declared.syntax_fault.SyntaxFault.TheVariants as syntax_fault;
 ghost use Rattle.cql2_tokens.specs.declared.token.Keyword.TheVariants as word;
+ghost use Rattle.cql2_tokens.specs.declared.token.ShapeTag.TheVariants as tag;
 ghost use Rattle.cql2_tokens.specs.declared.token.Token.{Token};
 ghost use Rattle.cql2_tokens.specs.declared.token.Token.TheVariants as token;
 
-use crate::connective::{both, within};
+use crate::connective::{both, negated, within};
+use crate::fault::Expected;
 use crate::literal::{house_number, name_limit};
-use crate::operand::{number, numeral, text};
+use crate::operand::{numeral, text};
+use crate::shape::{Corners, area, bbox, shape};
 use crate::syntax_fault::SyntaxFault;
 use crate::terminal::{Terminal, expect, next};
-use crate::unit::Unit;
-use cql2::{CoordinateColumn, Filter, Literal, NameLimit, NumericColumn};
-use cql2_tokens::Token;
+use cql2::{CoordinateColumn, Filter, Function, NameLimit, NumericColumn, Shape};
+use cql2_tokens::{FunctionName, Keyword, ShapeTag, Token};
 use std::alloc::Allocator;
 use tl_segments::NAME_LENGTH;
 
 /// The default number of alternate names to check.
 const NAMES: u16 = 63;
 
-/// The columns of a segment's start.
-const LONGITUDE: NumericColumn = NumericColumn::Coordinate(CoordinateColumn::Frlong);
-
-const LATITUDE: NumericColumn = NumericColumn::Coordinate(CoordinateColumn::Frlat);
-
-/// Reads a house number in parentheses, after HAS_NUMBER.
-pub(crate) fn has_number<'a, A: Allocator + Copy>(
+/// Reads a function after its name.
+pub(crate) fn function<'a, A: Allocator + Copy>(
+    alloc: A,
+    name: FunctionName,
     words: &'a [Token<'a>],
 ) -> Result<(Filter<A>, &'a [Token<'a>]), SyntaxFault>
-    ensures ok { IfOk result (λ read. SpellsPredicate (token.Keyword word.HasNumber ∷ words.now) read.1.now read.0) }
-    ensures reads { (rest : List Token) (made : Filter A) → SpellsPredicate (token.Keyword word.HasNumber ∷ words.now) rest made
-        → IsRead result rest made }
+    ensures ok { IfOk result (λ read. SpellsFunction name words.now read.1.now read.0) }
+    ensures reads { (rest : List Token) (made : Filter A) → SpellsFunction name words.now rest made → IsRead result rest made }
+{
+    match name {
+        FunctionName::HasNumber => has_number(words),
+        FunctionName::HasName => has_name(alloc, words),
+        FunctionName::StartsIn => starts_in(alloc, words),
+        FunctionName::Intersects => intersects(alloc, words),
+        FunctionName::Disjoint => disjoint(alloc, words),
+        FunctionName::Within => lies_within(alloc, words),
+    }
+}
+
+/// Reads a house number in parentheses, after HAS_NUMBER.
+fn has_number<'a, A: Allocator + Copy>(
+    words: &'a [Token<'a>],
+) -> Result<(Filter<A>, &'a [Token<'a>]), SyntaxFault>
+    ensures ok { IfOk result (λ read. SpellsHasNumber words.now read.1.now read.0) }
+    ensures reads { (rest : List Token) (made : Filter A) → SpellsHasNumber words.now rest made → IsRead result rest made }
 {
     let words = expect(words, Terminal::Opening)?;
     let (numeral, rest) = numeral(words)?;
     let rest = expect(rest, Terminal::Closing)?;
     match house_number(numeral) {
-        Ok(number) => Ok((Filter::HasNumber(number), rest)),
+        Ok(number) => Ok((Filter::Function(Function::HasNumber(number)), rest)),
         Err(flaw) => Err(SyntaxFault::at(words, flaw)),
     }
 }
 
 /// Reads a name in parentheses, and the number of alternate names to check, after HAS_NAME.
-pub(crate) fn has_name<'a, A: Allocator + Copy>(
+fn has_name<'a, A: Allocator + Copy>(
     alloc: A,
     words: &'a [Token<'a>],
 ) -> Result<(Filter<A>, &'a [Token<'a>]), SyntaxFault>
-    ensures ok { IfOk result (λ read. SpellsPredicate (token.Keyword word.HasName ∷ words.now) read.1.now read.0) }
-    ensures reads { (rest : List Token) (made : Filter A) → SpellsPredicate (token.Keyword word.HasName ∷ words.now) rest made
-        → IsRead result rest made }
+    ensures ok { IfOk result (λ read. SpellsHasName words.now read.1.now read.0) }
+    ensures reads { (rest : List Token) (made : Filter A) → SpellsHasName words.now rest made → IsRead result rest made }
 {
     let words = expect(words, Terminal::Opening)?;
     let (name, rest) = text(alloc, NAME_LENGTH, words)?;
     let (limit, rest) = names(rest)?;
     let rest = expect(rest, Terminal::Closing)?;
-    Ok((Filter::HasName(name, limit), rest))
+    Ok((Filter::Function(Function::HasName(name, limit)), rest))
 }
 
 /// Reads the number of alternate names to check, if a comma follows. Otherwise returns the default.
@@ -79,37 +95,189 @@ fn names<'a>(words: &'a [Token<'a>]) -> Result<(NameLimit, &'a [Token<'a>]), Syn
     }
 }
 
-/// Reads a box in parentheses, by its southwest and northeast corners, after STARTS_IN.
-pub(crate) fn starts_in<'a, A: Allocator + Copy>(
+/// Reads a box or polygons in parentheses, after STARTS_IN.
+fn starts_in<'a, A: Allocator + Copy>(
     alloc: A,
     words: &'a [Token<'a>],
 ) -> Result<(Filter<A>, &'a [Token<'a>]), SyntaxFault>
-    ensures ok { IfOk result (λ read. SpellsPredicate (token.Keyword word.StartsIn ∷ words.now) read.1.now read.0) }
-    ensures reads { (rest : List Token) (made : Filter A) → SpellsPredicate (token.Keyword word.StartsIn ∷ words.now) rest made
-        → IsRead result rest made }
+    ensures ok { IfOk result (λ read. SpellsStartsIn words.now read.1.now read.0) }
+    ensures reads { (rest : List Token) (made : Filter A) → SpellsStartsIn words.now rest made → IsRead result rest made }
 {
-    let rest = expect(words, Terminal::Opening)?;
-    let rest = expect(rest, Terminal::Bbox)?;
-    let rest = expect(rest, Terminal::Opening)?;
-    let (west, south, rest) = point(rest)?;
-    let rest = expect(rest, Terminal::Comma)?;
-    let (east, north, rest) = point(rest)?;
+    let inner = expect(words, Terminal::Opening)?;
+    match next(inner) {
+        Some((Token::Keyword(Keyword::Shape(ShapeTag::Bbox)), after)) => {
+            let (filter, rest) = starts_in_box(alloc, after)?;
+            Ok((filter, rest))
+        }
+        _ => {
+            let (filter, rest) = starts_in_area(alloc, inner)?;
+            Ok((filter, rest))
+        }
+    }
+}
+
+/// Reads the box of STARTS_IN after its tag.
+fn starts_in_box<'a, A: Allocator + Copy>(
+    alloc: A,
+    words: &'a [Token<'a>],
+) -> Result<(Filter<A>, &'a [Token<'a>]), SyntaxFault>
+    ensures ok { IfOk result (λ read. SpellsStartsIn (token.Open ∷ token.Keyword (word.Shape tag.Bbox) ∷ words.now) read.1.now read.0) }
+    ensures reads { (rest : List Token) (made : Filter A)
+        → SpellsStartsIn (token.Open ∷ token.Keyword (word.Shape tag.Bbox) ∷ words.now) rest made → IsRead result rest made }
+{
+    let (corners, rest) = bbox(words)?;
     let rest = expect(rest, Terminal::Closing)?;
-    let rest = expect(rest, Terminal::Closing)?;
-    let across = within(alloc, LONGITUDE, west, east)?;
-    let along = within(alloc, LATITUDE, south, north)?;
-    let filter = both(alloc, across, along)?;
+    let filter = in_box(
+        alloc,
+        CoordinateColumn::Frlong,
+        CoordinateColumn::Frlat,
+        corners,
+    )?;
     Ok((filter, rest))
 }
 
-/// Reads a longitude and a latitude with a comma between them.
-fn point<'a>(words: &'a [Token<'a>]) -> Result<(Literal, Literal, &'a [Token<'a>]), SyntaxFault>
-    ensures ok { IfOk result (λ read. IsPoint words.now read.2.now read.0 read.1) }
-    ensures reads { (rest : List Token) (x y : ALiteral) → IsPoint words.now rest x y
-        → MatchResult result (λ read. (read.2.now ≡ rest) × (read.0.number ≡ x.number) × (read.1.number ≡ y.number)) (λ fault. ⊥) }
+/// Reads the polygons of STARTS_IN.
+fn starts_in_area<'a, A: Allocator + Copy>(
+    alloc: A,
+    words: &'a [Token<'a>],
+) -> Result<(Filter<A>, &'a [Token<'a>]), SyntaxFault>
+    ensures ok { IfOk result (λ read. SpellsStartsIn (token.Open ∷ words.now) read.1.now read.0) }
+    ensures reads { (rest : List Token) (made : Filter A) → IsNotNext (word.Shape tag.Bbox) words.now
+        → SpellsStartsIn (token.Open ∷ words.now) rest made → IsRead result rest made }
 {
-    let (x, rest) = number(Unit::Degrees, words)?;
+    let (several, rest) = area(alloc, words)?;
+    let rest = expect(rest, Terminal::Closing)?;
+    Ok((Filter::Function(Function::StartsIn(several)), rest))
+}
+
+/// Returns the filter for a point in a box, by the columns of its coordinates.
+fn in_box<A: Allocator + Copy>(
+    alloc: A,
+    longitude: CoordinateColumn,
+    latitude: CoordinateColumn,
+    corners: Corners,
+) -> Result<Filter<A>, SyntaxFault>
+    ensures { MatchResult result (IsInBox longitude latitude corners) (λ fault. fault ≡ syntax_fault.Memory) }
+{
+    let across = within(
+        alloc,
+        NumericColumn::Coordinate(longitude),
+        corners.west,
+        corners.east,
+    )?;
+    let along = within(
+        alloc,
+        NumericColumn::Coordinate(latitude),
+        corners.south,
+        corners.north,
+    )?;
+    both(alloc, across, along)
+}
+
+/// Reads the property `geometry` and a shape, in either order, in parentheses.
+fn operands<'a, A: Allocator + Copy>(
+    alloc: A,
+    words: &'a [Token<'a>],
+) -> Result<(Shape<A>, &'a [Token<'a>]), SyntaxFault>
+    ensures ok { IfOk result (λ read. SpellsOperands words.now read.1.now (shape_content read.0)) }
+    ensures reads { (rest : List Token) (content : ShapeContent) → SpellsOperands words.now rest content
+        → IsReadAs shape_content result rest content }
+{
+    let inner = expect(words, Terminal::Opening)?;
+    match next(inner) {
+        Some((Token::Keyword(Keyword::Geometry), after)) => {
+            let (shape, rest) = shape_after_property(alloc, after)?;
+            Ok((shape, rest))
+        }
+        _ => {
+            let (shape, rest) = shape_before_property(alloc, inner)?;
+            Ok((shape, rest))
+        }
+    }
+}
+
+/// Reads a comma and a shape, after the property `geometry`.
+fn shape_after_property<'a, A: Allocator + Copy>(
+    alloc: A,
+    words: &'a [Token<'a>],
+) -> Result<(Shape<A>, &'a [Token<'a>]), SyntaxFault>
+    ensures ok { IfOk result (λ read. SpellsOperands (token.Open ∷ token.Keyword word.Geometry ∷ words.now) read.1.now (shape_content read.0)) }
+    ensures reads { (rest : List Token) (content : ShapeContent)
+        → SpellsOperands (token.Open ∷ token.Keyword word.Geometry ∷ words.now) rest content → IsReadAs shape_content result rest content }
+{
+    let words = expect(words, Terminal::Comma)?;
+    let (shape, rest) = shape(alloc, words, Expected::Shape)?;
+    let rest = expect(rest, Terminal::Closing)?;
+    Ok((shape, rest))
+}
+
+/// Reads a shape, a comma and the property `geometry`.
+fn shape_before_property<'a, A: Allocator + Copy>(
+    alloc: A,
+    words: &'a [Token<'a>],
+) -> Result<(Shape<A>, &'a [Token<'a>]), SyntaxFault>
+    ensures ok { IfOk result (λ read. SpellsOperands (token.Open ∷ words.now) read.1.now (shape_content read.0)) }
+    ensures reads { (rest : List Token) (content : ShapeContent) → IsNotNext word.Geometry words.now
+        → SpellsOperands (token.Open ∷ words.now) rest content → IsReadAs shape_content result rest content }
+{
+    let (shape, rest) = shape(alloc, words, Expected::Operand)?;
     let rest = expect(rest, Terminal::Comma)?;
-    let (y, rest) = number(Unit::Degrees, rest)?;
-    Ok((x, y, rest))
+    let rest = expect(rest, Terminal::Geometry)?;
+    let rest = expect(rest, Terminal::Closing)?;
+    Ok((shape, rest))
+}
+
+/// Reads the operands of S_INTERSECTS.
+fn intersects<'a, A: Allocator + Copy>(
+    alloc: A,
+    words: &'a [Token<'a>],
+) -> Result<(Filter<A>, &'a [Token<'a>]), SyntaxFault>
+    ensures ok { IfOk result (λ read. SpellsIntersects words.now read.1.now read.0) }
+    ensures reads { (rest : List Token) (made : Filter A) → SpellsIntersects words.now rest made → IsRead result rest made }
+{
+    let (shape, rest) = operands(alloc, words)?;
+    Ok((Filter::Function(Function::Intersects(shape)), rest))
+}
+
+/// Reads the operands of S_DISJOINT.
+fn disjoint<'a, A: Allocator + Copy>(
+    alloc: A,
+    words: &'a [Token<'a>],
+) -> Result<(Filter<A>, &'a [Token<'a>]), SyntaxFault>
+    ensures ok { IfOk result (λ read. SpellsDisjoint words.now read.1.now read.0) }
+    ensures reads { (rest : List Token) (made : Filter A) → SpellsDisjoint words.now rest made → IsRead result rest made }
+{
+    let (meets, rest) = intersects(alloc, words)?;
+    let filter = negated(alloc, meets)?;
+    Ok((filter, rest))
+}
+
+/// Reads the operands of S_WITHIN, of which the second one is a box.
+fn lies_within<'a, A: Allocator + Copy>(
+    alloc: A,
+    words: &'a [Token<'a>],
+) -> Result<(Filter<A>, &'a [Token<'a>]), SyntaxFault>
+    ensures ok { IfOk result (λ read. SpellsWithin words.now read.1.now read.0) }
+    ensures reads { (rest : List Token) (made : Filter A) → SpellsWithin words.now rest made → IsRead result rest made }
+{
+    let rest = expect(words, Terminal::Opening)?;
+    let rest = expect(rest, Terminal::Geometry)?;
+    let rest = expect(rest, Terminal::Comma)?;
+    let rest = expect(rest, Terminal::Bbox)?;
+    let (corners, rest) = bbox(rest)?;
+    let rest = expect(rest, Terminal::Closing)?;
+    let starts = in_box(
+        alloc,
+        CoordinateColumn::Frlong,
+        CoordinateColumn::Frlat,
+        corners,
+    )?;
+    let ends = in_box(
+        alloc,
+        CoordinateColumn::Tolong,
+        CoordinateColumn::Tolat,
+        corners,
+    )?;
+    let filter = both(alloc, starts, ends)?;
+    Ok((filter, rest))
 }

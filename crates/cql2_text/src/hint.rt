@@ -1,7 +1,8 @@
 //! What to write in place of what other query languages have.
 ghost use Rattle.std.specs.Prelude.{◌≡◌};
 ghost use Rattle.std.specs.Str.{str_eq_ignore_ascii_case};
-ghost use Rattle.cql2_text.specs.Hint.{Hints, IsHint, changes_case, function_hint, is_double_quote, is_exclamation_mark, is_sign, is_spatial};
+ghost use Rattle.cql2_text.specs.Hint.{Hints, IsHint, box_hint, changes_case, function_hint, is_collection, is_double_quote, is_exclamation_mark};
+ghost use Rattle.cql2_text.specs.Hint.{is_shape, is_sign, is_spatial, shape_hint};
 ghost use Rattle.cql2_text.specs.Hint.{literal_hint, syntax_hint};
 ghost use Rattle.cql2_tokens.specs.Lexed.{begins, is_quote};
 
@@ -13,9 +14,24 @@ use thiserror::Error;
 /// What to write instead. The derived text is for people.
 #[derive(Clone, Copy, Debug, PartialEq, Eq, Error)]
 pub enum Hint {
-    /// In place of a spatial function.
-    #[error("write STARTS_IN(BBOX(west, south, east, north))")]
-    StartsIn,
+    /// In place of INTERSECTS.
+    #[error("write S_INTERSECTS(geometry, shape)")]
+    Intersects,
+    /// In place of DISJOINT.
+    #[error("write S_DISJOINT(geometry, shape)")]
+    Disjoint,
+    /// In place of WITHIN, and of another shape in S_WITHIN.
+    #[error("write S_WITHIN(geometry, BBOX(west, south, east, north))")]
+    Within,
+    /// In place of another spatial predicate.
+    #[error("write S_INTERSECTS, S_DISJOINT or S_WITHIN")]
+    Spatial,
+    /// In place of ENVELOPE.
+    #[error("write BBOX(west, south, east, north)")]
+    Bbox,
+    /// In place of a literal of several points, lines or shapes.
+    #[error("write S_INTERSECTS once for each shape, with OR between them")]
+    Each,
     /// In place of UPPER or LOWER.
     #[error("write CASEI on both sides")]
     Casei,
@@ -51,6 +67,10 @@ fn hint_for(flaw: FilterFaultKind, text: &[u8]) -> Option<Hint>
 {
     match flaw {
         FilterFaultKind::UnknownColumn => function_hint(leading_name(text)),
+        FilterFaultKind::Syntax(Expected::Shape | Expected::Operand | Expected::Area) => {
+            shape_hint(leading_name(text))
+        }
+        FilterFaultKind::Syntax(Expected::Bbox) => box_hint(leading_name(text)),
         FilterFaultKind::Syntax(expected) => syntax_hint(expected, text),
         FilterFaultKind::WrongType => type_hint(text),
         _ => None,
@@ -61,8 +81,17 @@ fn hint_for(flaw: FilterFaultKind, text: &[u8]) -> Option<Hint>
 fn function_hint(name: &[u8]) -> Option<Hint>
     ensures { result ≡ function_hint name.now }
 {
+    if is_word("INTERSECTS", name) {
+        return Some(Hint::Intersects);
+    }
+    if is_word("DISJOINT", name) {
+        return Some(Hint::Disjoint);
+    }
+    if is_word("WITHIN", name) {
+        return Some(Hint::Within);
+    }
     if is_spatial(name) {
-        return Some(Hint::StartsIn);
+        return Some(Hint::Spatial);
     }
     if changes_case(name) {
         Some(Hint::Casei)
@@ -71,16 +100,61 @@ fn function_hint(name: &[u8]) -> Option<Hint>
     }
 }
 
-/// Returns whether this is the name of a spatial function, with or without its prefix.
+/// Returns whether this is the name of a spatial predicate that there is not.
 fn is_spatial(name: &[u8]) -> bool
     ensures { result ≡ is_spatial name.now }
 {
     is_word("S_CONTAINS", name)
         || is_word("CONTAINS", name)
-        || is_word("S_INTERSECTS", name)
-        || is_word("INTERSECTS", name)
-        || is_word("S_WITHIN", name)
-        || is_word("WITHIN", name)
+        || is_word("S_TOUCHES", name)
+        || is_word("S_CROSSES", name)
+        || is_word("S_OVERLAPS", name)
+        || is_word("S_EQUALS", name)
+}
+
+/// Returns the hint for the name of a shape.
+fn shape_hint(name: &[u8]) -> Option<Hint>
+    ensures { result ≡ shape_hint name.now }
+{
+    if is_word("ENVELOPE", name) {
+        return Some(Hint::Bbox);
+    }
+    if is_collection(name) {
+        Some(Hint::Each)
+    } else {
+        None
+    }
+}
+
+/// Returns the hint for the name of a shape where a box is expected.
+fn box_hint(name: &[u8]) -> Option<Hint>
+    ensures { result ≡ box_hint name.now }
+{
+    if is_word("ENVELOPE", name) {
+        return Some(Hint::Bbox);
+    }
+    if is_shape(name) || is_collection(name) {
+        Some(Hint::Within)
+    } else {
+        None
+    }
+}
+
+fn is_collection(name: &[u8]) -> bool
+    ensures { result ≡ is_collection name.now }
+{
+    is_word("MULTIPOINT", name)
+        || is_word("MULTILINESTRING", name)
+        || is_word("GEOMETRYCOLLECTION", name)
+}
+
+fn is_shape(name: &[u8]) -> bool
+    ensures { result ≡ is_shape name.now }
+{
+    is_word("POINT", name)
+        || is_word("LINESTRING", name)
+        || is_word("POLYGON", name)
+        || is_word("MULTIPOLYGON", name)
 }
 
 /// Returns whether this is the name of a function that changes the case.

@@ -1,11 +1,11 @@
 //! Predicates, functions, TRUE and FALSE.
 ghost use Rattle.std.specs.Prelude.{IfOk, List};
 ghost use Rattle.cql2.specs.declared.filter.Filter.{Filter};
-ghost use Rattle.cql2_text.specs.Predicate.{SpellsPredicate};
+ghost use Rattle.cql2_text.specs.Leaf.{SpellsPredicate};
 ghost use Rattle.cql2_text.specs.Read.{IsRead};
 ghost use Rattle.cql2_tokens.specs.declared.token.Token.{Token};
 
-use crate::function::{has_name, has_number, starts_in};
+use crate::function::function;
 use crate::relation::relation;
 use crate::syntax_fault::SyntaxFault;
 use crate::terminal::next;
@@ -24,16 +24,8 @@ pub(crate) fn predicate<'a, A: Allocator + Copy>(
     match next(words) {
         Some((Token::Keyword(Keyword::True), rest)) => Ok((Filter::Constant(true), rest)),
         Some((Token::Keyword(Keyword::False), rest)) => Ok((Filter::Constant(false), rest)),
-        Some((Token::Keyword(Keyword::HasNumber), after)) => {
-            let (filter, rest) = has_number(after)?;
-            Ok((filter, rest))
-        }
-        Some((Token::Keyword(Keyword::HasName), after)) => {
-            let (filter, rest) = has_name(alloc, after)?;
-            Ok((filter, rest))
-        }
-        Some((Token::Keyword(Keyword::StartsIn), after)) => {
-            let (filter, rest) = starts_in(alloc, after)?;
+        Some((Token::Keyword(Keyword::Function(name)), after)) => {
+            let (filter, rest) = function(alloc, name, after)?;
             Ok((filter, rest))
         }
         _ => {

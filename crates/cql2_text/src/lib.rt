@@ -3,6 +3,7 @@
 
 mod clause;
 mod connective;
+mod coordinates;
 mod expression;
 mod fault;
 mod function;
@@ -20,9 +21,11 @@ mod pattern;
 mod predicate;
 mod reader;
 mod relation;
+mod shape;
 mod syntax_fault;
 mod terminal;
 mod text;
+mod text_first;
 mod unit;
 
 pub use cql2_tokens::column_named;

@@ -1,7 +1,9 @@
 //! Numbers.
-ghost use Rattle.std.specs.Prelude.{◌≡◌, ◌≤◌, ◌<◌, ◌^◌, ◌-◌, Ok, Err, unsigned_abs, IfOk, IfSome, MatchResult};
+ghost use Rattle.std.specs.Prelude.{◌≡◌, ◌≤◌, ◌<◌, ◌^◌, ◌-◌, Ok, Err, unsigned_abs, take, drop, IfOk, IfSome, MatchResult};
+ghost use Rattle.std.specs.List.{list_all};
 ghost use Rattle.decimal.specs.Numeral.{decimal_in};
 ghost use Rattle.cql2_text.specs.Number.{number_of, house_number_of, name_limit_of, count_of, signed, whole_amount, millionths, parts_of};
+ghost use Rattle.cql2_text.specs.Number.{coordinate_of, is_half, is_more_than_half, is_zero, nearest, rounded_amount};
 
 use crate::fault::FilterFaultKind;
 use crate::unit::Unit;
@@ -18,6 +20,8 @@ const MAX_HOUSE_NUMBER_DIGITS: usize = 11;
 const MAX_DECIMALS: usize = 6;
 /// The bound that a coordinate's degrees are below.
 const DEGREES: u64 = 1000;
+/// The same in millionths.
+const MILLIONTHS: u64 = 1_000_000_000;
 
 /// Returns a numeral's value in a unit.
 pub(crate) fn literal_of(unit: Unit, numeral: Numeral) -> Result<Literal, FilterFaultKind>
@@ -27,7 +31,7 @@ pub(crate) fn literal_of(unit: Unit, numeral: Numeral) -> Result<Literal, Filter
 {
     let amount = match unit {
         Unit::Whole => whole_amount(numeral.whole, numeral.decimals, MAX_LITERAL_DIGITS),
-        Unit::Degrees => millionths(numeral),
+        Unit::Degrees => millionths(numeral.whole, numeral.decimals),
     };
     match amount {
         Ok(amount) => Ok(signed(numeral.is_negative, amount)),
@@ -50,15 +54,89 @@ fn whole_amount(whole: &[u8], decimals: &[u8], most: usize) -> Result<u64, Filte
     }
 }
 
+/// Returns a numeral's degrees as millionths, rounded half to even.
+pub(crate) fn coordinate_of(numeral: Numeral) -> Result<i64, FilterFaultKind>
+    ensures value { MatchResult result (λ number. coordinate_of numeral.entry ≡ Ok number) (λ flaw. coordinate_of numeral.entry ≡ Err flaw) }
+    ensures small { IfOk result (λ number. unsigned_abs number < 10 ^ 9) }
+{
+    match rounded_amount(numeral) {
+        Ok(amount) => Ok(signed(numeral.is_negative, amount).number),
+        Err(flaw) => Err(flaw),
+    }
+}
+
+fn rounded_amount(numeral: Numeral) -> Result<u64, FilterFaultKind>
+    ensures value { result ≡ rounded_amount numeral.entry }
+    ensures small { IfOk result (λ amount. amount < 10 ^ 9) }
+{
+    let (kept, further) = split_decimals(numeral.decimals);
+    let rounded = nearest(millionths(numeral.whole, kept)?, further);
+    if rounded < MILLIONTHS {
+        Ok(rounded)
+    } else {
+        Err(FilterFaultKind::NumberRange)
+    }
+}
+
+/// Splits decimals after the sixth.
+fn split_decimals(decimals: &[u8]) -> (&[u8], &[u8])
+    ensures kept { result.0.now ≡ take 6 decimals.now }
+    ensures further { result.1.now ≡ drop 6 decimals.now }
+{
+    if decimals.len() > MAX_DECIMALS {
+        (&decimals[..MAX_DECIMALS], &decimals[MAX_DECIMALS..])
+    } else {
+        (decimals, &[])
+    }
+}
+
+/// Returns the nearest number to one with further decimals, and of two as near the even one.
+fn nearest(amount: u64, further: &[u8]) -> u64
+    requires { amount < 10 ^ 18 }
+    ensures { result ≡ nearest amount further.now }
+{
+    if is_more_than_half(further) || is_half(further) && amount % 2 == 1 {
+        amount + 1
+    } else {
+        amount
+    }
+}
+
+/// Returns whether decimals are a half.
+fn is_half(decimals: &[u8]) -> bool
+    ensures { result ≡ is_half decimals.now }
+{
+    match decimals.split_first() {
+        Some((first, rest)) => *first == b'5' && are_zeros(rest),
+        None => false,
+    }
+}
+
+/// Returns whether decimals are more than a half.
+fn is_more_than_half(decimals: &[u8]) -> bool
+    ensures { result ≡ is_more_than_half decimals.now }
+{
+    match decimals.split_first() {
+        Some((first, rest)) => *first > b'5' || *first == b'5' && !are_zeros(rest),
+        None => false,
+    }
+}
+
+fn are_zeros(digits: &[u8]) -> bool
+    ensures { result ≡ list_all is_zero digits.now }
+{
+    digits.iter().all(|digit| *digit == b'0')
+}
+
 /// Returns degrees as millionths.
-fn millionths(numeral: Numeral) -> Result<u64, FilterFaultKind>
-    ensures value { result ≡ millionths (decimal_in 18 numeral.entry.whole.now) (parts_of numeral.entry.decimals.now) }
+fn millionths(whole: &[u8], decimals: &[u8]) -> Result<u64, FilterFaultKind>
+    ensures value { result ≡ millionths (decimal_in 18 whole.now) (parts_of decimals.now) }
     ensures small { IfOk result (λ amount. amount < 10 ^ 18) }
 {
-    let Some(degrees) = decimal_value(numeral.whole, MAX_LITERAL_DIGITS) else {
+    let Some(degrees) = decimal_value(whole, MAX_LITERAL_DIGITS) else {
         return Err(FilterFaultKind::NumberRange);
     };
-    let Some(parts) = parts_of(numeral.decimals) else {
+    let Some(parts) = parts_of(decimals) else {
         return Err(FilterFaultKind::NumberRange);
     };
     if degrees < DEGREES {

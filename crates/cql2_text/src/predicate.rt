@@ -38,9 +38,10 @@ pub(crate) enum Subject {
     Folded(Folding, TextColumn),
 }
 
-/// Reads a text column, or one in CASEI and ACCENTI.
-pub(crate) fn first_subject<'a>(
+/// Reads a text column, or one in CASEI and ACCENTI. Other tokens are refused, since this is expected there.
+pub(crate) fn read_subject<'a>(
     words: &'a [Token<'a>],
+    expected: Expected,
 ) -> Result<(Subject, &'a [Token<'a>]), SyntaxFault>
     ensures ok { IfOk result (λ read. IsSubject read.0 words.now read.1.now) }
     ensures reads { (s : Subject) (rest : List Token) → IsSubject s words.now rest
@@ -48,19 +49,23 @@ pub(crate) fn first_subject<'a>(
 {
     match next(words) {
         Some((Token::Column(Column::Text(column)), rest)) => Ok((Subject::Text(column), rest)),
+        Some((Token::Column(_column), _rest)) => {
+            Err(SyntaxFault::at(words, FilterFaultKind::WrongType))
+        }
         Some((Token::UnknownColumn, _rest)) => {
             Err(SyntaxFault::at(words, FilterFaultKind::UnknownColumn))
         }
         _ => {
-            let (folding, column, rest) = folded_column(words)?;
+            let (folding, column, rest) = folded_column(words, expected)?;
             Ok((Subject::Folded(folding, column), rest))
         }
     }
 }
 
-/// Reads a text column in CASEI and ACCENTI.
+/// Reads a text column in CASEI and ACCENTI. Tokens without both are refused, since something else is expected there.
 fn folded_column<'a>(
     words: &'a [Token<'a>],
+    expected: Expected,
 ) -> Result<(Folding, TextColumn, &'a [Token<'a>]), SyntaxFault>
     ensures ok { IfOk result (λ read. IsClause (IsTextColumn read.1) read.0 words.now read.2.now) }
     ensures reads { (folding : AFolding) (c : TextColumn) (rest : List Token) → IsClause (IsTextColumn c) folding words.now rest
@@ -68,7 +73,7 @@ fn folded_column<'a>(
 {
     let (folding, depth, inner) = openings(words, MAX_NESTED_CLAUSES)?;
     if depth == 0 {
-        return Err(SyntaxFault::unexpected(words, Expected::Predicate));
+        return Err(SyntaxFault::unexpected(words, expected));
     }
     let (column, rest) = text_column(inner)?;
     let rest = closings(rest, depth)?;
@@ -129,7 +134,7 @@ pub(crate) fn of_subject<'a, A: Allocator + Copy>(
 }
 
 /// Returns whether a subject allows this comparison. CASEI and ACCENTI allow only `=` and `<>`.
-fn is_compared(subject: Subject, comparison: Comparison) -> bool
+pub(crate) fn is_compared(subject: Subject, comparison: Comparison) -> bool
     ensures { result ≡ is_compared subject comparison }
 {
     match (subject, comparison) {
@@ -205,8 +210,8 @@ fn negatable<'a, A: Allocator + Copy>(
     }
 }
 
-/// Compares a subject with the literal that the tokens begin with.
-fn compared<'a, A: Allocator + Copy>(
+/// Compares a subject with the text that the tokens begin with.
+pub(crate) fn compared<'a, A: Allocator + Copy>(
     alloc: A,
     subject: Subject,
     comparison: Comparison,
@@ -334,7 +339,7 @@ fn folded_like<'a, A: Allocator + Copy>(
     Ok((Filter::Like(column, pattern), rest))
 }
 
-/// Reads the literals in parentheses, one of which the subject equals.
+/// Reads the texts in parentheses, one of which the subject equals.
 fn among<'a, A: Allocator + Copy>(
     alloc: A,
     subject: Subject,
@@ -350,14 +355,14 @@ fn among<'a, A: Allocator + Copy>(
     Ok((filter, rest))
 }
 
-/// Reads a list of literals, one of which the subject equals.
+/// Reads a list of texts, one of which the subject equals.
 fn list<'a, A: Allocator + Copy>(
     alloc: A,
     subject: Subject,
     words: &'a [Token<'a>],
 ) -> Result<(Filter<A>, &'a [Token<'a>]), SyntaxFault>
-    ensures ok { IfOk result (λ read. SpellsList subject words.now read.1.now read.0) }
-    ensures reads { (rest : List Token) (made : Filter A) → SpellsList subject words.now (token.Close ∷ rest) made
+    ensures ok { IfOk result (λ read. SpellsList (SpellsComparison subject Equal) words.now read.1.now read.0) }
+    ensures reads { (rest : List Token) (made : Filter A) → SpellsList (SpellsComparison subject Equal) words.now (token.Close ∷ rest) made
         → IsRead result (token.Close ∷ rest) made }
 {
     let (mut filter, mut rest) = compared(alloc, subject, Comparison::Equal, words)?;

@@ -3,19 +3,19 @@ ghost use Rattle.std.specs.Prelude.{◌≡◌, ◌≢◌, ◌∷◌, true, List,
 ghost use Rattle.cql2.specs.declared.column.Column.TheVariants as column;
 ghost use Rattle.cql2.specs.declared.column.NumericColumn.{NumericColumn};
 ghost use Rattle.cql2.specs.declared.filter.Filter.{Filter};
-ghost use Rattle.cql2_text.specs.Predicate.{BeginsText, SpellsRelation};
+ghost use Rattle.cql2_text.specs.Predicate.{SpellsRelation};
 ghost use Rattle.cql2_text.specs.Read.{IsRead};
 ghost use Rattle.cql2_text.specs.Scan.{begins_operand};
 ghost use Rattle.cql2_tokens.specs.declared.token.Keyword.TheVariants as word;
 ghost use Rattle.cql2_tokens.specs.declared.token.Token.{Token};
 ghost use Rattle.cql2_tokens.specs.declared.token.Token.TheVariants as token;
 
-use crate::fault::{Expected, FilterFaultKind};
-use crate::numeric::{mirrored, of_number};
-use crate::operand::text;
-use crate::predicate::{first_subject, null, of_subject, width};
+use crate::fault::Expected;
+use crate::numeric::of_number;
+use crate::predicate::{null, of_subject, read_subject};
 use crate::syntax_fault::SyntaxFault;
 use crate::terminal::next;
+use crate::text_first::{begins_text, text_first};
 use cql2::{Column, Filter, NumericColumn};
 use cql2_tokens::{Keyword, Token};
 use std::alloc::Allocator;
@@ -31,17 +31,12 @@ pub(crate) fn relation<'a, A: Allocator + Copy>(
     if begins_operand(words) {
         return number_first(alloc, words);
     }
-    match next(words) {
-        Some((Token::Text(_spelling), after)) => {
-            let (filter, rest) = text_first(alloc, words, after)?;
-            Ok((filter, rest))
-        }
-        _ => {
-            let (subject, after) = first_subject(words)?;
-            let (filter, rest) = of_subject(alloc, subject, after)?;
-            Ok((filter, rest))
-        }
+    if begins_text(words) {
+        return text_first(alloc, words);
     }
+    let (subject, after) = read_subject(words, Expected::Predicate)?;
+    let (filter, rest) = of_subject(alloc, subject, after)?;
+    Ok((filter, rest))
 }
 
 /// Returns whether the tokens begin like a numeric expression.
@@ -90,36 +85,5 @@ fn column_before_is<'a>(words: &'a [Token<'a>]) -> Option<(NumericColumn, &'a [T
             _ => None,
         },
         _ => None,
-    }
-}
-
-/// Compares the string literal that the tokens begin with and the text column after it.
-fn text_first<'a, A: Allocator + Copy>(
-    alloc: A,
-    words: &'a [Token<'a>],
-    after: &'a [Token<'a>],
-) -> Result<(Filter<A>, &'a [Token<'a>]), SyntaxFault>
-    requires { BeginsText words.now after.now }
-    ensures ok { IfOk result (λ read. SpellsRelation words.now read.1.now read.0) }
-    ensures reads { (rest : List Token) (made : Filter A) → SpellsRelation words.now rest made → IsRead result rest made }
-{
-    let Some((Token::Compared(comparison), second)) = next(after) else {
-        return Err(SyntaxFault::unexpected(after, Expected::Operator));
-    };
-    match next(second) {
-        Some((Token::Column(Column::Text(column)), rest)) => {
-            let (text, _after) = text(alloc, width(column), words)?;
-            Ok((
-                Filter::CompareText(column, mirrored(comparison), text),
-                rest,
-            ))
-        }
-        Some((Token::Column(_column), _rest)) => {
-            Err(SyntaxFault::at(second, FilterFaultKind::WrongType))
-        }
-        Some((Token::UnknownColumn, _rest)) => {
-            Err(SyntaxFault::at(second, FilterFaultKind::UnknownColumn))
-        }
-        _ => Err(SyntaxFault::unexpected(second, Expected::Column)),
     }
 }

@@ -1,5 +1,5 @@
 //! Faults in tokens, before their lines and columns are known.
-ghost use Rattle.std.specs.Prelude.{◌≡◌, ◌-◌, length};
+ghost use Rattle.std.specs.Prelude.{◌≡◌, ◌+◌, ◌-◌, length};
 ghost use Rattle.cql2_text.specs.declared.syntax_fault.SyntaxFault.TheVariants as syntax_fault;
 ghost use Rattle.cql2_text.specs.declared.syntax_fault.TextFault.TheVariants as text_fault;
 
@@ -65,6 +65,14 @@ impl From<AllocError> for SyntaxFault {
     }
 }
 
+impl<T: Drop> From<AllocFailed<T>> for SyntaxFault {
+    ghost from_gives = { λ _ fault. fault ≡ syntax_fault.Memory };
+
+    fn from(_error: AllocFailed<T>) -> SyntaxFault {
+        SyntaxFault::Memory
+    }
+}
+
 impl SyntaxFault {
     /// Returns the fault for a flaw of the first token.
     pub fn at(words: &[Token], flaw: FilterFaultKind) -> SyntaxFault
@@ -82,6 +90,17 @@ impl SyntaxFault {
         ensures { result ≡ syntax_fault.At (length words.now) 0 (FilterFaultKind.Syntax expected) }
     {
         SyntaxFault::at(words, FilterFaultKind::Syntax(expected))
+    }
+
+    /// Returns the fault for a construct that is expected instead of the token before these.
+    pub fn before(rest: &[Token], expected: Expected) -> SyntaxFault
+        ensures { result ≡ syntax_fault.At (length rest.now + 1) 0 (FilterFaultKind.Syntax expected) }
+    {
+        SyntaxFault::At {
+            left: rest.len() + 1,
+            offset: 0,
+            flaw: FilterFaultKind::Syntax(expected),
+        }
     }
 
     /// Returns the fault for one in the string literal that is the first token.

@@ -5,7 +5,7 @@ ghost use Rattle.cql2_tokens.specs.declared.token.Token.{Token};
 
 use crate::fault::Expected;
 use crate::syntax_fault::SyntaxFault;
-use cql2_tokens::{Keyword, Token};
+use cql2_tokens::{Keyword, ShapeTag, Token};
 
 /// A token that the grammar requires at one point.
 #[derive(Clone, Copy)]
@@ -15,6 +15,7 @@ pub(crate) enum Terminal {
     Comma,
     And,
     Null,
+    Geometry,
     Bbox,
 }
 
@@ -28,7 +29,8 @@ impl Terminal {
             Terminal::Comma => matches!(token, Token::Comma),
             Terminal::And => matches!(token, Token::Keyword(Keyword::And)),
             Terminal::Null => matches!(token, Token::Keyword(Keyword::Null)),
-            Terminal::Bbox => matches!(token, Token::Keyword(Keyword::Bbox)),
+            Terminal::Geometry => matches!(token, Token::Keyword(Keyword::Geometry)),
+            Terminal::Bbox => matches!(token, Token::Keyword(Keyword::Shape(ShapeTag::Bbox))),
         }
     }
 
@@ -39,6 +41,7 @@ impl Terminal {
             Terminal::Comma => Expected::Comma,
             Terminal::And => Expected::And,
             Terminal::Null => Expected::Null,
+            Terminal::Geometry => Expected::Geometry,
             Terminal::Bbox => Expected::Bbox,
         }
     }

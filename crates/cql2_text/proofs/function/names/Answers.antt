@@ -1,5 +1,5 @@
 use Rattle.std.proofs.Common.{refl}
-use Rattle.cql2_text.specs.Predicate.{given, usual}
+use Rattle.cql2_text.specs.Function.{given, usual}
 use Rattle.cql2_text.proofs.TokenLemmas.{first-is}
 use Rattle.cql2_text.proofs.function.names.Goals as goal
 

@@ -10,8 +10,8 @@ use Rattle.cql2_text.proofs.predicate.list.Given as goal
 
 abbrev pub invariant-loop-after : goal.invariant-loop-after
 invariant-loop-after g l = record {
-  spelled : SpellsList l.subject l.words l.rest l.filter;
-  reads : (rest : List Token) (made : Filter _) → SpellsList l.subject l.words (Close ∷ rest) made
+  spelled : SpellsList (SpellsComparison l.subject Equal) l.words l.rest l.filter;
+  reads : (rest : List Token) (made : Filter _) → SpellsList (SpellsComparison l.subject Equal) l.words (Close ∷ rest) made
       → ReadChain Comma (SpellsComparison l.subject Equal) IsEither l.rest l.filter (Close ∷ rest) made;
 }
 

@@ -3,7 +3,7 @@ use Rattle.cql2_tokens.specs.Alike.{AreLike}
 use Rattle.cql2_text.specs.Spelled.{Expression}
 use Rattle.cql2_text.specs.declared.syntax_fault.SyntaxFault.TheVariants.{Memory}
 use Rattle.cql2_tokens.specs.declared.token.Token.{Token}
-use Rattle.cql2_text.proofs.AlikeLemmas.{all-moved}
+use Rattle.cql2_text.proofs.MovedLemmas.{all-moved}
 use Rattle.cql2_text.proofs.PlaceLemmas.{placed_after}
 use Rattle.cql2_text.proofs.reader.read_utf8.Goals as goal
 
