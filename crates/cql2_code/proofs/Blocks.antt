@@ -1,5 +1,5 @@
 -- Sound questions: their code is good wherever its exits need nothing more, and a run of a block's code reaches the exit for its answer.
-use Rattle.std.proofs.Common.{◌≡◌, ℕ, ◌+◌, Bool, true, ◌||◌, List, ◌++◌, ap, ◌∙◌}
+use Rattle.std.proofs.Common.{◌≡◌, ℕ, ◌+◌, Bool, true, false, ◌||◌, List, ◌++◌, ap, ◌∙◌}
 use Rattle.std.specs.List.{list_any}
 use Rattle.std.proofs.lemmas.List.Folds.{list_any-append}
 use Rattle.std.proofs.Math.Bool.{or-true}
@@ -7,7 +7,7 @@ use Rattle.bpf_insn.specs.Code.{word_count}
 use Rattle.bpf_insn.specs.declared.instruction.Insn.{Insn}
 use Rattle.tl_segments.specs.Segment.{IsSegment}
 use Rattle.cql2_code.specs.Layout.{writes_kept}
-use Rattle.cql2_code.specs.Question.{Block, IsSoundTest, Question, Decided, Holds, Opposite, Joined, Coded}
+use Rattle.cql2_code.specs.Question.{Block, IsSoundTest, Question, Decided, Holds, Opposite, Joined, Coded, if_asked}
 use Rattle.cql2_code.proofs.AbstractState.{resting}
 use Rattle.cql2_code.proofs.Codes.{Placed}
 use Rattle.cql2_code.proofs.Good.{AreGoodAt, Rests}
@@ -47,3 +47,7 @@ IsSound (Holds test) = IsSoundTest test
 IsSound (Opposite question) = IsSound question
 IsSound (Joined neutral first second) = IsSound first × IsSound second
 IsSound (Coded block) = IsSoundBlock block
+
+pub if_asked_sound : (question : Question) (asked : Bool) → IsSound question → IsSound (if_asked question asked)
+if_asked_sound question true sound = sound
+if_asked_sound question false sound = sound

@@ -1,7 +1,7 @@
 -- The questions about two text columns are sound, and have the answers of a comparison.
 use Rattle.std.proofs.Common.{◌≡◌, ℕ, zero, suc, ◌+◌, ◌≤◌, ◌<◌, ◌==◌, nat_lt, Bool, true, false, not, ◌&&◌, ◌||◌, List, [], ◌∷◌, take, drop}
 use Rattle.std.proofs.Common.{get_or, Option, Some, None, if◌then◌else◌, refl, sym, ap, ◌∙◌, arith}
-use Rattle.std.proofs.lemmas.Bool.{and_parts}
+use Rattle.std.proofs.lemmas.Bool.{and_parts, false≢true}
 use Rattle.std.proofs.lemmas.Bool.Decides.{nat_tests}
 use Rattle.tl_fields.specs.Number.{is_blank as are_blank}
 use Rattle.tl_segments.specs.Segment.{SegmentParts, IsSegment}
@@ -14,12 +14,14 @@ use Rattle.cql2.specs.declared.filter.Comparison.{Comparison}
 use Rattle.cql2.specs.declared.filter.Comparison.TheVariants.{Equal, NotEqual, Less, LessOrEqual, Greater, GreaterOrEqual}
 use Rattle.cql2_code.specs.BytePairs.{compares_pair}
 use Rattle.cql2_code.specs.Layout.{opposite}
-use Rattle.cql2_code.specs.Lowering.{compares_columns, compares_fields, is_less_field, is_same_field}
-use Rattle.cql2_code.specs.Question.{answer, joined}
+use Rattle.cql2_code.specs.Lowering.{asks_about, compares_columns, compares_fields, is_less_field, is_same_field}
+use Rattle.cql2_code.specs.Question.{answer}
+use Rattle.cql2_code.specs.declared.field.Field.{Field}
 use Rattle.cql2_code.proofs.ByteLemmas.{blank_found, equal_numbers, first_of}
-use Rattle.cql2_code.proofs.FieldLemmas.{column_within, field_of, null_found, text_in, text_value_is}
-use Rattle.cql2_code.proofs.JoinLemmas.{both_answers, either_answers, is_it, isnt_it, joined_answers}
+use Rattle.cql2_code.proofs.FieldLemmas.{IsInside, bytes_in, has_text, text_in}
+use Rattle.cql2_code.proofs.JoinLemmas.{both_answers, either_answers, is_it, isnt_it}
 use Rattle.cql2_code.proofs.PairLemmas.{pair_answer}
+use Rattle.cql2_code.proofs.TextColumnLemmas.{about_found, text_bytes, text_value_is}
 use Rattle.cql2_code.proofs.TextLemmas.{opposite_compares_text}
 use Rattle.cql2_code.proofs.TrimLemmas.{trimmed, trimmed_blank}
 
@@ -141,18 +143,19 @@ module _ (segment : SegmentParts) (is : IsSegment segment) where
       ∙ ap (λ (field : List ℕ). is_text_less (trimmed field) (trimmed (get_or segment.bytes other 0 ∷ bytes_at (other + 1) more))) (sym here)
       ∙ ap (λ (field : List ℕ). is_text_less (trimmed (bytes_at at (suc left))) (trimmed field)) (sym there)
 
-  fields_compared : (first second : TextColumn) (comparison : Comparison) → answer (compares_fields first comparison second) segment
-      ≡ text_compares comparison (trimmed (field_of first segment)) (trimmed (field_of second segment))
-  fields_compared first second Equal = same_found _ _ _ _ (column_within first) (column_within second)
-  fields_compared first second NotEqual = ap not (same_found _ _ _ _ (column_within first) (column_within second))
-  fields_compared first second Less = less_found _ _ _ _ (column_within first) (column_within second)
-  fields_compared first second LessOrEqual = ap not (less_found _ _ _ _ (column_within second) (column_within first))
-  fields_compared first second Greater = less_found _ _ _ _ (column_within second) (column_within first)
-  fields_compared first second GreaterOrEqual = ap not (less_found _ _ _ _ (column_within first) (column_within second))
+  fields_compared : (first second : Field) → IsInside first → IsInside second → (comparison : Comparison)
+      → answer (compares_fields first comparison second) segment
+      ≡ text_compares comparison (trimmed (bytes_in first segment)) (trimmed (bytes_in second segment))
+  fields_compared first second lies lies_too Equal = same_found _ _ _ _ lies lies_too
+  fields_compared first second lies lies_too NotEqual = ap not (same_found _ _ _ _ lies lies_too)
+  fields_compared first second lies lies_too Less = less_found _ _ _ _ lies lies_too
+  fields_compared first second lies lies_too LessOrEqual = ap not (less_found _ _ _ _ lies_too lies)
+  fields_compared first second lies lies_too Greater = less_found _ _ _ _ lies_too lies
+  fields_compared first second lies lies_too GreaterOrEqual = ap not (less_found _ _ _ _ lies lies_too)
 
 -- a comparison of two texts, each of which may be missing
 both_filled : (comparison : Comparison) (blank blank_too : Bool) (text text_too : List ℕ)
-    → joined true (not blank) (joined true (not blank_too) (text_compares comparison text text_too))
+    → (not blank && (not blank_too && text_compares comparison text text_too))
     ≡ is_truth (if_both (text_compares comparison) (if blank then None else Some text) (if blank_too then None else Some text_too)) true
 both_filled comparison true blank_too text text_too = refl
 both_filled comparison false true text text_too = refl
@@ -166,14 +169,23 @@ opposite_of_both comparison (Some text) (Some other) =
     sym (is_it _) ∙ opposite_compares_text comparison text other ∙ isnt_it (text_compares comparison text other)
 
 module _ (segment : SegmentParts) (is : IsSegment segment) (first second : TextColumn) where
+  -- a text is compared with a column
+  column_compared : (field : Field) → IsInside field → (comparison : Comparison)
+      → answer (asks_about true (compares_fields field comparison) second) segment
+      ≡ has_text (text_compares comparison (trimmed (bytes_in field segment))) (text_bytes second segment)
+  column_compared field lies comparison =
+      about_found segment is true (compares_fields field comparison) (text_compares comparison (trimmed (bytes_in field segment)))
+      (λ other inside filled. fields_compared segment is field other lies inside comparison) (λ of. absurd (false≢true (sym of))) second
+
   columns_compared : (comparison : Comparison) → answer (compares_columns first comparison second) segment
       ≡ is_truth (if_both (text_compares comparison) (text_value first segment.bytes) (text_value second segment.bytes)) true
   columns_compared comparison =
-      joined_answers true (ap not (null_found segment is first))
-      (joined_answers true (ap not (null_found segment is second)) (fields_compared segment is first second comparison))
-      ∙ both_filled comparison (are_blank (field_of first segment)) (are_blank (field_of second segment)) (trimmed (field_of first segment))
-      (trimmed (field_of second segment))
-      ∙ ap (λ (text : Option (List ℕ)). is_truth (if_both (text_compares comparison) text (text_in (field_of second segment))) true)
+      about_found segment is true (λ field. asks_about true (compares_fields field comparison) second)
+      (λ text. has_text (text_compares comparison text) (text_bytes second segment))
+      (λ field lies filled. column_compared field lies comparison) (λ of. absurd (false≢true (sym of))) first
+      ∙ both_filled comparison (are_blank (text_bytes first segment)) (are_blank (text_bytes second segment)) (trimmed (text_bytes first segment))
+      (trimmed (text_bytes second segment))
+      ∙ ap (λ (text : Option (List ℕ)). is_truth (if_both (text_compares comparison) text (text_in (text_bytes second segment))) true)
       (sym (text_value_is first segment))
       ∙ ap (λ (text : Option (List ℕ)). is_truth (if_both (text_compares comparison) (text_value first segment.bytes) text) true)
       (sym (text_value_is second segment))

@@ -4,13 +4,13 @@ use Rattle.std.proofs.Common.{if◌then◌else◌, refl, sym, ap, ◌∙◌, ari
 use Rattle.std.proofs.lemmas.Bool.{false≢true, le-leb}
 use Rattle.std.proofs.lemmas.Bool.Decides.{nat_tests}
 use Rattle.std.proofs.lemmas.List.{drop_more}
-use Rattle.cql2.specs.declared.column.TextColumn.{TextColumn}
 use Rattle.cql2.specs.declared.pattern.PatternPart.{PatternPart}
 use Rattle.cql2.specs.declared.pattern.PatternPart.TheVariants.{Exactly, Alike, One, Many}
 use Rattle.cql2_code.specs.Grid.{grid}
-use Rattle.cql2_code.specs.Lowering.{are_pieces, are_wanted, bytes_where, cell, is_last, is_like, is_piece, offset_of, rows_of, width_of}
+use Rattle.cql2_code.specs.Lowering.{are_pieces, are_wanted, bytes_where, cell, is_last, is_like, is_piece, rows_of}
 use Rattle.cql2_code.specs.Pieces.{behind_many, pieces_of, taken}
 use Rattle.cql2_code.specs.Question.{Coded, Decided, Joined, Question}
+use Rattle.cql2_code.specs.declared.field.Field.{Field}
 use Rattle.cql2_code.proofs.PieceLemmas.{lengths}
 
 -- The first `%`
@@ -230,75 +230,75 @@ behind_is (Exactly wanted) behind none = absurd cc
 behind_is (Alike folding wanted) behind none = absurd cc
 behind_is One behind none = absurd cc
 
-abbrev pub rows_behind : TextColumn → ℕ → List PatternPart → List (ℕ → Question)
-rows_behind column from pattern = rows_of column (pieces_of pattern).is_open from (pieces_of pattern).others
+abbrev pub rows_behind : Field → ℕ → List PatternPart → List (ℕ → Question)
+rows_behind field from pattern = rows_of field (pieces_of pattern).is_open from (pieces_of pattern).others
 
-abbrev rows_cut : TextColumn → ℕ → List PatternPart → List (List PatternPart) → Bool → List (ℕ → Question)
-rows_cut column from first others is_open =
-    let cut = behind_many first others is_open in rows_of column cut.is_open from cut.others
+abbrev rows_cut : Field → ℕ → List PatternPart → List (List PatternPart) → Bool → List (ℕ → Question)
+rows_cut field from first others is_open =
+    let cut = behind_many first others is_open in rows_of field cut.is_open from cut.others
 
-no_row : (column : TextColumn) (from : ℕ) (others : List (List PatternPart)) (is_open : Bool)
-    → rows_cut column from [] others is_open ≡ rows_of column is_open from others
-no_row column from [] is_open = refl
-no_row column from (piece ∷ others) is_open = refl
+no_row : (field : Field) (from : ℕ) (others : List (List PatternPart)) (is_open : Bool)
+    → rows_cut field from [] others is_open ≡ rows_of field is_open from others
+no_row field from [] is_open = refl
+no_row field from (piece ∷ others) is_open = refl
 
 -- `%` before another one, or at the end
-pub rows_skip : (column : TextColumn) (from : ℕ) (pattern : List PatternPart) (part : PatternPart) (behind piece rest : List PatternPart)
+pub rows_skip : (field : Field) (from : ℕ) (pattern : List PatternPart) (part : PatternPart) (behind piece rest : List PatternPart)
     → pattern ≡ part ∷ behind → (pieces_of pattern).first ≡ [] → IsFirstAndRest behind piece rest → length piece ≡ 0
-    → rows_behind column from pattern ≡ rows_behind column from rest
-rows_skip column from pattern part behind piece rest is begins split none =
+    → rows_behind field from pattern ≡ rows_behind field from rest
+rows_skip field from pattern part behind piece rest is begins split none =
     let many = behind_is part behind (sym (ap (λ (parts : List PatternPart). (pieces_of parts).first) is) ∙ begins) in
     let no_first = none_of (pieces_of behind).first (sym (ap length split.piece_is) ∙ none) in
-    ap (rows_behind column from) is ∙ ap (λ (first : PatternPart). rows_behind column from (first ∷ behind)) many
-    ∙ ap (λ (first : List PatternPart). rows_cut column from first (pieces_of behind).others (pieces_of behind).is_open) no_first
-    ∙ no_row column from (pieces_of behind).others (pieces_of behind).is_open
-    ∙ ap (λ (b : Bool). rows_of column b from (pieces_of behind).others) (sym split.is_open)
-    ∙ ap (rows_of column (pieces_of rest).is_open from) (sym split.others)
+    ap (rows_behind field from) is ∙ ap (λ (first : PatternPart). rows_behind field from (first ∷ behind)) many
+    ∙ ap (λ (first : List PatternPart). rows_cut field from first (pieces_of behind).others (pieces_of behind).is_open) no_first
+    ∙ no_row field from (pieces_of behind).others (pieces_of behind).is_open
+    ∙ ap (λ (b : Bool). rows_of field b from (pieces_of behind).others) (sym split.is_open)
+    ∙ ap (rows_of field (pieces_of rest).is_open from) (sym split.others)
   where
     none_of : (parts : List PatternPart) → length parts ≡ 0 → parts ≡ []
     none_of [] none = refl
     none_of (part ∷ parts) none = absurd (omega arith)
 
 -- the row of a piece
-abbrev pub row_of : TextColumn → ℕ → List PatternPart → List PatternPart → ℕ → Question
-row_of column from piece rest shift = cell column piece (taken rest == 0) (not (length rest == 0)) (from + shift)
+abbrev pub row_of : Field → ℕ → List PatternPart → List PatternPart → ℕ → Question
+row_of field from piece rest shift = cell field piece (taken rest == 0) (not (length rest == 0)) (from + shift)
 
-row_is : (column : TextColumn) (from : ℕ) (piece rest : List PatternPart) (others : List (List PatternPart)) (is_open : Bool)
+row_is : (field : Field) (from : ℕ) (piece rest : List PatternPart) (others : List (List PatternPart)) (is_open : Bool)
     → (pieces_of rest).first ≡ [] → (pieces_of rest).others ≡ others → (pieces_of rest).is_open ≡ is_open
-    → (let first : ℕ → Question = λ shift. cell column piece (is_last others) is_open (from + shift) in first) ≡ row_of column from piece rest
-row_is column from piece rest [] is_open none others_are open_is =
+    → (let first : ℕ → Question = λ shift. cell field piece (is_last others) is_open (from + shift) in first) ≡ row_of field from piece rest
+row_is field from piece rest [] is_open none others_are open_is =
     let sum = (count_pieces rest).takes in
     let no_first = ap length none in
     let no_others = ap lengths others_are in
     let zero_taken : taken rest ≡ 0 = omega arith in
-    ap (λ (b : Bool). (let first : ℕ → Question = λ shift. cell column piece true b (from + shift) in first))
+    ap (λ (b : Bool). (let first : ℕ → Question = λ shift. cell field piece true b (from + shift) in first))
     (sym open_is ∙ open_length rest none zero_taken)
-    ∙ ap (λ (b : Bool). (let first : ℕ → Question = λ shift. cell column piece b (not (length rest == 0)) (from + shift) in first))
+    ∙ ap (λ (b : Bool). (let first : ℕ → Question = λ shift. cell field piece b (not (length rest == 0)) (from + shift) in first))
     (sym (ap is_last others_are) ∙ last_taken rest none)
-row_is column from piece rest (next ∷ others) is_open none others_are open_is =
-    ap (λ (b : Bool). (let first : ℕ → Question = λ shift. cell column piece b (not (length rest == 0)) (from + shift) in first))
+row_is field from piece rest (next ∷ others) is_open none others_are open_is =
+    ap (λ (b : Bool). (let first : ℕ → Question = λ shift. cell field piece b (not (length rest == 0)) (from + shift) in first))
     (sym (ap is_last others_are) ∙ last_taken rest none)
 
-pub rows_next : (column : TextColumn) (from : ℕ) (pattern : List PatternPart) (part : PatternPart) (behind piece rest : List PatternPart)
+pub rows_next : (field : Field) (from : ℕ) (pattern : List PatternPart) (part : PatternPart) (behind piece rest : List PatternPart)
     → pattern ≡ part ∷ behind → (pieces_of pattern).first ≡ [] → IsFirstAndRest behind piece rest → 0 < length piece
-    → rows_behind column from pattern ≡ row_of column from piece rest ∷ rows_behind column (from + length piece) rest
-rows_next column from pattern part behind [] rest is begins split some = absurd (omega arith)
-rows_next column from pattern part behind (first ∷ piece) rest is begins split some =
+    → rows_behind field from pattern ≡ row_of field from piece rest ∷ rows_behind field (from + length piece) rest
+rows_next field from pattern part behind [] rest is begins split some = absurd (omega arith)
+rows_next field from pattern part behind (first ∷ piece) rest is begins split some =
     let many = behind_is part behind (sym (ap (λ (parts : List PatternPart). (pieces_of parts).first) is) ∙ begins) in
     let others = (pieces_of behind).others in
     let is_open = (pieces_of behind).is_open in
-    let later = rows_of column is_open (from + length (first ∷ piece)) others in
-    ap (rows_behind column from) is ∙ ap (λ (begin : PatternPart). rows_behind column from (begin ∷ behind)) many
-    ∙ ap (λ (parts : List PatternPart). rows_cut column from parts others is_open) (sym split.piece_is)
+    let later = rows_of field is_open (from + length (first ∷ piece)) others in
+    ap (rows_behind field from) is ∙ ap (λ (begin : PatternPart). rows_behind field from (begin ∷ behind)) many
+    ∙ ap (λ (parts : List PatternPart). rows_cut field from parts others is_open) (sym split.piece_is)
     ∙ ap (λ (row : ℕ → Question). row ∷ later)
-    (row_is column from (first ∷ piece) rest others is_open split.first split.others split.is_open)
-    ∙ ap (λ (rows : List (ℕ → Question)). row_of column from (first ∷ piece) rest ∷ rows)
-    (ap (λ (b : Bool). rows_of column b (from + length (first ∷ piece)) others) (sym split.is_open)
-    ∙ ap (rows_of column (pieces_of rest).is_open (from + length (first ∷ piece))) (sym split.others))
+    (row_is field from (first ∷ piece) rest others is_open split.first split.others split.is_open)
+    ∙ ap (λ (rows : List (ℕ → Question)). row_of field from (first ∷ piece) rest ∷ rows)
+    (ap (λ (b : Bool). rows_of field b (from + length (first ∷ piece)) others) (sym split.is_open)
+    ∙ ap (rows_of field (pieces_of rest).is_open (from + length (first ∷ piece))) (sym split.others))
 
-pub rows_empty : (column : TextColumn) (from : ℕ) (pattern : List PatternPart) → length pattern ≡ 0 → rows_behind column from pattern ≡ []
-rows_empty column from [] none = refl
-rows_empty column from (part ∷ pattern) none = absurd (omega arith)
+pub rows_empty : (field : Field) (from : ℕ) (pattern : List PatternPart) → length pattern ≡ 0 → rows_behind field from pattern ≡ []
+rows_empty field from [] none = refl
+rows_empty field from (part ∷ pattern) none = absurd (omega arith)
 
 -- what is taken after a `%`
 pub taken_behind : (pattern : List PatternPart) (part : PatternPart) (behind piece rest : List PatternPart) → pattern ≡ part ∷ behind
@@ -309,25 +309,25 @@ taken_behind pattern part behind piece rest is begins split =
 
 -- Whole patterns
 
-pub like_one : (column : TextColumn) (pattern piece rest : List PatternPart) → IsFirstAndRest pattern piece rest → taken rest ≡ 0
-    → is_like column pattern ≡ is_piece column piece (not (length rest == 0))
-like_one column pattern piece rest split zero_taken =
+pub like_one : (field : Field) (pattern piece rest : List PatternPart) → IsFirstAndRest pattern piece rest → taken rest ≡ 0
+    → is_like field pattern ≡ is_piece field piece (not (length rest == 0))
+like_one field pattern piece rest split zero_taken =
     ap (λ (others : List (List PatternPart)).
-    are_pieces column (pieces_of pattern).first others (pieces_of pattern).is_open (taken pattern))
+    are_pieces field (pieces_of pattern).first others (pieces_of pattern).is_open (taken pattern))
     (sym split.others ∙ none_others rest split.first zero_taken)
-    ∙ ap (is_piece column (pieces_of pattern).first) (sym split.is_open ∙ open_length rest split.first zero_taken)
-    ∙ ap (λ (first : List PatternPart). is_piece column first (not (length rest == 0))) (sym split.piece_is)
+    ∙ ap (is_piece field (pieces_of pattern).first) (sym split.is_open ∙ open_length rest split.first zero_taken)
+    ∙ ap (λ (first : List PatternPart). is_piece field first (not (length rest == 0))) (sym split.piece_is)
 
 -- a pattern with a piece after a `%`
-are_several : (column : TextColumn) (first : List PatternPart) (others : List (List PatternPart)) (is_open : Bool) (total : ℕ)
+are_several : (field : Field) (first : List PatternPart) (others : List (List PatternPart)) (is_open : Bool) (total : ℕ)
     → is_last others ≡ false
-    → are_pieces column first others is_open total
-    ≡ (if nat_le total (width_of column)
-    then Joined true (are_wanted (offset_of column) first)
-    (Coded (grid (rows_of column is_open (length first) others) (suc (width_of column - total))))
+    → are_pieces field first others is_open total
+    ≡ (if nat_le total field.width
+    then Joined true (are_wanted field.offset first)
+    (Coded (grid (rows_of field is_open (length first) others) (suc (field.width - total))))
     else Decided false)
-are_several column first [] is_open total more = absurd (false≢true (sym more))
-are_several column first (piece ∷ others) is_open total more = refl
+are_several field first [] is_open total more = absurd (false≢true (sym more))
+are_several field first (piece ∷ others) is_open total more = refl
 
 several : (rest : List PatternPart) → (pieces_of rest).first ≡ [] → 0 < taken rest → is_last (pieces_of rest).others ≡ false
 several rest none some = last_taken rest none ∙ some_taken (taken rest) some
@@ -335,25 +335,25 @@ several rest none some = last_taken rest none ∙ some_taken (taken rest) some
     some_taken : (count : ℕ) → 0 < count → (count == 0) ≡ false
     some_taken count some = grind (arith, nat_tests)
 
-pub like_long : (column : TextColumn) (pattern piece rest : List PatternPart) → IsFirstAndRest pattern piece rest → 0 < taken rest
-    → width_of column < taken pattern → is_like column pattern ≡ Decided false
-like_long column pattern piece rest split some long =
-    are_several column (pieces_of pattern).first (pieces_of pattern).others (pieces_of pattern).is_open (taken pattern)
+pub like_long : (field : Field) (pattern piece rest : List PatternPart) → IsFirstAndRest pattern piece rest → 0 < taken rest
+    → field.width < taken pattern → is_like field pattern ≡ Decided false
+like_long field pattern piece rest split some long =
+    are_several field (pieces_of pattern).first (pieces_of pattern).others (pieces_of pattern).is_open (taken pattern)
     (sym (ap is_last split.others) ∙ several rest split.first some)
-    ∙ rw (lt-leb-false (taken pattern) (width_of column) long) refl
+    ∙ rw (lt-leb-false (taken pattern) field.width long) refl
   where
     lt-leb-false : (m n : ℕ) → n < m → nat_le m n ≡ false
     lt-leb-false m n less = grind (arith, nat_tests)
 
-pub like_several : (column : TextColumn) (pattern piece rest : List PatternPart) (columns : ℕ) → IsFirstAndRest pattern piece rest
-    → 0 < taken rest → taken pattern ≤ width_of column → columns ≡ width_of column - taken pattern + 1
-    → is_like column pattern
-    ≡ Joined true (are_wanted (offset_of column) piece) (Coded (grid (rows_behind column (length piece) rest) columns))
-like_several column pattern piece rest columns split some short counted =
-    let next : columns ≡ suc (width_of column - taken pattern) = omega arith in
-    are_several column (pieces_of pattern).first (pieces_of pattern).others (pieces_of pattern).is_open (taken pattern)
+pub like_several : (field : Field) (pattern piece rest : List PatternPart) (columns : ℕ) → IsFirstAndRest pattern piece rest
+    → 0 < taken rest → taken pattern ≤ field.width → columns ≡ field.width - taken pattern + 1
+    → is_like field pattern
+    ≡ Joined true (are_wanted field.offset piece) (Coded (grid (rows_behind field (length piece) rest) columns))
+like_several field pattern piece rest columns split some short counted =
+    let next : columns ≡ suc (field.width - taken pattern) = omega arith in
+    are_several field (pieces_of pattern).first (pieces_of pattern).others (pieces_of pattern).is_open (taken pattern)
     (sym (ap is_last split.others) ∙ several rest split.first some)
-    ∙ rw (le-leb (taken pattern) (width_of column) short)
+    ∙ rw (le-leb (taken pattern) field.width short)
     (ap (λ (n : ℕ). asks (pieces_of pattern).first (pieces_of pattern).others (pieces_of pattern).is_open n) (sym next)
     ∙ ap (λ (first : List PatternPart). asks first (pieces_of pattern).others (pieces_of pattern).is_open columns) (sym split.piece_is)
     ∙ ap (λ (others : List (List PatternPart)). asks piece others (pieces_of pattern).is_open columns) (sym split.others)
@@ -361,4 +361,4 @@ like_several column pattern piece rest columns split some short counted =
   where
     asks : List PatternPart → List (List PatternPart) → Bool → ℕ → Question
     asks first others is_open columns =
-        Joined true (are_wanted (offset_of column) first) (Coded (grid (rows_of column is_open (length first) others) columns))
+        Joined true (are_wanted field.offset first) (Coded (grid (rows_of field is_open (length first) others) columns))

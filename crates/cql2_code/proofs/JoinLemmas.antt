@@ -3,7 +3,7 @@ use Rattle.std.proofs.Common.{◌≡◌, Bool, true, false, not, ◌&&◌, ◌||
 use Rattle.std.specs.Bool.{beq}
 use Rattle.tl_segments.specs.Segment.{SegmentParts}
 use Rattle.cql2.specs.Truth.{and, is, negation, or}
-use Rattle.cql2_code.specs.Lowering.{if_asked}
+use Rattle.cql2_code.specs.Question.{if_asked}
 use Rattle.cql2_code.specs.Question.{Question, answer, joined}
 
 -- AND and OR, asked for either truth value

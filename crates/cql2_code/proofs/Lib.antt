@@ -23,6 +23,7 @@ pub mod ExpressionPasses
 pub mod ExpressionRuns
 pub mod ExpressionSound
 pub mod FieldLemmas
+pub mod FunctionLemmas
 pub mod Good
 pub mod GridLemmas
 pub mod JoinLemmas
@@ -60,11 +61,14 @@ pub mod ShapeLemmas
 pub mod ShapeMarks
 pub mod ShapeMet
 pub mod ShapeRays
+pub mod ShapeWritten
 pub mod SideWords
 pub mod Sound
 pub mod Steps
 pub mod Stores
 pub mod Subjects
+pub mod TextColumnLemmas
+pub mod TextColumnParts
 pub mod TextLemmas
 pub mod TrimLemmas
 pub mod WantedLemmas

@@ -12,14 +12,16 @@ use Rattle.cql2.specs.Truth.{is as is_truth}
 use Rattle.cql2.specs.declared.column.TextColumn.{TextColumn}
 use Rattle.cql2.specs.declared.pattern.PatternPart.{PatternPart}
 use Rattle.cql2_code.specs.Grid.{finds, grid}
-use Rattle.cql2_code.specs.Lowering.{are_pieces, are_wanted, asks_like, is_like, offset_of, rows_of, width_of}
+use Rattle.cql2_code.specs.Lowering.{are_pieces, are_wanted, asks_like, if_asked, is_like, rows_of}
 use Rattle.cql2_code.specs.Pieces.{pieces_of, taken}
 use Rattle.cql2_code.specs.Question.{Coded, Decided, Joined, answer}
-use Rattle.cql2_code.proofs.FieldLemmas.{field_long, field_of, has_text, null_found, value_asked}
-use Rattle.cql2_code.proofs.JoinLemmas.{and_false, both_answers, is_it}
+use Rattle.cql2_code.specs.declared.field.Field.{Field}
+use Rattle.cql2_code.proofs.FieldLemmas.{IsInside, bytes_in, field_long, has_text}
+use Rattle.cql2_code.proofs.JoinLemmas.{and_false, asked_answers, both_answers}
 use Rattle.cql2_code.proofs.PieceLemmas.{ArePieces, Cut, IsFilled, cut_pieces, lengths, like, like_none, respelled}
 use Rattle.cql2_code.proofs.SearchLemmas.{begins_so, begins_wants, blank_drop, last_piece, like_long, like_piece, next_piece, some_text, wants}
 use Rattle.cql2_code.proofs.SearchLemmas.{wants_begins}
+use Rattle.cql2_code.proofs.TextColumnLemmas.{about_found, value_asked}
 use Rattle.cql2_code.proofs.TrimLemmas.{trimmed, trimmed_blank}
 use Rattle.cql2_code.proofs.WantedLemmas.{ending, ends_found, piece_found, taken_piece, wanted_here}
 
@@ -59,51 +61,51 @@ choice first second third = cc
 
 -- The grid of the pieces after a `%` finds them from a byte on exactly if the pattern matches there. The columns left are as many as there are
 -- places for them.
-module _ (segment : SegmentParts) (is : IsSegment segment) (column : TextColumn) (is_open : Bool) where
-  first_of : (from : ℕ) → from < width_of column
-      → drop from (field_of column segment) ≡ get_or (field_of column segment) from 0 ∷ drop (from + 1) (field_of column segment)
+module _ (segment : SegmentParts) (is : IsSegment segment) (field : Field) (lies : IsInside field) (is_open : Bool) where
+  first_of : (from : ℕ) → from < field.width
+      → drop from (bytes_in field segment) ≡ get_or (bytes_in field segment) from 0 ∷ drop (from + 1) (bytes_in field segment)
   first_of from within =
-      let long = field_long segment is column in drop_more (field_of column segment) from 0 (omega arith)
+      let long = field_long segment is field lies in drop_more (bytes_in field segment) from 0 (omega arith)
 
   found : (piece : List PatternPart) (pieces : List (List PatternPart)) (from at left : ℕ) → IsFilled piece → ArePieces pieces
-      → from + at + lengths (piece ∷ pieces) + left ≡ suc (width_of column)
-      → finds (rows_of column is_open from (piece ∷ pieces)) at left segment
-      ≡ like (respelled (piece ∷ pieces) is_open) (drop (from + at) (field_of column segment))
+      → from + at + lengths (piece ∷ pieces) + left ≡ suc field.width
+      → finds (rows_of field is_open from (piece ∷ pieces)) at left segment
+      ≡ like (respelled (piece ∷ pieces) is_open) (drop (from + at) (bytes_in field segment))
   found piece pieces from at zero filled are sum =
-      let long = field_long segment is column in
+      let long = field_long segment is field lies in
       let some = filled.some in
       let takes = taken_respelled (piece ∷ pieces) is_open (filled, are) in
-      sym (like_long (respelled (piece ∷ pieces) is_open) (drop (from + at) (field_of column segment))
-      (omega (arith, length-drop (from + at) (field_of column segment))))
+      sym (like_long (respelled (piece ∷ pieces) is_open) (drop (from + at) (bytes_in field segment))
+      (omega (arith, length-drop (from + at) (bytes_in field segment))))
   found piece [] from at (suc left) filled are sum =
       let some = filled.some in
       let first = first_of (from + at) (omega arith) in
       let next : from + (at + 1) ≡ from + at + 1 = omega arith in
-      let here = ends_found segment is column (from + at) piece
+      let here = ends_found segment is field lies (from + at) piece
       (record { fits = record { within = omega arith; are = filled.are }; last = omega arith }) is_open
-      ∙ text_filled (ending piece is_open) (drop (from + at) (field_of column segment)) (none_filled piece (respelled [] is_open) filled)
+      ∙ text_filled (ending piece is_open) (drop (from + at) (bytes_in field segment)) (none_filled piece (respelled [] is_open) filled)
       ∙ ap (like (ending piece is_open)) first in
       let later = found piece [] from (at + 1) left filled are (omega arith)
-      ∙ ap (λ (n : ℕ). like (respelled (piece ∷ []) is_open) (drop n (field_of column segment))) next in
+      ∙ ap (λ (n : ℕ). like (respelled (piece ∷ []) is_open) (drop n (bytes_in field segment))) next in
       choice here refl later
-      ∙ sym (last_piece (ending piece is_open) (get_or (field_of column segment) (from + at) 0) (drop (from + at + 1) (field_of column segment)))
+      ∙ sym (last_piece (ending piece is_open) (get_or (bytes_in field segment) (from + at) 0) (drop (from + at + 1) (bytes_in field segment)))
       ∙ sym (ap (like (respelled (piece ∷ []) is_open)) first)
   found piece (next ∷ pieces) from at (suc left) filled are sum =
       let some = filled.some in
       let first = first_of (from + at) (omega arith) in
       let step : from + (at + 1) ≡ from + at + 1 = omega arith in
       let behind : from + length piece + at ≡ from + at + length piece = omega arith in
-      let here = wanted_here segment is column (from + at) piece (record { within = omega arith; are = filled.are })
+      let here = wanted_here segment is field lies (from + at) piece (record { within = omega arith; are = filled.are })
       ∙ ap (wants piece) first in
       let below = found next pieces (from + length piece) at (suc left) are.0 are.1 (omega arith)
-      ∙ ap (λ (n : ℕ). like (respelled (next ∷ pieces) is_open) (drop n (field_of column segment))) behind
-      ∙ sym (ap (like (respelled (next ∷ pieces) is_open)) (drop-drop (length piece) (from + at) (field_of column segment)))
+      ∙ ap (λ (n : ℕ). like (respelled (next ∷ pieces) is_open) (drop n (bytes_in field segment))) behind
+      ∙ sym (ap (like (respelled (next ∷ pieces) is_open)) (drop-drop (length piece) (from + at) (bytes_in field segment)))
       ∙ ap (λ (bytes : List ℕ). like (respelled (next ∷ pieces) is_open) (drop (length piece) bytes)) first in
       let later = found piece (next ∷ pieces) from (at + 1) left filled are (omega arith)
-      ∙ ap (λ (n : ℕ). like (respelled (piece ∷ next ∷ pieces) is_open) (drop n (field_of column segment))) step in
+      ∙ ap (λ (n : ℕ). like (respelled (piece ∷ next ∷ pieces) is_open) (drop n (bytes_in field segment))) step in
       choice here below later
-      ∙ sym (next_piece piece (next ++ respelled pieces is_open) (get_or (field_of column segment) (from + at) 0)
-      (drop (from + at + 1) (field_of column segment)) filled.are (none_respelled next pieces is_open are.0))
+      ∙ sym (next_piece piece (next ++ respelled pieces is_open) (get_or (bytes_in field segment) (from + at) 0)
+      (drop (from + at + 1) (bytes_in field segment)) filled.are (none_respelled next pieces is_open are.0))
       ∙ sym (ap (like (respelled (piece ∷ next ∷ pieces) is_open)) first)
 
 -- Patterns
@@ -119,86 +121,94 @@ matches_all false true false false one two three = refl
 matches_all false false true more one two three = absurd (false≢true (one refl))
 matches_all false false false more one two three = refl
 
-unlike : (blank like : Bool) → (not blank && not (not blank && like)) ≡ (not blank && beq like false)
-unlike true like = refl
-unlike false true = refl
-unlike false false = refl
-
-module _ (segment : SegmentParts) (is : IsSegment segment) (column : TextColumn) (pattern : List PatternPart) where
+module _ (segment : SegmentParts) (is : IsSegment segment) (field : Field) (lies : IsInside field) (pattern : List PatternPart) where
   -- a pattern as its pieces
   pieces_match : (first piece : List PatternPart) (others : List (List PatternPart)) (is_open : Bool) → Cut pattern first (piece ∷ others) is_open
-      → (wants first (field_of column segment) && like (respelled (piece ∷ others) is_open) (drop (length first) (field_of column segment)))
-      ≡ has_text (is_text_like pattern) (field_of column segment)
+      → (wants first (bytes_in field segment) && like (respelled (piece ∷ others) is_open) (drop (length first) (bytes_in field segment)))
+      ≡ has_text (is_text_like pattern) (bytes_in field segment)
   pieces_match first piece others is_open cut =
-      matches_all (are_blank field) (wants first field) (begins_so first field) (like rest (drop (length first) field))
-      (begins_wants first field) (λ wanted more. wants_begins first field wanted (behind more)) filled
-      ∙ sym (ap (λ (like : Bool). not (are_blank field) && like)
-      (cut.matches (trimmed field) ∙ like_piece first (piece ++ respelled others is_open) field cut.first_is))
+      matches_all (are_blank bytes) (wants first bytes) (begins_so first bytes) (like rest (drop (length first) bytes))
+      (begins_wants first bytes) (λ wanted more. wants_begins first bytes wanted (behind more)) filled
+      ∙ sym (ap (λ (like : Bool). not (are_blank bytes) && like)
+      (cut.matches (trimmed bytes) ∙ like_piece first (piece ++ respelled others is_open) bytes cut.first_is))
     where
-      field : List ℕ
-      field = field_of column segment
+      bytes : List ℕ
+      bytes = bytes_in field segment
 
       rest : List PatternPart
       rest = respelled (piece ∷ others) is_open
 
-      behind : like rest (drop (length first) field) ≡ true → are_blank (drop (length first) field) ≡ false
-      behind more = some_text rest (drop (length first) field) (none_respelled piece others is_open cut.others_are.0) more
+      behind : like rest (drop (length first) bytes) ≡ true → are_blank (drop (length first) bytes) ≡ false
+      behind more = some_text rest (drop (length first) bytes) (none_respelled piece others is_open cut.others_are.0) more
 
-      filled : like rest (drop (length first) field) ≡ true → are_blank field ≡ false
-      filled more = by_blank (are_blank field) refl
+      filled : like rest (drop (length first) bytes) ≡ true → are_blank bytes ≡ false
+      filled more = by_blank (are_blank bytes) refl
         where
-          by_blank : (blank : Bool) → are_blank field ≡ blank → blank ≡ false
-          by_blank true is = absurd (false≢true (sym (behind more) ∙ blank_drop (length first) field is))
+          by_blank : (blank : Bool) → are_blank bytes ≡ blank → blank ≡ false
+          by_blank true is = absurd (false≢true (sym (behind more) ∙ blank_drop (length first) bytes is))
           by_blank false is = refl
 
   pieces_by : (first piece : List PatternPart) (others : List (List PatternPart)) (is_open short : Bool)
-      → nat_le (taken pattern) (width_of column) ≡ short → Cut pattern first (piece ∷ others) is_open
-      → answer (if short then Joined true (are_wanted (offset_of column) first)
-      (Coded (grid (rows_of column is_open (length first) (piece ∷ others)) (suc (width_of column - taken pattern))))
-      else Decided false) segment ≡ has_text (is_text_like pattern) (field_of column segment)
+      → nat_le (taken pattern) field.width ≡ short → Cut pattern first (piece ∷ others) is_open
+      → answer (if short then Joined true (are_wanted field.offset first)
+      (Coded (grid (rows_of field is_open (length first) (piece ∷ others)) (suc (field.width - taken pattern))))
+      else Decided false) segment ≡ has_text (is_text_like pattern) (bytes_in field segment)
   pieces_by first piece others is_open true short cut =
-      let few = leb-true (taken pattern) (width_of column) short in
+      let few = leb-true (taken pattern) field.width short in
       let takes = cut.takes in
-      let start : offset_of column ≡ offset_of column + 0 = omega arith in
+      let start : field.offset ≡ field.offset + 0 = omega arith in
       let from : length first + 0 ≡ length first = omega arith in
       both_answers
       (ap (λ (at : ℕ). answer (are_wanted at first) segment) start
-      ∙ wanted_here segment is column 0 first (record { within = omega arith; are = cut.first_is }))
-      (found segment is column is_open piece others (length first) 0 (suc (width_of column - taken pattern)) cut.others_are.0
+      ∙ wanted_here segment is field lies 0 first (record { within = omega arith; are = cut.first_is }))
+      (found segment is field lies is_open piece others (length first) 0 (suc (field.width - taken pattern)) cut.others_are.0
       cut.others_are.1 (omega arith)
-      ∙ ap (λ (n : ℕ). like (respelled (piece ∷ others) is_open) (drop n (field_of column segment))) from)
+      ∙ ap (λ (n : ℕ). like (respelled (piece ∷ others) is_open) (drop n (bytes_in field segment))) from)
       ∙ pieces_match first piece others is_open cut
   pieces_by first piece others is_open false short cut =
-      let many = leb-false (taken pattern) (width_of column) short in
-      let long = field_long segment is column in
-      let unlike = like_long pattern (field_of column segment) (omega arith) in
-      sym (ap (λ (like : Bool). not (are_blank (field_of column segment)) && like) unlike
-      ∙ and_false (not (are_blank (field_of column segment))))
+      let many = leb-false (taken pattern) field.width short in
+      let long = field_long segment is field lies in
+      let unlike = like_long pattern (bytes_in field segment) (omega arith) in
+      sym (ap (λ (like : Bool). not (are_blank (bytes_in field segment)) && like) unlike
+      ∙ and_false (not (are_blank (bytes_in field segment))))
 
   pieces_found : (first : List PatternPart) (others : List (List PatternPart)) (is_open : Bool) → Cut pattern first others is_open
-      → answer (are_pieces column first others is_open (taken pattern)) segment ≡ has_text (is_text_like pattern) (field_of column segment)
+      → answer (are_pieces field first others is_open (taken pattern)) segment ≡ has_text (is_text_like pattern) (bytes_in field segment)
   pieces_found first [] is_open cut =
-      piece_found segment is column first cut.first_is is_open
-      ∙ sym (ap (λ (like : Bool). not (are_blank (field_of column segment)) && like) (cut.matches (trimmed (field_of column segment))))
+      piece_found segment is field lies first cut.first_is is_open
+      ∙ sym (ap (λ (like : Bool). not (are_blank (bytes_in field segment)) && like) (cut.matches (trimmed (bytes_in field segment))))
   pieces_found first (piece ∷ others) is_open cut =
-      pieces_by first piece others is_open (nat_le (taken pattern) (width_of column)) refl cut
+      pieces_by first piece others is_open (nat_le (taken pattern) field.width) refl cut
+
+module _ (segment : SegmentParts) (is : IsSegment segment) (field : Field) (lies : IsInside field) (pattern : List PatternPart)
+    (are : are_bytes pattern ≡ true) where
+  -- a field isn't blank and matches a pattern
+  like_found : answer (is_like field pattern) segment ≡ has_text (is_text_like pattern) (bytes_in field segment)
+  like_found =
+      let pieces = pieces_of pattern in
+      pieces_found segment is field lies pattern pieces.first pieces.others pieces.is_open (cut_pieces pattern are)
+
+  like_asked : (asked : Bool) → are_blank (bytes_in field segment) ≡ false → answer (if_asked (is_like field pattern) asked) segment
+      ≡ beq (is_text_like pattern (trimmed (bytes_in field segment))) asked
+  like_asked asked filled =
+      asked_answers (is_like field pattern) segment asked
+      ∙ ap (λ (found : Bool). beq found asked)
+      (like_found ∙ ap (λ (blank : Bool). not blank && is_text_like pattern (trimmed (bytes_in field segment))) filled)
+
+  like_blank : are_blank (bytes_in field segment) ≡ true → answer (is_like field pattern) segment ≡ false
+  like_blank blank = like_found ∙ ap (λ (blank : Bool). not blank && is_text_like pattern (trimmed (bytes_in field segment))) blank
 
 module _ (segment : SegmentParts) (is : IsSegment segment) (column : TextColumn) (pattern : List PatternPart)
     (are : are_bytes pattern ≡ true) where
-  -- a column isn't NULL and matches a pattern
-  like_found : answer (is_like column pattern) segment ≡ has_text (is_text_like pattern) (field_of column segment)
-  like_found =
-      let pieces = pieces_of pattern in
-      pieces_found segment is column pattern pieces.first pieces.others pieces.is_open (cut_pieces pattern are)
-
-  like_asked : (asked : Bool) → answer (asks_like column pattern asked) segment
-      ≡ has_text (λ text. beq (is_text_like pattern text) asked) (field_of column segment)
-  like_asked true = like_found ∙ ap (λ (like : Bool). not (are_blank (field_of column segment)) && like) (is_it _)
-  like_asked false =
-      both_answers (ap not (null_found segment is column)) (ap not like_found)
-      ∙ unlike (are_blank (field_of column segment)) (is_text_like pattern (trimmed (field_of column segment)))
+  no_blanks : (asked : Bool) → not asked ≡ false → (field : Field) → IsInside field → are_blank (bytes_in field segment) ≡ true
+      → answer (if_asked (is_like field pattern) asked) segment ≡ false
+  no_blanks true of field lies blank = like_blank segment is field lies pattern are blank
+  no_blanks false of field lies blank = absurd (false≢true (sym of))
 
   -- LIKE, asked for either truth value
   pub asks_like_rightly : (asked : Bool) → answer (asks_like column pattern asked) segment
       ≡ is_truth (option_map (is_text_like pattern) (text_value column segment.bytes)) asked
-  asks_like_rightly asked = like_asked asked ∙ value_asked (is_text_like pattern) column segment asked
+  asks_like_rightly asked =
+      about_found segment is (not asked) (λ field. if_asked (is_like field pattern) asked) (λ text. beq (is_text_like pattern text) asked)
+      (λ field lies filled. like_asked segment is field lies pattern are asked filled) (no_blanks asked) column
+      ∙ value_asked (is_text_like pattern) column segment asked

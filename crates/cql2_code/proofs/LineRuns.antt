@@ -11,12 +11,14 @@ use Rattle.bpf_meaning.specs.declared.effect.Change.TheVariants.{SetRegister}
 use Rattle.tl_segments.specs.Segment.{SegmentParts}
 use Rattle.cql2.specs.Column.{numeric_value}
 use Rattle.cql2.specs.declared.column.CoordinateColumn.{CoordinateColumn}
-use Rattle.cql2.specs.declared.column.CoordinateColumn.TheVariants.{Frlong, Frlat, Tolong, Tolat}
+use Rattle.cql2.specs.declared.column.CoordinateColumn.TheVariants.{Frlong, Frlat}
 use Rattle.cql2.specs.declared.column.NumericColumn.TheVariants.{Coordinate}
 use Rattle.cql2.proofs.Sides.{IsShort}
 use Rattle.cql2_code.specs.Layout.{call, copy, from_result, into_argument_1, move, wide_load}
 use Rattle.cql2_code.specs.Question.{coordinate_id}
-use Rattle.cql2_code.specs.ShapeCode.{coordinate_at, into_end_latitude, into_first, into_second, into_side, line_code, line_of, or_zero}
+use Rattle.cql2_code.specs.ShapeCode.{coordinate_at, end_latitude, end_longitude, into_end_latitude, into_first, into_second, into_side, line_code}
+use Rattle.cql2_code.specs.ShapeCode.{line_of, or_zero}
+use Rattle.cql2_code.specs.declared.line.Extent.{Extent}
 use Rattle.cql2_code.proofs.Calls.{answered, calls_coordinate}
 use Rattle.cql2_code.proofs.ColumnBounds.{IsUpTo, column_up_to}
 use Rattle.cql2_code.proofs.Columns.{coordinate_allowed}
@@ -35,10 +37,10 @@ or_zero_small (Some millionths) few = omega arith
 at_small : (segment : SegmentParts) (column : CoordinateColumn) → unsigned_abs (coordinate_at segment column) < 10 ^ 9
 at_small segment column = or_zero_small _ (column_up_to (Coordinate column) segment.bytes)
 
-pub line_short : (segment : SegmentParts) → IsShort (line_of segment)
-line_short segment = record {
+pub line_short : (extent : Extent) (segment : SegmentParts) → IsShort (line_of extent segment)
+line_short extent segment = record {
   start = record { longitude = at_small segment Frlong; latitude = at_small segment Frlat };
-  end = record { longitude = at_small segment Tolong; latitude = at_small segment Tolat };
+  end = record { longitude = at_small segment (end_longitude extent); latitude = at_small segment (end_latitude extent) };
 }
 
 -- a coordinate as helper functions return it
@@ -46,7 +48,7 @@ word_of : (found : Option ℤ) → coordinate_word found ≡ word (or_zero found
 word_of None = refl
 word_of (Some millionths) = refl
 
-module _ (on : Setting) where
+module _ (extent : Extent) (on : Setting) where
   reads : (from : Scratch) (column : CoordinateColumn)
       → Does on (call Coord) (with_1 from (coordinate_id column)) (answered from (word (coordinate_at on.segment column)) 0)
   reads from column =
@@ -62,22 +64,23 @@ module _ (on : Setting) where
     second = with_kept 1 (answered first (word (coordinate_at on.segment Frlat)) 0) (word (coordinate_at on.segment Frlat))
 
     abbrev third : Scratch
-    third = with_kept 2 (answered second (word (coordinate_at on.segment Tolong)) 0) (word (coordinate_at on.segment Tolong))
+    third =
+        let longitude = word (coordinate_at on.segment (end_longitude extent)) in with_kept 2 (answered second longitude 0) longitude
 
     abbrev pub fourth : Scratch
-    fourth = answered third (word (coordinate_at on.segment Tolat)) 0
+    fourth = answered third (word (coordinate_at on.segment (end_latitude extent))) 0
 
     -- the registers once all of them are set
     abbrev pub start_hand : Hand
     start_hand = record {
-      lead = word (coordinate_at on.segment Tolat);
+      lead = word (coordinate_at on.segment (end_latitude extent));
       mark = 0;
-      side = extension_of Bits32To64 (word (coordinate_at on.segment Tolat));
+      side = extension_of Bits32To64 (word (coordinate_at on.segment (end_latitude extent)));
       first = 0;
       second = 0;
     }
 
-    pub line_runs : Runs on line_code from (filled fourth (line_of on.segment) start_hand)
+    pub line_runs : Runs on (line_code extent) from (filled fourth (line_of extent on.segment) start_hand)
     line_runs =
         one_more (moves_1 on from 0)
         (one_more (reads from Frlong)
@@ -85,18 +88,21 @@ module _ (on : Setting) where
         (one_more (moves_1 on first 1)
         (one_more (reads first Frlat)
         (one_more (copies_to_kept on 1 (answered first (word (coordinate_at on.segment Frlat)) 0) (word (coordinate_at on.segment Frlat)))
-        (one_more (moves_1 on second 2)
-        (one_more (reads second Tolong)
-        (one_more (copies_to_kept on 2 (answered second (word (coordinate_at on.segment Tolong)) 0) (word (coordinate_at on.segment Tolong)))
-        (one_more (moves_1 on third 3)
-        (one_more (reads third Tolat)
+        (one_more (moves_1 on second (coordinate_id (end_longitude extent)))
+        (one_more (reads second (end_longitude extent))
+        (one_more (copies_to_kept on 2 (answered second longitude 0) longitude)
+        (one_more (moves_1 on third (coordinate_id (end_latitude extent)))
+        (one_more (reads third (end_latitude extent))
         (one_more set_1 (one_more set_5 (one_more set_3 (one_more set_4 (one_more set_2 no_more)))))))))))))))
       where
+        longitude : ℕ
+        longitude = word (coordinate_at on.segment (end_longitude extent))
+
         with_mark : Scratch
         with_mark = with_1 fourth 0
 
         with_end : Scratch
-        with_end = record with_mark { v5 = value.Number (word (coordinate_at on.segment Tolat)) }
+        with_end = record with_mark { v5 = value.Number (word (coordinate_at on.segment (end_latitude extent))) }
 
         with_first : Scratch
         with_first = record with_end { v3 = value.Number 0 }
@@ -116,5 +122,5 @@ module _ (on : Setting) where
         set_4 : Does on (move into_second (pos 0)) with_first with_second
         set_4 = changes on _ (SetRegister into_second (value.Number 0)) _ _ (λ place. refl) (λ place next. refl)
 
-        set_2 : Does on (MoveSignExtended Bits32To64 into_side from_result) with_second (filled fourth (line_of on.segment) start_hand)
+        set_2 : Does on (MoveSignExtended Bits32To64 into_side from_result) with_second (filled fourth (line_of extent on.segment) start_hand)
         set_2 = changes on _ (SetRegister into_side (value.Number _)) _ _ (λ place. refl) (λ place next. refl)

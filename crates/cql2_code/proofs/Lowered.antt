@@ -1,5 +1,5 @@
 -- A filter's questions have the answers that its truth determines.
-use Rattle.std.proofs.Common.{◌≡◌, Bool, not, is_none, refl, sym, ap, ◌∙◌}
+use Rattle.std.proofs.Common.{◌≡◌, Bool, not, refl, ap, ◌∙◌}
 use Rattle.std.specs.Bool.{beq}
 use Rattle.tl_segments.specs.Segment.{SegmentParts, IsSegment}
 use Rattle.cql2.specs.Column.{numeric_value}
@@ -8,26 +8,23 @@ use Rattle.cql2.specs.declared.column.Column.{Column}
 use Rattle.cql2.specs.declared.column.Column.TheVariants.{Numeric, Text}
 use Rattle.cql2.specs.declared.filter.Filter.{Filter}
 use Rattle.cql2.specs.declared.filter.Filter.TheVariants.{Constant, And', Or', Not', IsNull, CompareNumber, CompareNumbers, CompareText, CompareTexts}
-use Rattle.cql2.specs.declared.filter.Filter.TheVariants.{Like, HasNumber}
-use Rattle.cql2.specs.declared.filter.Filter.TheVariants.{HasName}
+use Rattle.cql2.specs.declared.filter.Filter.TheVariants.{Like, Function}
 use Rattle.cql2_code.specs.Lowering.{asks_whether, is_null}
 use Rattle.cql2_code.specs.Question.{answer}
 use Rattle.cql2_code.proofs.ColumnTexts.{compares_columns_rightly}
 use Rattle.cql2_code.proofs.ExactLemmas.{exact_bounded}
 use Rattle.cql2_code.proofs.ExpressionLemmas.{compares_numbers_rightly}
-use Rattle.cql2_code.proofs.FieldLemmas.{field_of, null_found, text_null, text_value_is}
+use Rattle.cql2_code.proofs.FunctionLemmas.{function_rightly}
 use Rattle.cql2_code.proofs.JoinLemmas.{and_joins, asked_answers, joined_answers, not_exchanges, or_joins}
 use Rattle.cql2_code.proofs.LikeLemmas.{asks_like_rightly}
-use Rattle.cql2_code.proofs.NameLemmas.{has_name_rightly}
 use Rattle.cql2_code.proofs.NumberLemmas.{compares_number_rightly, has_value_rightly, none_is}
-use Rattle.cql2_code.proofs.RangeLemmas.{has_number_rightly}
+use Rattle.cql2_code.proofs.TextColumnLemmas.{column_null}
 use Rattle.cql2_code.proofs.TextLemmas.{compares_text_rightly, text_wanted}
 
 null_rightly : (segment : SegmentParts) → IsSegment segment → (column : Column)
     → answer (is_null column) segment ≡ is_column_null column segment.bytes
 null_rightly segment is (Numeric column) = ap not (has_value_rightly column segment) ∙ none_is (numeric_value column segment.bytes)
-null_rightly segment is (Text column) =
-    null_found segment is column ∙ sym (text_null (field_of column segment)) ∙ sym (ap is_none (text_value_is column segment))
+null_rightly segment is (Text column) = column_null segment is column
 
 -- the questions whether a filter is true and whether it is false
 pub asks_rightly : {A : Type 0} (segment : SegmentParts) → IsSegment segment → (filter : Filter A) (asked : Bool)
@@ -52,6 +49,4 @@ asks_rightly segment is (CompareText column comparison text) asked =
     compares_text_rightly segment is column text.bytes.items (text_wanted text.bytes.items text.is_text) comparison asked
 asks_rightly segment is (Like column pattern) asked =
     asks_like_rightly segment is column pattern.parts.items pattern.are_bytes asked
-asks_rightly segment is (HasNumber house) asked = has_number_rightly segment is house.number asked
-asks_rightly segment is (HasName text limit) asked =
-    has_name_rightly segment is text.bytes.items limit.number (text_wanted text.bytes.items text.is_text).few limit.fits asked
+asks_rightly segment is (Function function) asked = function_rightly segment is function asked

@@ -17,9 +17,11 @@ use Rattle.tl_segments.specs.Name.{name_equals}
 use Rattle.tl_segments.specs.Range.{AreBytes}
 use Rattle.tl_segments.specs.Segment.{SegmentParts, IsSegment, names_of}
 use Rattle.tl_segments.proofs.SegmentLemmas.{AreBytes-field_of}
-use Rattle.cql2.specs.Truth.{has_name, is as is_truth}
+use Rattle.cql2.specs.Function.{has_name}
+use Rattle.cql2.specs.Truth.{is as is_truth}
 use Rattle.cql2.specs.declared.filter.Comparison.TheVariants.{GreaterOrEqual, LessOrEqual, NotEqual}
-use Rattle.cql2_code.specs.Lowering.{asks_has_name, checks_for_end, is_named, is_named_from, name_block, test}
+use Rattle.cql2_code.specs.Columns.{test}
+use Rattle.cql2_code.specs.Function.{asks_has_name, checks_for_end, is_named, is_named_from, name_block}
 use Rattle.cql2_code.specs.Question.{answer, condition_of}
 use Rattle.cql2_code.specs.declared.question.Subject.TheVariants.{NameIs, Names}
 use Rattle.cql2_code.proofs.JoinLemmas.{and_assoc, both_answers}

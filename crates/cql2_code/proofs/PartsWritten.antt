@@ -4,7 +4,8 @@ use Rattle.std.proofs.lemmas.Bool.{cases_Bool}
 use Rattle.bpf_insn.specs.declared.instruction.Insn.{Insn}
 use Rattle.cql2.specs.declared.filter.Comparison.TheVariants.{NotEqual, Greater, GreaterOrEqual}
 use Rattle.cql2_code.specs.Layout.{Refuses}
-use Rattle.cql2_code.specs.Lowering.{checks_for_end, is_named_from, lies_from, test}
+use Rattle.cql2_code.specs.Columns.{test}
+use Rattle.cql2_code.specs.Function.{checks_for_end, is_named_from, lies_from}
 use Rattle.cql2_code.specs.Question.{Decided, Joined, Question}
 use Rattle.cql2_code.specs.declared.fault.CompileFault.{CompileFault}
 use Rattle.cql2_code.specs.declared.question.Exits.{Exits}

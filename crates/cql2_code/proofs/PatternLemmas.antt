@@ -3,12 +3,12 @@ use Rattle.std.proofs.Common.{◌≡◌, ℕ, suc, ◌+◌, ◌-◌, ◌==◌, �
 use Rattle.std.proofs.Common.{get_or, slice_get, Option, None, Some, refl, sym, ap, ◌∙◌, subst, arith, take-append-drop}
 use Rattle.std.proofs.lemmas.Bool.{le-leb}
 use Rattle.std.proofs.lemmas.List.{drop_more, length-map}
-use Rattle.cql2.specs.declared.column.TextColumn.{TextColumn}
 use Rattle.cql2.specs.declared.pattern.PatternPart.{PatternPart}
 use Rattle.cql2.specs.declared.pattern.PatternPart.TheVariants.{Exactly, Alike, One, Many}
 use Rattle.cql2_code.specs.Lowering.{both, ends_at, ends_filled, ends_so, exact_bytes, has_bytes, is_each_wanted, is_filled, is_piece}
-use Rattle.cql2_code.specs.Lowering.{is_wanted, offset_of, width_of}
+use Rattle.cql2_code.specs.Lowering.{is_wanted}
 use Rattle.cql2_code.specs.Question.{Joined}
+use Rattle.cql2_code.specs.declared.field.Field.{Field}
 use Rattle.cql2_code.proofs.WantedLemmas.{Spells, spells}
 
 -- one wanted byte, and more
@@ -71,19 +71,19 @@ exact_bytes-other pattern bytes at within front other =
 pub spelled : (pattern : List PatternPart) (bytes : List ℕ) → exact_bytes pattern ≡ Some bytes → pattern ≡ map Exactly bytes
 spelled pattern bytes found = subst (λ (some : Option (List ℕ)). Spells some pattern) found (spells pattern)
 
--- a piece that is no longer than a column
-pub is_piece-short : (column : TextColumn) (piece : List PatternPart) (is_open : Bool) → length piece ≤ width_of column
-    → is_piece column piece is_open ≡ ends_at column piece is_open 0
-is_piece-short column piece is_open short = rw (le-leb (length piece) (width_of column) short) refl
+-- a piece that is no longer than a field
+pub is_piece-short : (field : Field) (piece : List PatternPart) (is_open : Bool) → length piece ≤ field.width
+    → is_piece field piece is_open ≡ ends_at field piece is_open 0
+is_piece-short field piece is_open short = rw (le-leb (length piece) field.width short) refl
 
-pub is_piece-exact : (column : TextColumn) (bytes : List ℕ) (is_open : Bool) → length bytes ≤ width_of column
-    → is_piece column (map Exactly bytes) is_open
-    ≡ both (has_bytes (offset_of column) bytes) (ends_so is_open (ends_filled (map Exactly bytes)) column (length bytes))
-is_piece-exact column bytes is_open short =
+pub is_piece-exact : (field : Field) (bytes : List ℕ) (is_open : Bool) → length bytes ≤ field.width
+    → is_piece field (map Exactly bytes) is_open
+    ≡ both (has_bytes field.offset bytes) (ends_so is_open (ends_filled (map Exactly bytes)) field (length bytes))
+is_piece-exact field bytes is_open short =
     let count = length-map bytes Exactly in
-    let from : offset_of column + 0 ≡ offset_of column = omega arith in
+    let from : field.offset + 0 ≡ field.offset = omega arith in
     let end : 0 + length (map Exactly bytes) ≡ length bytes = omega arith in
-    is_piece-short column (map Exactly bytes) is_open (omega arith)
+    is_piece-short field (map Exactly bytes) is_open (omega arith)
     ∙ rw (exact_bytes-exactly bytes)
-    (ap (λ (at : ℕ). both (has_bytes at bytes) (ends_so is_open (ends_filled (map Exactly bytes)) column (0 + length (map Exactly bytes)))) from
-    ∙ ap (λ (n : ℕ). both (has_bytes (offset_of column) bytes) (ends_so is_open (ends_filled (map Exactly bytes)) column n)) end)
+    (ap (λ (at : ℕ). both (has_bytes at bytes) (ends_so is_open (ends_filled (map Exactly bytes)) field (0 + length (map Exactly bytes)))) from
+    ∙ ap (λ (n : ℕ). both (has_bytes field.offset bytes) (ends_so is_open (ends_filled (map Exactly bytes)) field n)) end)

@@ -11,9 +11,11 @@ use Rattle.tl_segments.specs.Range.{lies_on}
 use Rattle.tl_segments.specs.Segment.{SegmentParts, IsSegment, ranges_of}
 use Rattle.tl_segments.specs.declared.range.RangeFields.{RangeFields}
 use Rattle.tl_segments.specs.declared.limits.TheConstants.{MAX_RANGES}
-use Rattle.cql2.specs.Truth.{has_number, is as is_truth}
+use Rattle.cql2.specs.Function.{has_number}
+use Rattle.cql2.specs.Truth.{is as is_truth}
 use Rattle.cql2.specs.declared.filter.Comparison.TheVariants.{Greater, NotEqual}
-use Rattle.cql2_code.specs.Lowering.{asks_has_number, checks_for_end, lies_from, test}
+use Rattle.cql2_code.specs.Columns.{test}
+use Rattle.cql2_code.specs.Function.{asks_has_number, checks_for_end, lies_from}
 use Rattle.cql2_code.specs.Question.{answer, condition_of}
 use Rattle.cql2_code.specs.declared.question.Subject.TheVariants.{InRange, Ranges}
 use Rattle.cql2_code.proofs.JoinLemmas.{asked_answers}

@@ -20,12 +20,15 @@ use Rattle.cql2.specs.declared.filter.Comparison.{Comparison}
 use Rattle.cql2.specs.declared.filter.Comparison.TheVariants.{Equal, NotEqual}
 use Rattle.cql2.specs.declared.geometry.Shape.{Shape}
 use Rattle.cql2_code.specs.Layout.{copy, from_argument_1, from_result, into_argument_1, into_kept, into_result, move, skip_if, wide_load}
-use Rattle.cql2_code.specs.ShapeCode.{from_first, into_end_latitude, into_first, into_second, into_side, line_code, line_of, lead_code, mark_comparison}
-use Rattle.cql2_code.specs.ShapeCode.{marks_code, meets_shape, shape_code}
+use Rattle.cql2_code.specs.Question.{coordinate_id}
+use Rattle.cql2_code.specs.ShapeCode.{end_latitude, end_longitude, from_first, into_end_latitude, into_first, into_second, into_side, line_code}
+use Rattle.cql2_code.specs.ShapeCode.{line_of, lead_code, mark_comparison, marks_code, meets_shape, shape_code}
+use Rattle.cql2_code.specs.declared.line.Extent.{Extent}
 use Rattle.cql2_code.proofs.AbstractState.{answered, any_number, drawn, knowing, nothing, rests_after, resting, setting_2, setting_3, setting_4, state_before}
 use Rattle.cql2_code.proofs.Accepted.{skip_good, skip_needs}
 use Rattle.cql2_code.proofs.Blocks.{IsSoundBlock, Keeps, Settled}
 use Rattle.cql2_code.proofs.Codes.{second_placed}
+use Rattle.cql2_code.proofs.Columns.{coordinate_small}
 use Rattle.cql2_code.proofs.Drawn.{Continues, Draws, any_is, continues_at, draws_both, holding, nine_numbers, nine_within, numbers_within}
 use Rattle.cql2_code.proofs.Good.{AreGoodAt, Rests, all_good, good-append, good_passes, is_immediate, needs_at}
 use Rattle.cql2_code.proofs.Leads.{Arrives, IsAt, exit_of}
@@ -130,29 +133,39 @@ last_passes : AllPass true (wide_load into_argument_1 0 ∷ copy into_end_latitu
     ∷ move into_second (pos 0) ∷ MoveSignExtended Bits32To64 into_side from_result ∷ []) (drawn true)
 last_passes = (passes_wide_load_1 true 0 (lit< tt), (sets_5, (sets_3, (sets_4, (sets_2, tt)))))
 
-line_passes : AllPass true line_code (drawn true)
-line_passes = (
-  passes_move_1 true 0 3 (lit≤ tt),
-  (
-    passes_coordinate true,
+module _ (extent : Extent) where
+  line_passes : AllPass true (line_code extent) (drawn true)
+  line_passes = (
+    passes_move_1 true 0 3 (lit≤ tt),
     (
-      keeping,
+      passes_coordinate true,
       (
-        passes_move_1 true 1 3 (lit≤ tt),
+        keeping,
         (
-          passes_coordinate true,
+          passes_move_1 true 1 3 (lit≤ tt),
           (
-            keeping_second,
+            passes_coordinate true,
             (
-              passes_move_1 true 2 3 (lit≤ tt),
-              (passes_coordinate true, (keeping_third, (passes_move_1 true 3 3 (lit≤ tt), (passes_coordinate true, last_passes)))),
+              keeping_second,
+              (
+                passes_move_1 true (coordinate_id (end_longitude extent)) 3 (coordinate_small (end_longitude extent)),
+                (
+                  passes_coordinate true,
+                  (
+                    keeping_third,
+                    (
+                      passes_move_1 true (coordinate_id (end_latitude extent)) 3 (coordinate_small (end_latitude extent)),
+                      (passes_coordinate true, last_passes),
+                    ),
+                  ),
+                ),
+              ),
             ),
           ),
         ),
       ),
     ),
-  ),
-)
+  )
 
 -- the marks end up in register 0
 
@@ -174,7 +187,7 @@ takes_marks = record {
   });
 }
 
-module _ {A : Type 0} (shape : Shape A) where
+module _ {A : Type 0} (extent : Extent) (shape : Shape A) where
   marks_draws : Draws (marks_code shape)
   marks_draws =
       draws_both lead_code (shape_code shape ++ copy into_first from_argument_1 ∷ []) lead_draws
@@ -193,20 +206,21 @@ module _ {A : Type 0} (shape : Shape A) where
       )
 
   block_good : (code : List Insn) (falls : Bool) (skip place : ℕ)
-      → (let insns = line_code ++ (marks_code shape ++ mark_comparison falls skip) in
+      → (let insns = line_code extent ++ (marks_code shape ++ mark_comparison falls skip) in
       Settled true code place insns skip → AreGoodAt true code place insns)
   block_good code falls skip place placed =
       let back = mark_comparison falls skip in
       let comparison = if falls then Equal else NotEqual in
-      let there = place + word_count line_code in
+      let there = place + word_count (line_code extent) in
       let end = there + word_count (marks_code shape) in
-      let after = second_placed (Rests true code) code place line_code (marks_code shape ++ back) skip placed in
+      let after = second_placed (Rests true code) code place (line_code extent) (marks_code shape ++ back) skip placed in
       let last = second_placed (Rests true code) code there (marks_code shape) back skip after in
       let more : Continues code end = record { begins = ap is_some last.has.0; needs = ap (state_before true) last.has.0 } in
       let has = has_front code there (marks_code shape) back after.has in
       let needs = (continues_at code there (marks_code shape) has marks_draws more).needs in
-      good-append true code place line_code (marks_code shape ++ back)
-      (all_good true code place line_code (drawn true) (has_front code place line_code (marks_code shape ++ back) placed.has) needs line_passes)
+      good-append true code place (line_code extent) (marks_code shape ++ back)
+      (all_good true code place (line_code extent) (drawn true) (has_front code place (line_code extent) (marks_code shape ++ back) placed.has) needs
+      (line_passes extent))
       (good-append true code there (marks_code shape) back (marks_draws.good code there has more) (comparison_good code comparison skip end last))
 
   -- the exit by the marks
@@ -218,7 +232,7 @@ module _ {A : Type 0} (shape : Shape A) where
   exit_is false false end skip = refl
 
   module _ (on : Setting) (falls : Bool) (skip place : ℕ) (segment : IsSegment on.segment)
-      (placed : IsAt on.code place (line_code ++ (marks_code shape ++ mark_comparison falls skip)) skip) (from : Scratch) where
+      (placed : IsAt on.code place (line_code extent ++ (marks_code shape ++ mark_comparison falls skip)) skip) (from : Scratch) where
     abbrev comparison : Comparison
     comparison = if falls then Equal else NotEqual
 
@@ -226,16 +240,16 @@ module _ {A : Type 0} (shape : Shape A) where
     skips = skip_if comparison (Immediate (pos 0)) skip
 
     abbrev there : ℕ
-    there = place + word_count line_code
+    there = place + word_count (line_code extent)
 
     abbrev end : ℕ
     end = there + word_count (marks_code shape)
 
     abbrev base : Scratch
-    base = fourth on from
+    base = fourth extent on from
 
     at_there : IsAt on.code there (marks_code shape ++ mark_comparison falls skip) skip
-    at_there = second_placed (Begins on.code) on.code place line_code (marks_code shape ++ mark_comparison falls skip) skip placed
+    at_there = second_placed (Begins on.code) on.code place (line_code extent) (marks_code shape ++ mark_comparison falls skip) skip placed
 
     at_end : IsAt on.code end (mark_comparison falls skip) skip
     at_end = second_placed (Begins on.code) on.code there (marks_code shape) (mark_comparison falls skip) skip at_there
@@ -246,27 +260,28 @@ module _ {A : Type 0} (shape : Shape A) where
     -- the marks that the shape's code leaves
     record Marked : Type 0 where
       hand : Hand
-      runs : Runs on (marks_code shape) (filled (fourth on from) (line_of on.segment) (start_hand on from)) (filled (fourth on from) (line_of on.segment) hand)
-      first : hand.first ≡ mark_of false false (meets shape (line_of on.segment))
+      runs : Runs on (marks_code shape) (filled (fourth extent on from) (line_of extent on.segment) (start_hand extent on from))
+          (filled (fourth extent on from) (line_of extent on.segment) hand)
+      first : hand.first ≡ mark_of false false (meets shape (line_of extent on.segment))
 
     marked : Marked
     marked =
-        let line = line_of on.segment in
-        let short = line_short on.segment in
-        let lead = lead_runs on (fourth on from) line short (start_hand on from) in
-        let there = shape_turns on (fourth on from) line short shape _ refl refl in
+        let line = line_of extent on.segment in
+        let short = line_short extent on.segment in
+        let lead = lead_runs on (fourth extent on from) line short (start_hand extent on from) in
+        let there = shape_turns on (fourth extent on from) line short shape _ refl refl in
         record {
           hand = record there.to { first = there.to.mark };
-          runs = and_then lead.runs (and_then there.runs (one_more (copies_argument_1_to_first on (fourth on from) line there.to) no_more));
+          runs = and_then lead.runs (and_then there.runs (one_more (copies_argument_1_to_first on (fourth extent on from) line there.to) no_more));
           first = there.mark_is;
         }
 
     -- the comparison of the marks leads to the exit for the answer
-    compares_marks : (hand : Hand) → hand.first ≡ mark_of false false (meets shape (line_of on.segment))
-        → Arrives on (running on (filled base (line_of on.segment) hand) end)
-        (exit_of falls (meets shape (line_of on.segment)) (end + 1 + word_count skips) skip)
+    compares_marks : (hand : Hand) → hand.first ≡ mark_of false false (meets shape (line_of extent on.segment))
+        → Arrives on (running on (filled base (line_of extent on.segment) hand) end)
+        (exit_of falls (meets shape (line_of extent on.segment)) (end + 1 + word_count skips) skip)
     compares_marks hand is =
-        let line = line_of on.segment in
+        let line = line_of extent on.segment in
         let taken : Scratch = filled base line (record hand { lead = hand.first }) in
         let further = skip_leads on taken (Immediate (pos 0)) hand.first 0 (branches_on_immediate on taken hand.first (pos 0)) comparison skip (end + 1)
         at_skips in
@@ -280,38 +295,38 @@ module _ {A : Type 0} (shape : Shape A) where
               ((copies_first_to_result on base line hand).step end at_end.has.0 next) there.reaches;
         }
 
-    whole : end + 1 + word_count skips ≡ place + word_count (line_code ++ (marks_code shape ++ mark_comparison falls skip))
+    whole : end + 1 + word_count skips ≡ place + word_count (line_code extent ++ (marks_code shape ++ mark_comparison falls skip))
     whole =
-        let first = word_count-append line_code (marks_code shape ++ mark_comparison falls skip) in
+        let first = word_count-append (line_code extent) (marks_code shape ++ mark_comparison falls skip) in
         let second = word_count-append (marks_code shape) (mark_comparison falls skip) in
         let third = word_count-cons (copy into_result from_first) skips in
         omega arith
 
-    block_leads : Arrives on (running on from place) (exit_of falls (meets shape (line_of on.segment))
-        (place + word_count (line_code ++ (marks_code shape ++ mark_comparison falls skip))) skip)
+    block_leads : Arrives on (running on from place) (exit_of falls (meets shape (line_of extent on.segment))
+        (place + word_count (line_code extent ++ (marks_code shape ++ mark_comparison falls skip))) skip)
     block_leads =
-        let last = subst (λ (p : ℕ). Arrives on (running on (filled base (line_of on.segment) marked.hand) end)
-        (exit_of falls (meets shape (line_of on.segment)) p skip)) whole (compares_marks marked.hand marked.first) in
+        let last = subst (λ (p : ℕ). Arrives on (running on (filled base (line_of extent on.segment) marked.hand) end)
+        (exit_of falls (meets shape (line_of extent on.segment)) p skip)) whole (compares_marks marked.hand marked.first) in
         let begins_end = ap is_some at_end.has.0 in
         let has = has_front on.code there (marks_code shape) (mark_comparison falls skip) at_there.has in
         let begins_there = begins_at on.code there (marks_code shape) has begins_end in
         record {
           scratch = last.scratch;
-          reaches = and_on on _ (running on (filled base (line_of on.segment) (start_hand on from)) there) _
-              ((line_runs on from).reaches place
-              (has_front on.code place line_code (marks_code shape ++ mark_comparison falls skip) placed.has) begins_there)
-              (and_on on _ (running on (filled base (line_of on.segment) marked.hand) end) _ (marked.runs.reaches there has begins_end) last.reaches);
+          reaches = and_on on _ (running on (filled base (line_of extent on.segment) (start_hand extent on from)) there) _
+              ((line_runs extent on from).reaches place
+              (has_front on.code place (line_code extent) (marks_code shape ++ mark_comparison falls skip) placed.has) begins_there)
+              (and_on on _ (running on (filled base (line_of extent on.segment) marked.hand) end) _ (marked.runs.reaches there has begins_end) last.reaches);
         }
 
   -- the block is sound
-  pub meets_sound : IsSoundBlock (meets_shape shape)
+  pub meets_sound : IsSoundBlock (meets_shape extent shape)
   meets_sound = record {
     needs = λ keeps falls skip. refl;
     good = λ keeps code falls skip place kept placed. by_keeps keeps code falls skip place kept placed;
     leads = λ on falls skip place segment placed from. block_leads on falls skip place segment placed from;
   }
     where
-      by_keeps : (keeps : Bool) (code : List Insn) (falls : Bool) (skip place : ℕ) → Keeps keeps ((meets_shape shape).code falls skip)
-          → Settled keeps code place ((meets_shape shape).code falls skip) skip → AreGoodAt keeps code place ((meets_shape shape).code falls skip)
+      by_keeps : (keeps : Bool) (code : List Insn) (falls : Bool) (skip place : ℕ) → Keeps keeps ((meets_shape extent shape).code falls skip)
+          → Settled keeps code place ((meets_shape extent shape).code falls skip) skip → AreGoodAt keeps code place ((meets_shape extent shape).code falls skip)
       by_keeps true code falls skip place kept placed = block_good code falls skip place placed
       by_keeps false code falls skip place kept placed = absurd (false≢true (kept refl))

@@ -1,13 +1,11 @@
 -- Each test in a filter's questions is sound: its numbers are within their types, and it reads bytes of the record.
-use Rattle.std.proofs.Common.{◌≡◌, ℕ, zero, suc, ◌+◌, ◌-◌, ◌<◌, ◌≤◌, ◌^◌, ◌==◌, ℤ, pos, nat_le, Bool, true, false, List, [], ◌∷◌}
-use Rattle.std.proofs.Common.{◌++◌, length, map, replicate, slice_index, Option, Some, None, if◌then◌else◌, refl, sym, ap, ◌∙◌, arith}
+use Rattle.std.proofs.Common.{◌≡◌, ℕ, zero, suc, ◌+◌, ◌-◌, ◌<◌, ◌≤◌, ◌^◌, ◌==◌, ℤ, nat_le, Bool, true, false, not, List, [], ◌∷◌}
+use Rattle.std.proofs.Common.{length, map, replicate, Option, Some, None, if◌then◌else◌, refl, sym, ap, ◌∙◌, arith}
 use Rattle.std.proofs.Common.{rules}
 use Rattle.std.specs.Prelude.{FitsSigned}
 use Rattle.std.specs.Int.{w64, cast_signed}
 use Rattle.std.proofs.lemmas.Bool.{leb-true, ltb-true}
-use Rattle.std.proofs.lemmas.List.{length-append, length-map, length-replicate}
-use Rattle.tl_segments.specs.Range.{AreBytes}
-use Rattle.tl_segments.specs.declared.limits.TheConstants.{MAX_RANGES}
+use Rattle.std.proofs.lemmas.List.{length-map, length-replicate}
 use Rattle.cql2.specs.Pattern.{are_bytes, is_byte}
 use Rattle.cql2.specs.declared.column.Column.{Column}
 use Rattle.cql2.specs.declared.column.Column.TheVariants.{Numeric, Text}
@@ -18,37 +16,38 @@ use Rattle.cql2.specs.declared.filter.Comparison.{Comparison}
 use Rattle.cql2.specs.declared.filter.Comparison.TheVariants.{Equal, NotEqual, Less, LessOrEqual, Greater, GreaterOrEqual}
 use Rattle.cql2.specs.declared.filter.Filter.{Filter}
 use Rattle.cql2.specs.declared.filter.Filter.TheVariants.{Constant, And', Or', Not', IsNull, CompareNumber, CompareNumbers, CompareText, CompareTexts}
-use Rattle.cql2.specs.declared.filter.Filter.TheVariants.{Like, HasNumber}
-use Rattle.cql2.specs.declared.filter.Filter.TheVariants.{HasName}
+use Rattle.cql2.specs.declared.filter.Filter.TheVariants.{Like, Function}
+use Rattle.cql2.specs.Column.{is_right_justified}
 use Rattle.cql2.specs.Folding.{is_alike}
 use Rattle.cql2.specs.declared.pattern.PatternPart.{PatternPart}
 use Rattle.cql2.specs.declared.pattern.PatternPart.TheVariants.{Exactly, Alike, One, Many}
 use Rattle.cql2_code.specs.Grid.{grid}
 use Rattle.cql2_code.specs.Lowering.{are_pieces, bytes_alike, cell, ends_at, is_among, is_last, is_piece, rows_of}
 use Rattle.cql2_code.specs.Pieces.{pieces_of, taken}
-use Rattle.cql2_code.specs.Lowering.{compares_columns, compares_fields, is_less_column, is_less_field, is_same_column, is_same_field}
-use Rattle.cql2_code.specs.Lowering.{are_wanted, asks_has_name, asks_has_number, asks_like, asks_whether, both, byte_test, chunk_test}
+use Rattle.cql2_code.specs.Lowering.{asks_about, asks_without_blanks_before, compares_columns, compares_fields, field_of, is_blank_field}
+use Rattle.cql2_code.specs.Lowering.{is_less_field, is_same_field}
+use Rattle.cql2_code.specs.Lowering.{are_wanted, asks_like, asks_whether, both, byte_test, chunk_test}
 use Rattle.cql2_code.specs.Lowering.{compares_bytes, compares_number, compares_text, ends_filled, ends_so, exact_bytes, has_bytes, has_each}
-use Rattle.cql2_code.specs.Lowering.{has_few, has_value, holds_of_blanks, holds_of_zero, if_asked, is_blank, is_each_wanted, is_greater}
-use Rattle.cql2_code.specs.Lowering.{is_less, is_like, checks_for_end, is_named_from, is_null, is_null_text, is_wanted, lies_from, name_block}
-use Rattle.cql2_code.specs.Lowering.{number_of, offset_of, test, width_of}
-use Rattle.cql2_code.specs.Question.{Question, Coded, Decided, Opposite, Joined, bytes_value, chunk_length}
+use Rattle.cql2_code.specs.Lowering.{has_few, has_value, holds_of_blanks, holds_of_zero, is_blank, is_each_wanted, is_greater}
+use Rattle.cql2_code.specs.Lowering.{is_less, is_like, is_null, is_wanted}
+use Rattle.cql2_code.specs.Lowering.{number_of, test}
+use Rattle.cql2_code.specs.Question.{Question, Coded, Decided, Opposite, Joined, bytes_value, chunk_length, if_asked}
+use Rattle.cql2_code.specs.declared.field.Field.{Field}
 use Rattle.cql2_code.specs.declared.question.Chunk.{Chunk}
 use Rattle.cql2_code.specs.declared.question.Chunk.TheVariants.{Word, DoubleWord}
 use Rattle.cql2_code.proofs.AmongLemmas.{among_sound}
-use Rattle.cql2_code.proofs.Blocks.{IsSound}
+use Rattle.cql2_code.proofs.Blocks.{IsSound, if_asked_sound}
 use Rattle.cql2_code.proofs.ByteLemmas.{AreSmall, small_blanks}
 use Rattle.cql2_code.proofs.ExpressionSound.{exact_sound, has_value_sound}
-use Rattle.cql2_code.proofs.FieldLemmas.{column_within}
+use Rattle.cql2_code.proofs.FieldLemmas.{IsInside}
+use Rattle.cql2_code.proofs.FunctionLemmas.{function_soundly}
 use Rattle.cql2_code.proofs.GridLemmas.{SoundCells, SoundRows, grid_sound}
 use Rattle.cql2_code.proofs.NumberLemmas.{small_fits}
 use Rattle.cql2_code.proofs.PairLemmas.{pair_sound}
 use Rattle.cql2_code.proofs.PieceLemmas.{ArePieces, Cut, IsPiece, cut_pieces, lengths, piece_bytes}
-use Rattle.cql2_code.proofs.TextLemmas.{IsWanted, exactly_piece, text_wanted}
-use Rattle.cql2_code.proofs.WantedLemmas.{Fits, FitsColumn, Spells, fits_first, fits_record, fits_rest, small_wanted, small_where, spells}
-
-zero_fits : FitsSigned w64 (pos 0)
-zero_fits = small_fits 0 (omega arith)
+use Rattle.cql2_code.proofs.TextColumnLemmas.{column_within}
+use Rattle.cql2_code.proofs.TextLemmas.{exactly_piece, text_wanted}
+use Rattle.cql2_code.proofs.WantedLemmas.{Fits, FitsField, Spells, fits_first, fits_record, fits_rest, small_wanted, small_where, spells}
 
 -- Bytes of the record
 
@@ -133,101 +132,95 @@ wanted_sound_by at piece (Some bytes) exact spelled fits =
 wanted_sound : (at : ℕ) (piece : List PatternPart) → Fits at piece → IsSound (are_wanted at piece)
 wanted_sound at piece fits = wanted_sound_by at piece (exact_bytes piece) refl (spells piece) fits
 
--- the rest of a column after some bytes
-rest_sound : (column : TextColumn) (count : ℕ) → count ≤ width_of column
-    → IsSound (is_blank (offset_of column + count) (width_of column - count))
-rest_sound column count few =
-    let within = column_within column in blank_sound (offset_of column + count) (width_of column - count) (omega arith)
+-- the rest of a field after some bytes
+rest_sound : (field : Field) (lies : IsInside field) (count : ℕ) → count ≤ field.width
+    → IsSound (is_blank (field.offset + count) (field.width - count))
+rest_sound field lies count few =
+    blank_sound (field.offset + count) (field.width - count) (omega arith)
 
-module _ (column : TextColumn) (from : ℕ) (piece : List PatternPart) (fits : FitsColumn column from piece) where
-  wanted_here : IsSound (are_wanted (offset_of column + from) piece)
-  wanted_here = wanted_sound (offset_of column + from) piece (fits_record column from piece fits)
+module _ (field : Field) (lies : IsInside field) (from : ℕ) (piece : List PatternPart) (fits : FitsField field from piece) where
+  wanted_here : IsSound (are_wanted (field.offset + from) piece)
+  wanted_here = wanted_sound (field.offset + from) piece (fits_record field lies from piece fits)
 
-  closes_here : IsSound (is_blank (offset_of column + (from + length piece)) (width_of column - (from + length piece)))
-  closes_here = rest_sound column (from + length piece) fits.within
+  closes_here : IsSound (is_blank (field.offset + (from + length piece)) (field.width - (from + length piece)))
+  closes_here = rest_sound field lies (from + length piece) fits.within
 
-  fills_here : IsSound (is_blank (offset_of column + (from + length piece - 1)) (width_of column - (from + length piece - 1)))
-  fills_here = let within = fits.within in rest_sound column (from + length piece - 1) (omega arith)
+  fills_here : IsSound (is_blank (field.offset + (from + length piece - 1)) (field.width - (from + length piece - 1)))
+  fills_here = let within = fits.within in rest_sound field lies (from + length piece - 1) (omega arith)
 
-  closed_sound : (whole : Bool) → IsSound (both (are_wanted (offset_of column + from) piece)
-      (if whole then None else Some (is_blank (offset_of column + (from + length piece)) (width_of column - (from + length piece)))))
+  closed_sound : (whole : Bool) → IsSound (both (are_wanted (field.offset + from) piece)
+      (if whole then None else Some (is_blank (field.offset + (from + length piece)) (field.width - (from + length piece)))))
   closed_sound true = wanted_here
   closed_sound false = (wanted_here, closes_here)
 
   ends_so_sound : (is_open filled : Bool)
-      → IsSound (both (are_wanted (offset_of column + from) piece) (ends_so is_open filled column (from + length piece)))
+      → IsSound (both (are_wanted (field.offset + from) piece) (ends_so is_open filled field (from + length piece)))
   ends_so_sound true true = wanted_here
   ends_so_sound true false = (wanted_here, fills_here)
-  ends_so_sound false true = closed_sound (from + length piece == width_of column)
+  ends_so_sound false true = closed_sound (from + length piece == field.width)
   ends_so_sound false false = (wanted_here, (closes_here, fills_here))
 
-  cell_sound : (last is_open : Bool) → IsSound (cell column piece last is_open from)
+  cell_sound : (last is_open : Bool) → IsSound (cell field piece last is_open from)
   cell_sound true is_open = ends_so_sound is_open (ends_filled piece)
   cell_sound false is_open = wanted_here
 
-module _ (column : TextColumn) (piece : List PatternPart) (are : IsPiece piece) (is_open : Bool) where
-  piece_by : (short : Bool) → nat_le (length piece) (width_of column) ≡ short
-      → IsSound (if short then ends_at column piece is_open 0 else Decided false)
+module _ (field : Field) (lies : IsInside field) (piece : List PatternPart) (are : IsPiece piece) (is_open : Bool) where
+  piece_by : (short : Bool) → nat_le (length piece) field.width ≡ short
+      → IsSound (if short then ends_at field piece is_open 0 else Decided false)
   piece_by true short =
-      let few = leb-true (length piece) (width_of column) short in
-      ends_so_sound column 0 piece (record { within = omega arith; are = are }) is_open (ends_filled piece)
+      let few = leb-true (length piece) field.width short in
+      ends_so_sound field lies 0 piece (record { within = omega arith; are = are }) is_open (ends_filled piece)
   piece_by false short = tt
 
-  piece_sound : IsSound (is_piece column piece is_open)
-  piece_sound = piece_by (nat_le (length piece) (width_of column)) refl
+  piece_sound : IsSound (is_piece field piece is_open)
+  piece_sound = piece_by (nat_le (length piece) field.width) refl
 
 -- the pieces after a `%`
 
-cells_sound : (column : TextColumn) (piece : List PatternPart) (last is_open : Bool) (from at left : ℕ) → IsPiece piece
-    → from + at + length piece + left ≤ suc (width_of column)
-    → SoundCells (λ shift. cell column piece last is_open (from + shift)) at left
-cells_sound column piece last is_open from at zero are fits = tt
-cells_sound column piece last is_open from at (suc left) are fits = (
-  cell_sound column (from + at) piece (record { within = omega arith; are = are }) last is_open,
-  cells_sound column piece last is_open from (at + 1) left are (omega arith),
+cells_sound : (field : Field) (lies : IsInside field) (piece : List PatternPart) (last is_open : Bool) (from at left : ℕ) → IsPiece piece
+    → from + at + length piece + left ≤ suc field.width
+    → SoundCells (λ shift. cell field piece last is_open (from + shift)) at left
+cells_sound field lies piece last is_open from at zero are fits = tt
+cells_sound field lies piece last is_open from at (suc left) are fits = (
+  cell_sound field lies (from + at) piece (record { within = omega arith; are = are }) last is_open,
+  cells_sound field lies piece last is_open from (at + 1) left are (omega arith),
 )
 
-rows_sound : (column : TextColumn) (is_open : Bool) (from columns : ℕ) (pieces : List (List PatternPart)) → ArePieces pieces
-    → from + lengths pieces + columns ≤ suc (width_of column) → SoundRows (rows_of column is_open from pieces) columns
-rows_sound column is_open from columns [] are fits = tt
-rows_sound column is_open from columns (piece ∷ pieces) are fits = (
-  cells_sound column piece (is_last pieces) is_open from 0 columns are.0.are (omega arith),
-  rows_sound column is_open (from + length piece) columns pieces are.1 (omega arith),
+rows_sound : (field : Field) (lies : IsInside field) (is_open : Bool) (from columns : ℕ) (pieces : List (List PatternPart)) → ArePieces pieces
+    → from + lengths pieces + columns ≤ suc field.width → SoundRows (rows_of field is_open from pieces) columns
+rows_sound field lies is_open from columns [] are fits = tt
+rows_sound field lies is_open from columns (piece ∷ pieces) are fits = (
+  cells_sound field lies piece (is_last pieces) is_open from 0 columns are.0.are (omega arith),
+  rows_sound field lies is_open (from + length piece) columns pieces are.1 (omega arith),
 )
 
-module _ (column : TextColumn) (pattern : List PatternPart) where
+module _ (field : Field) (lies : IsInside field) (pattern : List PatternPart) where
   pieces_by : (first piece : List PatternPart) (others : List (List PatternPart)) (is_open short : Bool)
-      → nat_le (taken pattern) (width_of column) ≡ short → Cut pattern first (piece ∷ others) is_open
-      → IsSound (if short then Joined true (are_wanted (offset_of column) first)
-      (Coded (grid (rows_of column is_open (length first) (piece ∷ others)) (suc (width_of column - taken pattern))))
+      → nat_le (taken pattern) field.width ≡ short → Cut pattern first (piece ∷ others) is_open
+      → IsSound (if short then Joined true (are_wanted field.offset first)
+      (Coded (grid (rows_of field is_open (length first) (piece ∷ others)) (suc (field.width - taken pattern))))
       else Decided false)
   pieces_by first piece others is_open true short cut =
-      let few = leb-true (taken pattern) (width_of column) short in
-      let takes = cut.takes in
-      let within = column_within column in (
-        wanted_sound (offset_of column) first (record { within = omega arith; are = cut.first_is }),
-        grid_sound (rows_of column is_open (length first) (piece ∷ others)) (suc (width_of column - taken pattern))
-            (rows_sound column is_open (length first) (suc (width_of column - taken pattern)) (piece ∷ others) cut.others_are (omega arith)),
+      let few = leb-true (taken pattern) field.width short in
+      let takes = cut.takes in (
+        wanted_sound field.offset first (record { within = omega arith; are = cut.first_is }),
+        grid_sound (rows_of field is_open (length first) (piece ∷ others)) (suc (field.width - taken pattern))
+            (rows_sound field lies is_open (length first) (suc (field.width - taken pattern)) (piece ∷ others) cut.others_are (omega arith)),
       )
   pieces_by first piece others is_open false short cut = tt
 
   pieces_sound : (first : List PatternPart) (others : List (List PatternPart)) (is_open : Bool) → Cut pattern first others is_open
-      → IsSound (are_pieces column first others is_open (taken pattern))
-  pieces_sound first [] is_open cut = piece_sound column first cut.first_is is_open
+      → IsSound (are_pieces field first others is_open (taken pattern))
+  pieces_sound first [] is_open cut = piece_sound field lies first cut.first_is is_open
   pieces_sound first (piece ∷ others) is_open cut =
-      pieces_by first piece others is_open (nat_le (taken pattern) (width_of column)) refl cut
+      pieces_by first piece others is_open (nat_le (taken pattern) field.width) refl cut
 
-  like_sound : are_bytes pattern ≡ true → IsSound (is_like column pattern)
+  like_sound : are_bytes pattern ≡ true → IsSound (is_like field pattern)
   like_sound are =
       let pieces = pieces_of pattern in pieces_sound pieces.first pieces.others pieces.is_open (cut_pieces pattern are)
 
-null_text_sound : (column : TextColumn) → IsSound (is_null_text column)
-null_text_sound column = blank_sound (offset_of column) (width_of column) (column_within column)
-
-asks_like_sound : (column : TextColumn) (pattern : List PatternPart) (asked : Bool) → are_bytes pattern ≡ true
-    → IsSound (asks_like column pattern asked)
-asks_like_sound column pattern true are = like_sound column pattern are
-asks_like_sound column pattern false are = (null_text_sound column, like_sound column pattern are)
+blank_field_sound : (field : Field) → IsInside field → IsSound (is_blank_field field)
+blank_field_sound field lies = blank_sound field.offset field.width lies
 
 -- Texts
 
@@ -247,34 +240,25 @@ greater_sound at (suc left) (byte ∷ text) within small = (
   (byte_sound at Equal byte (omega arith) small.0, greater_sound (at + 1) left text (omega arith) small.1),
 )
 
-module _ (column : TextColumn) (text : List ℕ) (small : AreSmall text) where
-  same_sound : IsSound (is_piece column (map Exactly text) false)
-  same_sound = piece_sound column (map Exactly text) (exactly_piece text small) false
+module _ (field : Field) (lies : IsInside field) (text : List ℕ) (small : AreSmall text) where
+  same_sound : IsSound (is_piece field (map Exactly text) false)
+  same_sound = piece_sound field lies (map Exactly text) (exactly_piece text small) false
 
-  less_here : IsSound (is_less (offset_of column) (width_of column) text)
-  less_here = less_sound (offset_of column) (width_of column) text (column_within column) small
+  less_here : IsSound (is_less field.offset field.width text)
+  less_here = less_sound field.offset field.width text lies small
 
-  greater_here : IsSound (is_greater (offset_of column) (width_of column) text)
-  greater_here = greater_sound (offset_of column) (width_of column) text (column_within column) small
+  greater_here : IsSound (is_greater field.offset field.width text)
+  greater_here = greater_sound field.offset field.width text lies small
 
-  bytes_compared : (comparison : Comparison) → IsSound (compares_bytes column comparison text)
-  bytes_compared Equal = same_sound
-  bytes_compared NotEqual = same_sound
-  bytes_compared Less = less_here
-  bytes_compared LessOrEqual = greater_here
-  bytes_compared Greater = greater_here
-  bytes_compared GreaterOrEqual = less_here
+  compares_bytes_sound : (comparison : Comparison) → IsSound (compares_bytes field comparison text)
+  compares_bytes_sound Equal = same_sound
+  compares_bytes_sound NotEqual = same_sound
+  compares_bytes_sound Less = less_here
+  compares_bytes_sound LessOrEqual = greater_here
+  compares_bytes_sound Greater = greater_here
+  compares_bytes_sound GreaterOrEqual = less_here
 
-  text_by : (comparison : Comparison) (holds : Bool)
-      → IsSound (if holds then Joined true (Opposite (is_null_text column)) (compares_bytes column comparison text)
-      else compares_bytes column comparison text)
-  text_by comparison true = (null_text_sound column, bytes_compared comparison)
-  text_by comparison false = bytes_compared comparison
-
-  compares_text_sound : (comparison : Comparison) → IsSound (compares_text column comparison text)
-  compares_text_sound comparison = text_by comparison (holds_of_blanks comparison)
-
--- Two columns
+-- Two fields
 
 same_field_sound : (at left other more : ℕ) → at + left ≤ 228 → other + more ≤ 228 → IsSound (is_same_field at left other more)
 same_field_sound at zero other more within inside = blank_sound other more inside
@@ -299,87 +283,59 @@ less_field_sound at (suc left) other (suc more) within inside = (
   ),
 )
 
-same_column_sound : (first second : TextColumn) → IsSound (is_same_column first second)
-same_column_sound first second = same_field_sound _ _ _ _ (column_within first) (column_within second)
+fields_sound : (first second : Field) → IsInside first → IsInside second → (comparison : Comparison)
+    → IsSound (compares_fields first comparison second)
+fields_sound first second lies inside Equal = same_field_sound _ _ _ _ lies inside
+fields_sound first second lies inside NotEqual = same_field_sound _ _ _ _ lies inside
+fields_sound first second lies inside Less = less_field_sound _ _ _ _ lies inside
+fields_sound first second lies inside LessOrEqual = less_field_sound _ _ _ _ inside lies
+fields_sound first second lies inside Greater = less_field_sound _ _ _ _ inside lies
+fields_sound first second lies inside GreaterOrEqual = less_field_sound _ _ _ _ lies inside
 
-less_column_sound : (first second : TextColumn) → IsSound (is_less_column first second)
-less_column_sound first second = less_field_sound _ _ _ _ (column_within first) (column_within second)
+-- The texts of columns
 
-fields_sound : (first : TextColumn) (comparison : Comparison) (second : TextColumn) → IsSound (compares_fields first comparison second)
-fields_sound first Equal second = same_column_sound first second
-fields_sound first NotEqual second = same_column_sound first second
-fields_sound first Less second = less_column_sound first second
-fields_sound first LessOrEqual second = less_column_sound second first
-fields_sound first Greater second = less_column_sound second first
-fields_sound first GreaterOrEqual second = less_column_sound first second
+module _ (ask : Field → Question) (sound : (field : Field) → IsInside field → IsSound (ask field)) where
+  without_blanks_sound : (at left : ℕ) → at + left ≤ 228 → IsSound (asks_without_blanks_before ask at left)
+  without_blanks_sound at zero lies = tt
+  without_blanks_sound at (suc left) lies = (
+    (byte_sound at NotEqual 32 (omega arith) (omega arith), sound (record { offset = at; width = suc left }) lies),
+    (byte_sound at Equal 32 (omega arith) (omega arith), without_blanks_sound (at + 1) left (omega arith)),
+  )
 
-compares_columns_sound : (first : TextColumn) (comparison : Comparison) (second : TextColumn) → IsSound (compares_columns first comparison second)
-compares_columns_sound first comparison second = (null_text_sound first, (null_text_sound second, fields_sound first comparison second))
+  about_by : (right of_blanks : Bool) (field : Field) → IsInside field
+      → IsSound (if right then asks_without_blanks_before ask field.offset field.width
+      else if of_blanks then Joined true (Opposite (is_blank_field field)) (ask field)
+      else ask field)
+  about_by true of_blanks field lies = without_blanks_sound field.offset field.width lies
+  about_by false true field lies = (blank_field_sound field lies, sound field lies)
+  about_by false false field lies = sound field lies
 
--- Ranges and names
+  about_sound : (of_blanks : Bool) (column : TextColumn) → IsSound (asks_about of_blanks ask column)
+  about_sound of_blanks column = about_by (is_right_justified column) of_blanks (field_of column) (column_within column)
 
-count_sound : (number : ℕ) → number < 2 ^ 16 → FitsSigned w64 (pos number)
-count_sound number small = small_fits number (omega arith)
+compares_text_sound : (column : TextColumn) (text : List ℕ) → AreSmall text → (comparison : Comparison)
+    → IsSound (compares_text column comparison text)
+compares_text_sound column text small comparison =
+    about_sound (λ field. compares_bytes field comparison text) (λ field lies. compares_bytes_sound field lies text small comparison)
+    (holds_of_blanks comparison) column
 
-part_sound : (inside here rest : Question) → IsSound inside → IsSound here → IsSound rest → (milestone : Bool)
-    → IsSound (if milestone then Joined true inside (Joined false here rest) else Joined false here rest)
-part_sound inside here rest first second third true = (first, (second, third))
-part_sound inside here rest first second third false = (second, third)
+asks_like_sound : (column : TextColumn) (pattern : List PatternPart) (asked : Bool) → are_bytes pattern ≡ true
+    → IsSound (asks_like column pattern asked)
+asks_like_sound column pattern asked are =
+    about_sound (λ field. if_asked (is_like field pattern) asked)
+    (λ field lies. if_asked_sound (is_like field pattern) asked (like_sound field lies pattern are)) (not asked) column
 
-lies_sound : (house at more : ℕ) → house < 2 ^ 64 → at + more ≤ 2 ^ 16 → IsSound (lies_from house at more)
-unfolding lies_from
-lies_sound house at zero fits few = tt
-lies_sound house at (suc more) fits few = part_sound _ _ _
-    (record { subject = tt; operand = count_sound at (omega arith) })
-    (record { subject = (omega arith, fits); operand = zero_fits })
-    (lies_sound house (at + 1) more fits (omega arith)) (checks_for_end at)
-
-pub if_asked_sound : (question : Question) (asked : Bool) → IsSound question → IsSound (if_asked question asked)
-if_asked_sound question true sound = sound
-if_asked_sound question false sound = sound
-
-has_number_sound : (house : ℕ) (asked : Bool) → house < 2 ^ 64 → IsSound (asks_has_number house asked)
-has_number_sound house asked fits =
-    if_asked_sound (lies_from house 0 (suc MAX_RANGES)) asked (lies_sound house 0 (suc MAX_RANGES) fits (omega arith))
-
-named_sound : (wanted : List ℕ) (at more : ℕ) → AreBytes 32 wanted → at + more ≤ 2 ^ 16 → IsSound (is_named_from wanted at more)
-unfolding is_named_from
-named_sound wanted at zero block few = tt
-named_sound wanted at (suc more) block few = part_sound _ _ _
-    (record { subject = tt; operand = count_sound at (omega arith) })
-    (record { subject = (omega arith, block); operand = zero_fits })
-    (named_sound wanted (at + 1) more block (omega arith)) (checks_for_end at)
-
-small_each : (bytes : List ℕ) → AreSmall bytes → (i : ℕ) → slice_index bytes i < 2 ^ 8
-small_each [] small i = omega arith
-small_each (byte ∷ bytes) small zero = small.0
-small_each (byte ∷ bytes) small (suc i) = small_each bytes small.1 i
-
-small_append : (first second : List ℕ) → AreSmall first → AreSmall second → AreSmall (first ++ second)
-small_append [] second small others = others
-small_append (byte ∷ first) second small others = (small.0, small_append first second small.1 others)
-
-block_is : (text : List ℕ) → IsWanted text → AreBytes 32 (name_block text)
-block_is text wanted =
-    let few = wanted.few in
-    let count = 32 - length text in
-    record {
-      length = omega (arith, length-append text (replicate count 32), length-replicate {A = ℕ} count 32);
-      bytes = small_each (name_block text) (small_append text (replicate count 32) wanted.small (small_blanks count));
-    }
-
-has_name_sound : (text : List ℕ) (most : ℕ) (asked : Bool) → IsWanted text → most < 2 ^ 16 → IsSound (asks_has_name text most asked)
-has_name_sound text most true wanted fits = named_sound (name_block text) 0 (suc most) (block_is text wanted) (omega arith)
-has_name_sound text most false wanted fits = (
-  record { subject = tt; operand = count_sound most fits },
-  named_sound (name_block text) 0 (suc most) (block_is text wanted) (omega arith),
-)
+compares_columns_sound : (first second : TextColumn) (comparison : Comparison) → IsSound (compares_columns first comparison second)
+compares_columns_sound first second comparison =
+    about_sound (λ field. asks_about true (compares_fields field comparison) second)
+    (λ field lies. about_sound (compares_fields field comparison) (λ other inside. fields_sound field other lies inside comparison) true second)
+    true first
 
 -- Filters
 
 null_sound : (column : Column) → IsSound (is_null column)
 null_sound (Numeric column) = has_value_sound column
-null_sound (Text column) = null_text_sound column
+null_sound (Text column) = blank_field_sound (field_of column) (column_within column)
 
 pub asks_soundly : {A : Type 0} (filter : Filter A) (asked : Bool) → IsSound (asks_whether filter asked)
 asks_soundly (Constant value) asked = tt
@@ -391,10 +347,8 @@ asks_soundly (IsNull column) asked = if_asked_sound (is_null column) asked (null
 asks_soundly (CompareNumber column comparison literal) asked = compares_number_sound column _ literal.number literal.fits
 asks_soundly (CompareNumbers first comparison second) asked =
     exact_sound first.expression _ second.expression first.is_exact second.is_exact
-asks_soundly (CompareTexts first comparison second) asked = compares_columns_sound first _ second
+asks_soundly (CompareTexts first comparison second) asked = compares_columns_sound first second _
 asks_soundly (CompareText column comparison text) asked =
     compares_text_sound column text.bytes.items (text_wanted text.bytes.items text.is_text).small _
 asks_soundly (Like column pattern) asked = asks_like_sound column pattern.parts.items asked pattern.are_bytes
-asks_soundly (HasNumber house) asked = has_number_sound house.number asked house.fits
-asks_soundly (HasName text limit) asked =
-    has_name_sound text.bytes.items limit.number asked (text_wanted text.bytes.items text.is_text) limit.fits
+asks_soundly (Function function) asked = function_soundly function asked

@@ -17,13 +17,14 @@ use Rattle.cql2.specs.declared.filter.Comparison.{Comparison}
 use Rattle.cql2.specs.declared.filter.Comparison.TheVariants.{Equal, NotEqual, Less, LessOrEqual, Greater, GreaterOrEqual}
 use Rattle.cql2.specs.declared.pattern.PatternPart.TheVariants.{Exactly}
 use Rattle.cql2_code.specs.Layout.{opposite}
-use Rattle.cql2_code.specs.Lowering.{compares_bytes, compares_text, holds_of_blanks, is_greater, is_less, is_null_text, is_piece}
-use Rattle.cql2_code.specs.Lowering.{offset_of, width_of}
-use Rattle.cql2_code.specs.Question.{Joined, Opposite, answer}
+use Rattle.cql2_code.specs.Lowering.{compares_bytes, compares_text, holds_of_blanks, is_greater, is_less, is_piece}
+use Rattle.cql2_code.specs.Question.{answer}
+use Rattle.cql2_code.specs.declared.field.Field.{Field}
 use Rattle.cql2_code.proofs.ByteLemmas.{AreSmall, blank_found, byte_equals, byte_answer, first_of}
-use Rattle.cql2_code.proofs.FieldLemmas.{column_within, field_of, has_text, null_found, value_asked}
+use Rattle.cql2_code.proofs.FieldLemmas.{IsInside, bytes_in, has_text}
 use Rattle.cql2_code.proofs.JoinLemmas.{both_answers, either_answers, is_it, isnt_it, not_not}
 use Rattle.cql2_code.proofs.PieceLemmas.{IsPiece}
+use Rattle.cql2_code.proofs.TextColumnLemmas.{about_found, text_bytes, value_asked}
 use Rattle.cql2_code.proofs.TrimLemmas.{trimmed, trimmed_blank}
 use Rattle.cql2_code.proofs.WantedLemmas.{ending, piece_found}
 
@@ -209,25 +210,26 @@ opposite_compares_text LessOrEqual text other = sym (not_not (is_text_less other
 opposite_compares_text Greater text other = refl
 opposite_compares_text GreaterOrEqual text other = sym (not_not (is_text_less text other))
 
-module _ (segment : SegmentParts) (is : IsSegment segment) (column : TextColumn) (text : List ℕ) (wanted : IsWanted text) where
-  same_here : answer (is_piece column (map Exactly text) false) segment ≡ is_same (trimmed (field_of column segment)) text
+module _ (segment : SegmentParts) (is : IsSegment segment) (field : Field) (lies : IsInside field) (text : List ℕ)
+    (wanted : IsWanted text) where
+  same_here : answer (is_piece field (map Exactly text) false) segment ≡ is_same (trimmed (bytes_in field segment)) text
   same_here =
-      piece_found segment is column (map Exactly text) (exactly_piece text wanted.small) false
-      ∙ ap (λ (like : Bool). not (are_blank (field_of column segment)) && like) (like_same (trimmed (field_of column segment)) text)
-      ∙ unless_blank (λ found. is_same found text) (field_of column segment) (same_blank text wanted.some)
+      piece_found segment is field lies (map Exactly text) (exactly_piece text wanted.small) false
+      ∙ ap (λ (like : Bool). not (are_blank (bytes_in field segment)) && like) (like_same (trimmed (bytes_in field segment)) text)
+      ∙ unless_blank (λ found. is_same found text) (bytes_in field segment) (same_blank text wanted.some)
 
-  less_here : answer (is_less (offset_of column) (width_of column) text) segment
-      ≡ is_text_less (trimmed (field_of column segment)) text
+  less_here : answer (is_less field.offset field.width text) segment
+      ≡ is_text_less (trimmed (bytes_in field segment)) text
   less_here =
-      less_found segment is (offset_of column) (width_of column) text (column_within column) wanted.small
-      ∙ less_trimmed (field_of column segment) text wanted.fine
+      less_found segment is field.offset field.width text lies wanted.small
+      ∙ less_trimmed (bytes_in field segment) text wanted.fine
 
-  greater_here : answer (is_greater (offset_of column) (width_of column) text) segment
-      ≡ is_text_less text (trimmed (field_of column segment))
-  greater_here = greater_found segment is (offset_of column) (width_of column) text (column_within column) wanted.small wanted.fine
+  greater_here : answer (is_greater field.offset field.width text) segment
+      ≡ is_text_less text (trimmed (bytes_in field segment))
+  greater_here = greater_found segment is field.offset field.width text lies wanted.small wanted.fine
 
-  bytes_compared : (comparison : Comparison) → answer (compares_bytes column comparison text) segment
-      ≡ text_compares comparison (trimmed (field_of column segment)) text
+  bytes_compared : (comparison : Comparison) → answer (compares_bytes field comparison text) segment
+      ≡ text_compares comparison (trimmed (bytes_in field segment)) text
   bytes_compared Equal = same_here
   bytes_compared NotEqual = ap not same_here
   bytes_compared Less = less_here
@@ -235,28 +237,30 @@ module _ (segment : SegmentParts) (is : IsSegment segment) (column : TextColumn)
   bytes_compared Greater = greater_here
   bytes_compared GreaterOrEqual = ap not less_here
 
-  text_by : (comparison : Comparison) (holds : Bool) → holds_of_blanks comparison ≡ holds
-      → answer (if holds then Joined true (Opposite (is_null_text column)) (compares_bytes column comparison text)
-      else compares_bytes column comparison text) segment
-      ≡ has_text (λ found. text_compares comparison found text) (field_of column segment)
-  text_by comparison true holds = both_answers (ap not (null_found segment is column)) (bytes_compared comparison)
-  text_by comparison false fails =
+  bytes_blank : (comparison : Comparison) → holds_of_blanks comparison ≡ false → are_blank (bytes_in field segment) ≡ true
+      → answer (compares_bytes field comparison text) segment ≡ false
+  bytes_blank comparison fails blank =
       bytes_compared comparison
-      ∙ sym (unless_blank (λ found. text_compares comparison found text) (field_of column segment)
-      (compares_blank comparison text fails wanted.some))
+      ∙ ap (λ (found : List ℕ). text_compares comparison found text) (trimmed_blank (bytes_in field segment) blank)
+      ∙ compares_blank comparison text fails wanted.some
 
+module _ (segment : SegmentParts) (is : IsSegment segment) (column : TextColumn) (text : List ℕ) (wanted : IsWanted text) where
   text_compared : (comparison : Comparison) → answer (compares_text column comparison text) segment
-      ≡ has_text (λ found. text_compares comparison found text) (field_of column segment)
-  text_compared comparison = text_by comparison (holds_of_blanks comparison) refl
+      ≡ has_text (λ found. text_compares comparison found text) (text_bytes column segment)
+  text_compared comparison =
+      about_found segment is (holds_of_blanks comparison) (λ field. compares_bytes field comparison text)
+      (λ found. text_compares comparison found text)
+      (λ field lies filled. bytes_compared segment is field lies text wanted comparison)
+      (λ fails field lies blank. bytes_blank segment is field lies text wanted comparison fails blank) column
 
   compared_asked : (comparison : Comparison) (asked : Bool)
       → answer (compares_text column (if asked then comparison else opposite comparison) text) segment
-      ≡ has_text (λ found. beq (text_compares comparison found text) asked) (field_of column segment)
+      ≡ has_text (λ found. beq (text_compares comparison found text) asked) (text_bytes column segment)
   compared_asked comparison true =
-      text_compared comparison ∙ ap (λ (holds : Bool). not (are_blank (field_of column segment)) && holds) (is_it _)
+      text_compared comparison ∙ ap (λ (holds : Bool). not (are_blank (text_bytes column segment)) && holds) (is_it _)
   compared_asked comparison false =
-      text_compared (opposite comparison) ∙ ap (λ (holds : Bool). not (are_blank (field_of column segment)) && holds)
-      (opposite_compares_text comparison (trimmed (field_of column segment)) text ∙ isnt_it _)
+      text_compared (opposite comparison) ∙ ap (λ (holds : Bool). not (are_blank (text_bytes column segment)) && holds)
+      (opposite_compares_text comparison (trimmed (text_bytes column segment)) text ∙ isnt_it _)
 
   -- a comparison with a column, asked for either truth value
   pub compares_text_rightly : (comparison : Comparison) (asked : Bool)

@@ -1,4 +1,4 @@
--- The questions about a piece of a pattern answer whether the record or a column has it.
+-- The questions about a piece of a pattern answer whether the record or a field has it.
 use Rattle.std.proofs.Common.{◌≡◌, ℕ, zero, suc, ◌+◌, ◌-◌, ◌<◌, ◌≤◌, ◌==◌, nat_le, Bool, true, false, not, ◌&&◌, ◌||◌, List, [], ◌∷◌, ◌++◌}
 use Rattle.std.proofs.Common.{length, length-drop, map, get_or, take, drop, Option, Some, None, if◌then◌else◌, refl, sym, ap, ◌∙◌, arith}
 use Rattle.std.specs.List.{list_any}
@@ -9,15 +9,15 @@ use Rattle.tl_fields.specs.Number.{is_blank as are_blank}
 use Rattle.tl_segments.specs.Segment.{SegmentParts, IsSegment}
 use Rattle.cql2.specs.Folding.{is_alike}
 use Rattle.cql2.specs.Pattern.{are_bytes, is_byte, is_like as is_text_like}
-use Rattle.cql2.specs.declared.column.TextColumn.{TextColumn}
 use Rattle.cql2.specs.declared.pattern.PatternPart.{PatternPart}
 use Rattle.cql2.specs.declared.pattern.PatternPart.TheVariants.{Exactly, Alike, One, Many}
 use Rattle.cql2_code.specs.Lowering.{are_wanted, both, bytes_alike, bytes_where, ends_at, ends_filled, ends_so, exact_bytes, is_among, is_blank}
-use Rattle.cql2_code.specs.Lowering.{is_each_wanted, is_filled, is_piece, is_wanted, offset_of, width_of}
+use Rattle.cql2_code.specs.Lowering.{is_each_wanted, is_filled, is_piece, is_wanted}
 use Rattle.cql2_code.specs.Pieces.{taken}
 use Rattle.cql2_code.specs.Question.{Decided, answer}
+use Rattle.cql2_code.specs.declared.field.Field.{Field}
 use Rattle.cql2_code.proofs.ByteLemmas.{AreSmall, begins, byte_equals, byte_read, bytes_found, first_byte}
-use Rattle.cql2_code.proofs.FieldLemmas.{column_within, field_long, field_of, has_text, rest_found}
+use Rattle.cql2_code.proofs.FieldLemmas.{IsInside, bytes_in, field_long, has_text, rest_found}
 use Rattle.cql2_code.proofs.JoinLemmas.{and_assoc, and_false, and_true, and_twice, both_answers}
 use Rattle.cql2_code.proofs.PieceLemmas.{IsPiece, is_single, like, like_none, like_part_field, piece_bytes, respelled, takes}
 use Rattle.cql2_code.proofs.SearchLemmas.{like_long, wants}
@@ -314,7 +314,7 @@ module _ (segment : SegmentParts) (is : IsSegment segment) where
       → answer (are_wanted at piece) segment ≡ wants piece (drop at segment.bytes)
   wanted_found at piece fits = wanted_by at piece (exact_bytes piece) refl (spells piece) fits
 
--- Columns
+-- Fields of columns
 
 with_fills : (wanted filled : Bool) → (wanted ≡ true → filled ≡ true) → wanted ≡ (wanted && filled)
 with_fills true filled so = sym (so refl)
@@ -324,118 +324,119 @@ with_both : (wanted closed filled : Bool) → (wanted ≡ true → filled ≡ tr
 with_both true closed filled so = sym (ap (λ (b : Bool). closed && b) (so refl) ∙ and_true closed)
 with_both false closed filled so = refl
 
--- a piece from a byte of a column on
-pub record FitsColumn (column : TextColumn) (from : ℕ) (piece : List PatternPart) : Type 0 where
-  pub within : from + length piece ≤ width_of column
+-- a piece from a byte of a field on
+pub record FitsField (field : Field) (from : ℕ) (piece : List PatternPart) : Type 0 where
+  pub within : from + length piece ≤ field.width
   pub are : IsPiece piece
 
-pub fits_record : (column : TextColumn) (from : ℕ) (piece : List PatternPart) → FitsColumn column from piece
-    → Fits (offset_of column + from) piece
-fits_record column from piece fits =
-    let short = fits.within in let within = column_within column in record { within = omega arith; are = fits.are }
+pub fits_record : (field : Field) → IsInside field → (from : ℕ) (piece : List PatternPart) → FitsField field from piece
+    → Fits (field.offset + from) piece
+fits_record field lies from piece fits =
+    let short = fits.within in record { within = omega arith; are = fits.are }
 
--- a last piece: it has a last part, or begins with the column
-pub record FitsLast (column : TextColumn) (from : ℕ) (piece : List PatternPart) : Type 0 where
-  pub fits : FitsColumn column from piece
+-- a last piece: it has a last part, or begins with the field
+pub record FitsLast (field : Field) (from : ℕ) (piece : List PatternPart) : Type 0 where
+  pub fits : FitsField field from piece
   pub last : from + length piece - 1 ≡ from + (length piece - 1)
 
-module _ (segment : SegmentParts) (is : IsSegment segment) (column : TextColumn) where
-  -- a column from a byte on
-  field_from : (from : ℕ) → from ≤ width_of column
-      → drop from (field_of column segment) ≡ take (width_of column - from) (drop (offset_of column + from) segment.bytes)
+module _ (segment : SegmentParts) (is : IsSegment segment) (field : Field) (lies : IsInside field) where
+  -- a field from a byte on
+  field_from : (from : ℕ) → from ≤ field.width
+      → drop from (bytes_in field segment) ≡ take (field.width - from) (drop (field.offset + from) segment.bytes)
   field_from from few =
-      let rest = width_of column - from in
-      let whole : width_of column ≡ from + rest = omega arith in
-      ap (λ (width : ℕ). drop from (take width (drop (offset_of column) segment.bytes))) whole
-      ∙ drop-take from rest (drop (offset_of column) segment.bytes)
-      ∙ ap (take rest) (drop-drop from (offset_of column) segment.bytes)
+      let rest = field.width - from in
+      let whole : field.width ≡ from + rest = omega arith in
+      ap (λ (width : ℕ). drop from (take width (drop field.offset segment.bytes))) whole
+      ∙ drop-take from rest (drop field.offset segment.bytes)
+      ∙ ap (take rest) (drop-drop from field.offset segment.bytes)
 
-  -- a piece is in a column from a byte on
-  pub wanted_here : (from : ℕ) (piece : List PatternPart) → FitsColumn column from piece
-      → answer (are_wanted (offset_of column + from) piece) segment ≡ wants piece (drop from (field_of column segment))
+  -- a piece is in a field from a byte on
+  pub wanted_here : (from : ℕ) (piece : List PatternPart) → FitsField field from piece
+      → answer (are_wanted (field.offset + from) piece) segment ≡ wants piece (drop from (bytes_in field segment))
   wanted_here from piece fits =
       let within = fits.within in
-      wanted_found segment is (offset_of column + from) piece (fits_record column from piece fits)
-      ∙ wants_take piece (width_of column - from) (drop (offset_of column + from) segment.bytes) (omega arith)
+      wanted_found segment is (field.offset + from) piece (fits_record field lies from piece fits)
+      ∙ wants_take piece (field.width - from) (drop (field.offset + from) segment.bytes) (omega arith)
       ∙ sym (ap (wants piece) (field_from from (omega arith)))
 
-module _ (segment : SegmentParts) (is : IsSegment segment) (column : TextColumn) (from : ℕ) (piece : List PatternPart)
-    (all : FitsLast column from piece) where
-  fills_here : not (answer (is_blank (offset_of column + (from + length piece - 1)) (width_of column - (from + length piece - 1))) segment)
-      ≡ fills piece (drop from (field_of column segment))
+module _ (segment : SegmentParts) (is : IsSegment segment) (field : Field) (lies : IsInside field) (from : ℕ)
+    (piece : List PatternPart) (all : FitsLast field from piece) where
+  fills_here : not (answer (is_blank (field.offset + (from + length piece - 1)) (field.width - (from + length piece - 1))) segment)
+      ≡ fills piece (drop from (bytes_in field segment))
   fills_here =
       let within = all.fits.within in
-      let long = field_long segment is column in
-      ap not (rest_found segment is column (from + length piece - 1) (omega arith))
-      ∙ ap (λ (count : ℕ). not (are_blank (drop count (field_of column segment)))) all.last
-      ∙ sym (ap (λ (bytes : List ℕ). not (are_blank bytes)) (drop-drop (length piece - 1) from (field_of column segment)))
-      ∙ fills_is piece (drop from (field_of column segment)) (omega (arith, length-drop from (field_of column segment)))
+      let long = field_long segment is field lies in
+      ap not (rest_found segment is field lies (from + length piece - 1) (omega arith))
+      ∙ ap (λ (count : ℕ). not (are_blank (drop count (bytes_in field segment)))) all.last
+      ∙ sym (ap (λ (bytes : List ℕ). not (are_blank bytes)) (drop-drop (length piece - 1) from (bytes_in field segment)))
+      ∙ fills_is piece (drop from (bytes_in field segment)) (omega (arith, length-drop from (bytes_in field segment)))
 
-  closes_here : answer (is_blank (offset_of column + (from + length piece)) (width_of column - (from + length piece))) segment
-      ≡ closes piece (drop from (field_of column segment))
+  closes_here : answer (is_blank (field.offset + (from + length piece)) (field.width - (from + length piece))) segment
+      ≡ closes piece (drop from (bytes_in field segment))
   closes_here =
-      rest_found segment is column (from + length piece) all.fits.within
-      ∙ sym (ap are_blank (drop-drop (length piece) from (field_of column segment)))
+      rest_found segment is field lies (from + length piece) all.fits.within
+      ∙ sym (ap are_blank (drop-drop (length piece) from (bytes_in field segment)))
 
-  filled_here : ends_filled piece ≡ true → wants piece (drop from (field_of column segment)) ≡ true
-      → fills piece (drop from (field_of column segment)) ≡ true
-  filled_here filled wanted = filled_on piece (drop from (field_of column segment)) filled wanted
+  filled_here : ends_filled piece ≡ true → wants piece (drop from (bytes_in field segment)) ≡ true
+      → fills piece (drop from (bytes_in field segment)) ≡ true
+  filled_here filled wanted = filled_on piece (drop from (bytes_in field segment)) filled wanted
 
   -- nothing follows after as many bytes as the field has
-  whole_closes : from + length piece ≡ width_of column → closes piece (drop from (field_of column segment)) ≡ true
+  whole_closes : from + length piece ≡ field.width → closes piece (drop from (bytes_in field segment)) ≡ true
   whole_closes whole =
-      let long = field_long segment is column in
-      ap are_blank (drop_all (length piece) (drop from (field_of column segment)) (omega (arith, length-drop from (field_of column segment))))
+      let long = field_long segment is field lies in
+      ap are_blank (drop_all (length piece) (drop from (bytes_in field segment)) (omega (arith, length-drop from (bytes_in field segment))))
 
-  ends_closed : (whole : Bool) → (from + length piece == width_of column) ≡ whole → ends_filled piece ≡ true
-      → answer (both (are_wanted (offset_of column + from) piece) (if whole then None
-      else Some (is_blank (offset_of column + (from + length piece)) (width_of column - (from + length piece))))) segment
-      ≡ (wants piece (drop from (field_of column segment))
-      && (closes piece (drop from (field_of column segment)) && fills piece (drop from (field_of column segment))))
+  ends_closed : (whole : Bool) → (from + length piece == field.width) ≡ whole → ends_filled piece ≡ true
+      → answer (both (are_wanted (field.offset + from) piece) (if whole then None
+      else Some (is_blank (field.offset + (from + length piece)) (field.width - (from + length piece))))) segment
+      ≡ (wants piece (drop from (bytes_in field segment))
+      && (closes piece (drop from (bytes_in field segment)) && fills piece (drop from (bytes_in field segment))))
   ends_closed true whole filled =
-      wanted_here segment is column from piece all.fits ∙ with_fills _ _ (filled_here filled)
-      ∙ ap (λ (closed : Bool). wants piece (drop from (field_of column segment)) && (closed && fills piece (drop from (field_of column segment))))
-      (sym (whole_closes (eqb-true (from + length piece) (width_of column) whole)))
+      wanted_here segment is field lies from piece all.fits ∙ with_fills _ _ (filled_here filled)
+      ∙ ap (λ (closed : Bool). wants piece (drop from (bytes_in field segment)) && (closed && fills piece (drop from (bytes_in field segment))))
+      (sym (whole_closes (eqb-true (from + length piece) field.width whole)))
   ends_closed false whole filled =
-      both_answers (wanted_here segment is column from piece all.fits) closes_here ∙ with_both _ _ _ (filled_here filled)
+      both_answers (wanted_here segment is field lies from piece all.fits) closes_here ∙ with_both _ _ _ (filled_here filled)
 
   ends_so_found : (is_open filled : Bool) → ends_filled piece ≡ filled
-      → answer (both (are_wanted (offset_of column + from) piece) (ends_so is_open filled column (from + length piece))) segment
-      ≡ (wants piece (drop from (field_of column segment))
-      && ((is_open || closes piece (drop from (field_of column segment))) && fills piece (drop from (field_of column segment))))
-  ends_so_found true true filled = wanted_here segment is column from piece all.fits ∙ with_fills _ _ (filled_here filled)
-  ends_so_found true false filled = both_answers (wanted_here segment is column from piece all.fits) fills_here
-  ends_so_found false true filled = ends_closed (from + length piece == width_of column) refl filled
+      → answer (both (are_wanted (field.offset + from) piece) (ends_so is_open filled field (from + length piece))) segment
+      ≡ (wants piece (drop from (bytes_in field segment))
+      && ((is_open || closes piece (drop from (bytes_in field segment))) && fills piece (drop from (bytes_in field segment))))
+  ends_so_found true true filled = wanted_here segment is field lies from piece all.fits ∙ with_fills _ _ (filled_here filled)
+  ends_so_found true false filled = both_answers (wanted_here segment is field lies from piece all.fits) fills_here
+  ends_so_found false true filled = ends_closed (from + length piece == field.width) refl filled
   ends_so_found false false filled =
-      both_answers (wanted_here segment is column from piece all.fits) (both_answers closes_here fills_here)
+      both_answers (wanted_here segment is field lies from piece all.fits) (both_answers closes_here fills_here)
 
   -- a pattern's last piece
-  pub ends_found : (is_open : Bool) → answer (ends_at column piece is_open from) segment
-      ≡ has_text (is_text_like (ending piece is_open)) (drop from (field_of column segment))
+  pub ends_found : (is_open : Bool) → answer (ends_at field piece is_open from) segment
+      ≡ has_text (is_text_like (ending piece is_open)) (drop from (bytes_in field segment))
   ends_found is_open =
       let within = all.fits.within in
-      let long = field_long segment is column in
+      let long = field_long segment is field lies in
       ends_so_found is_open (ends_filled piece) refl
-      ∙ like_parts piece is_open (drop from (field_of column segment)) all.fits.are
-      (omega (arith, length-drop from (field_of column segment)))
+      ∙ like_parts piece is_open (drop from (bytes_in field segment)) all.fits.are
+      (omega (arith, length-drop from (bytes_in field segment)))
 
-module _ (segment : SegmentParts) (is : IsSegment segment) (column : TextColumn) (piece : List PatternPart) (are : IsPiece piece) where
-  piece_by : (is_open short : Bool) → nat_le (length piece) (width_of column) ≡ short
-      → answer (if short then ends_at column piece is_open 0 else Decided false) segment
-      ≡ has_text (is_text_like (ending piece is_open)) (field_of column segment)
+module _ (segment : SegmentParts) (is : IsSegment segment) (field : Field) (lies : IsInside field) (piece : List PatternPart)
+    (are : IsPiece piece) where
+  piece_by : (is_open short : Bool) → nat_le (length piece) field.width ≡ short
+      → answer (if short then ends_at field piece is_open 0 else Decided false) segment
+      ≡ has_text (is_text_like (ending piece is_open)) (bytes_in field segment)
   piece_by is_open true short =
-      let few = leb-true (length piece) (width_of column) short in
-      ends_found segment is column 0 piece
+      let few = leb-true (length piece) field.width short in
+      ends_found segment is field lies 0 piece
       (record { fits = record { within = omega arith; are = are }; last = omega arith }) is_open
   piece_by is_open false short =
-      let many = leb-false (length piece) (width_of column) short in
-      let long = field_long segment is column in
+      let many = leb-false (length piece) field.width short in
+      let long = field_long segment is field lies in
       let takes = taken_ending piece is_open are in
-      let unlike = like_long (ending piece is_open) (field_of column segment) (omega arith) in
-      sym (ap (λ (like : Bool). not (are_blank (field_of column segment)) && like) unlike
-      ∙ and_false (not (are_blank (field_of column segment))))
+      let unlike = like_long (ending piece is_open) (bytes_in field segment) (omega arith) in
+      sym (ap (λ (like : Bool). not (are_blank (bytes_in field segment)) && like) unlike
+      ∙ and_false (not (are_blank (bytes_in field segment))))
 
-  -- a column isn't NULL and matches a pattern of one piece
-  pub piece_found : (is_open : Bool) → answer (is_piece column piece is_open) segment
-      ≡ has_text (is_text_like (ending piece is_open)) (field_of column segment)
-  piece_found is_open = piece_by is_open (nat_le (length piece) (width_of column)) refl
+  -- a field isn't blank and matches a pattern of one piece
+  pub piece_found : (is_open : Bool) → answer (is_piece field piece is_open) segment
+      ≡ has_text (is_text_like (ending piece is_open)) (bytes_in field segment)
+  piece_found is_open = piece_by is_open (nat_le (length piece) field.width) refl

@@ -2,6 +2,7 @@ pub mod Among
 pub mod BytePairs
 pub mod CompileFault
 pub mod Chosen
+pub mod Function
 pub mod Grid
 pub mod Columns
 pub mod Expressions

@@ -1,24 +1,21 @@
 -- The questions whether a filter is true and whether it is false. Each has an answer, even if the filter is neither. NOT exchanges them.
-use Rattle.std.specs.Prelude.{◌≡◌, ℕ, zero, suc, ◌+◌, ◌-◌, ◌==◌, ◌||◌, ℤ, pos, nat_le, Bool, true, false, not, List, [], ◌∷◌, ◌++◌, length, map, replicate}
+use Rattle.std.specs.Prelude.{◌≡◌, ◌≤◌, ℕ, zero, suc, ◌+◌, ◌-◌, ◌==◌, ℤ, pos, nat_le, Bool, true, false, not, List, [], ◌∷◌, length, map, replicate}
 use Rattle.std.specs.Prelude.{Option, Some, None, MatchResult, Result, if◌then◌else◌}
 use Rattle.std.specs.Bool.{beq}
 use Rattle.std.specs.Int.{w64, cast_signed}
-use Rattle.tl_segments.specs.declared.limits.TheConstants.{MAX_RANGES}
-use Rattle.cql2.specs.Column.{text_places}
+use Rattle.tl_records.specs.declared.layout.TheConstants.{RECORD_LENGTH}
+use Rattle.tl_segments.specs.declared.name.TheConstants.{NAME_LENGTH}
+use Rattle.cql2.specs.Column.{is_right_justified, text_places}
 use Rattle.cql2.specs.Filter.{compares}
 use Rattle.cql2.specs.declared.column.Column.{Column}
 use Rattle.cql2.specs.declared.column.Column.TheVariants.{Numeric, Text}
-use Rattle.cql2.specs.declared.column.CoordinateColumn.TheVariants.{Frlong, Frlat, Tolong, Tolat}
 use Rattle.cql2.specs.declared.column.NumericColumn.{NumericColumn}
-use Rattle.cql2.specs.declared.column.NumericColumn.TheVariants as column
 use Rattle.cql2.specs.declared.column.TextColumn.{TextColumn}
 use Rattle.cql2.specs.declared.filter.Comparison.{Comparison}
 use Rattle.cql2.specs.declared.filter.Comparison.TheVariants.{Equal, NotEqual, Less, LessOrEqual, Greater, GreaterOrEqual}
 use Rattle.cql2.specs.declared.filter.Filter.{Filter}
 use Rattle.cql2.specs.declared.filter.Filter.TheVariants.{Constant, And', Or', Not', IsNull, CompareNumber, CompareNumbers, CompareText, CompareTexts, Like}
-use Rattle.cql2.specs.declared.filter.Filter.TheVariants.{HasName}
-use Rattle.cql2.specs.declared.filter.Filter.TheVariants as filter
-use Rattle.cql2.specs.declared.geometry.Shape.{Shape}
+use Rattle.cql2.specs.declared.filter.Filter.TheVariants.{Function}
 use Rattle.cql2.specs.Folding.{is_alike}
 use Rattle.cql2.specs.declared.pattern.Folding.{Folding}
 use Rattle.cql2.specs.declared.pattern.PatternPart.{PatternPart}
@@ -27,22 +24,19 @@ use Rattle.cql2_code.specs.Among.{among}
 use Rattle.cql2_code.specs.Grid.{grid}
 use Rattle.cql2_code.specs.Pieces.{pieces_of, taken}
 use Rattle.cql2_code.specs.Question.{Question, Coded, Decided, Opposite, Joined, bytes_value}
-use Rattle.bpf_insn.specs.Code.{word_count}
+pub use Rattle.cql2_code.specs.Question.{if_asked}
 use Rattle.bpf_insn.specs.declared.instruction.Insn.{Insn}
 pub use Rattle.cql2_code.specs.Columns.{has_value, number_of, test}
 use Rattle.cql2_code.specs.BytePairs.{compares_pair}
 use Rattle.cql2_code.specs.Expressions.{compares_numbers}
-use Rattle.cql2_code.specs.Layout.{Prepends, Refuses, Writes, opposite, program}
-use Rattle.cql2_code.specs.ShapeCode.{meets_shape}
+use Rattle.cql2_code.specs.Layout.{Refuses, Writes, opposite, program}
+use Rattle.cql2_code.specs.Function.{asks_function}
 use Rattle.cql2_code.specs.declared.fault.CompileFault.{CompileFault}
+use Rattle.cql2_code.specs.declared.field.Field.{Field}
 use Rattle.cql2_code.specs.declared.question.Exits.{Exits}
 use Rattle.cql2_code.specs.declared.question.Chunk.{Chunk}
 use Rattle.cql2_code.specs.declared.question.Chunk.TheVariants.{Byte, Word, DoubleWord}
-use Rattle.cql2_code.specs.declared.question.Subject.TheVariants.{Names, Ranges, InRange, NameIs, Load}
-
-abbrev pub if_asked : Question → Bool → Question
-if_asked question true = question
-if_asked question false = Opposite question
+use Rattle.cql2_code.specs.declared.question.Subject.TheVariants.{Load}
 
 -- Numeric columns
 
@@ -89,16 +83,18 @@ has_bytes at bytes = has_few at bytes
 abbrev pub is_blank : ℕ → ℕ → Question
 is_blank at count = has_bytes at (replicate count 32)
 
--- Text columns, by the offset and width of their fields
+-- Fields of text columns
 
-abbrev pub offset_of : TextColumn → ℕ
-offset_of column = (text_places column).0 - 1
+abbrev pub field_of : TextColumn → Field
+field_of column =
+    let offset = (text_places column).0 - 1 in record { offset = offset; width = (text_places column).1 - offset }
 
-abbrev pub width_of : TextColumn → ℕ
-width_of column = (text_places column).1 - offset_of column
+-- it is part of the record, and no longer than a name
+abbrev pub IsTextField : Field → Type 0
+IsTextField field = (field.offset + field.width ≤ RECORD_LENGTH) × (field.width ≤ NAME_LENGTH)
 
-abbrev pub is_null_text : TextColumn → Question
-is_null_text column = is_blank (offset_of column) (width_of column)
+abbrev pub is_blank_field : Field → Question
+is_blank_field field = is_blank field.offset field.width
 
 -- the bytes below a limit that a test chooses, in descending order
 unfoldable pub bytes_where : (ℕ → Bool) → ℕ → List ℕ
@@ -160,13 +156,13 @@ ends_filled (wanted ∷ next ∷ piece) = ends_filled (next ∷ piece)
 
 -- The question after the wanted bytes, whose end is given. If no more bytes may follow, the rest of the field must be blank. If the last wanted
 -- byte may be a blank, the text is long enough only if the field isn't blank from that byte on.
-abbrev pub ends_so : Bool → Bool → TextColumn → ℕ → Option Question
-ends_so true true column count = None
-ends_so true false column count = Some (Opposite (is_blank (offset_of column + (count - 1)) (width_of column - (count - 1))))
-ends_so false true column count =
-    if count == width_of column then None else Some (is_blank (offset_of column + count) (width_of column - count))
-ends_so false false column count = Some (Joined true (is_blank (offset_of column + count) (width_of column - count))
-    (Opposite (is_blank (offset_of column + (count - 1)) (width_of column - (count - 1)))))
+abbrev pub ends_so : Bool → Bool → Field → ℕ → Option Question
+ends_so true true field count = None
+ends_so true false field count = Some (Opposite (is_blank (field.offset + (count - 1)) (field.width - (count - 1))))
+ends_so false true field count =
+    if count == field.width then None else Some (is_blank (field.offset + count) (field.width - count))
+ends_so false false field count = Some (Joined true (is_blank (field.offset + count) (field.width - count))
+    (Opposite (is_blank (field.offset + (count - 1)) (field.width - (count - 1)))))
 
 abbrev pub both : Question → Option Question → Question
 both first None = first
@@ -182,19 +178,19 @@ abbrev pub PrependsBefore : Result Exits CompileFault → Option Question → Ex
 PrependsBefore result second exits old new = MatchResult result (λ first. WritesBefore second exits first old new)
     (λ fault. (wanted : Question) → Refuses (both wanted second) exits old fault)
 
--- a pattern's last piece is in a column from a byte on, which isn't blank there: the text ends after it, or later if the pattern is open
-abbrev pub ends_at : TextColumn → List PatternPart → Bool → ℕ → Question
-ends_at column piece is_open from =
-    both (are_wanted (offset_of column + from) piece) (ends_so is_open (ends_filled piece) column (from + length piece))
+-- a pattern's last piece is in a field from a byte on, which isn't blank there: the text ends after it, or later if the pattern is open
+abbrev pub ends_at : Field → List PatternPart → Bool → ℕ → Question
+ends_at field piece is_open from =
+    both (are_wanted (field.offset + from) piece) (ends_so is_open (ends_filled piece) field (from + length piece))
 
--- a column isn't NULL and matches a pattern of one piece
-abbrev pub is_piece : TextColumn → List PatternPart → Bool → Question
-is_piece column piece is_open = if nat_le (length piece) (width_of column) then ends_at column piece is_open 0 else Decided false
+-- a field isn't blank and matches a pattern of one piece
+abbrev pub is_piece : Field → List PatternPart → Bool → Question
+is_piece field piece is_open = if nat_le (length piece) field.width then ends_at field piece is_open 0 else Decided false
 
--- a piece after a `%` is in a column from a byte on
-abbrev pub cell : TextColumn → List PatternPart → Bool → Bool → ℕ → Question
-cell column piece true is_open at = ends_at column piece is_open at
-cell column piece false is_open at = are_wanted (offset_of column + at) piece
+-- a piece after a `%` is in a field from a byte on
+abbrev pub cell : Field → List PatternPart → Bool → Bool → ℕ → Question
+cell field piece true is_open at = ends_at field piece is_open at
+cell field piece false is_open at = are_wanted (field.offset + at) piece
 
 -- no piece follows
 abbrev pub is_last : List (List PatternPart) → Bool
@@ -202,28 +198,23 @@ is_last [] = true
 is_last (piece ∷ pieces) = false
 
 -- the pieces after a `%`, by the number of bytes that the `%`s before them take
-abbrev pub rows_of : TextColumn → Bool → ℕ → List (List PatternPart) → List (ℕ → Question)
-rows_of column is_open from [] = []
-rows_of column is_open from (piece ∷ pieces) =
-    (λ shift. cell column piece (is_last pieces) is_open (from + shift)) ∷ rows_of column is_open (from + length piece) pieces
+abbrev pub rows_of : Field → Bool → ℕ → List (List PatternPart) → List (ℕ → Question)
+rows_of field is_open from [] = []
+rows_of field is_open from (piece ∷ pieces) =
+    (λ shift. cell field piece (is_last pieces) is_open (from + shift)) ∷ rows_of field is_open (from + length piece) pieces
 
--- A column isn't NULL and matches a pattern: each piece is searched for after the previous one. What follows a `%` matches all the more the earlier
+-- A field isn't blank and matches a pattern: each piece is searched for after the previous one. What follows a `%` matches all the more the earlier
 -- it may begin, so the leftmost place will do.
-abbrev pub are_pieces : TextColumn → List PatternPart → List (List PatternPart) → Bool → ℕ → Question
-are_pieces column first [] is_open total = is_piece column first is_open
-are_pieces column first (piece ∷ others) is_open total =
-    if nat_le total (width_of column)
-    then Joined true (are_wanted (offset_of column) first)
-    (Coded (grid (rows_of column is_open (length first) (piece ∷ others)) (suc (width_of column - total))))
+abbrev pub are_pieces : Field → List PatternPart → List (List PatternPart) → Bool → ℕ → Question
+are_pieces field first [] is_open total = is_piece field first is_open
+are_pieces field first (piece ∷ others) is_open total =
+    if nat_le total field.width
+    then Joined true (are_wanted field.offset first)
+    (Coded (grid (rows_of field is_open (length first) (piece ∷ others)) (suc (field.width - total))))
     else Decided false
 
-abbrev pub is_like : TextColumn → List PatternPart → Question
-is_like column pattern = let pieces = pieces_of pattern in are_pieces column pieces.first pieces.others pieces.is_open (taken pattern)
-
--- a column matches a pattern, or isn't NULL and doesn't match it
-abbrev pub asks_like : TextColumn → List PatternPart → Bool → Question
-asks_like column pattern true = is_like column pattern
-asks_like column pattern false = Joined true (Opposite (is_null_text column)) (Opposite (is_like column pattern))
+abbrev pub is_like : Field → List PatternPart → Question
+is_like field pattern = let pieces = pieces_of pattern in are_pieces field pieces.first pieces.others pieces.is_open (taken pattern)
 
 -- the rest of a field, given by its offset and length, is less than a text
 abbrev pub is_less : ℕ → ℕ → List ℕ → Question
@@ -239,13 +230,14 @@ is_greater at (suc left) [] = Opposite (is_blank at (suc left))
 is_greater at (suc left) (byte ∷ text) =
     Joined false (byte_test at Greater byte) (Joined true (byte_test at Equal byte) (is_greater (at + 1) left text))
 
-abbrev pub compares_bytes : TextColumn → Comparison → List ℕ → Question
-compares_bytes column Equal text = is_piece column (map Exactly text) false
-compares_bytes column NotEqual text = Opposite (is_piece column (map Exactly text) false)
-compares_bytes column Less text = is_less (offset_of column) (width_of column) text
-compares_bytes column GreaterOrEqual text = Opposite (is_less (offset_of column) (width_of column) text)
-compares_bytes column Greater text = is_greater (offset_of column) (width_of column) text
-compares_bytes column LessOrEqual text = Opposite (is_greater (offset_of column) (width_of column) text)
+-- a comparison holds for the text in a field that isn't blank, and a text
+abbrev pub compares_bytes : Field → Comparison → List ℕ → Question
+compares_bytes field Equal text = is_piece field (map Exactly text) false
+compares_bytes field NotEqual text = Opposite (is_piece field (map Exactly text) false)
+compares_bytes field Less text = is_less field.offset field.width text
+compares_bytes field GreaterOrEqual text = Opposite (is_less field.offset field.width text)
+compares_bytes field Greater text = is_greater field.offset field.width text
+compares_bytes field LessOrEqual text = Opposite (is_greater field.offset field.width text)
 
 -- whether a comparison holds for a blank field, which is less than any text
 abbrev pub holds_of_blanks : Comparison → Bool
@@ -255,13 +247,6 @@ holds_of_blanks Less = true
 holds_of_blanks LessOrEqual = true
 holds_of_blanks Greater = false
 holds_of_blanks GreaterOrEqual = false
-
--- a column isn't NULL, and a comparison holds for it and a text
-abbrev pub compares_text : TextColumn → Comparison → List ℕ → Question
-compares_text column comparison text =
-    if holds_of_blanks comparison
-    then Joined true (Opposite (is_null_text column)) (compares_bytes column comparison text)
-    else compares_bytes column comparison text
 
 -- Two fields, each given by its offset and length
 
@@ -281,90 +266,56 @@ is_less_field at (suc left) other (suc more) =
     (Joined false (compares_pair at Less other)
     (Joined true (compares_pair at Equal other) (is_less_field (at + 1) left (other + 1) more))))
 
-abbrev pub is_same_column : TextColumn → TextColumn → Question
-is_same_column first second = is_same_field (offset_of first) (width_of first) (offset_of second) (width_of second)
+-- a comparison holds for the texts in two fields that aren't blank
+abbrev pub compares_fields : Field → Comparison → Field → Question
+compares_fields first Equal second = is_same_field first.offset first.width second.offset second.width
+compares_fields first NotEqual second = Opposite (is_same_field first.offset first.width second.offset second.width)
+compares_fields first Less second = is_less_field first.offset first.width second.offset second.width
+compares_fields first GreaterOrEqual second = Opposite (is_less_field first.offset first.width second.offset second.width)
+compares_fields first Greater second = is_less_field second.offset second.width first.offset first.width
+compares_fields first LessOrEqual second = Opposite (is_less_field second.offset second.width first.offset first.width)
 
-abbrev pub is_less_column : TextColumn → TextColumn → Question
-is_less_column first second = is_less_field (offset_of first) (width_of first) (offset_of second) (width_of second)
+-- The texts of columns
 
-abbrev pub compares_fields : TextColumn → Comparison → TextColumn → Question
-compares_fields first Equal second = is_same_column first second
-compares_fields first NotEqual second = Opposite (is_same_column first second)
-compares_fields first Less second = is_less_column first second
-compares_fields first GreaterOrEqual second = Opposite (is_less_column first second)
-compares_fields first Greater second = is_less_column second first
-compares_fields first LessOrEqual second = Opposite (is_less_column second first)
+-- a field begins with no blank, and a question about it has the answer yes
+abbrev pub asks_if_filled : (Field → Question) → Field → Question
+asks_if_filled ask field = Joined true (byte_test field.offset NotEqual 32) (ask field)
+
+-- a question about the rest of a field, given by its offset and length, without the blanks before its text; no if it is blank
+abbrev pub asks_without_blanks_before : (Field → Question) → ℕ → ℕ → Question
+asks_without_blanks_before ask at zero = Decided false
+asks_without_blanks_before ask at (suc left) =
+    Joined false (asks_if_filled ask (record { offset = at; width = suc left }))
+    (Joined true (byte_test at Equal 32) (asks_without_blanks_before ask (at + 1) left))
+
+-- A column isn't NULL, and a question about its text has the answer yes. The question is asked about the field that begins with the text.
+-- `of_blanks` says whether it could also have the answer yes for a blank field.
+abbrev pub asks_about : Bool → (Field → Question) → TextColumn → Question
+asks_about of_blanks ask column =
+    let field = field_of column in
+    if is_right_justified column then asks_without_blanks_before ask field.offset field.width
+    else if of_blanks then Joined true (Opposite (is_blank_field field)) (ask field)
+    else ask field
+
+-- a column isn't NULL, and a comparison holds for it and a text
+abbrev pub compares_text : TextColumn → Comparison → List ℕ → Question
+compares_text column comparison text =
+    asks_about (holds_of_blanks comparison) (λ field. compares_bytes field comparison text) column
+
+-- a column matches a pattern, or isn't NULL and doesn't match it
+abbrev pub asks_like : TextColumn → List PatternPart → Bool → Question
+asks_like column pattern asked = asks_about (not asked) (λ field. if_asked (is_like field pattern) asked) column
 
 -- neither of two columns is NULL, and a comparison holds for them
 abbrev pub compares_columns : TextColumn → Comparison → TextColumn → Question
 compares_columns first comparison second =
-    Joined true (Opposite (is_null_text first)) (Joined true (Opposite (is_null_text second)) (compares_fields first comparison second))
-
--- Names and ranges
-
--- the indices at which the code first asks whether there are that many names or ranges: the powers of two
-abbrev pub checks_for_end : ℕ → Bool
-checks_for_end at = at == 1 || at == 2 || at == 4 || at == 8 || at == 16 || at == 32 || at == 64 || at == 128 || at == 256 || at == 512
-
--- a house number lies on a side of one of several ranges, given by the index of the first one and by their count
-unfoldable pub lies_from : ℕ → ℕ → ℕ → Question
-lies_from house at zero = Decided false
-lies_from house at (suc more) =
-    if checks_for_end at
-    then Joined true (test Ranges Greater (pos at))
-    (Joined false (test (InRange at house) NotEqual (pos 0)) (lies_from house (at + 1) more))
-    else Joined false (test (InRange at house) NotEqual (pos 0)) (lies_from house (at + 1) more)
-
--- the code that asks about a range is written before the code that asks about later ones, or refused
-abbrev pub PrependsRange : Result (Unit {0}) CompileFault → ℕ → ℕ → ℕ → Exits → List Insn → List Insn → Type 0
-PrependsRange result house range end exits old new = (more : ℕ) (rest : List Insn) → word_count rest ≡ end
-    → Writes (lies_from house (range + 1) more) exits rest old → Prepends result (lies_from house range (suc more)) exits rest new
-
-abbrev pub asks_has_number : ℕ → Bool → Question
-asks_has_number house asked = if_asked (lies_from house 0 (suc MAX_RANGES)) asked
-
--- a name as it is in the frame: padded with blanks
-abbrev pub name_block : List ℕ → List ℕ
-name_block text = text ++ replicate (32 - length text) 32
-
--- one of several names, given by the index of the first one and by their count, is the wanted one
-unfoldable pub is_named_from : List ℕ → ℕ → ℕ → Question
-is_named_from wanted at zero = Decided false
-is_named_from wanted at (suc more) =
-    if checks_for_end at
-    then Joined true (test Names GreaterOrEqual (pos at))
-    (Joined false (test (NameIs at wanted) NotEqual (pos 0)) (is_named_from wanted (at + 1) more))
-    else Joined false (test (NameIs at wanted) NotEqual (pos 0)) (is_named_from wanted (at + 1) more)
-
-abbrev pub PrependsName : Result (Unit {0}) CompileFault → List ℕ → ℕ → ℕ → Exits → List Insn → List Insn → Type 0
-PrependsName result wanted name end exits old new = (more : ℕ) (rest : List Insn) → word_count rest ≡ end
-    → Writes (is_named_from wanted (name + 1) more) exits rest old → Prepends result (is_named_from wanted name (suc more)) exits rest new
-
-abbrev pub is_named : List ℕ → ℕ → Question
-is_named text most = is_named_from (name_block text) 0 (suc most)
-
--- whether a name is the wanted one; or whether none is, and the segment has no more names
-abbrev pub asks_has_name : List ℕ → ℕ → Bool → Question
-asks_has_name text most true = is_named text most
-asks_has_name text most false = Joined true (test Names LessOrEqual (pos most)) (Opposite (is_named text most))
-
--- Shapes
-
--- none of the coordinates where a segment starts and ends is NULL
-abbrev pub knows_line : Question
-knows_line =
-    Joined true (has_value (column.Coordinate Frlong))
-    (Joined true (has_value (column.Coordinate Frlat))
-    (Joined true (has_value (column.Coordinate Tolong)) (has_value (column.Coordinate Tolat))))
-
-abbrev pub asks_intersects : {A : Type 0} → Shape A → Bool → Question
-asks_intersects shape asked = Joined true knows_line (if_asked (Coded (meets_shape shape)) asked)
+    asks_about true (λ field. asks_about true (compares_fields field comparison) second) first
 
 -- Filters
 
 abbrev pub is_null : Column → Question
 is_null (Numeric column) = Opposite (has_value column)
-is_null (Text column) = is_null_text column
+is_null (Text column) = is_blank_field (field_of column)
 
 abbrev pub asks_whether : {A : Type 0} → Filter A → Bool → Question
 asks_whether (Constant value) asked = Decided (beq value asked)
@@ -381,8 +332,14 @@ asks_whether (CompareTexts first comparison second) asked =
 asks_whether (CompareText column comparison text) asked =
     compares_text column (if asked then comparison else opposite comparison) text.bytes.items
 asks_whether (Like column pattern) asked = asks_like column pattern.parts.items asked
-asks_whether (filter.HasNumber house) asked = asks_has_number house.number asked
-asks_whether (HasName text limit) asked = asks_has_name text.bytes.items limit.number asked
+asks_whether (Function function) asked = asks_function function asked
+
+-- a filter with no others in it
+abbrev pub is_leaf : {A : Type 0} → Filter A → Bool
+is_leaf (And' p first q second) = false
+is_leaf (Or' p first q second) = false
+is_leaf (Not' p inner) = false
+is_leaf filter = true
 
 -- the program of a filter
 abbrev pub program_of : {A : Type 0} → Filter A → Option NumericColumn → List Insn

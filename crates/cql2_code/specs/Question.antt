@@ -1,6 +1,7 @@
 -- Questions about a segment, which always have an answer: yes or no. A test compares a number read from the segment with a constant, a block
 -- brings its code with it, and all other questions are made of these.
-use Rattle.std.specs.Prelude.{ℕ, ◌+◌, ◌*◌, ◌≤◌, ◌<◌, ◌^◌, Bool, not, List, [], ◌∷◌, length, take, drop, is_some, slice_get, FitsSigned, if◌then◌else◌}
+use Rattle.std.specs.Prelude.{ℕ, ◌+◌, ◌*◌, ◌≤◌, ◌<◌, ◌^◌, Bool, true, false, not, List, [], ◌∷◌, length, take, drop, is_some, slice_get}
+use Rattle.std.specs.Prelude.{FitsSigned, if◌then◌else◌}
 use Rattle.std.specs.Bool.{beq}
 use Rattle.std.specs.Int.{w64}
 use Rattle.bpf_helpers.specs.Meaning.{truth, coordinate, field_number, is_name, or_zero, sides}
@@ -124,3 +125,8 @@ answer (Holds test) segment = is_so test segment
 answer (Opposite question) segment = not (answer question segment)
 answer (Joined neutral first second) segment = joined neutral (answer first segment) (answer second segment)
 answer (Coded block) segment = block.answer segment
+
+-- a question, or its opposite
+abbrev pub if_asked : Question → Bool → Question
+if_asked question true = question
+if_asked question false = Opposite question

@@ -5,7 +5,6 @@ use Rattle.std.specs.Prelude.{ℕ, ◌+◌, ℤ, pos, ◌-ℤ◌, ◌*ℤ◌, in
 use Rattle.std.specs.Int.{int_max, int_min}
 use Rattle.std.specs.List.{flat_map}
 use Rattle.std.proofs.Common.{lit≤}
-use Rattle.bpf_helpers.specs.declared.helper.Helper.TheVariants.{Coord}
 use Rattle.bpf_insn.specs.Arithmetic.{immediate_operand}
 use Rattle.bpf_insn.specs.declared.instruction.Insn.{Insn}
 use Rattle.bpf_insn.specs.declared.instruction.Insn.TheVariants.{Alu, MoveSignExtended}
@@ -17,7 +16,7 @@ use Rattle.bpf_insn.specs.declared.instruction.Source.TheVariants as source
 use Rattle.bpf_insn.specs.declared.instruction.Width.TheVariants.{Bits64}
 use Rattle.bpf_insn.specs.declared.register.Register.{Register}
 use Rattle.bpf_insn.specs.declared.register.WritableRegister.{WritableRegister}
-use Rattle.cql2.specs.Geometry.{Edge, Point, eastward, edge_of, edges_of_bounds, edges_of_polygon, edges_through, meets, northward}
+use Rattle.cql2.specs.Geometry.{Edge, Point, eastward, edge_of, edges_of_bounds, edges_of_polygon, edges_of_ring, edges_through, meets, northward}
 use Rattle.cql2.specs.Column.{numeric_value}
 use Rattle.cql2.specs.declared.column.CoordinateColumn.{CoordinateColumn}
 use Rattle.cql2.specs.declared.column.CoordinateColumn.TheVariants.{Frlong, Frlat, Tolong, Tolat}
@@ -26,13 +25,17 @@ use Rattle.cql2.specs.declared.filter.Comparison.{Comparison}
 use Rattle.cql2.specs.declared.filter.Comparison.TheVariants.{Equal, NotEqual, Less, LessOrEqual, Greater, GreaterOrEqual}
 use Rattle.cql2.specs.declared.geometry.Bounds.{Bounds}
 use Rattle.cql2.specs.declared.geometry.Polygon.{Polygon}
+use Rattle.cql2.specs.declared.geometry.Ring.{Ring}
 use Rattle.cql2.specs.declared.geometry.Shape.{Shape}
 use Rattle.cql2.specs.declared.geometry.Shape.TheVariants as shape
 use Rattle.tl_segments.specs.Segment.{SegmentParts}
-use Rattle.cql2_code.specs.Layout.{call, comparison_code, copy, from_argument_1, from_kept}
-use Rattle.cql2_code.specs.Layout.{from_result, into_argument_1, into_kept, into_result, move, wide_load}
+use Rattle.cql2_code.specs.Layout.{comparison_code, copy, from_argument_1, from_kept, from_result, into_argument_1, into_kept, into_result}
+use Rattle.cql2_code.specs.Layout.{move, subject_code, wide_load}
 use Rattle.cql2_code.specs.Question.{Block}
 use Rattle.cql2_code.specs.Skipping.{Compared, skip, unless, unless_both}
+use Rattle.cql2_code.specs.declared.line.Extent.{Extent}
+use Rattle.cql2_code.specs.declared.line.Extent.TheVariants.{Whole, Start}
+use Rattle.cql2_code.specs.declared.question.Subject.TheVariants as subject
 
 -- registers 2 to 5; register 2 receives a side, and registers 3 and 4 the operands of what is computed
 abbrev pub into_side : WritableRegister
@@ -176,6 +179,9 @@ inside_code =
     copy into_first from_argument_1 ∷ combine_number operation.And into_first (pos 3)
     ∷ (unless (compare_number Equal from_first (pos 0)) marks_met ++ combine_number operation.And into_argument_1 (pos 4) ∷ [])
 
+abbrev pub ring_code : {A : Type 0} → Ring A → List Insn
+ring_code ring = flat_map polygon_edge_code (edges_of_ring ring.vertices.items)
+
 abbrev pub polygon_code : {A : Type 0} → Polygon A → List Insn
 polygon_code polygon = flat_map polygon_edge_code (edges_of_polygon polygon) ++ inside_code
 
@@ -198,12 +204,20 @@ shape_code (shape.Line vertices) = flat_map edge_code (edges_through vertices.it
 shape_code (shape.Bounds bounds) = bounds_code bounds
 shape_code (shape.Polygons several) = flat_map polygon_code several.polygons.items
 
--- a coordinate of the line, by its id
-abbrev pub read_coordinate : ℕ → List Insn
-read_coordinate id = move into_argument_1 (pos id) ∷ call Coord ∷ []
+-- The columns of the coordinates where the line ends. If only its start is read, it ends where it starts.
+abbrev pub end_longitude : Extent → CoordinateColumn
+end_longitude Whole = Tolong
+end_longitude Start = Frlong
 
-abbrev pub keep_coordinate : ℕ → List Insn
-keep_coordinate id = read_coordinate id ++ copy (into_kept id) from_result ∷ []
+abbrev pub end_latitude : Extent → CoordinateColumn
+end_latitude Whole = Tolat
+end_latitude Start = Frlat
+
+abbrev pub read_coordinate : CoordinateColumn → List Insn
+read_coordinate column = subject_code (subject.Coordinate column)
+
+abbrev pub keep_coordinate : ℕ → CoordinateColumn → List Insn
+keep_coordinate level column = read_coordinate column ++ copy (into_kept level) from_result ∷ []
 
 -- The other registers are set, in an order that leaves no doubt which of them are set before an instruction.
 abbrev pub set_registers : List Insn
@@ -212,8 +226,10 @@ set_registers =
     ∷ MoveSignExtended Bits32To64 into_side from_result ∷ []
 
 -- the line is read
-abbrev pub line_code : List Insn
-line_code = keep_coordinate 0 ++ (keep_coordinate 1 ++ (keep_coordinate 2 ++ (read_coordinate 3 ++ set_registers)))
+abbrev pub line_code : Extent → List Insn
+line_code extent =
+    keep_coordinate 0 Frlong
+    ++ (keep_coordinate 1 Frlat ++ (keep_coordinate 2 (end_longitude extent) ++ (read_coordinate (end_latitude extent) ++ set_registers)))
 
 -- the marks that the code of a shape leaves in register 3
 abbrev pub marks_code : {A : Type 0} → Shape A → List Insn
@@ -231,16 +247,16 @@ or_zero (Some millionths) = millionths
 abbrev pub coordinate_at : SegmentParts → CoordinateColumn → ℤ
 coordinate_at segment column = or_zero (numeric_value (Coordinate column) segment.bytes)
 
--- the straight line from a segment's start to its end
-abbrev pub line_of : SegmentParts → Edge
-line_of segment = record {
+-- the straight line from a segment's start to its end, or to its start
+abbrev pub line_of : Extent → SegmentParts → Edge
+line_of extent segment = record {
   start = record { longitude = coordinate_at segment Frlong; latitude = coordinate_at segment Frlat };
-  end = record { longitude = coordinate_at segment Tolong; latitude = coordinate_at segment Tolat };
+  end = record { longitude = coordinate_at segment (end_longitude extent); latitude = coordinate_at segment (end_latitude extent) };
 }
 
 -- the line meets a shape
-abbrev pub meets_shape : {A : Type 0} → Shape A → Block
-meets_shape shape = record {
-  code = λ falls skip. line_code ++ (marks_code shape ++ mark_comparison falls skip);
-  answer = λ segment. meets shape (line_of segment);
+abbrev pub meets_shape : {A : Type 0} → Extent → Shape A → Block
+meets_shape extent shape = record {
+  code = λ falls skip. line_code extent ++ (marks_code shape ++ mark_comparison falls skip);
+  answer = λ segment. meets shape (line_of extent segment);
 }

@@ -1,27 +1,27 @@
 //! Compiling a filter to a program.
-ghost use Rattle.std.specs.Prelude.{◌≡◌, ◌≤◌, ◌++◌, IfErr, IfOk, IsErr, if◌then◌else◌};
+ghost use Rattle.std.specs.Prelude.{◌≡◌, ◌≤◌, ◌++◌, IfErr, IfOk, IsErr, true, if◌then◌else◌};
 ghost use Rattle.bpf_flow.specs.Flow.{IsForward};
 ghost use Rattle.bpf_insn.specs.Code.{word_count};
 ghost use Rattle.bpf_verify.specs.Annotation.{HasGoodAnnotation};
 ghost use Rattle.cql2_code.specs.Chosen.{Chooses};
 ghost use Rattle.cql2_code.specs.Layout as layout;
 ghost use Rattle.cql2_code.specs.Layout.{IsPrepended, IsTooLong, Prepends, answer_code, begun, score_code};
-ghost use Rattle.cql2_code.specs.Lowering.{asks_whether, if_asked, is_null, program_of};
+ghost use Rattle.cql2_code.specs.Lowering.{asks_whether, if_asked, is_leaf, is_null, program_of};
 ghost use Rattle.cql2_code.specs.declared.fault.CompileFault.TheVariants.{TooLong};
 
-use crate::column_texts::prepend_columns;
 use crate::expressions::prepend_numbers;
 use crate::fault::CompileFault;
+use crate::field::field_of;
+use crate::function::prepend_function;
 use crate::instructions::{
     call, copy, from_argument_1, from_result, into_argument_1, into_kept, into_record, into_result,
     move_number,
 };
-use crate::names::{prepend_has_name, prepend_has_number};
 use crate::numbers::{has_value, number_of, prepend_number};
-use crate::patterns::prepend_like;
 use crate::question::{Exits, opposite};
 use crate::suffix::CodeSuffix;
-use crate::texts::{prepend_is_null_text, prepend_text};
+use crate::text_columns::{prepend_columns, prepend_like, prepend_text};
+use crate::texts::prepend_blank_field;
 use bpf_helpers::Helper;
 use bpf_insn::{Code, Insn};
 use cql2::{Column, Comparison, Filter, NumericColumn};
@@ -122,38 +122,52 @@ fn prepend_filter<A: Allocator + Copy>(
                 asked = !asked;
                 filter = inner;
             }
-            Filter::Constant(value) => return code.prepend_constant(*value == asked, exits),
-            Filter::IsNull(column) => return prepend_is_null(code, *column, asked, exits),
-            Filter::CompareNumber(column, comparison, literal) => {
-                let comparison = asked_for(*comparison, asked);
-                return prepend_number(code, *column, comparison, literal.number, exits);
-            }
-            Filter::CompareNumbers(first, comparison, second) => {
-                let comparison = asked_for(*comparison, asked);
-                return prepend_numbers(
-                    code,
-                    &first.expression,
-                    comparison,
-                    &second.expression,
-                    exits,
-                );
-            }
-            Filter::CompareTexts(first, comparison, second) => {
-                let comparison = asked_for(*comparison, asked);
-                return prepend_columns(code, *first, comparison, *second, exits);
-            }
-            Filter::CompareText(column, comparison, text) => {
-                let comparison = asked_for(*comparison, asked);
-                return prepend_text(code, *column, comparison, text.bytes.as_slice(), exits);
-            }
-            Filter::Like(column, pattern) => return prepend_like(
-                code, *column, pattern, asked, exits,
-            ),
-            Filter::HasNumber(house) => return prepend_has_number(code, house.number, asked, exits),
-            Filter::HasName(text, limit) => {
-                return prepend_has_name(code, text.bytes.as_slice(), limit.number, asked, exits);
-            }
+            _ => return prepend_leaf(code, filter, asked, exits),
         }
+    }
+}
+
+/// Writes the code that asks whether a filter with no others in it is true, or whether it is false.
+fn prepend_leaf<A: Allocator + Copy>(
+    code: &mut CodeSuffix<A>,
+    filter: &Filter<A>,
+    asked: bool,
+    exits: Exits,
+) -> Result<(), CompileFault>
+    requires inside { exits.skip ≤ word_count code.old }
+    requires leaf { is_leaf filter.now ≡ true }
+    ensures { Prepends result (asks_whether filter.now asked) exits code.old code.new }
+{
+    match filter {
+        Filter::And(_first, _second) => unreachable!(),
+        Filter::Or(_first, _second) => unreachable!(),
+        Filter::Not(_inner) => unreachable!(),
+        Filter::Constant(value) => code.prepend_constant(*value == asked, exits),
+        Filter::IsNull(column) => prepend_is_null(code, *column, asked, exits),
+        Filter::CompareNumber(column, comparison, literal) => {
+            let comparison = asked_for(*comparison, asked);
+            prepend_number(code, *column, comparison, literal.number, exits)
+        }
+        Filter::CompareNumbers(first, comparison, second) => {
+            let comparison = asked_for(*comparison, asked);
+            prepend_numbers(
+                code,
+                &first.expression,
+                comparison,
+                &second.expression,
+                exits,
+            )
+        }
+        Filter::CompareTexts(first, comparison, second) => {
+            let comparison = asked_for(*comparison, asked);
+            prepend_columns(code, *first, comparison, *second, exits)
+        }
+        Filter::CompareText(column, comparison, text) => {
+            let comparison = asked_for(*comparison, asked);
+            prepend_text(code, *column, comparison, text.bytes.as_slice(), exits)
+        }
+        Filter::Like(column, pattern) => prepend_like(code, *column, pattern, asked, exits),
+        Filter::Function(function) => prepend_function(code, function, asked, exits),
     }
 }
 
@@ -180,6 +194,6 @@ fn prepend_is_null<A: Allocator + Copy>(
 {
     match column {
         Column::Numeric(column) => code.prepend_test(has_value(column), exits.asked(!asked)),
-        Column::Text(column) => prepend_is_null_text(code, column, exits.asked(asked)),
+        Column::Text(column) => prepend_blank_field(code, field_of(column), exits.asked(asked)),
     }
 }

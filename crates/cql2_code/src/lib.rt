@@ -3,20 +3,26 @@
 
 mod arithmetic;
 mod bytes;
-mod column_texts;
 mod compiler;
+mod edges;
 mod expressions;
 mod fault;
+mod field;
+mod field_pairs;
 mod folding;
+mod function;
 mod instructions;
 pub mod laws;
+mod line;
 mod names;
 mod numbers;
 mod patterns;
 mod pieces;
 mod question;
+mod shape_instructions;
 mod shapes;
 mod suffix;
+mod text_columns;
 mod texts;
 
 pub use compiler::compile;

@@ -3,8 +3,8 @@ ghost use Rattle.std.specs.Prelude.{◌≡◌, ◌≤◌, suc, length};
 ghost use Rattle.tl_segments.specs.declared.name.TheConstants.{NAME_LENGTH};
 ghost use Rattle.bpf_insn.specs.Code.{word_count};
 ghost use Rattle.cql2_code.specs.Layout.{Prepends};
-ghost use Rattle.cql2_code.specs.Lowering as lowering;
-ghost use Rattle.cql2_code.specs.Lowering.{PrependsName, PrependsRange, asks_has_name, asks_has_number, is_named_from, name_block};
+ghost use Rattle.cql2_code.specs.Function as function;
+ghost use Rattle.cql2_code.specs.Function.{PrependsName, PrependsRange, asks_has_name, asks_has_number, is_named_from, name_block};
 
 use crate::fault::CompileFault;
 use crate::question::{Exits, Subject, Test};
@@ -65,7 +65,7 @@ fn prepend_range<A: Allocator + Copy>(
 
 /// Returns whether the code asks at this index whether there are more names or ranges.
 fn checks_for_end(at: u16) -> bool
-    ensures { result ≡ lowering.checks_for_end at }
+    ensures { result ≡ function.checks_for_end at }
 {
     matches!(at, 1 | 2 | 4 | 8 | 16 | 32 | 64 | 128 | 256 | 512)
 }

@@ -1,121 +1,107 @@
-//! Questions whether a text column matches a pattern.
+//! Questions whether the text in a field matches a pattern.
 ghost use Rattle.std.specs.Prelude.{◌≡◌, ◌≤◌, ◌+◌, ◌==◌, [], length, suc, true};
 ghost use Rattle.bpf_insn.specs.Code.{word_count};
 ghost use Rattle.cql2_code.specs.Grid.{IsLaid, grid, lay_row, lay_rows};
 ghost use Rattle.cql2_code.specs.Layout.{Prepends};
-ghost use Rattle.cql2_code.specs.Lowering.{asks_like, cell, ends_at, is_like, is_piece, rows_of, width_of};
+ghost use Rattle.cql2_code.specs.Lowering.{IsTextField, cell, ends_at, is_like, is_piece, rows_of};
 ghost use Rattle.cql2_code.specs.Pieces.{pieces_of, taken};
 ghost use Rattle.cql2_code.specs.Question.{Coded};
 
 use crate::fault::CompileFault;
+use crate::field::Field;
 use crate::pieces::{ends_filled, first_length, prepend_are_wanted, taken};
 use crate::question::Exits;
 use crate::suffix::CodeSuffix;
-use crate::texts::{Ending, offset_of, prepend_ending, prepend_is_null_text, width_of};
-use cql2::{Pattern, PatternPart, TextColumn};
+use crate::texts::{Ending, prepend_ending};
+use cql2::PatternPart;
 use std::alloc::Allocator;
 use tl_segments::NAME_LENGTH;
 
 /// The greatest number of places where a piece can begin in a field.
 const MAX_COLUMNS: usize = NAME_LENGTH + 1;
 
-/// Writes the code that asks whether a text column matches a pattern, or whether it doesn't.
-pub(crate) fn prepend_like<A: Allocator + Copy>(
+/// Writes the code that asks whether the text in a field that isn't blank matches a pattern.
+pub(crate) fn prepend_pattern<A: Allocator + Copy>(
     code: &mut CodeSuffix<A>,
-    column: TextColumn,
-    pattern: &Pattern<A>,
-    asked: bool,
-    exits: Exits,
-) -> Result<(), CompileFault>
-    requires { exits.skip ≤ word_count code.old }
-    ensures { Prepends result (asks_like column pattern.now.parts.items asked) exits code.old code.new }
-{
-    let words = code.words();
-    prepend_pattern(code, column, pattern.parts.as_slice(), exits.asked(asked))?;
-    if asked {
-        return Ok(());
-    }
-    let exits = code.exits_before(words, true, exits);
-    prepend_is_null_text(code, column, exits.asked(false))
-}
-
-fn prepend_pattern<A: Allocator + Copy>(
-    code: &mut CodeSuffix<A>,
-    column: TextColumn,
+    field: Field,
     pattern: &[PatternPart],
     exits: Exits,
 ) -> Result<(), CompileFault>
-    requires { exits.skip ≤ word_count code.old }
-    ensures { Prepends result (is_like column pattern.now) exits code.old code.new }
+    requires inside { exits.skip ≤ word_count code.old }
+    requires is_field { IsTextField field }
+    ensures { Prepends result (is_like field pattern.now) exits code.old code.new }
 {
     let (first, others) = pattern.split_at(first_length(pattern));
     if taken(others) == 0 {
-        return prepend_piece(code, column, first, !others.is_empty(), exits);
+        return prepend_piece(code, field, first, !others.is_empty(), exits);
     }
     let total = taken(pattern);
-    let width = usize::from(width_of(column));
+    let width = usize::from(field.width);
     if total > width {
         return code.prepend_constant(false, exits);
     }
     let words = code.words();
     let search = Search {
-        column,
+        field,
         words,
         exits,
     };
     prepend_search(code, search, first.len() as u8, others, width - total + 1)?;
     let exits = code.exits_before(words, true, exits);
-    prepend_are_wanted(code, offset_of(column), first, exits)
+    prepend_are_wanted(code, field.offset, first, exits)
 }
 
-/// Writes the code that asks whether a column matches a pattern of one piece.
+/// Writes the code that asks whether a field isn't blank and matches a pattern of one piece.
 fn prepend_piece<A: Allocator + Copy>(
     code: &mut CodeSuffix<A>,
-    column: TextColumn,
+    field: Field,
     piece: &[PatternPart],
     is_open: bool,
     exits: Exits,
 ) -> Result<(), CompileFault>
-    requires { exits.skip ≤ word_count code.old }
-    ensures { Prepends result (is_piece column piece.now is_open) exits code.old code.new }
+    requires inside { exits.skip ≤ word_count code.old }
+    requires is_field { IsTextField field }
+    ensures { Prepends result (is_piece field piece.now is_open) exits code.old code.new }
 {
-    if piece.len() > usize::from(width_of(column)) {
+    if piece.len() > usize::from(field.width) {
         return code.prepend_constant(false, exits);
     }
-    prepend_ends_at(code, column, piece, is_open, 0, exits)
+    prepend_ends_at(code, field, piece, is_open, 0, exits)
 }
 
-/// Writes the code that asks whether a pattern's last piece is in a column from a byte on.
+/// Writes the code that asks whether a pattern's last piece is in a field from a byte on.
 fn prepend_ends_at<A: Allocator + Copy>(
     code: &mut CodeSuffix<A>,
-    column: TextColumn,
+    field: Field,
     piece: &[PatternPart],
     is_open: bool,
     from: u8,
     exits: Exits,
 ) -> Result<(), CompileFault>
     requires inside { exits.skip ≤ word_count code.old }
-    requires fits { from + length piece.now ≤ width_of column }
-    ensures { Prepends result (ends_at column piece.now is_open from) exits code.old code.new }
+    requires is_field { IsTextField field }
+    requires fits { from + length piece.now ≤ field.width }
+    ensures { Prepends result (ends_at field piece.now is_open from) exits code.old code.new }
 {
     let ends = Ending {
         count: from + piece.len() as u8,
         is_open,
         is_filled: ends_filled(piece),
     };
-    let exits = prepend_ending(code, column, ends, exits)?;
-    prepend_are_wanted(code, offset_of(column) + from, piece, exits)
+    let exits = prepend_ending(code, field, ends, exits)?;
+    prepend_are_wanted(code, field.offset + from, piece, exits)
 }
 
-/// A search for pieces in a column, with the exits of its code and the number of words after it.
+/// A search for pieces in a field, with the exits of its code and the number of words after it.
 #[derive(Clone, Copy)]
 struct Search {
-    column: TextColumn,
+    field: Field,
     words: usize,
     exits: Exits,
+    ghost is_field: { IsTextField field },
 }
 
-/// Writes the code that searches a column, from a byte on, for the pieces of a pattern that begins with `%`.
+/// Writes the code that searches a field, from a byte on, for the pieces of a pattern that begins with `%`.
 fn prepend_search<A: Allocator + Copy>(
     code: &mut CodeSuffix<A>,
     search: Search,
@@ -124,10 +110,10 @@ fn prepend_search<A: Allocator + Copy>(
     columns: usize,
 ) -> Result<(), CompileFault>
     requires begins { (pieces_of pattern.now).first ≡ [] }
-    requires fits { from + taken pattern.now + columns ≤ width_of search.column + 1 }
+    requires fits { from + taken pattern.now + columns ≤ search.field.width + 1 }
     requires words { search.words ≡ word_count code.old }
     requires inside { search.exits.skip ≤ word_count code.old }
-    ensures { Prepends result (Coded (grid (rows_of search.column (pieces_of pattern.now).is_open from (pieces_of pattern.now).others) columns))
+    ensures { Prepends result (Coded (grid (rows_of search.field (pieces_of pattern.now).is_open from (pieces_of pattern.now).others) columns))
         search.exits code.old code.new }
 {
     code.prepend_constant(true, search.exits)?;
@@ -145,10 +131,10 @@ fn prepend_rows<A: Allocator + Copy>(
     starts: &mut [usize],
 ) -> Result<(), CompileFault>
     requires begins { (pieces_of pattern.now).first ≡ [] }
-    requires fits { from + taken pattern.now + length starts.old ≤ width_of search.column + 1 }
+    requires fits { from + taken pattern.now + length starts.old ≤ search.field.width + 1 }
     requires words { search.words ≤ word_count code.old }
     requires inside { search.exits.skip ≤ search.words }
-    ensures { IsLaid result (lay_rows (rows_of search.column (pieces_of pattern.now).is_open from (pieces_of pattern.now).others)
+    ensures { IsLaid result (lay_rows (rows_of search.field (pieces_of pattern.now).is_open from (pieces_of pattern.now).others)
         search.exits.falls search.exits.skip search.words (record { code = code.old; starts = starts.old })) code.new starts.new }
 {
     let Some((_many, behind)) = pattern.split_first() else {
@@ -161,7 +147,7 @@ fn prepend_rows<A: Allocator + Copy>(
     prepend_rows(code, search, from + piece.len() as u8, others, starts)?;
     let past = code.exits_before(search.words, true, search.exits);
     let row = Row {
-        column: search.column,
+        field: search.field,
         from,
         is_last: taken(others) == 0,
         is_open: !others.is_empty(),
@@ -169,13 +155,14 @@ fn prepend_rows<A: Allocator + Copy>(
     prepend_cells(code, row, piece, 0, starts, past)
 }
 
-/// A piece's row: the first place where it can be in a column, and what follows it.
+/// A piece's row: the first place where it can be in a field, and what follows it.
 #[derive(Clone, Copy)]
 struct Row {
-    column: TextColumn,
+    field: Field,
     from: u8,
     is_last: bool,
     is_open: bool,
+    ghost is_field: { IsTextField field },
 }
 
 /// Writes the cells of a row, before the rows below, and replaces the starts of the cells below by those of these cells.
@@ -189,8 +176,8 @@ fn prepend_cells<A: Allocator + Copy>(
 ) -> Result<(), CompileFault>
     requires past { past.falls ≡ true }
     requires inside { past.skip ≤ word_count code.old }
-    requires fits { row.from + shift + length piece.now + length starts.old ≤ width_of row.column + 1 }
-    ensures { IsLaid result (lay_row (λ shift. cell row.column piece.now row.is_last row.is_open (row.from + shift)) shift starts.old past.skip code.old)
+    requires fits { row.from + shift + length piece.now + length starts.old ≤ row.field.width + 1 }
+    ensures { IsLaid result (lay_row (λ shift. cell row.field piece.now row.is_last row.is_open (row.from + shift)) shift starts.old past.skip code.old)
         code.new starts.new }
 {
     let Some((start, others)) = starts.split_first_mut() else {
@@ -212,13 +199,13 @@ fn prepend_cell<A: Allocator + Copy>(
     exits: Exits,
 ) -> Result<(), CompileFault>
     requires inside { exits.skip ≤ word_count code.old }
-    requires fits { row.from + shift + length piece.now ≤ width_of row.column }
-    ensures { Prepends result (cell row.column piece.now row.is_last row.is_open (row.from + shift)) exits code.old code.new }
+    requires fits { row.from + shift + length piece.now ≤ row.field.width }
+    ensures { Prepends result (cell row.field piece.now row.is_last row.is_open (row.from + shift)) exits code.old code.new }
 {
     let at = row.from + shift;
     if row.is_last {
-        prepend_ends_at(code, row.column, piece, row.is_open, at, exits)
+        prepend_ends_at(code, row.field, piece, row.is_open, at, exits)
     } else {
-        prepend_are_wanted(code, offset_of(row.column) + at, piece, exits)
+        prepend_are_wanted(code, row.field.offset + at, piece, exits)
     }
 }

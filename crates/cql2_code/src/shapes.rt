@@ -1,265 +1,180 @@
-//! The code that decides whether a segment's line meets a shape.
-ghost use Rattle.std.specs.Prelude.{◌≡◌, ◌≤◌, ◌++◌, int_lt, if◌then◌else◌};
-ghost use Rattle.std.specs.Int.{int_max, int_min};
-ghost use Rattle.bpf_insn.specs.Arithmetic.{immediate_operand};
-ghost use Rattle.bpf_insn.specs.declared.instruction.Insn.{Insn};
-ghost use Rattle.cql2.specs.declared.filter.Comparison.TheVariants.{GreaterOrEqual, LessOrEqual};
-ghost use Rattle.cql2.specs.Geometry.{eastward, edge_of, northward, point_of};
-ghost use Rattle.cql2_code.specs.ShapeCode as shape_code;
-ghost use Rattle.cql2_code.specs.ShapeCode.{across_by, beside_by, combine, combine_number, compare, compare_number, edge_code, end_across, end_in_code};
-ghost use Rattle.cql2_code.specs.ShapeCode.{inside_code, keep_coordinate, lead_code, line_code, marks_met, meets_code, point_across, polygon_edge_code};
-ghost use Rattle.cql2_code.specs.ShapeCode.{ray_code, rays_code, read_coordinate, set_registers, sides_code, start_across, unless_apart};
-ghost use Rattle.bpf_insn.specs.declared.instruction.Insn.TheVariants as insn;
-ghost use Rattle.bpf_insn.specs.declared.instruction.SignExtension.TheVariants as sign;
+//! Questions whether a segment's line meets a shape.
+ghost use Rattle.std.specs.Prelude.{◌≡◌, ◌≤◌, ◌<◌, ◌-◌, ◌++◌, ◌∷◌, [], drop, length};
+ghost use Rattle.std.specs.List.{flat_map};
+ghost use Rattle.bpf_insn.specs.Code.{word_count};
+ghost use Rattle.cql2.specs.Geometry.{edge_of, edges_of_bounds, edges_of_ring, edges_through};
+ghost use Rattle.cql2.specs.declared.geometry.Shape.TheVariants as shape_variants;
+ghost use Rattle.cql2_code.specs.Function.{asks_meets};
 ghost use Rattle.cql2_code.specs.Layout as layout;
-ghost use Rattle.cql2_code.specs.Layout.{IsPrepended, wide_load};
-ghost use Rattle.cql2_code.specs.Skipping.{skip};
+ghost use Rattle.cql2_code.specs.Layout.{IsPrepended, Prepends};
+ghost use Rattle.cql2_code.specs.Question.{Coded};
+ghost use Rattle.cql2_code.specs.ShapeCode as shape_code;
+ghost use Rattle.cql2_code.specs.ShapeCode.{bounds_code, edge_code, end_in_code, inside_code, mark_comparison, meets_shape, polygon_code, polygon_edge_code};
+ghost use Rattle.cql2_code.specs.ShapeCode.{ring_code};
+ghost use Rattle.cql2_code.specs.declared.line.Extent.TheVariants.{Start, Whole};
 
+use crate::edges::{Edge, prepend_edge, prepend_polygon_edge};
 use crate::fault::CompileFault;
-use crate::instructions::{
-    call, copy, from_argument_1, from_kept, from_result, into_argument_1, into_kept, into_result,
-    move_number, wide_load,
+use crate::instructions::{copy, from_argument_1, from_kept, into_argument_1, into_result};
+use crate::line::{Extent, prepend_known_line, prepend_line};
+use crate::question::Exits;
+use crate::shape_instructions::{
+    combine_number, from_end_latitude, from_first, into_first, skip_by_number,
 };
-use crate::question::condition_of;
 use crate::suffix::CodeSuffix;
-use bpf_helpers::Helper;
-use bpf_insn::{Insn, Operation, Register, SignExtension, Source, Width, WritableRegister};
-use cql2::{Bounds, Comparison, Vertex};
+use bpf_insn::{Insn, Operation, Register};
+use cql2::{Bounds, Comparison, Polygon, Polygons, Shape, Vertex};
 use std::alloc::Allocator;
 
-/// An edge of a shape.
-#[derive(Clone, Copy)]
-struct Edge {
-    start: Vertex,
-    end: Vertex,
+/// Writes the code that asks whether the line from a segment's start to its end meets a shape, or whether it doesn't.
+pub(crate) fn prepend_intersects<A: Allocator + Copy>(
+    code: &mut CodeSuffix<A>,
+    shape: &Shape<A>,
+    asked: bool,
+    exits: Exits,
+) -> Result<(), CompileFault>
+    requires { exits.skip ≤ word_count code.old }
+    ensures { Prepends result (asks_meets Whole shape.now asked) exits code.old code.new }
+{
+    let words = code.words();
+    prepend_meets(code, shape, exits.asked(asked))?;
+    let exits = code.exits_before(words, true, exits);
+    prepend_known_line(code, Extent::Whole, exits)
 }
 
-/// Returns the register for a side, for writing.
-fn into_side() -> WritableRegister
-    ensures { result ≡ shape_code.into_side }
+/// Writes the code that asks whether a segment starts in one of several polygons, or whether it doesn't.
+pub(crate) fn prepend_starts_in<A: Allocator + Copy>(
+    code: &mut CodeSuffix<A>,
+    several: &Polygons<A>,
+    asked: bool,
+    exits: Exits,
+) -> Result<(), CompileFault>
+    requires { exits.skip ≤ word_count code.old }
+    ensures { Prepends result (asks_meets Start (shape_variants.Polygons several.now) asked) exits code.old code.new }
 {
-    WritableRegister { number: 2 }
+    let words = code.words();
+    prepend_start_meets(code, several, exits.asked(asked))?;
+    let exits = code.exits_before(words, true, exits);
+    prepend_known_line(code, Extent::Start, exits)
 }
 
-/// Returns the register for a side, for reading.
-fn from_side() -> Register
-    ensures { result ≡ shape_code.from_side }
+/// Writes the code that decides whether a line meets a shape.
+fn prepend_meets<A: Allocator + Copy>(
+    code: &mut CodeSuffix<A>,
+    shape: &Shape<A>,
+    exits: Exits,
+) -> Result<(), CompileFault>
+    requires { exits.skip ≤ word_count code.old }
+    ensures { Prepends result (Coded (meets_shape Whole shape.now)) exits code.old code.new }
 {
-    Register { number: 2 }
+    prepend_marks(code, exits)?;
+    prepend_shape(code, shape)?;
+    prepend_line(code, Extent::Whole)
 }
 
-/// Returns the register for a first operand, for writing.
-fn into_first() -> WritableRegister
-    ensures { result ≡ shape_code.into_first }
+/// Writes the code that decides whether a line's start is in one of several polygons.
+fn prepend_start_meets<A: Allocator + Copy>(
+    code: &mut CodeSuffix<A>,
+    several: &Polygons<A>,
+    exits: Exits,
+) -> Result<(), CompileFault>
+    requires { exits.skip ≤ word_count code.old }
+    ensures { Prepends result (Coded (meets_shape Start (shape_variants.Polygons several.now))) exits code.old code.new }
 {
-    WritableRegister { number: 3 }
+    prepend_marks(code, exits)?;
+    prepend_polygons(code, several)?;
+    prepend_line(code, Extent::Start)
 }
 
-/// Returns the register for a first operand, for reading.
-fn from_first() -> Register
-    ensures { result ≡ shape_code.from_first }
+/// Writes the comparison of the marks with 0.
+fn prepend_marks<A: Allocator + Copy>(
+    code: &mut CodeSuffix<A>,
+    exits: Exits,
+) -> Result<(), CompileFault>
+    requires { exits.skip ≤ word_count code.old }
+    ensures { IsPrepended result (layout.copy shape_code.into_first layout.from_argument_1 ∷ (mark_comparison exits.falls exits.skip ++ code.old)) code.new }
 {
-    Register { number: 3 }
+    code.prepend_zero_comparison(Comparison::NotEqual, exits)?;
+    code.prepend(copy(into_result(), from_first()))?;
+    code.prepend(copy(into_first(), from_argument_1()))
 }
 
-/// Returns the register for a second operand, for writing.
-fn into_second() -> WritableRegister
-    ensures { result ≡ shape_code.into_second }
+/// Writes the code that marks that the line meets a shape.
+fn prepend_shape<A: Allocator + Copy>(
+    code: &mut CodeSuffix<A>,
+    shape: &Shape<A>,
+) -> Result<(), CompileFault>
+    ensures { IsPrepended result (shape_code.shape_code shape.now ++ code.old) code.new }
 {
-    WritableRegister { number: 4 }
-}
-
-/// Returns the register for a second operand, for reading.
-fn from_second() -> Register
-    ensures { result ≡ shape_code.from_second }
-{
-    Register { number: 4 }
-}
-
-/// Returns the register of the latitude of the line's end, for reading.
-fn from_end_latitude() -> Register
-    ensures { result ≡ shape_code.from_end_latitude }
-{
-    Register { number: 5 }
-}
-
-/// Returns the register of the latitude of the line's end, for writing.
-fn into_end_latitude() -> WritableRegister
-    ensures { result ≡ shape_code.into_end_latitude }
-{
-    WritableRegister { number: 5 }
-}
-
-/// Combines a register with another.
-fn combine(operation: Operation, register: WritableRegister, other: Register) -> Insn
-    ensures { result ≡ combine operation register other }
-{
-    Insn::Alu {
-        operation,
-        width: Width::Bits64,
-        destination: register,
-        source: Source::Register(other),
+    match shape {
+        Shape::Point(vertex) => prepend_edge(
+            code,
+            Edge {
+                start: *vertex,
+                end: *vertex,
+            },
+        ),
+        Shape::Line(vertices) => prepend_edges(code, vertices.as_slice()),
+        Shape::Bounds(bounds) => prepend_bounds(code, *bounds),
+        Shape::Polygons(several) => prepend_polygons(code, several),
     }
 }
 
-/// Combines a register with a number.
-fn combine_number(operation: Operation, register: WritableRegister, number: i32) -> Insn
-    ensures { result ≡ combine_number operation register number }
+/// Writes the code of the edges of a line through vertices.
+fn prepend_edges<A: Allocator + Copy>(
+    code: &mut CodeSuffix<A>,
+    vertices: &[Vertex],
+) -> Result<(), CompileFault>
+    ensures { IsPrepended result (flat_map edge_code (edges_through vertices.now) ++ code.old) code.new }
 {
-    Insn::Alu {
-        operation,
-        width: Width::Bits64,
-        destination: register,
-        source: Source::Immediate(number),
+    for next in (1..vertices.len()).rev() {
+        prepend_edge(code, edge_to(vertices, next))?;
+    }
+    Ok(())
+}
+
+/// Returns the edge from the previous vertex to this one.
+fn edge_to(vertices: &[Vertex], next: usize) -> Edge
+    requires some { 0 < next }
+    requires inside { next < length vertices.now }
+    ensures { edges_through (drop (next - 1) vertices.now) ≡ edge_of result.start result.end ∷ edges_through (drop next vertices.now) }
+{
+    Edge {
+        start: vertices[next - 1],
+        end: vertices[next],
     }
 }
 
-/// Skips the next words if a comparison of two registers holds.
-fn skip(comparison: Comparison, left: Register, right: Register, words: u8) -> Insn
-    ensures { result ≡ skip (compare comparison left right) words }
+/// Writes the code that marks that the line meets a box.
+fn prepend_bounds<A: Allocator + Copy>(
+    code: &mut CodeSuffix<A>,
+    bounds: Bounds,
+) -> Result<(), CompileFault>
+    ensures { IsPrepended result (bounds_code bounds ++ code.old) code.new }
 {
-    Insn::JumpIf {
-        condition: condition_of(comparison),
-        width: Width::Bits64,
-        left,
-        right: Source::Register(right),
-        offset: i16::from(words),
-    }
+    prepend_edges(code, &corners(bounds))?;
+    code.prepend_all(&end_in(bounds, from_kept(2), from_end_latitude()))?;
+    code.prepend_all(&end_in(bounds, from_kept(0), from_kept(1)))
 }
 
-/// Skips the next words if a comparison of a register with a number holds.
-fn skip_by_number(comparison: Comparison, left: Register, number: i32, words: u8) -> Insn
-    ensures { result ≡ skip (compare_number comparison left number) words }
+/// Returns the corners of a box, counterclockwise from the southwest corner back to it.
+fn corners(bounds: Bounds) -> [Vertex; 5]
+    ensures { edges_through result ≡ edges_of_bounds bounds }
 {
-    Insn::JumpIf {
-        condition: condition_of(comparison),
-        width: Width::Bits64,
-        left,
-        right: Source::Immediate(number),
-        offset: i16::from(words),
-    }
-}
-
-/// Returns the code that leaves in register 3 how far an end of the line lies across an edge, by the edge's direction and the end's registers.
-fn end_across(east: i32, north: i32, longitude: Register, latitude: Register) -> [Insn; 5]
-    ensures { result ≡ across_by east north longitude latitude }
-{
+    let southeast = Vertex {
+        longitude: bounds.northeast.longitude,
+        latitude: bounds.southwest.latitude,
+    };
+    let northwest = Vertex {
+        longitude: bounds.southwest.longitude,
+        latitude: bounds.northeast.latitude,
+    };
     [
-        copy(into_first(), latitude),
-        combine_number(Operation::Multiply, into_first(), east),
-        copy(into_second(), longitude),
-        combine_number(Operation::Multiply, into_second(), north),
-        combine(Operation::Subtract, into_first(), from_second()),
-    ]
-}
-
-/// Returns how far an edge goes to the east.
-fn eastward(edge: Edge) -> i32
-    ensures { result ≡ eastward (edge_of edge.start edge.end) }
-{
-    (edge.end.longitude - edge.start.longitude) as i32
-}
-
-/// Returns how far an edge goes to the north.
-fn northward(edge: Edge) -> i32
-    ensures { result ≡ northward (edge_of edge.start edge.end) }
-{
-    (edge.end.latitude - edge.start.latitude) as i32
-}
-
-/// Returns the lesser longitude of an edge's ends.
-fn west(edge: Edge) -> i32
-    ensures { result ≡ int_min edge.start.longitude edge.end.longitude }
-{
-    edge.start.longitude.min(edge.end.longitude) as i32
-}
-
-/// Returns the greater longitude of an edge's ends.
-fn east(edge: Edge) -> i32
-    ensures { result ≡ int_max edge.start.longitude edge.end.longitude }
-{
-    edge.start.longitude.max(edge.end.longitude) as i32
-}
-
-/// Returns the lesser latitude of an edge's ends.
-fn south(edge: Edge) -> i32
-    ensures { result ≡ int_min edge.start.latitude edge.end.latitude }
-{
-    edge.start.latitude.min(edge.end.latitude) as i32
-}
-
-/// Returns the greater latitude of an edge's ends.
-fn north(edge: Edge) -> i32
-    ensures { result ≡ int_max edge.start.latitude edge.end.latitude }
-{
-    edge.start.latitude.max(edge.end.latitude) as i32
-}
-
-/// Returns the comparison that holds unless an end of the line lies to the west of an edge, by how far the end and the edge's start lie across it.
-fn east_comparison(edge: Edge) -> Comparison
-    ensures { result ≡ (if int_lt edge.start.latitude edge.end.latitude then LessOrEqual else GreaterOrEqual) }
-{
-    if edge.start.latitude < edge.end.latitude {
-        Comparison::LessOrEqual
-    } else {
-        Comparison::GreaterOrEqual
-    }
-}
-
-/// Returns the code that exchanges a mark if the ray from an end of the line crosses an edge.
-fn ray(edge: Edge, latitude: Register, side: Register, mark: i32) -> [Insn; 4]
-    ensures { result ≡ ray_code (edge_of edge.start edge.end) latitude side mark }
-{
-    [
-        skip_by_number(Comparison::Less, latitude, south(edge), 3),
-        skip_by_number(Comparison::GreaterOrEqual, latitude, north(edge), 2),
-        skip(east_comparison(edge), side, from_second(), 1),
-        combine_number(Operation::ExclusiveOr, into_argument_1(), mark),
-    ]
-}
-
-/// Returns the code that marks that the line meets an edge, unless it lies beyond the edge in one of the four directions.
-fn apart(edge: Edge) -> [Insn; 9]
-    ensures { result ≡ unless_apart (edge_of edge.start edge.end) marks_met }
-{
-    [
-        skip_by_number(Comparison::GreaterOrEqual, from_kept(0), west(edge), 1),
-        skip_by_number(Comparison::Less, from_kept(2), west(edge), 7),
-        skip_by_number(Comparison::LessOrEqual, from_kept(0), east(edge), 1),
-        skip_by_number(Comparison::Greater, from_kept(2), east(edge), 5),
-        skip_by_number(Comparison::GreaterOrEqual, from_kept(1), south(edge), 1),
-        skip_by_number(Comparison::Less, from_end_latitude(), south(edge), 3),
-        skip_by_number(Comparison::LessOrEqual, from_kept(1), north(edge), 1),
-        skip_by_number(Comparison::Greater, from_end_latitude(), north(edge), 1),
-        combine_number(Operation::Or, into_argument_1(), 4),
-    ]
-}
-
-/// Returns the code that leaves in register 3 how far a point lies across the line.
-fn point_across(point: Vertex) -> [Insn; 7]
-    ensures { result ≡ point_across (point_of point) }
-{
-    [
-        copy(into_first(), from_kept(2)),
-        combine(Operation::Subtract, into_first(), from_kept(0)),
-        combine_number(Operation::Multiply, into_first(), point.latitude as i32),
-        copy(into_second(), from_end_latitude()),
-        combine(Operation::Subtract, into_second(), from_kept(1)),
-        combine_number(Operation::Multiply, into_second(), point.longitude as i32),
-        combine(Operation::Subtract, into_first(), from_second()),
-    ]
-}
-
-/// Returns the code that marks that the line meets a polygon if one of its ends lies inside.
-fn inside() -> [Insn; 5]
-    ensures { result ≡ inside_code }
-{
-    [
-        copy(into_first(), from_argument_1()),
-        combine_number(Operation::And, into_first(), 3),
-        skip_by_number(Comparison::Equal, from_first(), 0, 1),
-        combine_number(Operation::Or, into_argument_1(), 4),
-        combine_number(Operation::And, into_argument_1(), 4),
+        bounds.southwest,
+        southeast,
+        bounds.northeast,
+        northwest,
+        bounds.southwest,
     ]
 }
 
@@ -296,174 +211,90 @@ fn end_in(bounds: Bounds, longitude: Register, latitude: Register) -> [Insn; 5]
     ]
 }
 
-/// Returns the code that skips words if the numbers in registers 2 and 3 are both greater than another, or both less.
-fn beside(other: Register, words: u8) -> [Insn; 4]
-    requires { words ≤ 28 }
-    ensures { result ≡ beside_by other words }
-{
-    [
-        skip(Comparison::LessOrEqual, from_side(), other, 1),
-        skip(Comparison::Greater, from_first(), other, words + 2),
-        skip(Comparison::GreaterOrEqual, from_side(), other, 1),
-        skip(Comparison::Less, from_first(), other, words),
-    ]
-}
-
-/// Writes the code that exchanges the marks of the rays that cross an edge.
-fn prepend_rays<A: Allocator + Copy>(
+/// Writes the code that marks that the line meets one of several polygons.
+fn prepend_polygons<A: Allocator + Copy>(
     code: &mut CodeSuffix<A>,
-    edge: Edge,
+    several: &Polygons<A>,
 ) -> Result<(), CompileFault>
-    ensures { IsPrepended result (rays_code (edge_of edge.start edge.end) ++ code.old) code.new }
+    ensures { IsPrepended result (flat_map polygon_code several.now.polygons.items ++ code.old) code.new }
 {
-    code.prepend_all(&ray(edge, from_end_latitude(), from_first(), 2))?;
-    code.prepend_all(&ray(edge, from_kept(1), from_side(), 1))
-}
-
-/// Returns how far an edge's start lies across it.
-fn start_across(edge: Edge) -> i64
-    ensures { result ≡ start_across (edge_of edge.start edge.end) }
-{
-    let east = (edge.end.longitude - edge.start.longitude) * edge.start.latitude;
-    let north = (edge.end.latitude - edge.start.latitude) * edge.start.longitude;
-    east - north
-}
-
-/// Loads how far an edge's start lies across it into register 4.
-fn load_start(edge: Edge) -> Insn
-    ensures { result ≡ wide_load shape_code.into_second (immediate_operand (start_across (edge_of edge.start edge.end))) }
-{
-    wide_load(into_second(), start_across(edge).cast_unsigned())
-}
-
-/// Writes the code that leaves how far an end of the line lies across an edge in register 3.
-fn prepend_across<A: Allocator + Copy>(
-    code: &mut CodeSuffix<A>,
-    edge: Edge,
-    longitude: Register,
-    latitude: Register,
-) -> Result<(), CompileFault>
-    ensures { IsPrepended result (end_across (edge_of edge.start edge.end) longitude latitude ++ code.old) code.new }
-{
-    code.prepend_all(&end_across(eastward(edge), northward(edge), longitude, latitude))
-}
-
-/// Writes the code that leaves how far the line's ends and an edge's start lie across the edge in registers 2 to 4.
-fn prepend_sides<A: Allocator + Copy>(
-    code: &mut CodeSuffix<A>,
-    edge: Edge,
-) -> Result<(), CompileFault>
-    ensures { IsPrepended result (sides_code (edge_of edge.start edge.end) ++ code.old) code.new }
-{
-    code.prepend(load_start(edge))?;
-    prepend_across(code, edge, from_kept(2), from_end_latitude())?;
-    code.prepend(copy(into_side(), from_first()))?;
-    prepend_across(code, edge, from_kept(0), from_kept(1))
-}
-
-/// Writes the code that marks that the line meets an edge.
-fn prepend_meets<A: Allocator + Copy>(
-    code: &mut CodeSuffix<A>,
-    edge: Edge,
-) -> Result<(), CompileFault>
-    ensures { IsPrepended result (meets_code (edge_of edge.start edge.end) ++ code.old) code.new }
-{
-    code.prepend_all(&apart(edge))?;
-    code.prepend_all(&beside(from_result(), 9))?;
-    code.prepend_all(&point_across(edge.end))?;
-    code.prepend(copy(into_side(), from_first()))?;
-    code.prepend_all(&point_across(edge.start))?;
-    code.prepend_all(&beside(from_second(), 28))
-}
-
-/// Writes the code of an edge.
-fn prepend_edge<A: Allocator + Copy>(
-    code: &mut CodeSuffix<A>,
-    edge: Edge,
-) -> Result<(), CompileFault>
-    ensures { IsPrepended result (edge_code (edge_of edge.start edge.end) ++ code.old) code.new }
-{
-    prepend_meets(code, edge)?;
-    prepend_sides(code, edge)
-}
-
-/// Writes the code of a polygon's edge.
-fn prepend_polygon_edge<A: Allocator + Copy>(
-    code: &mut CodeSuffix<A>,
-    edge: Edge,
-) -> Result<(), CompileFault>
-    ensures { IsPrepended result (polygon_edge_code (edge_of edge.start edge.end) ++ code.old) code.new }
-{
-    prepend_meets(code, edge)?;
-    prepend_rays(code, edge)?;
-    prepend_sides(code, edge)
-}
-
-/// Returns the code that reads a coordinate of the line into register 0.
-fn read_coordinate(id: u8) -> [Insn; 2]
-    ensures { result ≡ read_coordinate id }
-{
-    [
-        move_number(into_argument_1(), i32::from(id)),
-        call(Helper::Coord),
-    ]
-}
-
-/// Returns the code that sets the registers other than those of the line's first three coordinates.
-fn set_registers() -> [Insn; 5]
-    ensures { result ≡ set_registers }
-{
-    [
-        wide_load(into_argument_1(), 0),
-        copy(into_end_latitude(), from_result()),
-        wide_load(into_first(), 0),
-        move_number(into_second(), 0),
-        extend_side(),
-    ]
-}
-
-/// Copies the low half of register 0 into the register for a side.
-fn extend_side() -> Insn
-    ensures { result ≡ insn.MoveSignExtended sign.Bits32To64 shape_code.into_side layout.from_result }
-{
-    Insn::MoveSignExtended {
-        extension: SignExtension::Bits32To64,
-        destination: into_side(),
-        source: from_result(),
+    for polygon in several.polygons.iter().rev() {
+        prepend_polygon(code, polygon)?;
     }
+    Ok(())
 }
 
-/// Writes the code that reads a coordinate of the line and keeps it.
-fn prepend_kept<A: Allocator + Copy>(code: &mut CodeSuffix<A>, id: u8) -> Result<(), CompileFault>
-    ensures { IsPrepended result (keep_coordinate id ++ code.old) code.new }
+/// Writes the code that marks that the line meets a polygon.
+fn prepend_polygon<A: Allocator + Copy>(
+    code: &mut CodeSuffix<A>,
+    polygon: &Polygon<A>,
+) -> Result<(), CompileFault>
+    ensures { IsPrepended result (polygon_code polygon.now ++ code.old) code.new }
 {
-    code.prepend(copy(into_kept(id), from_result()))?;
-    code.prepend_all(&read_coordinate(id))
+    code.prepend_all(&inside())?;
+    prepend_rings(code, polygon)
 }
 
-/// Writes the code that reads the line.
-fn prepend_line<A: Allocator + Copy>(code: &mut CodeSuffix<A>) -> Result<(), CompileFault>
-    ensures { IsPrepended result (line_code ++ code.old) code.new }
-{
-    code.prepend_all(&set_registers())?;
-    code.prepend_all(&read_coordinate(3))?;
-    prepend_kept(code, 2)?;
-    prepend_kept(code, 1)?;
-    prepend_kept(code, 0)
-}
-
-/// Returns the code that leaves how far the line's start lies across it in register 0.
-fn lead() -> [Insn; 8]
-    ensures { result ≡ lead_code }
+/// Returns the code that marks that the line meets a polygon if one of its ends lies inside.
+fn inside() -> [Insn; 5]
+    ensures { result ≡ inside_code }
 {
     [
-        copy(into_first(), from_kept(2)),
-        combine(Operation::Subtract, into_first(), from_kept(0)),
-        combine(Operation::Multiply, into_first(), from_kept(1)),
-        copy(into_second(), from_end_latitude()),
-        combine(Operation::Subtract, into_second(), from_kept(1)),
-        combine(Operation::Multiply, into_second(), from_kept(0)),
-        combine(Operation::Subtract, into_first(), from_second()),
-        copy(into_result(), from_first()),
+        copy(into_first(), from_argument_1()),
+        combine_number(Operation::And, into_first(), 3),
+        skip_by_number(Comparison::Equal, from_first(), 0, 1),
+        combine_number(Operation::Or, into_argument_1(), 4),
+        combine_number(Operation::And, into_argument_1(), 4),
     ]
+}
+
+/// Writes the code of the edges of a polygon's rings.
+fn prepend_rings<A: Allocator + Copy>(
+    code: &mut CodeSuffix<A>,
+    polygon: &Polygon<A>,
+) -> Result<(), CompileFault>
+    ensures { IsPrepended result (flat_map ring_code polygon.now.rings.items ++ code.old) code.new }
+{
+    for ring in polygon.rings.iter().rev() {
+        prepend_ring(code, ring.vertices.as_slice())?;
+    }
+    Ok(())
+}
+
+/// Writes the code of a ring's edges, of which the last one closes it.
+fn prepend_ring<A: Allocator + Copy>(
+    code: &mut CodeSuffix<A>,
+    vertices: &[Vertex],
+) -> Result<(), CompileFault>
+    ensures { IsPrepended result (flat_map polygon_edge_code (edges_of_ring vertices.now) ++ code.old) code.new }
+{
+    if vertices.is_empty() {
+        return Ok(());
+    }
+    prepend_polygon_edge(code, closing_edge(vertices))?;
+    prepend_ring_edges(code, vertices)
+}
+
+/// Writes the code of a ring's edges without the one that closes it.
+fn prepend_ring_edges<A: Allocator + Copy>(
+    code: &mut CodeSuffix<A>,
+    vertices: &[Vertex],
+) -> Result<(), CompileFault>
+    ensures { IsPrepended result (flat_map polygon_edge_code (edges_through vertices.now) ++ code.old) code.new }
+{
+    for next in (1..vertices.len()).rev() {
+        prepend_polygon_edge(code, edge_to(vertices, next))?;
+    }
+    Ok(())
+}
+
+/// Returns the edge that closes a ring.
+fn closing_edge(vertices: &[Vertex]) -> Edge
+    requires { 0 < length vertices.now }
+    ensures { edges_of_ring vertices.now ≡ edges_through vertices.now ++ edge_of result.start result.end ∷ [] }
+{
+    Edge {
+        start: vertices[vertices.len() - 1],
+        end: vertices[0],
+    }
 }

@@ -1,74 +1,42 @@
-//! Questions about text columns.
-ghost use Rattle.std.specs.Prelude.{◌≡◌, ◌≤◌, ◌<◌, ◌+◌, ◌-◌, length, map, false, IfOk, IsTrue};
+//! Questions about the texts in fields.
+ghost use Rattle.std.specs.Prelude.{◌≡◌, ◌≤◌, ◌<◌, ◌+◌, ◌-◌, length, map, false, IfOk};
 ghost use Rattle.bpf_insn.specs.Code.{word_count};
-ghost use Rattle.cql2.specs.Text.{is_text};
 ghost use Rattle.cql2.specs.declared.pattern.PatternPart.TheVariants.{Exactly};
 ghost use Rattle.cql2_code.specs.Layout.{Prepends};
 ghost use Rattle.cql2_code.specs.Lowering as lowering;
-ghost use Rattle.cql2_code.specs.Lowering.{PrependsBefore, byte_test, compares_text, ends_so, has_bytes, has_each, has_few, is_blank, is_greater, is_less};
-ghost use Rattle.cql2_code.specs.Lowering.{is_null_text, is_piece, offset_of, width_of};
+ghost use Rattle.cql2_code.specs.Lowering.{IsTextField, PrependsBefore, byte_test, compares_bytes, ends_so, has_bytes, has_each, has_few, is_blank};
+ghost use Rattle.cql2_code.specs.Lowering.{is_blank_field, is_greater, is_less, is_piece};
 ghost use Rattle.cql2_code.specs.Question.{Holds};
 ghost use Rattle.tl_records.specs.declared.layout.TheConstants.{RECORD_LENGTH};
 
 use crate::bytes::{double_word, word};
 use crate::fault::CompileFault;
+use crate::field::Field;
 use crate::question::{Chunk, Exits, Subject, Test};
 use crate::suffix::CodeSuffix;
-use cql2::{Comparison, TextColumn};
+use cql2::Comparison;
 use std::alloc::Allocator;
-use tl_records::Places;
 use tl_segments::NAME_LENGTH;
 
 /// Blanks for the widest text column.
 const BLANKS: [u8; NAME_LENGTH] = [b' '; NAME_LENGTH];
 
-/// Writes the code that compares a text column with a text.
-pub(crate) fn prepend_text<A: Allocator + Copy>(
+/// Writes the code that compares the text in a field that isn't blank with a text.
+pub(crate) fn prepend_compared<A: Allocator + Copy>(
     code: &mut CodeSuffix<A>,
-    column: TextColumn,
+    field: Field,
     comparison: Comparison,
     text: &[u8],
     exits: Exits,
 ) -> Result<(), CompileFault>
     requires inside { exits.skip ≤ word_count code.old }
-    requires text { IsTrue (is_text text.now) }
-    ensures { Prepends result (compares_text column comparison text.now) exits code.old code.new }
+    requires is_field { IsTextField field }
+    ensures { Prepends result (compares_bytes field comparison text.now) exits code.old code.new }
 {
-    let words = code.words();
-    prepend_compared(code, column, comparison, text, exits)?;
-    if !holds_of_blanks(comparison) {
-        return Ok(());
-    }
-    let exits = code.exits_before(words, true, exits);
-    prepend_is_null_text(code, column, exits.asked(false))
-}
-
-/// Returns whether a comparison with a text holds for a blank field.
-fn holds_of_blanks(comparison: Comparison) -> bool
-    ensures { result ≡ lowering.holds_of_blanks comparison }
-{
+    let (at, left) = (field.offset, field.width);
     match comparison {
-        Comparison::NotEqual | Comparison::Less | Comparison::LessOrEqual => true,
-        Comparison::Equal | Comparison::Greater | Comparison::GreaterOrEqual => false,
-    }
-}
-
-/// Writes the code that compares a column's bytes.
-fn prepend_compared<A: Allocator + Copy>(
-    code: &mut CodeSuffix<A>,
-    column: TextColumn,
-    comparison: Comparison,
-    text: &[u8],
-    exits: Exits,
-) -> Result<(), CompileFault>
-    requires inside { exits.skip ≤ word_count code.old }
-    requires text { IsTrue (is_text text.now) }
-    ensures { Prepends result (lowering.compares_bytes column comparison text.now) exits code.old code.new }
-{
-    let (at, left) = (offset_of(column), width_of(column));
-    match comparison {
-        Comparison::Equal => prepend_equal(code, column, text, exits),
-        Comparison::NotEqual => prepend_equal(code, column, text, exits.asked(false)),
+        Comparison::Equal => prepend_equal(code, field, text, exits),
+        Comparison::NotEqual => prepend_equal(code, field, text, exits.asked(false)),
         Comparison::Less => prepend_less(code, at, left, text, exits),
         Comparison::GreaterOrEqual => prepend_less(code, at, left, text, exits.asked(false)),
         Comparison::Greater => prepend_greater(code, at, left, text, exits),
@@ -76,17 +44,18 @@ fn prepend_compared<A: Allocator + Copy>(
     }
 }
 
-/// Writes the code that asks whether a column has these bytes and then no more.
+/// Writes the code that asks whether a field has these bytes and then no more.
 fn prepend_equal<A: Allocator + Copy>(
     code: &mut CodeSuffix<A>,
-    column: TextColumn,
+    field: Field,
     bytes: &[u8],
     exits: Exits,
 ) -> Result<(), CompileFault>
-    requires { exits.skip ≤ word_count code.old }
-    ensures { Prepends result (is_piece column (map Exactly bytes.now) false) exits code.old code.new }
+    requires inside { exits.skip ≤ word_count code.old }
+    requires is_field { IsTextField field }
+    ensures { Prepends result (is_piece field (map Exactly bytes.now) false) exits code.old code.new }
 {
-    if bytes.len() > usize::from(width_of(column)) {
+    if bytes.len() > usize::from(field.width) {
         return code.prepend_constant(false, exits);
     }
     let ends = Ending {
@@ -94,8 +63,8 @@ fn prepend_equal<A: Allocator + Copy>(
         is_open: false,
         is_filled: is_filled(bytes),
     };
-    let exits = prepend_ending(code, column, ends, exits)?;
-    prepend_bytes(code, offset_of(column), bytes, exits)
+    let exits = prepend_ending(code, field, ends, exits)?;
+    prepend_bytes(code, field.offset, bytes, exits)
 }
 
 /// Returns whether the last byte is not a blank.
@@ -122,13 +91,14 @@ pub(crate) struct Ending {
 /// Writes the code that checks the bytes after the wanted ones, and returns the exits for the code that checks the wanted ones.
 pub(crate) fn prepend_ending<A: Allocator + Copy>(
     code: &mut CodeSuffix<A>,
-    column: TextColumn,
+    field: Field,
     ends: Ending,
     exits: Exits,
 ) -> Result<Exits, CompileFault>
     requires inside { exits.skip ≤ word_count code.old }
-    requires fits { ends.count ≤ width_of column }
-    ensures before { PrependsBefore result (ends_so ends.is_open ends.is_filled column ends.count) exits code.old code.new }
+    requires is_field { IsTextField field }
+    requires fits { ends.count ≤ field.width }
+    ensures before { PrependsBefore result (ends_so ends.is_open ends.is_filled field ends.count) exits code.old code.new }
     ensures inside { IfOk result (λ first. first.skip ≤ word_count code.new) }
 {
     let words = code.words();
@@ -136,51 +106,53 @@ pub(crate) fn prepend_ending<A: Allocator + Copy>(
         (true, true) => Ok(exits),
         (true, false) => {
             let from = ends.count.saturating_sub(1);
-            prepend_blank(code, column, from, exits.asked(false))?;
+            prepend_blank(code, field, from, exits.asked(false))?;
             Ok(code.exits_before(words, true, exits))
         }
         (false, true) => {
-            if ends.count == width_of(column) {
+            if ends.count == field.width {
                 return Ok(exits);
             }
-            prepend_blank(code, column, ends.count, exits)?;
+            prepend_blank(code, field, ends.count, exits)?;
             Ok(code.exits_before(words, true, exits))
         }
         (false, false) => {
             let from = ends.count.saturating_sub(1);
-            prepend_blank(code, column, from, exits.asked(false))?;
+            prepend_blank(code, field, from, exits.asked(false))?;
             let inner = code.exits_before(words, true, exits);
-            prepend_blank(code, column, ends.count, inner)?;
+            prepend_blank(code, field, ends.count, inner)?;
             Ok(code.exits_before(words, true, exits))
         }
     }
 }
 
-/// Writes the code that asks whether a text column is NULL: its field is blank.
-pub(crate) fn prepend_is_null_text<A: Allocator + Copy>(
+/// Writes the code that asks whether a field is blank.
+pub(crate) fn prepend_blank_field<A: Allocator + Copy>(
     code: &mut CodeSuffix<A>,
-    column: TextColumn,
+    field: Field,
     exits: Exits,
 ) -> Result<(), CompileFault>
-    requires { exits.skip ≤ word_count code.old }
-    ensures { Prepends result (is_null_text column) exits code.old code.new }
+    requires inside { exits.skip ≤ word_count code.old }
+    requires is_field { IsTextField field }
+    ensures { Prepends result (is_blank_field field) exits code.old code.new }
 {
-    prepend_blank(code, column, 0, exits)
+    prepend_blank(code, field, 0, exits)
 }
 
 /// Writes the code that asks whether a field is blank from a byte, counted from 0, to its end.
 fn prepend_blank<A: Allocator + Copy>(
     code: &mut CodeSuffix<A>,
-    column: TextColumn,
+    field: Field,
     from: u8,
     exits: Exits,
 ) -> Result<(), CompileFault>
     requires inside { exits.skip ≤ word_count code.old }
-    requires fits { from ≤ width_of column }
-    ensures { Prepends result (is_blank (offset_of column + from) (width_of column - from)) exits code.old code.new }
+    requires is_field { IsTextField field }
+    requires fits { from ≤ field.width }
+    ensures { Prepends result (is_blank (field.offset + from) (field.width - from)) exits code.old code.new }
 {
-    let left = usize::from(width_of(column) - from);
-    prepend_bytes(code, offset_of(column) + from, &BLANKS[..left], exits)
+    let left = usize::from(field.width - from);
+    prepend_bytes(code, field.offset + from, &BLANKS[..left], exits)
 }
 
 /// Writes the code that asks whether bytes of the record are blank.
@@ -340,22 +312,4 @@ pub(crate) fn byte_test(at: u8, comparison: Comparison, byte: u8) -> Test
         comparison,
         operand: i64::from(byte),
     }
-}
-
-/// Returns the number of bytes in the record before a column's field.
-pub(crate) fn offset_of(column: TextColumn) -> u8
-    ensures value { result ≡ offset_of column }
-    ensures inside { result + width_of column ≤ RECORD_LENGTH }
-{
-    let Places(first, _last) = column.places();
-    (first - 1) as u8
-}
-
-/// Returns the number of bytes in a column's field.
-pub(crate) fn width_of(column: TextColumn) -> u8
-    ensures value { result ≡ width_of column }
-    ensures short { result ≤ NAME_LENGTH }
-{
-    let Places(first, last) = column.places();
-    (last - (first - 1)) as u8
 }

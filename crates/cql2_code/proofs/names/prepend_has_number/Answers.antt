@@ -3,7 +3,7 @@ use Rattle.tl_segments.specs.declared.limits.TheConstants.{MAX_RANGES}
 use Rattle.cql2_code.proofs.PartsWritten.{lies_from-none, lies_from-refused}
 use Rattle.cql2_code.proofs.Refused.{prepends_refused, refuses_as}
 use Rattle.cql2_code.proofs.Written.{asked_written, written_as}
-use Rattle.cql2_code.specs.Lowering.{lies_from}
+use Rattle.cql2_code.specs.Function.{lies_from}
 use Rattle.cql2_code.proofs.names.prepend_has_number.Goals as goal
 
 pub loop-range-init : goal.loop-range-init

@@ -2,7 +2,7 @@ use Rattle.std.proofs.Common.{◌≡◌, ◌+◌, ◌-◌}
 use Rattle.bpf_insn.specs.Code.{word_count}
 use Rattle.tl_segments.specs.declared.limits.TheConstants.{MAX_RANGES}
 use Rattle.cql2_code.specs.Layout.{Writes}
-use Rattle.cql2_code.specs.Lowering.{lies_from}
+use Rattle.cql2_code.specs.Function.{lies_from}
 use Rattle.cql2_code.proofs.names.prepend_has_number.Given as goal
 
 abbrev pub invariant-loop-range : goal.invariant-loop-range

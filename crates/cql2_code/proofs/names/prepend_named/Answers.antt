@@ -2,7 +2,7 @@ use Rattle.std.proofs.Common.{◌≡◌, ℕ, suc, ◌+◌, ◌-◌, sym, ap, �
 use Rattle.cql2_code.proofs.PartsWritten.{is_named_from-none, is_named_from-refused}
 use Rattle.cql2_code.proofs.Refused.{prepends_refused, refuses_as}
 use Rattle.cql2_code.proofs.Written.{written_as}
-use Rattle.cql2_code.specs.Lowering.{is_named_from}
+use Rattle.cql2_code.specs.Function.{is_named_from}
 use Rattle.cql2_code.proofs.names.prepend_named.Goals as goal
 
 pub loop-name-init : goal.loop-name-init

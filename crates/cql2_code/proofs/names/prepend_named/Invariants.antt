@@ -1,7 +1,7 @@
 use Rattle.std.proofs.Common.{◌≡◌, ◌+◌, ◌-◌}
 use Rattle.bpf_insn.specs.Code.{word_count}
 use Rattle.cql2_code.specs.Layout.{Writes}
-use Rattle.cql2_code.specs.Lowering.{is_named_from}
+use Rattle.cql2_code.specs.Function.{is_named_from}
 use Rattle.cql2_code.proofs.names.prepend_named.Given as goal
 
 abbrev pub invariant-loop-name : goal.invariant-loop-name

@@ -1,4 +1,0 @@
-use Rattle.cql2_code.proofs.column_texts.+prepend_less.Given as goal
-
-abbrev pub decreases-prepend_less : goal.decreases-prepend_less
-decreases-prepend_less g l = l.left
