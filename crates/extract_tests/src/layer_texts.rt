@@ -17,7 +17,7 @@ use tl_segments::{CountyFiles, JoinedFiles, Segment};
 // The form of a layer, its geometry and its column; the files of types 1 and 2; the number of segments and the text. `\x7b` and `\x7d` are braces, and `\x5c` is a
 // backslash.
 const LAYERS: Table = Table {
-    rows: 21,
+    rows: 23,
     text: r#"
 rows none TLID; {rt1}\n{rt1 TLID=5}\n; {rt2}\n; ok 2; 0\t{rt1}\n0\t{rt1 TLID=5}\n
 csv none TLID;; {rt2}\n; ok 0; score,TLID\n
@@ -26,6 +26,7 @@ csv none fename; {rt1 FENAME=_Main_}\n{rt1 FENAME=}\n;; ok 2; score,FENAME\n0,Ma
 csv none FENAME; {rt1 FENAME=5,"Ave"}\n{rt1 FENAME=\r}\n;; ok 2; score,FENAME\n0,"5,""Ave"""\n0,"\r"\n
 csv none FENAME; {rt1 FENAME=Pe\xf1a}\n;; ok 1; score,FENAME\n0,Pe\xc3\xb1a\n
 csv none FRADDL; {rt1 FRADDL=0164-20}\n;; ok 1; score,FRADDL\n0,0164-20\n
+csv none FRADDL_TEXT; {rt1 FRADDL=_____164-20}\n{rt1 FRADDL=}\n;; ok 2; score,FRADDL_TEXT\n0,164-20\n0,\n
 csv none FRIADDL; {rt1 FRIADDL=1}\n{rt1 FRIADDL=0 TOIADDL=1}\n{rt1 TOIADDL=1}\n;; ok 3; score,FRIADDL\n0,1\n0,0\n0,\n
 csv none FRLONG; {rt1}\n{rt1 FRLONG=-000000001}\n{rt1 FRLONG=}\n;; ok 3; score,FRLONG\n0,-86.500000\n0,-0.000001\n0,\n
 csv line ZIPL; {rt1}\n{rt1 TOLAT=}\n; {rt2}\n; ok 2;
@@ -39,6 +40,7 @@ csv line ZIPL; {rt1}\n{rt1 ..227}; {rt2}\n{rt2}\n; refused 1 rt1 line 2 WrongLen
 geojson none TLID; {rt1}\n;; ok 1; \x7b"type":"Feature","properties":\x7b"score":0,"TLID":123456789\x7d,"geometry":null\x7d\n
 geojson none FENAME; {rt1 FENAME=}\n{rt1 FENAME="\x5c}\n;; ok 2; \x7b"type":"Feature","properties":\x7b"score":0,"FENAME":null\x7d,"geometry":null\x7d\n\x7b"type":"Feature","properties":\x7b"score":0,"FENAME":"\x5c"\x5c\x5c"\x7d,"geometry":null\x7d\n
 geojson none TOIADDR; {rt1 TOIADDR=0}\n{rt1 FRIADDR=1}\n;; ok 2; \x7b"type":"Feature","properties":\x7b"score":0,"TOIADDR":"0"\x7d,"geometry":null\x7d\n\x7b"type":"Feature","properties":\x7b"score":0,"TOIADDR":null\x7d,"geometry":null\x7d\n
+geojson none TOADDR_TEXT; {rt1 TOADDR=________98A}\n{rt1 TOADDR=}\n;; ok 2; \x7b"type":"Feature","properties":\x7b"score":0,"TOADDR_TEXT":"98A"\x7d,"geometry":null\x7d\n\x7b"type":"Feature","properties":\x7b"score":0,"TOADDR_TEXT":null\x7d,"geometry":null\x7d\n
 geojson none FENAME; {rt1 FENAME=\x01a}\n;; ok 1; \x7b"type":"Feature","properties":\x7b"score":0,"FENAME":"\x5cu0001a"\x7d,"geometry":null\x7d\n
 geojson none FENAME; {rt1 FENAME=Pe\xf1a}\n;; ok 1; \x7b"type":"Feature","properties":\x7b"score":0,"FENAME":"Pe\xc3\xb1a"\x7d,"geometry":null\x7d\n
 geojson line FRLAT; {rt1}\n;; ok 1; \x7b"type":"Feature","properties":\x7b"score":0,"FRLAT":32.400000\x7d,"geometry":\x7b"type":"LineString","coordinates":[[-86.500000,32.400000],[-86.490000,32.410000]]\x7d\x7d\n
@@ -218,8 +220,13 @@ fn are_texts_refused(alloc: Global, plan: FaultPlan, length: usize) -> bool {
         writer(alloc, plan.after(length)),
         writer(alloc, plan.after(length)),
     );
-    let row = CsvTable::new(Columns::all(), Geometry::Line).write_row(0, &segment, &[], &mut rows);
-    let feature = FeatureLines::new(Columns::all(), Geometry::Line).write_feature(
+    let row = CsvTable::new(Columns::usual(), Geometry::Line).write_row(
+        0,
+        &segment,
+        &[],
+        &mut rows,
+    );
+    let feature = FeatureLines::new(Columns::usual(), Geometry::Line).write_feature(
         0,
         &segment,
         &[],

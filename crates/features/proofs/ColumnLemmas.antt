@@ -1,7 +1,7 @@
 -- Lists of different columns.
 use Rattle.std.proofs.Common.{◌≡◌, ℕ, ◌+◌, ◌<◌, ◌≤◌, true, false, List, [], ◌∷◌, ◌++◌, length, map, get_or, set, take, drop, Option, Some, None, Result, Ok, Err, ◌⊎◌, inl, inr, subst, ◌==◌, refl, sym, ap, ◌∙◌, arith}
 use Rattle.std.proofs.lemmas.Bool.{cases_Bool}
-use Rattle.std.proofs.lemmas.Cmp.{nat_eq_equiv}
+use Rattle.std.proofs.lemmas.Cmp.{nat_list_eq_equiv}
 use Rattle.std.proofs.lemmas.Grind.{take-set_at}
 use Rattle.std.proofs.lemmas.List.{drop_more, get_or-map, length-append, length-map, length-take-le}
 use Rattle.std.proofs.lemmas.Map.Keys.{IsDistinct-push}
@@ -16,18 +16,19 @@ use Rattle.cql2.specs.declared.column.CoordinateColumn.TheVariants.{Frlong, Frla
 use Rattle.cql2.specs.declared.column.NumberColumn.TheVariants.{Tlid, Fraddl, Toaddl, Fraddr, Toaddr, Zipl, Zipr, Statel, Stater, Countyl, Countyr, Placel, Placer, Tractl, Tractr, Blockl, Blockr}
 use Rattle.cql2.specs.declared.column.NumericColumn.TheVariants.{Number, Coordinate}
 use Rattle.cql2.specs.declared.column.TextColumn.TheVariants.{Rt, Version, Side1, Source, Fedirp, Fename, Fetype, Fedirs, Cfcc}
-use Rattle.cql2.specs.declared.column.TextColumn.TheVariants.{Friaddl, Toiaddl, Friaddr, Toiaddr, Cousubl, Cousubr}
-use Rattle.cql2_tokens.specs.Name.{column_named}
-use Rattle.features.specs.Columns.{columns_after, columns_named, is_same, places_of, unless_fault, with_column}
+use Rattle.cql2.specs.declared.column.TextColumn.TheVariants.{FraddlText, ToaddlText, FraddrText, ToaddrText, Friaddl, Toiaddl, Friaddr, Toiaddr}
+use Rattle.cql2.specs.declared.column.TextColumn.TheVariants.{Cousubl, Cousubr}
+use Rattle.cql2_tokens.specs.Name.{column_name, column_named}
+use Rattle.features.specs.Columns.{columns_after, columns_named, is_same, unless_fault, with_column}
 use Rattle.features.specs.declared.columns.TheConstants.{COLUMNS}
 use Rattle.features.specs.declared.columns_fault.ColumnsFault.{ColumnsFault}
 
 same_equiv : IsEquivalence is_same
 unfolding is_same
 same_equiv = record {
-  refl = λ x. nat_eq_equiv.refl (places_of x).0;
-  symm = λ x y. nat_eq_equiv.symm (places_of x).0 (places_of y).0;
-  congr = λ x y z. nat_eq_equiv.congr (places_of x).0 (places_of y).0 (places_of z).0;
+  refl = λ x. nat_list_eq_equiv.refl (column_name x);
+  symm = λ x y. nat_list_eq_equiv.symm (column_name x) (column_name y);
+  congr = λ x y z. nat_list_eq_equiv.congr (column_name x) (column_name y) (column_name z);
 }
 
 -- the list of all columns has each
@@ -63,6 +64,10 @@ all_columns (Text Fename) = refl
 all_columns (Text Fetype) = refl
 all_columns (Text Fedirs) = refl
 all_columns (Text Cfcc) = refl
+all_columns (Text FraddlText) = refl
+all_columns (Text ToaddlText) = refl
+all_columns (Text FraddrText) = refl
+all_columns (Text ToaddrText) = refl
 all_columns (Text Friaddl) = refl
 all_columns (Text Toiaddl) = refl
 all_columns (Text Friaddr) = refl
@@ -75,13 +80,13 @@ pub still_distinct : (before : List AColumn) (column : AColumn) → IsDistinct i
     → IsDistinct is_same (before ++ column ∷ [])
 still_distinct before column distinct new = IsDistinct-push same_equiv before column distinct new
 
--- there are no more columns than 36
-pub few_columns : (columns : List AColumn) → IsDistinct is_same columns → length columns ≤ 36
+-- there are no more columns than 40
+pub few_columns : (columns : List AColumn) → IsDistinct is_same columns → length columns ≤ 40
 few_columns columns distinct = length-le_from_is_member same_equiv columns COLUMNS distinct (λ column among. all_columns column)
 
 -- there is room for a new column
-pub room : (columns : List AColumn) (count : ℕ) (column : AColumn) → length columns ≡ 36 → count ≤ 36 → IsDistinct is_same (take count columns)
-    → list_any (is_same column) (take count columns) ≡ false → count < 36
+pub room : (columns : List AColumn) (count : ℕ) (column : AColumn) → length columns ≡ 40 → count ≤ 40 → IsDistinct is_same (take count columns)
+    → list_any (is_same column) (take count columns) ≡ false → count < 40
 room columns count column long few distinct new =
     omega (
       arith,
@@ -91,7 +96,7 @@ room columns count column long few distinct new =
     )
 
 -- the columns with one more put after them
-pub put_column : (columns : List AColumn) (count : ℕ) (column : AColumn) → length columns ≡ 36 → count < 36
+pub put_column : (columns : List AColumn) (count : ℕ) (column : AColumn) → length columns ≡ 40 → count < 40
     → take (count + 1) (set columns count column) ≡ take count columns ++ column ∷ []
 put_column columns count column long inside = take-set_at columns count (count + 1) column refl (omega arith)
 

@@ -1,4 +1,4 @@
--- The names of columns need no quotes and no escapes, none has a line feed, and none has more than seven bytes.
+-- The names of columns need no quotes and no escapes, none has a line feed, and none has more than eleven bytes.
 use Rattle.std.proofs.Common.{◌≡◌, ◌≤◌, ◌==◌, not, true, length, lit≤, refl}
 use Rattle.std.specs.List.{list_all}
 use Rattle.cql2.specs.declared.column.Column.{Column as AColumn}
@@ -7,7 +7,8 @@ use Rattle.cql2.specs.declared.column.CoordinateColumn.TheVariants.{Frlong, Frla
 use Rattle.cql2.specs.declared.column.NumberColumn.TheVariants.{Tlid, Fraddl, Toaddl, Fraddr, Toaddr, Zipl, Zipr, Statel, Stater, Countyl, Countyr, Placel, Placer, Tractl, Tractr, Blockl, Blockr}
 use Rattle.cql2.specs.declared.column.NumericColumn.TheVariants.{Number, Coordinate}
 use Rattle.cql2.specs.declared.column.TextColumn.TheVariants.{Rt, Version, Side1, Source, Fedirp, Fename, Fetype, Fedirs, Cfcc}
-use Rattle.cql2.specs.declared.column.TextColumn.TheVariants.{Friaddl, Toiaddl, Friaddr, Toiaddr, Cousubl, Cousubr}
+use Rattle.cql2.specs.declared.column.TextColumn.TheVariants.{FraddlText, ToaddlText, FraddrText, ToaddrText, Friaddl, Toiaddl, Friaddr, Toiaddr}
+use Rattle.cql2.specs.declared.column.TextColumn.TheVariants.{Cousubl, Cousubr}
 use Rattle.cql2_tokens.specs.Name.{column_name}
 use Rattle.csv.specs.Writing.{default_writer, field_text}
 use Rattle.json.specs.Print.{escape, escape_byte}
@@ -43,6 +44,10 @@ field_text-column_name (Text Fename) = refl
 field_text-column_name (Text Fetype) = refl
 field_text-column_name (Text Fedirs) = refl
 field_text-column_name (Text Cfcc) = refl
+field_text-column_name (Text FraddlText) = refl
+field_text-column_name (Text ToaddlText) = refl
+field_text-column_name (Text FraddrText) = refl
+field_text-column_name (Text ToaddrText) = refl
 field_text-column_name (Text Friaddl) = refl
 field_text-column_name (Text Toiaddl) = refl
 field_text-column_name (Text Friaddr) = refl
@@ -50,7 +55,7 @@ field_text-column_name (Text Toiaddr) = refl
 field_text-column_name (Text Cousubl) = refl
 field_text-column_name (Text Cousubr) = refl
 
-pub name_short : (column : AColumn) → length (column_name column) ≤ 7
+pub name_short : (column : AColumn) → length (column_name column) ≤ 11
 name_short (Numeric (Number Tlid)) = lit≤ tt
 name_short (Numeric (Number Fraddl)) = lit≤ tt
 name_short (Numeric (Number Toaddl)) = lit≤ tt
@@ -81,6 +86,10 @@ name_short (Text Fename) = lit≤ tt
 name_short (Text Fetype) = lit≤ tt
 name_short (Text Fedirs) = lit≤ tt
 name_short (Text Cfcc) = lit≤ tt
+name_short (Text FraddlText) = lit≤ tt
+name_short (Text ToaddlText) = lit≤ tt
+name_short (Text FraddrText) = lit≤ tt
+name_short (Text ToaddrText) = lit≤ tt
 name_short (Text Friaddl) = lit≤ tt
 name_short (Text Toiaddl) = lit≤ tt
 name_short (Text Friaddr) = lit≤ tt
@@ -120,6 +129,10 @@ escape-column_name (Text Fename) = refl
 escape-column_name (Text Fetype) = refl
 escape-column_name (Text Fedirs) = refl
 escape-column_name (Text Cfcc) = refl
+escape-column_name (Text FraddlText) = refl
+escape-column_name (Text ToaddlText) = refl
+escape-column_name (Text FraddrText) = refl
+escape-column_name (Text ToaddrText) = refl
 escape-column_name (Text Friaddl) = refl
 escape-column_name (Text Toiaddl) = refl
 escape-column_name (Text Friaddr) = refl
@@ -158,6 +171,10 @@ flat-column_name (Text Fename) = refl
 flat-column_name (Text Fetype) = refl
 flat-column_name (Text Fedirs) = refl
 flat-column_name (Text Cfcc) = refl
+flat-column_name (Text FraddlText) = refl
+flat-column_name (Text ToaddlText) = refl
+flat-column_name (Text FraddrText) = refl
+flat-column_name (Text ToaddrText) = refl
 flat-column_name (Text Friaddl) = refl
 flat-column_name (Text Toiaddl) = refl
 flat-column_name (Text Friaddr) = refl

@@ -7,7 +7,8 @@ use Rattle.cql2.specs.declared.column.NumberColumn.{NumberColumn}
 use Rattle.cql2.specs.declared.column.NumberColumn.TheVariants.{Tlid, Fraddl, Toaddl, Fraddr, Toaddr, Zipl, Zipr, Statel, Stater, Countyl, Countyr, Placel, Placer, Tractl, Tractr, Blockl, Blockr}
 use Rattle.cql2.specs.declared.column.TextColumn.{TextColumn}
 use Rattle.cql2.specs.declared.column.TextColumn.TheVariants.{Rt, Version, Side1, Source, Fedirp, Fename, Fetype, Fedirs, Cfcc}
-use Rattle.cql2.specs.declared.column.TextColumn.TheVariants.{Friaddl, Toiaddl, Friaddr, Toiaddr, Cousubl, Cousubr}
+use Rattle.cql2.specs.declared.column.TextColumn.TheVariants.{FraddlText, ToaddlText, FraddrText, ToaddrText, Friaddl, Toiaddl, Friaddr, Toiaddr}
+use Rattle.cql2.specs.declared.column.TextColumn.TheVariants.{Cousubl, Cousubr}
 use Rattle.tl_records.specs.Layout.{IsWithin}
 use Rattle.tl_records.specs.declared.layout.Places.{Places}
 
@@ -49,6 +50,10 @@ text_within Fename = ((lit≤ tt, lit≤ tt, lit≤ tt), lit≤ tt)
 text_within Fetype = ((lit≤ tt, lit≤ tt, lit≤ tt), lit≤ tt)
 text_within Fedirs = ((lit≤ tt, lit≤ tt, lit≤ tt), lit≤ tt)
 text_within Cfcc = ((lit≤ tt, lit≤ tt, lit≤ tt), lit≤ tt)
+text_within FraddlText = ((lit≤ tt, lit≤ tt, lit≤ tt), lit≤ tt)
+text_within ToaddlText = ((lit≤ tt, lit≤ tt, lit≤ tt), lit≤ tt)
+text_within FraddrText = ((lit≤ tt, lit≤ tt, lit≤ tt), lit≤ tt)
+text_within ToaddrText = ((lit≤ tt, lit≤ tt, lit≤ tt), lit≤ tt)
 text_within Friaddl = ((lit≤ tt, lit≤ tt, lit≤ tt), lit≤ tt)
 text_within Toiaddl = ((lit≤ tt, lit≤ tt, lit≤ tt), lit≤ tt)
 text_within Friaddr = ((lit≤ tt, lit≤ tt, lit≤ tt), lit≤ tt)

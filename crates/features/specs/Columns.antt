@@ -1,11 +1,13 @@
 -- Columns, chosen by their names.
-use Rattle.std.specs.Prelude.{ℕ, Bool, ◌==◌, List, [], ◌∷◌, ◌++◌, length, if◌then◌else◌, Option, Some, None, Result, Ok, Err}
+use Rattle.std.specs.Prelude.{ℕ, Bool, List, [], ◌∷◌, ◌++◌, length, take, if◌then◌else◌, Option, Some, None, Result, Ok, Err}
 use Rattle.std.specs.List.{list_any}
+use Rattle.std.specs.Str.{bytes_eq}
 use Rattle.cql2.specs.Column.{coordinate_places, number_places, text_places}
 use Rattle.cql2.specs.declared.column.Column.{Column as AColumn}
 use Rattle.cql2.specs.declared.column.Column.TheVariants.{Numeric, Text}
 use Rattle.cql2.specs.declared.column.NumericColumn.TheVariants.{Number, Coordinate}
-use Rattle.cql2_tokens.specs.Name.{column_named}
+use Rattle.cql2_tokens.specs.Name.{column_name, column_named}
+use Rattle.features.specs.declared.columns.TheConstants.{COLUMNS, USUAL_COUNT}
 use Rattle.features.specs.declared.columns_fault.ColumnsFault.{ColumnsFault}
 use Rattle.features.specs.declared.columns_fault.ColumnsFault.TheVariants.{Empty, Unknown, Repeated}
 use Rattle.tl_records.specs.declared.layout.Places.{Places}
@@ -16,9 +18,13 @@ places_of (Numeric (Number column)) = number_places column
 places_of (Numeric (Coordinate column)) = coordinate_places column
 places_of (Text column) = text_places column
 
--- both columns begin at the same position
+-- both columns have the same name
 unfoldable pub is_same : AColumn → AColumn → Bool
-is_same column other = (places_of column).0 == (places_of other).0
+is_same column other = bytes_eq (column_name column) (column_name other)
+
+-- the columns of a table for which no columns are named
+abbrev pub usual_columns : List AColumn
+usual_columns = take USUAL_COUNT COLUMNS
 
 -- columns and one more, which must be known and must not be among them; a fault has the index of its name
 abbrev pub with_column : List AColumn → Option AColumn → Result (List AColumn) ColumnsFault

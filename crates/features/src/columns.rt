@@ -1,23 +1,25 @@
 //! The columns of a table.
 ghost use Rattle.std.specs.Prelude.{◌≡◌, ◌+◌, ◌<◌, ◌≤◌, [], ◌∷◌, ◌++◌, false, length, map, IfOk, MatchResult, Ok, Err};
 ghost use Rattle.std.specs.List.{list_any};
-ghost use Rattle.features.specs.Columns.{columns_named, is_same, places_of, with_column};
-ghost use Rattle.features.specs.declared.columns.TheConstants.{COLUMNS};
+ghost use Rattle.features.specs.Columns.{columns_named, is_same, places_of, usual_columns, with_column};
 ghost use Rattle.tl_records.specs.Layout.{IsWithin};
 
 use crate::columns_fault::ColumnsFault;
 use cql2::{Column, CoordinateColumn, NumberColumn, NumericColumn, TextColumn};
-use cql2_tokens::column_named;
+use cql2_tokens::{column_name, column_named};
 use std::marker::Model;
 use tl_records::{Places, RECORD_LENGTH};
 
 /// The number of columns that a filter can name.
-pub const MAX_COLUMNS: usize = 36;
+pub const MAX_COLUMNS: usize = 40;
+
+/// The number of usual columns: those of a table whose columns are not named.
+const USUAL_COUNT: usize = 36;
 
 /// The width of the widest field, FENAME.
 pub(crate) const MAX_FIELD_LENGTH: usize = 30;
 
-/// All columns that a filter can name, in the order of the record.
+/// All columns that a filter can name: first the usual ones, one for each field, in the order of the record, and then those that repeat a field.
 pub const COLUMNS: [Column; MAX_COLUMNS] = [
     Column::Text(TextColumn::Rt),
     Column::Text(TextColumn::Version),
@@ -55,6 +57,10 @@ pub const COLUMNS: [Column; MAX_COLUMNS] = [
     Column::Numeric(NumericColumn::Coordinate(CoordinateColumn::Frlat)),
     Column::Numeric(NumericColumn::Coordinate(CoordinateColumn::Tolong)),
     Column::Numeric(NumericColumn::Coordinate(CoordinateColumn::Tolat)),
+    Column::Text(TextColumn::FraddlText),
+    Column::Text(TextColumn::ToaddlText),
+    Column::Text(TextColumn::FraddrText),
+    Column::Text(TextColumn::ToaddrText),
 ];
 
 /// The columns of a table, at least one. Contracts see them as a list.
@@ -72,17 +78,17 @@ impl Model for Columns {
 
     ghost view = { λ columns. take columns.count columns.columns };
 
-    ghost invariant = { λ columns. (0 < columns.count) × (columns.count ≤ 36) };
+    ghost invariant = { λ columns. (0 < columns.count) × (columns.count ≤ 40) };
 }
 
 impl Columns {
-    /// Returns all columns that a filter can name, in the order of the record.
-    pub fn all() -> Columns
-        ensures { result ≡ COLUMNS }
+    /// Returns the usual columns, one for each field, in the order of the record.
+    pub fn usual() -> Columns
+        ensures { result ≡ usual_columns }
     {
         Columns {
             columns: COLUMNS,
-            count: MAX_COLUMNS,
+            count: USUAL_COUNT,
         }
     }
 
@@ -150,7 +156,7 @@ fn contains(columns: &[Column], column: Column) -> bool
 fn is_same(column: Column, other: Column) -> bool
     ensures { result ≡ is_same column other }
 {
-    places_of(column).0 == places_of(other).0
+    column_name(column) == column_name(other)
 }
 
 /// Returns the positions of a column's fields.

@@ -1,26 +1,28 @@
 //! Laws about the definitions, stated as contracts of functions that do nothing.
-ghost use Rattle.std.specs.Prelude.{◌≡◌, ◌==◌, ℕ, [], ◌∷◌, ◌++◌, true, codes, List, map, Some, Ok};
+ghost use Rattle.std.specs.Prelude.{◌≡◌, ◌==◌, ℕ, [], ◌∷◌, ◌++◌, true, codes, List, map, drop, Some, Ok};
 ghost use Rattle.std.specs.List.{IsDistinct, list_any, slice_split};
 ghost use Rattle.cql2.specs.declared.column.Column.{Column};
 ghost use Rattle.cql2_tokens.specs.Name.{column_name};
 ghost use Rattle.csv.specs.Reading.{default_config, records};
-ghost use Rattle.features.specs.Columns.{columns_named, is_same};
+ghost use Rattle.features.specs.Columns.{columns_named, is_same, usual_columns};
 ghost use Rattle.features.specs.CsvTable.{header_cells, row_cells, table_text};
 ghost use Rattle.features.specs.Feature.{IsWritable, feature, feature_text, features_text};
 ghost use Rattle.features.specs.Layout.{LayoutParts, SelectedParts};
-ghost use Rattle.features.specs.declared.columns.TheConstants.{COLUMNS};
+ghost use Rattle.features.specs.declared.columns.TheConstants.{COLUMNS, USUAL_COUNT};
 ghost use Rattle.json.specs.Json.{document};
 
-/// States that the list of all columns has each column, in the order of their fields in a record.
+/// States that the usual columns are those of the fields, in the order of a record, and that only the house numbers as texts are columns besides.
 #[tactic(auto, using(crate::proofs::ColumnLemmas::all_columns), unfolding(crate::specs::Columns::is_same))]
 pub fn all_columns()
     ensures each { (column : Column) → list_any (is_same column) COLUMNS ≡ true }
-    ensures names { map column_name COLUMNS ≡
+    ensures usual { map column_name usual_columns ≡
         codes "RT" ∷ codes "VERSION" ∷ codes "TLID" ∷ codes "SIDE1" ∷ codes "SOURCE" ∷ codes "FEDIRP" ∷ codes "FENAME" ∷ codes "FETYPE"
         ∷ codes "FEDIRS" ∷ codes "CFCC" ∷ codes "FRADDL" ∷ codes "TOADDL" ∷ codes "FRADDR" ∷ codes "TOADDR" ∷ codes "FRIADDL" ∷ codes "TOIADDL"
         ∷ codes "FRIADDR" ∷ codes "TOIADDR" ∷ codes "ZIPL" ∷ codes "ZIPR" ∷ codes "STATEL" ∷ codes "STATER" ∷ codes "COUNTYL" ∷ codes "COUNTYR"
         ∷ codes "COUSUBL" ∷ codes "COUSUBR" ∷ codes "PLACEL" ∷ codes "PLACER" ∷ codes "TRACTL" ∷ codes "TRACTR" ∷ codes "BLOCKL" ∷ codes "BLOCKR"
         ∷ codes "FRLONG" ∷ codes "FRLAT" ∷ codes "TOLONG" ∷ codes "TOLAT" ∷ [] }
+    ensures others { map column_name (drop USUAL_COUNT COLUMNS) ≡
+        codes "FRADDL_TEXT" ∷ codes "TOADDL_TEXT" ∷ codes "FRADDR_TEXT" ∷ codes "TOADDR_TEXT" ∷ [] }
 {}
 
 /// States that columns that were named are different.

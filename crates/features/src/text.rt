@@ -8,11 +8,11 @@ use degrees::{DEGREES_LENGTH, degrees};
 /// The greatest number of bytes that a column takes in a row, with its name.
 pub(crate) const MAX_COLUMN_LENGTH: usize = 384;
 
-/// The greatest number of bytes that are written at once: 36 columns, and what is around them.
-pub(crate) const MAX_PIECE_LENGTH: usize = 14_400;
+/// The greatest number of bytes that are written at once: 40 columns, and what is around them.
+pub(crate) const MAX_PIECE_LENGTH: usize = 15_936;
 
 /// The greatest number of bytes of a row or a feature before its line, or of a header.
-pub(crate) const MAX_ROW_LENGTH: usize = 14_000;
+pub(crate) const MAX_ROW_LENGTH: usize = 15_536;
 
 /// A piece of text, which is written at once.
 pub(crate) type Piece = ArrayVec<u8, MAX_PIECE_LENGTH>;

@@ -44,7 +44,7 @@ loop-count-preserved c =
     let column = c.in_ok-columns.field-0 in
     let before = take count columns in
     let left = names_left c.args.names.now count _ c.as_bytes.result.now c.loop-count-test.true c.as_bytes.ensures.value in
-    let inside : count < 36 =
+    let inside : count < 40 =
     room columns count column c.loop-count.invariant.length c.loop-count.invariant.few c.loop-count.invariant.distinct c.in_ok-columns.ensures.new in
     let put : before ++ column ∷ [] ≡ take (count + 1) (set columns count column) =
     sym (put_column columns count column c.loop-count.invariant.length inside) in

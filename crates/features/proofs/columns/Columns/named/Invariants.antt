@@ -5,8 +5,8 @@ use Rattle.features.proofs.columns.Columns.named.Given as goal
 
 abbrev pub invariant-loop-count : goal.invariant-loop-count
 invariant-loop-count l = record {
-  length : length l.columns ≡ 36;
-  few : l.count ≤ 36;
+  length : length l.columns ≡ 40;
+  few : l.count ≤ 40;
   so_far : columns_after (take l.count l.columns) (drop l.count (map (λ name. name.now) l.names)) ≡ columns_named (map (λ name. name.now) l.fn.names);
   distinct : IsDistinct is_same (take l.count l.columns);
 }
