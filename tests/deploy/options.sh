@@ -48,7 +48,7 @@ cd "$top/examples" || exit
 {
     printf '%s\n' 'extractd ' 'extractd --' 'extractd run --data . ' 'extractd select --data=. 0' \
         'extractd geocode-batch --addresses addr' 'extractd run --data to' 'extractd select --score ' \
-        'extractd select --columns ' 'extractd select --columns TLID,fen' 'extractd select --format ' 'extractd run --geometry '
+        'extractd select --columns ' 'extractd select --columns TLID,fen' 'extractd select --format ' 'extractd compile --filter-lang ' 'extractd run --geometry '
     for command in $commands; do echo "extractd $command --"; done
 } > "$scratch/lines"
 zsh=
@@ -87,11 +87,12 @@ for column in $columns; do
     same "$column is accepted" '' "$(echo TRUE | "$program" compile --filter - --score "$column" 2>&1 > "$scratch/bpf")"
 done
 
-fields=$(sed -n -E 's/^\| (number|coordinate|text) \| ([A-Z0-9, ]*) \|.*/\2/p' "$top/docs/filters.md" | tr -d ,)
+fields=$(sed -n -E 's/^\| (number|coordinate|text) \| ([A-Z0-9_, ]*) \|.*/\2/p' "$top/docs/filters.md" | tr -d ,)
 offers 'columns of a list' "$fields" extractd select --columns ''
 same 'bash: the next column' TLID,FENAME "$(bash_offers extractd select --columns TLID,fen)"
 [ -z "$zsh" ] || same 'zsh: the next column' FENAME "$(zsh_offers 'extractd select --columns TLID,fen')"
 offers 'formats' 'rows csv geojsonseq' extractd select --format ''
+offers 'languages' 'cql2-text cql2-json' extractd compile --filter-lang ''
 offers 'geometries' 'none line shape' extractd run --geometry ''
 : > "$scratch/empty.bpf"
 for field in $fields; do

@@ -11,7 +11,7 @@ use tl_segments::{RECORD_LENGTH, Segment};
 
 // A filter, a segment's record, and whether the filter selects the segment, worked out by hand.
 const FILTERS: Table = Table {
-    rows: 96,
+    rows: 110,
     text: "\
 TRUE; {rt1}; 1
 FALSE; {rt1}; 0
@@ -78,6 +78,20 @@ FRIADDL IS NULL; {rt1 FRIADDL=0}; 0
 TOIADDL = '1'; {rt1 TOIADDL=1}; 1
 FRIADDR = '1'; {rt1 FRIADDR=1}; 1
 TOIADDR = '1'; {rt1 TOIADDR=1}; 1
+FRADDL_TEXT = '164-20'; {rt1 FRADDL=_____164-20}; 1
+FRADDL_TEXT = '164-20'; {rt1 FRADDL=__164-20}; 1
+FRADDL_TEXT = ' 164-20'; {rt1 FRADDL=_____164-20}; 0
+FRADDL_TEXT <> '164-20'; {rt1 FRADDL=_____164-20 TOADDL=_____164-22 FRADDR= TOADDR=}; 0
+FRADDL_TEXT LIKE '%-%'; {rt1 FRADDL=_____164-20}; 1
+FRADDL_TEXT LIKE '%-%'; {rt1}; 0
+FRADDL_TEXT LIKE '1__'; {rt1}; 1
+FRADDL_TEXT LIKE '%_101'; {rt1}; 0
+FRADDL_TEXT > '100'; {rt1}; 1
+FRADDL_TEXT IS NULL; {rt1 FRADDL=}; 1
+FRADDL_TEXT < TOADDL_TEXT; {rt1 FRADDL=_____164-20 TOADDL=_____164-98}; 1
+TOADDL_TEXT = '98A'; {rt1 TOADDL=________98A}; 1
+FRADDR_TEXT = '98A'; {rt1 FRADDR=98A}; 1
+CASEI(TOADDR_TEXT) LIKE CASEI('%a'); {rt1 TOADDR=________98A}; 1
 CASEI(FENAME) = CASEI('mAIN'); {rt1}; 1
 ACCENTI(FENAME) = ACCENTI('Máin'); {rt1}; 1
 CASEI(ACCENTI(FENAME)) LIKE ACCENTI(CASEI('%ÀI%')); {rt1}; 1

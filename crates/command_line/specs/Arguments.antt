@@ -56,8 +56,8 @@ name_of Serve = codes "serve"
 -- the arguments of a command
 abbrev pub arguments_of : Subcommand → List Rule
 arguments_of Select =
-    required (codes "where") ∷ optional (codes "score") ∷ required (codes "data") ∷ layer_options ++ counties ∷ []
-arguments_of Compile = required (codes "filter") ∷ optional (codes "score") ∷ []
+    required (codes "where") ∷ optional (codes "filter-lang") ∷ optional (codes "score") ∷ required (codes "data") ∷ layer_options ++ counties ∷ []
+arguments_of Compile = required (codes "filter") ∷ optional (codes "filter-lang") ∷ optional (codes "score") ∷ []
 arguments_of Run = required (codes "program") ∷ required (codes "data") ∷ layer_options ++ county ∷ []
 arguments_of Trace = required (codes "program") ∷ required (codes "data") ∷ required (codes "line") ∷ required (codes "limit") ∷ county ∷ []
 arguments_of Geocode =

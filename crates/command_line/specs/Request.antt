@@ -19,22 +19,24 @@ use Rattle.commands.specs.declared.assemble.Assemble.{Assemble}
 use Rattle.commands.specs.declared.disassemble.Disassemble.{Disassemble}
 use Rattle.layers.specs.LayerParts.{parts_of as layer_parts}
 use Rattle.command_line.specs.Arguments.{named, program}
-use Rattle.command_line.specs.Values.{code_of, codes_of, file_of, flag_of, layer_of, number_of, port_of, score_of}
+use Rattle.command_line.specs.Values.{code_of, codes_of, file_of, flag_of, language_of, layer_of, number_of, port_of, score_of}
 use Rattle.command_line.specs.declared.arguments.subcommand.Subcommand.{Subcommand}
 use Rattle.command_line.specs.declared.arguments.subcommand.Subcommand.TheVariants as command
 use Rattle.command_line.specs.declared.serve.Serve.{Serve}
 
--- select --where TEXT [--score COLUMN] --data DIR [--format FORMAT] [--columns NAMES] [--geometry GEOMETRY] CODE..
+-- select --where TEXT [--filter-lang LANG] [--score COLUMN] --data DIR [--format FORMAT] [--columns NAMES] [--geometry GEOMETRY] CODE..
 pub record IsSelect (rows : List Row) (select : Select) : Type 0 where
   pub filter : first_of (codes "where") rows ≡ Some select.filter.now
+  pub language : language_of rows ≡ Some select.filter_options.language
   pub score : score_of rows ≡ Some select.filter_options.score
   pub folder : first_of (codes "data") rows ≡ Some select.«data».now
   pub layer : layer_of rows ≡ Some (layer_parts select.layer)
   pub codes : codes_of rows ≡ Some (map (λ code. code.now) select.codes.items)
 
--- compile --filter FILE [--score COLUMN]
+-- compile --filter FILE [--filter-lang LANG] [--score COLUMN]
 pub record IsCompile (rows : List Row) (compile : Compile) : Type 0 where
   pub filter : file_of (codes "filter") rows ≡ Some compile.filter.now
+  pub language : language_of rows ≡ Some compile.filter_options.language
   pub score : score_of rows ≡ Some compile.filter_options.score
 
 -- run --program FILE --data DIR [--format FORMAT] [--columns NAMES] [--geometry GEOMETRY] CODE

@@ -11,13 +11,14 @@ use Rattle.decimal.specs.Numeral.{decimal_in}
 use Rattle.clap.specs.Matches.{found_of}
 use Rattle.clap.specs.Walk.{Row, Text, all_of, first_of, rows_of}
 use Rattle.clap.specs.declared.parser.matches.ArgMatches.{ArgMatches}
+use Rattle.commands.specs.declared.filter.FilterLanguage.{FilterLanguage}
+use Rattle.commands.specs.declared.filter.FilterLanguage.TheVariants as language
 use Rattle.cql2_tokens.specs.Name.{column_named}
 use Rattle.cql2.specs.declared.column.Column.{Column}
 use Rattle.cql2.specs.declared.column.Column.TheVariants.{Numeric}
 use Rattle.cql2.specs.declared.column.NumericColumn.{NumericColumn}
-use Rattle.features.specs.Columns.{columns_named}
+use Rattle.features.specs.Columns.{columns_named, usual_columns}
 use Rattle.features.specs.Layout.{LayoutParts}
-use Rattle.features.specs.declared.columns.TheConstants.{COLUMNS}
 use Rattle.features.specs.declared.geometry.Geometry.{Geometry}
 use Rattle.features.specs.declared.geometry.Geometry.TheVariants as geometry
 use Rattle.layers.specs.Layer.{LayerParts, Rows, Table, Features}
@@ -61,9 +62,16 @@ abbrev pub score_in : Option Text → Option (Option NumericColumn)
 score_in None = Some None
 score_in (Some name) = option_map Some (numeric (column_named name))
 
--- all columns, or those of the names between the commas of a text; each name is that of a column, and none is repeated
+-- the language of filters that a text names
+abbrev pub language_in : Text → Option FilterLanguage
+language_in text =
+    if bytes_eq text (codes "cql2-text") then Some language.Text
+    else if bytes_eq text (codes "cql2-json") then Some language.Json
+    else None
+
+-- the usual columns, or those of the names between the commas of a text; each name is that of a column, and none is repeated
 abbrev pub columns_in : Option Text → Option (List Column)
-columns_in None = Some COLUMNS
+columns_in None = Some usual_columns
 columns_in (Some text) = result_ok (columns_named (slice_split (λ byte. byte == 44) text))
 
 -- the geometry that a text names
@@ -98,6 +106,10 @@ port_of rows = option_and_then port_in (first_of (codes "port") rows)
 
 abbrev pub score_of : List Row → Option (Option NumericColumn)
 score_of rows = score_in (first_of (codes "score") rows)
+
+-- the text encoding, unless an option names another language
+abbrev pub language_of : List Row → Option FilterLanguage
+language_of rows = language_in (unwrap_or (first_of (codes "filter-lang") rows) (codes "cql2-text"))
 
 -- ---- the meaning of the options of a layer
 

@@ -43,6 +43,8 @@ pub enum ArgumentsFault<'a> {
     },
     /// This name isn't 1 to 30 characters.
     Name(&'a str),
+    /// This isn't the name of a language of filters.
+    Language(&'a str),
     /// This isn't the name of a numeric column.
     Score(&'a str),
     /// This isn't the name of a format.
@@ -118,6 +120,10 @@ impl ArgumentsFault<'_> {
             }
             ArgumentsFault::Name(name) => {
                 write!(line, "error: --name is 1 to {NAME_LENGTH} characters")?;
+                end_with_value(line, name)
+            }
+            ArgumentsFault::Language(name) => {
+                write!(line, "error: --filter-lang is cql2-text or cql2-json")?;
                 end_with_value(line, name)
             }
             ArgumentsFault::Score(name) => {

@@ -1,6 +1,8 @@
 //! Laws about the definitions, stated as contracts of functions that do nothing.
-ghost use Rattle.std.specs.Prelude.{◌≡◌, [], ◌∷◌, codes, false, map, true};
+ghost use Rattle.std.specs.Prelude.{◌≡◌, [], ◌∷◌, None, codes, false, map, true};
 ghost use Rattle.command_line.specs.Request.{HasNoRequest, IsRequestOf};
+ghost use Rattle.commands.specs.declared.compile.Compile.{Compile};
+ghost use Rattle.commands.specs.declared.filter.FilterLanguage.TheVariants as language;
 ghost use Rattle.commands.specs.declared.geocode_batch.GeocodeBatch.{GeocodeBatch};
 ghost use Rattle.commands.specs.declared.request.Request.TheVariants as request;
 ghost use Rattle.commands.specs.declared.run.Run.{Run};
@@ -26,6 +28,9 @@ pub fn requests()
         → IsRequestOf (codes "run" ∷ codes "--program=p" ∷ codes "--data=d" ∷ codes "--geometry=shape" ∷ codes "--columns=CFCC"
         ∷ codes "--format=geojsonseq" ∷ codes "01001" ∷ []) (request.Run run) }
     ensures unformatted { HasNoRequest (codes "run" ∷ codes "--program=p" ∷ codes "--data=d" ∷ codes "--columns=CFCC" ∷ codes "01001" ∷ []) }
+    ensures json { (compile : Compile) → compile.filter.now ≡ codes "f.json" → compile.filter_options.language ≡ language.Json
+        → compile.filter_options.score ≡ None
+        → IsRequestOf (codes "compile" ∷ codes "--filter=f.json" ∷ codes "--filter-lang=cql2-json" ∷ []) (request.Compile compile) }
     ensures shape { (batch : GeocodeBatch) → batch.addresses.now ≡ codes "a.csv" → batch.«data».now ≡ codes "tiger" → batch.shape ≡ true
         → map (λ code. code.now) batch.codes.items ≡ codes "01001" ∷ []
         → IsRequestOf (codes "geocode-batch" ∷ codes "--shape" ∷ codes "--addresses=a.csv" ∷ codes "--data=tiger" ∷ codes "01001" ∷ [])

@@ -1,16 +1,16 @@
 //! The options of layers, shared by the commands that write segments.
-ghost use Rattle.std.specs.Prelude.{◌≡◌, ◌≢◌, ◌==◌, ◌++◌, List, IfOk, MatchResult, None, Some, codes, false, map, unwrap_or};
+ghost use Rattle.std.specs.Prelude.{◌≡◌, ◌≢◌, ◌==◌, ◌++◌, List, IfOk, MatchResult, None, Some, codes, map};
 ghost use Rattle.std.specs.List.{slice_split};
 ghost use Rattle.std.specs.Option.{option_copied};
-ghost use Rattle.clap.specs.Walk.{Rule, Text, first_of, rule_of};
+ghost use Rattle.clap.specs.Walk.{Rule, Text};
 ghost use Rattle.layers.specs.LayerParts.{layout_of as layout_parts, parts_of};
-ghost use Rattle.command_line.specs.Arguments.{Takes, layer_options, optional};
+ghost use Rattle.command_line.specs.Arguments.{Takes, layer_options};
 ghost use Rattle.command_line.specs.Values.{columns_in, geometry_in, layer_of, layout_of, plain_rows, rows_in};
 ghost use Rattle.command_line.specs.declared.fault.ArgumentsFault.TheVariants as ArgumentsFault;
 
 use crate::fault::ArgumentsFault;
-use crate::options::option;
-use clap::{Arg, ArgMatches, Command};
+use crate::options::{optional_option, value_or};
+use clap::{ArgMatches, Command};
 use features::{Columns, ColumnsFault, Geometry};
 use layers::{Layer, Layout};
 use std::alloc::{AllocError, Global};
@@ -23,32 +23,24 @@ pub fn with_layer_options<'a>(
     ensures { (name : Text) (rules : List Rule) → Takes name rules command.entry → IfOk result (Takes name (rules ++ layer_options)) }
 {
     command
-        .arg(layer_option(
+        .arg(optional_option(
             alloc,
             "format",
             "FORMAT",
             "rows (the default), csv, or geojsonseq: a GeoJSON feature on each line",
         ))?
-        .arg(layer_option(
+        .arg(optional_option(
             alloc,
             "columns",
             "NAMES",
-            "The columns of csv and geojsonseq, with commas between their names; all by default",
+            "The columns of csv and geojsonseq, with commas between their names; by default one for each field",
         ))?
-        .arg(layer_option(
+        .arg(optional_option(
             alloc,
             "geometry",
             "GEOMETRY",
             "The geometry of csv and geojsonseq: none, line (the default), or shape, which needs the type 2 files",
         ))
-}
-
-/// Returns the option `--name VALUE`, which may be missing.
-fn layer_option<'a>(alloc: Global, name: &'a str, value: &'a str, help: &'a str) -> Arg<'a>
-    ensures rule { rule_of result ≡ optional name.entry.now }
-    ensures local { result.global ≡ false }
-{
-    option(alloc, name, value, help).required(false)
 }
 
 /// Returns the layer of the given format, by default rows.
@@ -62,14 +54,6 @@ pub fn layer<'a>(alloc: Global, matches: &ArgMatches<'a>) -> Result<Layer, Argum
         "geojsonseq" => Ok(Layer::Features(layout(alloc, matches)?)),
         format => Err(ArgumentsFault::Format(format)),
     }
-}
-
-/// Returns the value of an option, or else the default.
-#[tactic(auto, using(crate::proofs::ValueLemmas::first_value_in))]
-fn value_or<'a>(matches: &ArgMatches<'a>, name: &str, default: &'static str) -> &'a str
-    ensures { result.now ≡ unwrap_or (first_of name.now (rows_in matches.now)) default.now }
-{
-    matches.get_str(name).unwrap_or(default)
 }
 
 /// Returns the layer of rows, which takes neither columns nor a geometry.
@@ -99,14 +83,14 @@ fn layout<'a>(alloc: Global, matches: &ArgMatches<'a>) -> Result<Layout, Argumen
     })
 }
 
-/// Returns the columns with the names between the commas of a text, by default all.
+/// Returns the columns with the names between the commas of a text, by default the usual ones.
 fn columns<'a>(alloc: Global, text: Option<&'a str>) -> Result<Columns, ArgumentsFault<'a>>
     ensures { MatchResult result (λ columns. columns_in (option_copied text.entry) ≡ Some columns)
         (λ fault. fault ≢ ArgumentsFault.Memory → columns_in (option_copied text.entry) ≡ None) }
 {
     match text {
         Some(text) => listed_columns(alloc, text),
-        None => Ok(Columns::all()),
+        None => Ok(Columns::usual()),
     }
 }
 

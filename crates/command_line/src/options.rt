@@ -1,15 +1,15 @@
 //! Options and other arguments shared by several commands.
-ghost use Rattle.std.specs.Prelude.{◌≡◌, ◌≢◌, ◌≤◌, IfOk, MatchResult, None, Some, codes, false, map, vec_len};
+ghost use Rattle.std.specs.Prelude.{◌≡◌, ◌≢◌, ◌≤◌, ◌⊎◌, IfOk, MatchResult, None, Some, codes, false, map, unwrap_or, vec_len};
 ghost use Rattle.decimal.specs.declared.numeral.TheConstants.{MAX_NUMBER_DIGITS};
 ghost use Rattle.clap.specs.Walk.{first_of, rule_of};
 ghost use Rattle.cql2_tokens.specs.Name.{column_named as column_of};
 ghost use Rattle.command_line.specs.Arguments.{counties as counties_rule, county, optional, required};
-ghost use Rattle.command_line.specs.Values.{code_in, code_of, codes_in, codes_of, file_of, number_of, numeric, port_of, rows_in, score_of};
+ghost use Rattle.command_line.specs.Values.{code_in, code_of, codes_in, codes_of, file_of, language_of, number_of, numeric, port_of, rows_in, score_of};
 ghost use Rattle.command_line.specs.declared.fault.ArgumentsFault.TheVariants as ArgumentsFault;
 
 use crate::fault::{ArgumentsFault, CODE_LIMIT};
 use clap::{Arg, ArgAction, ArgMatches};
-use commands::FilterOptions;
+use commands::{FilterLanguage, FilterOptions};
 use cql2::{Column, NumericColumn};
 use cql2_text::column_named;
 use decimal::{are_digits, decimal_value};
@@ -28,6 +28,14 @@ pub fn option<'a>(alloc: Global, name: &'a str, value: &'a str, help: &'a str) -
         .action(ArgAction::Set)
 }
 
+/// Returns the option `--name VALUE`, which may be missing.
+pub fn optional_option<'a>(alloc: Global, name: &'a str, value: &'a str, help: &'a str) -> Arg<'a>
+    ensures rule { rule_of result ≡ optional name.entry.now }
+    ensures local { result.global ≡ false }
+{
+    option(alloc, name, value, help).required(false)
+}
+
 /// Returns the value of a required argument.
 #[tactic(auto, using(crate::proofs::ValueLemmas::first_value_in))]
 pub fn value<'a>(
@@ -38,6 +46,14 @@ pub fn value<'a>(
         (λ fault. (first_of name.now (rows_in matches.now) ≡ None) × (fault ≡ ArgumentsFault.Missing name.entry)) }
 {
     matches.get_str(name).ok_or(ArgumentsFault::Missing(name))
+}
+
+/// Returns the value of an option, or else the default.
+#[tactic(auto, using(crate::proofs::ValueLemmas::first_value_in))]
+pub fn value_or<'a>(matches: &ArgMatches<'a>, name: &str, default: &'static str) -> &'a str
+    ensures { result.now ≡ unwrap_or (first_of name.now (rows_in matches.now)) default.now }
+{
+    matches.get_str(name).unwrap_or(default)
 }
 
 /// The system's file name for standard input.
@@ -137,31 +153,65 @@ pub fn score_option<'a>(alloc: Global) -> Arg<'a>
     ensures rule { rule_of result ≡ optional (codes "score") }
     ensures local { result.global ≡ false }
 {
-    option(
+    optional_option(
         alloc,
         "score",
         "COLUMN",
         "The column whose number is a row's score, or 0 if it has none",
     )
-    .required(false)
+}
+
+/// Returns the option `--filter-lang LANG`.
+pub fn language_option<'a>(alloc: Global) -> Arg<'a>
+    ensures rule { rule_of result ≡ optional (codes "filter-lang") }
+    ensures local { result.global ≡ false }
+{
+    optional_option(
+        alloc,
+        "filter-lang",
+        "LANG",
+        "The language of the filter: cql2-text (the default) or cql2-json",
+    )
 }
 
 /// Returns the options for compiling a filter.
-#[tactic(auto, using(crate::proofs::ValueLemmas::first_value_in))]
 pub fn filter_options<'a>(
     alloc: Global,
     matches: &ArgMatches<'a>,
 ) -> Result<FilterOptions, ArgumentsFault<'a>>
-    ensures { MatchResult result (λ options. score_of (rows_in matches.now) ≡ Some options.score)
-        (λ fault. (score_of (rows_in matches.now) ≡ None) × (fault ≢ ArgumentsFault.Memory)) }
+    ensures { MatchResult result
+        (λ options. (language_of (rows_in matches.now) ≡ Some options.language) × (score_of (rows_in matches.now) ≡ Some options.score))
+        (λ fault. ((language_of (rows_in matches.now) ≡ None) ⊎ (score_of (rows_in matches.now) ≡ None)) × (fault ≢ ArgumentsFault.Memory)) }
 {
     Ok(FilterOptions {
-        score: match matches.get_str("score") {
-            Some(name) => Some(numeric_column(name)?),
-            None => None,
-        },
+        language: language(matches)?,
+        score: score(matches)?,
         filter_alloc: alloc,
     })
+}
+
+/// Returns the language of the filter, by default the text encoding of CQL2.
+fn language<'a>(matches: &ArgMatches<'a>) -> Result<FilterLanguage, ArgumentsFault<'a>>
+    ensures { MatchResult result (λ language. language_of (rows_in matches.now) ≡ Some language)
+        (λ fault. (language_of (rows_in matches.now) ≡ None) × (fault ≢ ArgumentsFault.Memory)) }
+{
+    match value_or(matches, "filter-lang", "cql2-text") {
+        "cql2-text" => Ok(FilterLanguage::Text),
+        "cql2-json" => Ok(FilterLanguage::Json),
+        name => Err(ArgumentsFault::Language(name)),
+    }
+}
+
+/// Returns the column of the score, if there is one.
+#[tactic(auto, using(crate::proofs::ValueLemmas::first_value_in))]
+fn score<'a>(matches: &ArgMatches<'a>) -> Result<Option<NumericColumn>, ArgumentsFault<'a>>
+    ensures { MatchResult result (λ score. score_of (rows_in matches.now) ≡ Some score)
+        (λ fault. (score_of (rows_in matches.now) ≡ None) × (fault ≢ ArgumentsFault.Memory)) }
+{
+    match matches.get_str("score") {
+        Some(name) => Ok(Some(numeric_column(name)?)),
+        None => Ok(None),
+    }
 }
 
 /// Returns the column of this name if it holds numbers or a coordinate.

@@ -7,7 +7,7 @@ use std::alloc::Global;
 
 // A command line, and the start of the text for the user.
 const STARTS: Table = Table {
-    rows: 112,
+    rows: 115,
     text: r#"
 extractd; error: 'extractd' requires a subcommand
 extractd run; error:
@@ -33,6 +33,10 @@ extractd select --data d 01001; error:
 extractd select --where TRUE --score CFCC --data d 01001; error: --score is a column with numbers, and "CFCC" isn't
 extractd select --where TRUE --score FRLATT --data d 01001;
   error: --score is a column with numbers, and "FRLATT" isn't
+extractd select --where TRUE --filter-lang cql2 --data d 01001;
+  error: --filter-lang is cql2-text or cql2-json, and "cql2" isn't
+extractd compile --filter f --filter-lang ''; error: --filter-lang is cql2-text or cql2-json, and "" isn't
+extractd compile --filter f --filter-lang cql2-json --filter-lang cql2-json; error:
 extractd select --where TRUE --data d --format json 01001; error: --format is rows, csv or geojsonseq, and "json" isn't
 extractd run --program p.bpf --data d --format CSV 01001; error: --format is rows, csv or geojsonseq, and "CSV" isn't
 extractd run --program p.bpf --data d --format '' 01001; error: --format is rows, csv or geojsonseq, and "" isn't

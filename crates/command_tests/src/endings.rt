@@ -5,7 +5,7 @@ use super::conversions::{DOCUMENTED, PROGRAMS, SOURCES};
 use super::counties::{COUNTIES, OPENINGS};
 use super::devices::{CASES, LONG};
 use super::echoes::ECHOES;
-use super::filters::FILTERS;
+use super::filters::{FILTERS, JSON_FILTERS};
 use super::formats::FORMATS;
 use super::geocodes::GEOCODES;
 use super::listings::LISTINGS;
@@ -24,8 +24,19 @@ pub fn is_right(alloc: Global, row: &str) -> Result<bool, TableFault> {
 #[test]
 fn endings(rt: HostRuntime) -> Result<(), Fail> {
     for table in [
-        SOURCES, DOCUMENTED, PROGRAMS, COUNTIES, OPENINGS, FILES, GEOCODES, FILTERS, FORMATS,
-        CASES, LISTINGS, ECHOES,
+        SOURCES,
+        DOCUMENTED,
+        PROGRAMS,
+        COUNTIES,
+        OPENINGS,
+        FILES,
+        GEOCODES,
+        FILTERS,
+        JSON_FILTERS,
+        FORMATS,
+        CASES,
+        LISTINGS,
+        ECHOES,
     ] {
         for row in table.joined(rt.alloc())?.lines() {
             assert_eq!(rt; is_right(rt.alloc(), row), Ok(true), "{row}");

@@ -1,4 +1,5 @@
 //! Filters read from texts, with results worked out by hand.
+use crate::function_texts::{push_bytes, push_function};
 use cql2::{
     Column, Comparison, Expression, Filter, Folding, NumericColumn, Operator, Pattern, PatternPart,
 };
@@ -11,7 +12,7 @@ use std::test::Fail;
 // A text and the filter it is read as, in prefix notation. A coordinate is in millionths, and a text in Latin-1. In a pattern, `?` is any byte,
 // `~x` an x in either case, `^x` one with or without an accent, `~^x` both, and `*` any number of bytes.
 const READ: Table = Table {
-    rows: 159,
+    rows: 201,
     text: r#"
 ZIPL = 36067; (= ZIPL 36067)
 zipl=+36067; (= ZIPL 36067)
@@ -40,6 +41,14 @@ RT = '1' AND VERSION = '1006' AND SIDE1 = '1' AND SOURCE = 'A';
 COUSUBL = '92000' OR COUSUBR < '9'; (or (= COUSUBL 92000) (< COUSUBR 9))
 FRIADDL = '1' OR toiaddl = '0' OR "Friaddr" IS NULL OR TOIADDR <> '1'; (or (or (or (= FRIADDL 1) (= TOIADDL 0)) (null FRIADDR)) (<> TOIADDR 1))
 FRIADDL = 1; 1 11 WrongType
+FRADDL_TEXT = '164-20' OR toaddl_text <> '9' OR "Fraddr_Text" IS NULL; (or (or (= FRADDL_TEXT 164-20) (<> TOADDL_TEXT 9)) (null FRADDR_TEXT))
+TOADDR_TEXT LIKE '%-%'; (like TOADDR_TEXT *-*)
+FRADDL_TEXT < TOADDL_TEXT; (< FRADDL_TEXT TOADDL_TEXT)
+FRADDL_TEXT = 164; 1 15 WrongType
+FRADDL_TEXT = FRADDL; 1 15 Syntax
+FRADDL = '164-20'; 1 10 WrongType
+TOADDR_TEXT = '12345678-90'; (= TOADDR_TEXT 12345678-90)
+TOADDR_TEXT = '123456789-01'; 1 15 LongText
 TOIADDR = '10'; 1 11 LongText
 CFCC = 5; 1 8 WrongType
 ZIPL = '5'; 1 8 WrongType
@@ -129,6 +138,40 @@ CASEI(FETYPE) IN (CASEI('st'), CASEI('AVE')); (or (like FETYPE ~s~t) (like FETYP
 ZIPL IN (); 1 10 Syntax
 ZIPL IN (1 2); 1 12 Syntax
 ZIPL IN 1; 1 9 Syntax
+FENAME IN (FETYPE, 'Main'); (or (= FENAME FETYPE) (= FENAME Main))
+FENAME NOT IN ('Main', FETYPE, FEDIRP); (not (or (or (= FENAME Main) (= FENAME FETYPE)) (= FENAME FEDIRP)))
+'Main' IN (FENAME); (= FENAME Main)
+'N ' NOT IN (FEDIRP, FEDIRS,FENAME); (not (or (or (= FEDIRP N) (= FEDIRS N)) (= FENAME N)))
+NOT 'Main' IN (FENAME, FETYPE) AND TRUE; (and (not (or (= FENAME Main) (= FETYPE Main))) (true))
+CASEI('Main é') = casei(FENAME); (like FENAME ~M~a~i~n~ ~é)
+CASEI('a') <> CASEI(FENAME); (not (like FENAME ~a))
+CASEI(ACCENTI('a')) = ACCENTI(CASEI(FENAME)); (like FENAME ~^a)
+CASEI('st') IN (CASEI(FETYPE), CASEI(CASEI(FENAME))); (or (like FETYPE ~s~t) (like FENAME ~s~t))
+ACCENTI('a') NOT IN (ACCENTI(FENAME)); (not (like FENAME ^a))
+'a' = 'b'; 1 7 Syntax
+'Main' = ZIPL; 1 10 WrongType
+'Main' = FOO; 1 10 UnknownColumn
+'A410' = CFCC; 1 1 LongText
+'Main' LIKE FENAME; 1 8 Syntax
+'Main' NOT LIKE FENAME; 1 12 Syntax
+'Main' IN FENAME; 1 11 Syntax
+'Main' IN (); 1 12 Syntax
+'Main' IN (FENAME; 1 18 Syntax
+'Main' IN ('Main', FENAME); 1 12 Syntax
+'Main' IN (FENAME, 'Main'); 1 20 Syntax
+'Main' IN (FENAME, ZIPL); 1 20 WrongType
+'Main' IN (FENAME, FOO); 1 20 UnknownColumn
+'A410' IN (FENAME, CFCC); 1 1 LongText
+'Main' IN (FENAME, CASEI(FENAME)); 1 1 WrongType
+CASEI('a') < CASEI(FENAME); 1 12 WrongType
+CASEI('a') = FENAME; 1 1 WrongType
+'a' = CASEI(FENAME); 1 1 WrongType
+CASEI('a') = ACCENTI(FENAME); 1 1 WrongType
+CASEI('a') = CASEI('b'); 1 20 Syntax
+CASEI('a') = CASEI(ZIPL); 1 20 WrongType
+CASEI('A410') = CASEI(CFCC); 1 7 LongText
+CASEI('a' = CASEI(FENAME); 1 11 Syntax
+CASEI('a') IS NULL; 1 12 Syntax
 ZIPL IS NULL; (null ZIPL)
 FEDIRP is not null; (not (null FEDIRP))
 ZIPL IS TRUE; 1 9 Syntax
@@ -178,10 +221,35 @@ ZIPL=5AND ZIPR=6; (and (= ZIPL 5) (= ZIPR 6))
 };
 
 // The columns of these filters.
-const COLUMNS: [&str; 23] = [
-    "TLID", "FRADDL", "TOADDL", "ZIPL", "ZIPR", "FRLONG", "FRLAT", "TOLONG", "TOLAT", "RT",
-    "VERSION", "SIDE1", "SOURCE", "FEDIRP", "FENAME", "FETYPE", "CFCC", "FRIADDL", "TOIADDL",
-    "FRIADDR", "TOIADDR", "COUSUBL", "COUSUBR",
+const COLUMNS: [&str; 28] = [
+    "TLID",
+    "FRADDL",
+    "TOADDL",
+    "ZIPL",
+    "ZIPR",
+    "FRLONG",
+    "FRLAT",
+    "TOLONG",
+    "TOLAT",
+    "RT",
+    "VERSION",
+    "SIDE1",
+    "SOURCE",
+    "FEDIRP",
+    "FENAME",
+    "FETYPE",
+    "FEDIRS",
+    "CFCC",
+    "FRIADDL",
+    "TOIADDL",
+    "FRIADDR",
+    "TOIADDR",
+    "COUSUBL",
+    "COUSUBR",
+    "FRADDL_TEXT",
+    "TOADDL_TEXT",
+    "FRADDR_TEXT",
+    "TOADDR_TEXT",
 ];
 
 fn column_name(column: Column) -> &'static str {
@@ -200,14 +268,6 @@ fn place_of(column: Column) -> (u8, u8) {
         Column::Numeric(NumericColumn::Coordinate(coordinate)) => (1, coordinate as u8),
         Column::Text(text) => (2, text as u8),
     }
-}
-
-/// Appends bytes in Latin-1.
-fn push_bytes(text: &mut String, bytes: &[u8]) -> Result<(), AllocError> {
-    for byte in bytes {
-        text.push(*byte as char)?;
-    }
-    Ok(())
 }
 
 /// Appends what a comparison ignores.
@@ -326,15 +386,7 @@ fn push_leaf(alloc: Global, text: &mut String, filter: &Filter<Global>) -> Resul
             text.push(' ')?;
             push_pattern(text, pattern)
         }
-        Filter::HasNumber(house) => {
-            let number = house.number;
-            text.push_str(format!(in alloc; "number {number}")?.as_str())
-        }
-        Filter::HasName(name, limit) => {
-            let number = limit.number;
-            text.push_str(format!(in alloc; "name {number} ")?.as_str())?;
-            push_bytes(text, &name.bytes)
-        }
+        Filter::Function(function) => push_function(alloc, text, function),
         _ => text.push_str("no leaf"),
     }
 }
@@ -377,7 +429,7 @@ fn flaw_name(flaw: FilterFaultKind) -> &'static str {
         FilterFaultKind::NumberRange => "NumberRange",
         FilterFaultKind::LongText => "LongText",
         FilterFaultKind::TooDeep => "TooDeep",
-        FilterFaultKind::TooLong => "TooLong",
+        FilterFaultKind::TooLong | FilterFaultKind::ManyVertices => "TooLong",
     }
 }
 
@@ -398,7 +450,7 @@ fn outcome(alloc: Global, text: &[u8]) -> Result<String, AllocError> {
 }
 
 /// Returns whether a text is read as its row says.
-fn is_read(alloc: Global, row: &str) -> Result<bool, TableFault> {
+pub(crate) fn is_read(alloc: Global, row: &str) -> Result<bool, TableFault> {
     let (text, wanted) = cells(row)?.two()?;
     let (text, wanted) = (bytes(alloc, text)?, bytes(alloc, wanted)?);
     Ok(outcome(alloc, &text)?.as_bytes() == wanted.as_slice())
@@ -435,7 +487,7 @@ fn bad_bytes(rt: HostRuntime) {
 
 // A text, and the column name near to the unknown one in it.
 const NEAREST: Table = Table {
-    rows: 11,
+    rows: 13,
     text: r#"
 fenam = 1; FENAME
 NAME = 1; FENAME
@@ -445,6 +497,8 @@ TLIDD=1; TLID
 TRUE AND (frlon > 2); FRLONG
 CFC; CFCC
 FRIADD = '1'; FRIADDL
+FRADDL_TXT = '1'; FRADDL_TEXT
+toaddrtext = '1'; TOADDR_TEXT
 STREET = 'x'; none
 FOO = 1; none
 ZIPL = 'x'; none

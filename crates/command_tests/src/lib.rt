@@ -28,7 +28,11 @@ mod filters;
 #[cfg(test)]
 mod formats;
 #[cfg(test)]
+mod function_texts;
+#[cfg(test)]
 mod geocodes;
+#[cfg(test)]
+mod json_filters;
 mod known;
 #[cfg(test)]
 mod listings;
@@ -37,6 +41,8 @@ mod reads;
 #[cfg(test)]
 #[cfg(test)]
 mod runs;
+#[cfg(test)]
+mod shape_texts;
 #[cfg(test)]
 mod sweep;
 #[cfg(test)]

@@ -10,7 +10,7 @@ use std::test::Fail;
 // Rows in the form of `Row`. After `reads` comes the number of reads of a file that isn't read to its end. Each type 1 line that `run` reads
 // yields a row.
 const REQUESTS: Table = Table {
-    rows: 47,
+    rows: 50,
     text: r#"
 extractd run --program p.bpf --data d 01001; 0\t{rt1}\n0\t{rt1}\n; 0;; p.bpf: {every}; d/TGR01001.RT1: {rt1\n*2}
 extractd run --program p.bpf --data d 01001;; 0;; p.bpf: {every}; d/TGR01001.RT1:
@@ -71,6 +71,11 @@ extractd compile --filter f.cql;; 1; refused 90 line 1 column 2 Syntax\nexpected
 extractd select --where ZIPL_=_36067 --data d 01001; 0\t{rt1}\n0\t{rt1}\n; 0;; d/TGR01001.RT1: {rt1\n*2}
 extractd select --where HAS~NAME('oak') --data d 01001; 0\t{rt1}\n; 0;; d/TGR01001.RT1: {rt1}\n;
   d/TGR01001.RT4: {rt4}\n; d/TGR01001.RT5: {rt5}\n
+extractd compile --filter f --filter-lang cql2-json; {asm mov r6, r1 | mov r0, 1 | exit | mov r0, 0 | exit}; 0;; f: true
+extractd compile --filter f --filter-lang cql2-json;; 1; refused 91 pointer /args/0/property UnknownColumn\nno column has this name; f:
+  \x7b"op":"=","args":[\x7b"property":"x"\x7d,1]\x7d
+extractd compile --filter f --filter-lang cql2-json;; 1; refused 90 pointer /args Syntax\nexpected an array of one value; f:
+  \x7b"op":"not","args":[]\x7d
 extractd verify --program p.bpf; accepted\n; 0;; p.bpf: {every}
 extractd verify --program p.bpf; accepted\n; 0;; p.bpf: {roads}
 extractd verify --program p.bpf;; 1; refused 40 place 0 ReadsNothing(0); p.bpf: {stuck}

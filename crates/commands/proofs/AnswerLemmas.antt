@@ -11,14 +11,14 @@ use Rattle.named_files.specs.County.{file_name}
 use Rattle.commands.specs.Failure.{IsFailureBeforeFlush, Reports, refusal_status, status}
 use Rattle.named_files.specs.Files.{Disk, OpenResults}
 use Rattle.commands.specs.Command.{IsUnusable, of_county, of_county_file, of_file, of_source, of_two, of_write}
-use Rattle.commands.proofs.ClassLemmas.{address_status, filter_status}
+use Rattle.commands.proofs.ClassLemmas.{address_status, filter_flaw_status, filter_status}
 use Rattle.commands.proofs.LayerLemmas.{header_counts, header_fault_counts, headed_fault_counts, layer_fault_counts}
 use Rattle.commands.proofs.SelectLemmas.{counties_counts}
 use Rattle.layers.specs.LayerParts.{parts_of}
 use Rattle.commands.specs.declared.request.Request.{Request}
 use Rattle.commands.specs.declared.request.Request.TheVariants.{Run, Compile, GeocodeBatch, Select}
 use Rattle.commands.specs.declared.failure.Failure.{Failure}
-use Rattle.commands.specs.declared.failure.Failure.TheVariants.{Refusal, Write, File, CountyFile, NotUtf8, NoLine, Noted, County, Output}
+use Rattle.commands.specs.declared.failure.Failure.TheVariants.{Refusal, Write, File, CountyFile, NotUtf8, NoLine, Noted, Pointed, County, Output}
 
 -- an attempted flush is counted
 pub flush_counted : (flush : Result (Unit {0}) Error) (counts counts' : WriteCounts) → CountsFlush flush counts counts'
@@ -41,8 +41,8 @@ write_counts request known fault out out' is = is.written.1
 -- a text's refusal is never an I/O failure
 text_usable : (request : Request) (known : List ℕ → Option (List ℕ)) (refusal : RefusalParts) → IsTextRefused request known refusal
     → refusal_status refusal ≢ 3
-text_usable (Compile arguments) known refusal is = filter_status is.text arguments.filter_options.score refusal is.refused
-text_usable (Select arguments) known refusal is = filter_status arguments.filter.now arguments.filter_options.score refusal is
+text_usable (Compile arguments) known refusal is = filter_status is.text arguments.filter_options refusal is.refused
+text_usable (Select arguments) known refusal is = filter_status arguments.filter.now arguments.filter_options refusal is
 text_usable (GeocodeBatch arguments) known refusal is = λ three. address_status is.fault (ap refusal_status (sym is.refused) ∙ three)
 text_usable request known refusal is = absurd is
 
@@ -87,6 +87,8 @@ module _ {R : Type 0} {opens : OpenResults R} {request : Request} {disk disk' : 
       → status failure ≡ 1 → IsRefusal request disk.known out out' errors errors'
   refused_flushed (Refusal refusal) carried reported one = refusal_reported disk.known unflushed flush (Refusal refusal) carried.outcome.0 reported one
   refused_flushed (Noted refusal note) carried reported one = refusal_reported disk.known unflushed flush (Noted refusal note) carried.outcome reported one
+  refused_flushed (Pointed flaw pointer note) carried reported one =
+      refusal_reported disk.known unflushed flush (Pointed flaw pointer note) carried.outcome reported one
   refused_flushed (County code refusal) carried reported one = refusal_reported disk.known unflushed flush (County code refusal) carried.outcome.0 reported one
   refused_flushed failure carried reported one = absurd (omega (arith, one))
 
@@ -97,6 +99,7 @@ module _ {R : Type 0} {opens : OpenResults R} {request : Request} {disk disk' : 
   unusable_flushed (County code refusal) carried reported three =
       of_county (refusal_reported disk.known unflushed flush (County code refusal) carried.outcome.0 reported three) (carried.outcome.1 three)
   unusable_flushed (Noted refusal note) carried reported three = absurd (text_usable request disk.known refusal carried.outcome.0 three)
+  unusable_flushed (Pointed flaw pointer note) carried reported three = absurd (filter_flaw_status flaw three)
   unusable_flushed (Write fault) carried reported three =
       of_write fault unflushed carried.outcome (write_counts request disk.known fault out unflushed carried.outcome) reported
       flush.unchanged (Ok tt) (flush.failed, flush.empty, flush.flushes)

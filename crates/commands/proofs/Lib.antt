@@ -1,5 +1,7 @@
 mod ClassLemmas
 mod CompileLemmas
+mod JsonLemmas
+mod PointedLemmas
 mod ExplainLemmas
 mod ReadLemmas
 mod CarriedLemmas

@@ -4,12 +4,13 @@ use Rattle.std.proofs.Common.{inl, inr, refl, sym, subst, ◌∙◌}
 use Rattle.std.proofs.Math.Path.{fun_ext}
 use Rattle.std.proofs.lemmas.List.{map_more}
 use Rattle.std.specs.Io.KnownBytes.{Appends}
-use Rattle.std.specs.Prelude.{⊤}
+use Rattle.std.specs.Prelude.{⊤, Vec}
+use Rattle.std.specs.declared.alloc.Global.{Global}
 use Rattle.bpf_insn.specs.declared.instruction.Insn.{Insn}
-use Rattle.cql2.specs.declared.column.NumericColumn.{NumericColumn}
 use Rattle.cql2.specs.declared.filter.Filter.{Filter}
 use Rattle.cql2_code.proofs.Compiled.{extract_of_county}
 use Rattle.cql2_code.specs.Chosen.{Chooses}
+use Rattle.cql2_text.specs.declared.fault.FilterFaultKind.{FilterFaultKind}
 use Rattle.extract.specs.ExtractFault.{of_load}
 use Rattle.extract.specs.declared.fault.ExtractFault.{ExtractFault}
 use Rattle.extract.specs.declared.fault.ExtractFault.TheVariants as extract
@@ -24,19 +25,20 @@ use Rattle.tl_segments.specs.declared.fault.CountyFile.{CountyFile as CountyFile
 use Rattle.tl_segments.specs.declared.fault.LoadFault.{LoadFault}
 use Rattle.named_files.specs.County.{IsLoaded}
 use Rattle.named_files.specs.Files.{Disk, IsUnfailed, OpenResults}
-use Rattle.commands.specs.Command.{CarriesOut, IsCarriedOut, IsTextRefused}
+use Rattle.commands.specs.Command.{CarriesOut, IsCarriedOut, IsJsonRefused, IsTextRefused}
 use Rattle.commands.specs.Counties.{IsFileOfOne}
 use Rattle.commands.specs.Failure.{NamesFile, IsUnfailedUnlessUnusable, of_county_extract, status}
-use Rattle.commands.specs.Filter.{IsCodeOfText, IsFilterFailure, IsFilterRefusal}
+use Rattle.commands.specs.Filter.{IsCodeOfText, IsFilterFailure, IsFilterRefusal, IsJsonRefusal}
 use Rattle.commands.specs.LayerInputs.{HoldLayer, IsFileOfLayer, IsLayerFile}
 use Rattle.commands.specs.Select.{FailsAs, IsCountyOutcome, IsCountyRefusal, IsFileOf, Selection, SelectsCounties, SelectsCounty, SelectsLayer, StopsAt}
 use Rattle.commands.specs.Select as select
 use Rattle.commands.specs.Select.{WritesAllTexts, WritesCounties, WritesCounty, WritesTexts, codes_of, more, none, selection}
+use Rattle.commands.specs.declared.filter.FilterOptions.{FilterOptions}
 use Rattle.commands.specs.declared.request.Request.{Request}
 use Rattle.commands.specs.declared.request.Request.TheVariants as request
 use Rattle.commands.specs.declared.select.Select.{Select}
 use Rattle.commands.specs.declared.failure.Failure.{Failure}
-use Rattle.commands.specs.declared.failure.Failure.TheVariants.{Memory, Write, CountyFile, Noted, County}
+use Rattle.commands.specs.declared.failure.Failure.TheVariants.{Memory, Write, CountyFile, Noted, Pointed, County}
 use Rattle.commands.proofs.CountiesLemmas.{codes_at, read_after, texts}
 use Rattle.commands.proofs.LayerLemmas.{ClosesAs}
 
@@ -139,14 +141,17 @@ fails_after opens folder failure disk later disk' unfailed is = tt
 
 -- a filter is refused
 pub filter_carried : {R : Type 0} {opens : OpenResults R} {request : Request} {disk disk' : Disk} {out : Writer} (text : List ℕ)
-    (score : Option NumericColumn) (failure : Failure) → IsFilterFailure text score failure
-    → ((refusal : RefusalParts) → IsFilterRefusal text score refusal → IsTextRefused request disk.known refusal)
+    (options : FilterOptions) (failure : Failure) → IsFilterFailure text options failure
+    → ((refusal : RefusalParts) → IsFilterRefusal text options refusal → IsTextRefused request disk.known refusal)
+    → ((flaw : FilterFaultKind) (pointer : Vec ℕ Global) → IsJsonRefusal text options flaw pointer → IsJsonRefused request disk.known flaw pointer)
     → IsUnfailed disk disk' → CarriesOut opens request (Err failure) disk disk' out out
-filter_carried text score (Noted refusal note) is each counts =
+filter_carried text options (Noted refusal note) is each each_json counts =
     record { outcome = (each refusal is, refl); names = tt; counts = λ other. counts; unflushed = refl }
-filter_carried text score Memory is each counts =
+filter_carried text options (Pointed flaw pointer note) is each each_json counts =
+    record { outcome = (each_json flaw pointer is, refl); names = tt; counts = λ other. counts; unflushed = refl }
+filter_carried text options Memory is each each_json counts =
     record { outcome = refl; names = tt; counts = λ other. counts; unflushed = refl }
-filter_carried text score failure is each counts = absurd is
+filter_carried text options failure is each each_json counts = absurd is
 
 same_write : {fault other : WriteFault} → Write fault ≡ Write other → other ≡ fault
 same_write is = cc is
@@ -179,7 +184,7 @@ stopped_fails opens disk disk' folder code extract.Memory closes = closes.fails
 
 -- the layer of its program
 module _ {R : Type 0} (opens : OpenResults R) (disk disk' : Disk) (out out' : Writer) (arguments : Select) {program : List Insn}
-    (is_program : IsCodeOfText arguments.filter.now arguments.filter_options.score program) where
+    (is_program : IsCodeOfText arguments.filter.now arguments.filter_options program) where
   outcome_carried : (failure : Failure) → SelectsLayer (selection disk.known arguments.«data».now (parts_of arguments.layer) program)
       (codes_of arguments) (Err failure) out out' → FailsAs opens arguments.«data».now failure disk disk'
       → IsCarriedOut opens (request.Select arguments) (Err failure) disk disk' out out'
@@ -220,14 +225,14 @@ module _ {R : Type 0} (opens : OpenResults R) (disk disk' : Disk) (out out' : Wr
 module _ {R : Type 0} (opens : OpenResults R) (disk disk' : Disk) (out out' : Writer) (arguments : Select) {text : List ℕ} {program : List Insn}
     {codes : List (Bor (List ℕ))} where
   pub select_lent : (result : Result (Unit {0}) Failure) → text ≡ arguments.filter.now → codes ≡ arguments.codes.items
-      → IsCodeOfText text arguments.filter_options.score program
+      → IsCodeOfText text arguments.filter_options program
       → SelectsLayer (selection disk.known arguments.«data».now (parts_of arguments.layer) program) (texts codes) result out out'
       → IfErr result (λ failure. FailsAs opens arguments.«data».now failure disk disk')
       → IfErr result (NamesFile (IsFileOfOne (IsFileOfLayer (has_shapes (parts_of arguments.layer)) arguments.«data».now) (texts codes)))
       → IsUnfailedUnlessUnusable result disk disk' → out'.counts.flushes ≡ out.counts.flushes
       → CarriesOut opens (request.Select arguments) result disk disk' out out'
   select_lent result same_text same_codes is selects fails names =
-      select_carried opens disk disk' out out' arguments (subst (λ (text : List ℕ). IsCodeOfText text arguments.filter_options.score program) same_text is) result
+      select_carried opens disk disk' out out' arguments (subst (λ (text : List ℕ). IsCodeOfText text arguments.filter_options program) same_text is) result
       (subst (λ (codes : List (Bor (List ℕ))).
       SelectsLayer (selection disk.known arguments.«data».now (parts_of arguments.layer) program) (texts codes) result out out') same_codes selects)
       fails

@@ -11,7 +11,6 @@ use Rattle.counted_io.specs.declared.writing.WriteFault.{WriteFault}
 use Rattle.std.specs.declared.alloc.Global.{Global}
 use Rattle.cql2.specs.declared.filter.Filter.{Filter}
 use Rattle.cql2_code.specs.Chosen.{selection_of}
-use Rattle.cql2_text.specs.Spelled.{IsFilterText}
 use Rattle.bpf_meaning.specs.Extract.{texts_of}
 use Rattle.layers.specs.Layer.{LayerParts, WritesHeader, has_shapes, layer_format}
 use Rattle.layers.specs.LayerParts.{parts_of}
@@ -23,7 +22,7 @@ use Rattle.named_files.specs.County.{file_name}
 use Rattle.commands.specs.Failure.{refusal_status}
 use Rattle.named_files.specs.Files.{Disk, FailsToOpen, OpenResults}
 use Rattle.commands.specs.Counties.{FailsToRead, IsFileOfOne, IsRefusedFile}
-use Rattle.commands.specs.Filter.{IsCodeOfText}
+use Rattle.commands.specs.Filter.{IsCodeOfText, Spells}
 use Rattle.commands.specs.LayerInputs.{HoldLayer, IsFileOfLayer}
 use Rattle.commands.specs.declared.select.Select.{Select}
 use Rattle.commands.specs.declared.failure.Failure.{Failure}
@@ -140,7 +139,7 @@ FailsAs opens folder failure disk disk' = ⊤
 
 -- the filter has a program, and its run over the requested counties is as `Selects` describes
 abbrev pub SelectsSo : Select → (List ℕ → Option (List ℕ)) → (Selection → Type 0) → Type 0
-SelectsSo select known Selects = (program : List Insn) × IsCodeOfText select.filter.now select.filter_options.score program
+SelectsSo select known Selects = (program : List Insn) × IsCodeOfText select.filter.now select.filter_options program
     × Selects (selection known select.«data».now (parts_of select.layer) program)
 
 -- the header was written, and then the counties before one of the codes; the command stopped at that one, as `StopsSo` describes
@@ -149,7 +148,7 @@ StopsAfterHeader over codes out StopsSo = (headed : Writer) × WritesHeader over
 
 -- the header and then the texts of the counties were written in order, completely or until the output failed
 abbrev pub Writes : Select → (List ℕ → Option (List ℕ)) → Result (Unit {0}) WriteFault → Writer → Writer → Type 0
-Writes select known (Ok done) out out' = (filter : Filter Global) × IsFilterText select.filter.now filter × (headed : Writer)
+Writes select known (Ok done) out out' = (filter : Filter Global) × Spells select.filter_options.language select.filter.now filter × (headed : Writer)
     × WritesHeader (parts_of select.layer) (Ok tt) out headed × WritesAllTexts filter select known headed (codes_of select) out'
 Writes select known (Err fault) out out' = SelectsSo select known (λ over. WritesHeader over.layer (Err fault) out out'
     ⊎ StopsAfterHeader over (codes_of select) out (λ code between. IsCountyOutcome over code (Err (extract.Write fault)) between out'))

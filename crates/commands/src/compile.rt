@@ -19,7 +19,7 @@ const MAX_READ: usize = MAX_TEXT_LENGTH + 1;
 /// The arguments of `compile`.
 #[derive(Clone, Copy)]
 pub struct Compile<'a> {
-    /// The file of the filter's text (CQL2).
+    /// The file of the filter (CQL2).
     pub filter: &'a str,
     pub filter_options: FilterOptions,
 }

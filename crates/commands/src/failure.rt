@@ -3,25 +3,28 @@ ghost use Rattle.std.specs.Prelude.{◌≡◌, ◌≤◌, [], ◌∷◌, ◌++�
 ghost use Rattle.std.specs.List.{flat_map};
 ghost use Rattle.counted_io.specs.ReaderWriter.{writer};
 ghost use Rattle.counted_io.specs.Writing.{WritesText};
+ghost use Rattle.cql2_text.specs.FilterFaultKind as filter_flaw;
 ghost use Rattle.commands.specs.Escape.{escaped};
-ghost use Rattle.commands.specs.Failure.{IsOfAddresses, IsOfCompile, IsOfFilter, IsReason, Reports, ReportsLine, ReportsText, WritesAs, class_status};
+ghost use Rattle.commands.specs.Failure.{IsOfAddresses, IsOfCompile, IsOfFilter, IsOfJson, IsOfJsonProgram};
+ghost use Rattle.commands.specs.Failure.{IsReason, Reports, ReportsLine, ReportsText, WritesAs, class_status, json_flaw, pointed_line, value_flaw};
 ghost use Rattle.commands.specs.Failure.{file_line, of_county_extract, of_county_file, of_extract, of_file, of_opening, of_program, of_source, reported};
 ghost use Rattle.commands.specs.Failure.{status};
 ghost use Rattle.commands.specs.declared.failure.Failure.TheVariants.{Memory};
 
 use crate::escape::write_escaped;
-use crate::failure::Piece::{Echo, Text};
+use crate::failure::Piece::{Bytes, Echo, Text};
 use addresses::AddressFault;
 use arrayvec::ArrayString;
 use bpf_text::{SourceFault, TextFault};
 use counted_io::{CountedWrite, WriteFault, write_text};
 use cql2_code::CompileFault;
-use cql2_text::FilterFault;
+use cql2_json::{JsonFault, JsonFlaw, ValueFlaw};
+use cql2_text::{Expected, FilterFault, FilterFaultKind};
 use extract::ExtractFault;
 use itoa::Buffer;
 use named_files::{CountyFileFault, FileFault, ProgramInputFault, name_end};
 use refusals::{Class, Fault, Refusal};
-use std::alloc::{AllocError, AllocFailed};
+use std::alloc::{AllocError, AllocFailed, Global};
 use std::fmt::Write as WriteText;
 use std::io;
 use std::io::ErrorKind;
@@ -45,6 +48,12 @@ pub enum Failure<'a> {
     /// A filter or a file of addresses is refused. The note gives more detail for people.
     Noted {
         refusal: Refusal,
+        note: ArrayString<128>,
+    },
+    /// A filter in JSON is refused at the value that the pointer (RFC 6901) leads to. The note gives more detail for people.
+    Pointed {
+        flaw: FilterFaultKind,
+        pointer: Vec<u8>,
         note: ArrayString<128>,
     },
     /// The county of this code, one of several, is refused.
@@ -151,6 +160,38 @@ impl<'a> Failure<'a> {
         }
     }
 
+    /// Returns the failure for JSON that has no text.
+    pub(crate) fn of_json(fault: JsonFault<Global>) -> Self
+        ensures { IsOfJson fault result }
+    {
+        match fault {
+            JsonFault::Json { line, column, flaw } => Failure::Noted {
+                refusal: json_flaw(flaw).refusal().at_character(line, column),
+                note: json_note(flaw),
+            },
+            JsonFault::Value { pointer, flaw } => Failure::Pointed {
+                flaw: value_flaw(flaw),
+                pointer,
+                note: value_note(flaw),
+            },
+            JsonFault::Memory => Failure::Memory,
+        }
+    }
+
+    /// Returns the failure for a filter in JSON that can't be compiled.
+    pub(crate) fn of_json_program(alloc: Global, fault: CompileFault) -> Self
+        ensures { IsOfJsonProgram fault result }
+    {
+        match fault {
+            CompileFault::Memory => Failure::Memory,
+            CompileFault::TooLong => Failure::Pointed {
+                flaw: FilterFaultKind::TooLong,
+                pointer: Vec::new(alloc),
+                note: compile_note(fault),
+            },
+        }
+    }
+
     /// Returns the failure for a file of addresses that can't be read.
     pub fn of_addresses(fault: AddressFault) -> Self
         ensures { IsOfAddresses fault result }
@@ -210,6 +251,7 @@ impl<'a> Failure<'a> {
         match self {
             Failure::Refusal(refusal) => class_status(refusal.class()),
             Failure::Noted { refusal, .. } => class_status(refusal.class()),
+            Failure::Pointed { flaw, .. } => class_status(flaw.refusal().class()),
             Failure::County { refusal, .. } => class_status(refusal.class()),
             Failure::Memory => OUT_OF_MEMORY,
             Failure::NoLine { .. } => USAGE,
@@ -226,6 +268,11 @@ impl<'a> Failure<'a> {
             Failure::Noted { refusal, note } => {
                 report_noted(errors, refusal.line().as_str(), note.as_str());
             }
+            Failure::Pointed {
+                flaw,
+                pointer,
+                note,
+            } => report_pointed(errors, *flaw, pointer.as_slice(), note.as_str()),
             Failure::County { code, refusal } => {
                 report_county(errors, refusal.line().as_str(), code);
             }
@@ -319,6 +366,8 @@ pub fn write<'a, W: CountedWrite>(out: &mut W, text: &[u8]) -> Result<(), Failur
 enum Piece<'p> {
     /// Text that is written as it is.
     Text(&'p str),
+    /// Text in bytes that is written as it is.
+    Bytes(&'p [u8]),
     /// Text from the user, which is written with its control characters escaped.
     Echo(&'p str),
 }
@@ -342,6 +391,7 @@ fn write_piece<E: CountedWrite>(errors: &mut E, piece: &Piece<'_>) -> Result<(),
 {
     match piece {
         Text(text) => write_text(errors, text.as_bytes()),
+        Bytes(bytes) => write_text(errors, bytes),
         Echo(text) => write_escaped(errors, text),
     }
 }
@@ -359,6 +409,60 @@ fn report_noted<'p, E: CountedWrite>(errors: &mut E, refusal: &'p str, note: &'p
         (writer E.contents E.counts errors.old) (writer E.contents E.counts errors.new) }
 {
     write_pieces(errors, &[Text(refusal), Text("\n"), Text(note), Text("\n")]);
+}
+
+/// Where the name begins in the line of a refusal with a number of two digits, as those of filters have.
+const NAME_OFFSET: usize = 11;
+
+/// Reports why a value in JSON is refused.
+fn report_pointed<E: CountedWrite>(
+    errors: &mut E,
+    flaw: FilterFaultKind,
+    pointer: &[u8],
+    note: &str,
+)
+    ensures { ReportsText (pointed_line pointer.now (filter_flaw.refusal flaw) ++ 10 ∷ note.now ++ 10 ∷ [])
+        (writer E.contents E.counts errors.old) (writer E.contents E.counts errors.new) }
+{
+    let line = flaw.refusal().line();
+    if pointer.is_empty() {
+        report_noted(errors, line.as_str(), note);
+        return;
+    }
+    let line = line.as_bytes();
+    report_at_pointer(
+        errors,
+        &line[..NAME_OFFSET],
+        pointer,
+        &line[NAME_OFFSET..],
+        note,
+    );
+}
+
+/// Reports a refusal with a pointer between the two parts of its line.
+fn report_at_pointer<'p, E: CountedWrite>(
+    errors: &mut E,
+    front: &'p [u8],
+    pointer: &'p [u8],
+    name: &'p [u8],
+    note: &'p str,
+)
+    ensures { ReportsText (front.now ++ (codes "pointer " ++ (pointer.now ++ (codes " " ++ (name.now ++ (10 ∷ note.now ++ 10 ∷ []))))))
+        (writer E.contents E.counts errors.old) (writer E.contents E.counts errors.new) }
+{
+    write_pieces(
+        errors,
+        &[
+            Bytes(front),
+            Text("pointer "),
+            Bytes(pointer),
+            Text(" "),
+            Bytes(name),
+            Text("\n"),
+            Text(note),
+            Text("\n"),
+        ],
+    );
 }
 
 /// Reports why a county is refused.
@@ -415,16 +519,58 @@ fn report_county_file<'p, E: CountedWrite>(
 }
 
 /// Says what is wrong with a filter's text, and what to write instead if that is likely: a hint, or the name of a column that is near.
-fn filter_note(text: &[u8], fault: FilterFault) -> ArrayString<128> {
-    let mut note = ArrayString::new();
-    if let FilterFault::At { flaw, .. } = fault {
-        let _ = write!(note, "{flaw}");
-    }
+pub(crate) fn filter_note(text: &[u8], fault: FilterFault) -> ArrayString<128> {
+    let mut note = match fault {
+        FilterFault::At { flaw, .. } => flaw_note(flaw),
+        FilterFault::Memory => ArrayString::new(),
+    };
     if let Some(hint) = fault.hint(text) {
         let _ = write!(note, ": {hint}");
     } else if let Some(name) = fault.nearest_column(text) {
         let _ = write!(note, ", and the nearest is {name}");
     }
+    note
+}
+
+/// Says what is wrong with a filter's text.
+pub(crate) fn flaw_note(flaw: FilterFaultKind) -> ArrayString<128> {
+    let mut note = ArrayString::new();
+    let _ = write!(note, "{flaw}");
+    note
+}
+
+/// Returns the kind of a flaw of a text that isn't JSON.
+fn json_flaw(flaw: JsonFlaw) -> FilterFaultKind
+    ensures { result ≡ json_flaw flaw }
+{
+    match flaw {
+        JsonFlaw::Utf8 => FilterFaultKind::Syntax(Expected::Utf8),
+        JsonFlaw::Syntax => FilterFaultKind::Syntax(Expected::Predicate),
+        JsonFlaw::TooLong => FilterFaultKind::TooLong,
+    }
+}
+
+/// Returns the kind of a flaw of a value that has no text.
+fn value_flaw(flaw: ValueFlaw) -> FilterFaultKind
+    ensures { result ≡ value_flaw flaw }
+{
+    match flaw {
+        ValueFlaw::Expected(_expected) => FilterFaultKind::Syntax(Expected::Predicate),
+        ValueFlaw::TooLong => FilterFaultKind::TooLong,
+    }
+}
+
+/// Says what is wrong with a text that isn't JSON.
+fn json_note(flaw: JsonFlaw) -> ArrayString<128> {
+    let mut note = ArrayString::new();
+    let _ = write!(note, "{flaw}");
+    note
+}
+
+/// Says what is expected in place of a value that has no text.
+fn value_note(flaw: ValueFlaw) -> ArrayString<128> {
+    let mut note = ArrayString::new();
+    let _ = write!(note, "{flaw}");
     note
 }
 

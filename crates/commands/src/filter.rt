@@ -1,21 +1,33 @@
-//! Filters' texts, and the programs they compile to.
-ghost use Rattle.std.specs.Prelude.{◌<◌, length, IfErr, IfOk, IsErrAnd};
+//! Filters in a language, and the programs they compile to.
+ghost use Rattle.std.specs.Prelude.{◌≡◌, ◌<◌, ◌≤◌, length, IfErr, IfOk, IsErrAnd};
+ghost use Rattle.cql2_text.specs.Spelled.{IsFilterText};
 ghost use Rattle.cql2_text.specs.declared.reader.TheConstants.{MAX_TEXT_LENGTH};
 ghost use Rattle.commands.specs.Failure.{IsOfFilter};
-ghost use Rattle.commands.specs.Filter.{IsCodeOfText, IsFilterFailure, IsProgramOf, length_fault};
+ghost use Rattle.commands.specs.Filter.{IsCodeOfText, IsFilterFailure, IsOfJsonText, IsProgramOf, Spells, length_fault};
+ghost use Rattle.commands.specs.declared.filter.FilterLanguage.TheVariants as language;
 
-use crate::failure::Failure;
+use crate::failure::{Failure, filter_note, flaw_note};
+use arrayvec::ArrayString;
 use bpf_insn::{Code, encode};
 use bpf_program::accept_code;
 use bpf_verify::Verified;
-use cql2::NumericColumn;
+use cql2::{Filter, NumericColumn};
 use cql2_code::compile;
-use cql2_text::read;
+use cql2_json::{pointer_at, translate};
+use cql2_text::{FilterFault, FilterFaultKind, Hint, MAX_TEXT_LENGTH, read};
 use std::alloc::{Allocator, Global};
+
+/// The language of a filter: the text or the JSON encoding of CQL2.
+#[derive(Clone, Copy)]
+pub enum FilterLanguage {
+    Text,
+    Json,
+}
 
 /// The options for compiling a filter.
 #[derive(Clone, Copy)]
 pub struct FilterOptions {
+    pub language: FilterLanguage,
     /// The column whose number is a selected segment's score. Without one, the score is 0.
     pub score: Option<NumericColumn>,
     /// The filter's allocator, which is part of its type.
@@ -29,8 +41,8 @@ impl FilterOptions {
         alloc: A,
         text: &[u8],
     ) -> Result<Vec<u8, A>, Failure<'a>>
-        ensures ok { IfOk result (λ program. IsProgramOf text.now self.score program.items) }
-        ensures err { IfErr result (IsFilterFailure text.now self.score) }
+        ensures ok { IfOk result (λ program. IsProgramOf text.now self program.items) }
+        ensures err { IfErr result (IsFilterFailure text.now self) }
         ensures too_long { MAX_TEXT_LENGTH < length text.now → IsErrAnd result (IsOfFilter (length_fault text.now)) }
     {
         match self.code(text) {
@@ -41,8 +53,8 @@ impl FilterOptions {
 
     /// Compiles the filter in a text for `bpf_machine::run`.
     pub fn verified<'a>(self, text: &[u8]) -> Result<Verified<Global>, Failure<'a>>
-        ensures ok { IfOk result (λ verified. IsCodeOfText text.now self.score verified.code) }
-        ensures err { IfErr result (IsFilterFailure text.now self.score) }
+        ensures ok { IfOk result (λ verified. IsCodeOfText text.now self verified.code) }
+        ensures err { IfErr result (IsFilterFailure text.now self) }
         ensures too_long { MAX_TEXT_LENGTH < length text.now → IsErrAnd result (IsOfFilter (length_fault text.now)) }
     {
         let code = match self.code(text) {
@@ -58,17 +70,93 @@ impl FilterOptions {
 
     /// Compiles the filter in a text.
     fn code<'a>(self, text: &[u8]) -> Result<Code<Global>, Failure<'a>>
-        ensures ok { IfOk result (IsCodeOfText text.now self.score) }
-        ensures err { IfErr result (IsFilterFailure text.now self.score) }
+        ensures ok { IfOk result (IsCodeOfText text.now self) }
+        ensures err { IfErr result (IsFilterFailure text.now self) }
         ensures too_long { MAX_TEXT_LENGTH < length text.now → IsErrAnd result (IsOfFilter (length_fault text.now)) }
     {
-        let filter = match read(self.filter_alloc, text) {
+        let filter = match self.filter(text) {
             Ok(filter) => filter,
-            Err(fault) => return Err(Failure::of_filter(text, fault)),
+            Err(failure) => return Err(failure),
         };
-        match compile(self.filter_alloc, &filter, self.score) {
-            Ok(code) => Ok(code),
-            Err(fault) => Err(Failure::of_compile(fault)),
+        let fault = match compile(self.filter_alloc, &filter, self.score) {
+            Ok(code) => return Ok(code),
+            Err(fault) => fault,
+        };
+        match self.language {
+            FilterLanguage::Text => Err(Failure::of_compile(fault)),
+            FilterLanguage::Json => Err(Failure::of_json_program(self.filter_alloc, fault)),
         }
+    }
+
+    /// Reads the filter in a text.
+    fn filter<'a>(self, text: &[u8]) -> Result<Filter<Global>, Failure<'a>>
+        ensures ok { IfOk result (Spells self.language text.now) }
+        ensures err { IfErr result (IsFilterFailure text.now self) }
+        ensures too_long { MAX_TEXT_LENGTH < length text.now → IsErrAnd result (IsOfFilter (length_fault text.now)) }
+    {
+        match self.language {
+            FilterLanguage::Text => read_text(self, text),
+            FilterLanguage::Json => read_json(self, text),
+        }
+    }
+}
+
+/// Reads a filter in the text encoding. JSON that is too long is refused as such a text is.
+fn read_text<'a>(options: FilterOptions, text: &[u8]) -> Result<Filter<Global>, Failure<'a>>
+    ensures ok { IfOk result (IsFilterText text.now) }
+    ensures err { options.language ≡ language.Text → IfErr result (IsFilterFailure text.now options) }
+    ensures too_long { MAX_TEXT_LENGTH < length text.now → IsErrAnd result (IsOfFilter (length_fault text.now)) }
+{
+    match read(options.filter_alloc, text) {
+        Ok(filter) => Ok(filter),
+        Err(fault) => Err(Failure::of_filter(text, fault)),
+    }
+}
+
+/// Reads a filter in JSON.
+fn read_json<'a>(options: FilterOptions, json: &[u8]) -> Result<Filter<Global>, Failure<'a>>
+    requires { options.language ≡ language.Json }
+    ensures ok { IfOk result (Spells language.Json json.now) }
+    ensures err { IfErr result (IsFilterFailure json.now options) }
+    ensures too_long { MAX_TEXT_LENGTH < length json.now → IsErrAnd result (IsOfFilter (length_fault json.now)) }
+{
+    if json.len() > MAX_TEXT_LENGTH {
+        return read_text(options, json);
+    }
+    let alloc = options.filter_alloc;
+    let text = match translate(alloc, json) {
+        Ok(text) => text,
+        Err(fault) => return Err(Failure::of_json(fault)),
+    };
+    match read(alloc, text.as_slice()) {
+        Ok(filter) => Ok(filter),
+        Err(fault) => Err(failure_at(alloc, json, text.as_slice(), fault)),
+    }
+}
+
+/// Returns the failure for JSON whose text isn't a filter.
+fn failure_at<'a>(alloc: Global, json: &[u8], text: &[u8], fault: FilterFault) -> Failure<'a>
+    requires { length json.now ≤ MAX_TEXT_LENGTH }
+    ensures { IsOfJsonText json.now text.now fault result }
+{
+    match fault {
+        FilterFault::At { column, flaw, .. } => match pointer_at(alloc, json, text, column) {
+            Ok(pointer) => Failure::Pointed {
+                flaw,
+                pointer,
+                note: note(text, fault, flaw),
+            },
+            Err(_) => Failure::Memory,
+        },
+        FilterFault::Memory => Failure::Memory,
+    }
+}
+
+/// Says what is wrong with the text of JSON, and what to write instead if that is likely.
+fn note(text: &[u8], fault: FilterFault, flaw: FilterFaultKind) -> ArrayString<128> {
+    match fault.hint(text) {
+        // The user wrote no quotes of the text.
+        Some(Hint::SingleQuotes) => flaw_note(flaw),
+        _ => filter_note(text, fault),
     }
 }

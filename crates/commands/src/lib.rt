@@ -29,7 +29,7 @@ pub use diagnostic_line::DiagnosticLine;
 pub use disassemble::Disassemble;
 pub use explain::Explain;
 pub use failure::{Failure, OUT_OF_MEMORY, UNUSABLE, USAGE};
-pub use filter::FilterOptions;
+pub use filter::{FilterLanguage, FilterOptions};
 pub use flushing::FlushedWrite;
 pub use geocode_batch::GeocodeBatch;
 pub use geocoder::Geocode;

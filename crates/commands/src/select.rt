@@ -23,7 +23,7 @@ use std::alloc::{Allocator, Global};
 /// The arguments of `select`.
 #[derive(Drop)]
 pub struct Select<'a> {
-    /// The filter's text (CQL2).
+    /// The filter (CQL2).
     pub filter: &'a str,
     pub filter_options: FilterOptions,
     /// The folder of the county files.

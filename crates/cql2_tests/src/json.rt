@@ -109,7 +109,7 @@ true; 500; /
 
 // JSON, and the pointer at which its text is refused, or `read`.
 const READ: Table = Table {
-    rows: 14,
+    rows: 18,
     text: r##"
 {"op":"and","args":[{"op":"=","args":[{"property":"CFCC"},"A41"]},{"op":"not","args":[{"op":"isNull","args":[{"property":"FENAME"}]}]}]}; read
 {"op":"in","args":[{"property":"CFCC"},["A41","A61"]]}; read
@@ -122,7 +122,11 @@ const READ: Table = Table {
 {"op":"=","args":[{"property":"ZIPL"},1e5]}; /args/1
 {"op":"=","args":[36067,{"property":"ZIPL"}]}; read
 {"op":"=","args":[{"property":"ZIPL"},{"op":"+","args":[1,{"op":"div","args":[{"property":"FRADDL"},2]}]}]}; read
-{"op":"not","args":[{"op":"s_within","args":[{"property":"geom"},{"type":"Point","coordinates":[1,2]}]}]}; /args/0
+{"op":"not","args":[{"op":"s_within","args":[{"property":"geom"},{"type":"Point","coordinates":[1,2]}]}]}; /args/0/args/0/property
+{"op":"s_within","args":[{"property":"geometry"},{"type":"Point","coordinates":[1,2]}]}; /args/1
+{"op":"s_intersects","args":[{"property":"geometry"},{"type":"Polygon","coordinates":[[[0,0],[1,0.5],[1,1],[0,0]]]}]}; read
+{"op":"s_disjoint","args":[{"type":"LineString","coordinates":[[0,0],[1,2],[3,4]]},{"property":"GEOMETRY"}]}; read
+{"op":"s_intersects","args":[{"property":"geometry"},{"type":"Polygon","coordinates":[[[0,0],[1,0],[1,1],[0,2]]]}]}; /args/1/coordinates/0/3/0
 {"op":"HAS_NAME","args":["Main",-1]}; /args/1
 "x"; /"##,
 };

@@ -4,8 +4,8 @@
 _extractd_options() {
     case $1 in
     '') echo --help --version ;;
-    select) echo --where --score --data --format --columns --geometry --help ;;
-    compile) echo --filter --score --help ;;
+    select) echo --where --filter-lang --score --data --format --columns --geometry --help ;;
+    compile) echo --filter --filter-lang --score --help ;;
     run) echo --program --data --format --columns --geometry --help ;;
     trace) echo --program --data --line --limit --help ;;
     geocode) echo --data --number --name --zip --help ;;
@@ -63,6 +63,10 @@ _extractd() {
         mapfile -t COMPREPLY < <(compgen -W "$words" -- "${current^^}")
         return
         ;;
+    --filter-lang)
+        mapfile -t COMPREPLY < <(compgen -W 'cql2-text cql2-json' -- "$current")
+        return
+        ;;
     --format)
         mapfile -t COMPREPLY < <(compgen -W 'rows csv geojsonseq' -- "$current")
         return
@@ -72,7 +76,8 @@ _extractd() {
         return
         ;;
     --columns)
-        words='RT VERSION TLID SIDE1 SOURCE FEDIRP FENAME FETYPE FEDIRS CFCC FRADDL TOADDL FRADDR TOADDR FRIADDL TOIADDL FRIADDR TOIADDR
+        words='RT VERSION TLID SIDE1 SOURCE FEDIRP FENAME FETYPE FEDIRS CFCC FRADDL TOADDL FRADDR TOADDR
+            FRADDL_TEXT TOADDL_TEXT FRADDR_TEXT TOADDR_TEXT FRIADDL TOIADDL FRIADDR TOIADDR
             ZIPL ZIPR STATEL STATER COUNTYL COUNTYR COUSUBL COUSUBR PLACEL PLACER TRACTL TRACTR BLOCKL BLOCKR FRLONG FRLAT TOLONG TOLAT'
         # The last name of the list is completed.
         compopt -o nospace

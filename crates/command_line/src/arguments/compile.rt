@@ -6,7 +6,7 @@ ghost use Rattle.command_line.specs.Values.{Reads, rows_in};
 ghost use Rattle.command_line.specs.declared.arguments.subcommand.Subcommand.TheVariants as Subcommand;
 
 use crate::fault::ArgumentsFault;
-use crate::options::{file, filter_options, option, score_option};
+use crate::options::{file, filter_options, language_option, option, score_option};
 use clap::{ArgMatches, Command};
 use commands::Compile;
 use std::alloc::{AllocError, Global};
@@ -18,15 +18,17 @@ pub fn command<'a>(alloc: Global, name: &'a str) -> Result<Command<'a>, AllocErr
     Command::new(alloc, name)
         .about("Writes the BPF program of a filter")
         .after_help(help_end!(
-            "Example:
-  echo \"CFCC LIKE 'A4%' AND ZIPL = 36067\" | extractd compile --filter - > street.bpf"
+            "Examples:
+  echo \"CFCC LIKE 'A4%' AND ZIPL = 36067\" | extractd compile --filter - > street.bpf
+  echo '{\"op\":\"=\",\"args\":[{\"property\":\"ZIPL\"},36067]}' | extractd compile --filter - --filter-lang cql2-json > zip.bpf"
         ))
         .arg(option(
             alloc,
             "filter",
             "FILE",
-            "The filter, as CQL2 text; - is the standard input",
+            "The filter, in CQL2; - is the standard input",
         ))?
+        .arg(language_option(alloc))?
         .arg(score_option(alloc))
 }
 

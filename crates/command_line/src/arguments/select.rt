@@ -7,7 +7,9 @@ ghost use Rattle.command_line.specs.declared.arguments.subcommand.Subcommand.The
 
 use crate::fault::ArgumentsFault;
 use crate::layer_options::{layer, with_layer_options};
-use crate::options::{codes, counties_option, filter_options, option, score_option, value};
+use crate::options::{
+    codes, counties_option, filter_options, language_option, option, score_option, value,
+};
 use clap::{ArgMatches, Command};
 use commands::Select;
 use std::alloc::{AllocError, Global};
@@ -23,10 +25,12 @@ pub fn command<'a>(alloc: Global, name: &'a str) -> Result<Command<'a>, AllocErr
 
 Examples:
   extractd select --where \"CFCC LIKE 'A4%' AND ZIPL = 36067\" --data tiger 01001 > rows.tsv
+  extractd select --where '{\"op\":\"=\",\"args\":[{\"property\":\"CFCC\"},\"A41\"]}' --filter-lang cql2-json --data tiger 01001 > rows.tsv
   extractd select --where \"CFCC LIKE 'A4%'\" --data tiger --format csv --columns TLID,FENAME --geometry none 01001 > names.csv
   extractd select --where \"CFCC LIKE 'A4%'\" --data tiger --format geojsonseq 01001 | ogr2ogr roads.gpkg '/vsistdin?buffer_limit=-1' -nln roads"
         ))
-        .arg(option(alloc, "where", "TEXT", "The filter, as CQL2 text"))?
+        .arg(option(alloc, "where", "TEXT", "The filter, in CQL2"))?
+        .arg(language_option(alloc))?
         .arg(score_option(alloc))?
         .arg(option(
             alloc,

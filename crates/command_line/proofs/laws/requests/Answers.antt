@@ -1,6 +1,8 @@
-use Rattle.std.proofs.Common.{◌≡◌, List, refl, sym, ap, Some, None}
+use Rattle.std.proofs.Common.{◌≡◌, List, Option, refl, sym, ap, Some, None}
 use Rattle.clap.specs.Walk.{Text}
 use Rattle.clap.proofs.OnLiterals.{clap_on_literals}
+use Rattle.commands.specs.declared.filter.FilterLanguage.{FilterLanguage}
+use Rattle.cql2.specs.declared.column.NumericColumn.{NumericColumn}
 use Rattle.features.specs.Columns.{is_same}
 use Rattle.layers.specs.Layer.{LayerParts}
 use Rattle.layers.specs.LayerParts.{parts_of}
@@ -59,6 +61,21 @@ pub returns-clause-unformatted : goal.returns-clause-unformatted
 unfolding clap_on_literals program
 returns-clause-unformatted c = λ request is.
     let none : None ≡ Some (parts_of is.made.0.layer) = is.made.2.layer in cc
+
+pub returns-clause-json : goal.returns-clause-json
+unfolding clap_on_literals program
+returns-clause-json c = λ compile file json unscored. record {
+  taken = refl;
+  made = (
+    compile,
+    refl,
+    record {
+      filter = ap (λ (text : Text). Some text) (sym file);
+      language = ap (λ (language : FilterLanguage). Some language) (sym json);
+      score = ap (λ (score : Option NumericColumn). Some score) (sym unscored);
+    },
+  );
+}
 
 pub returns-clause-shape : goal.returns-clause-shape
 unfolding clap_on_literals program

@@ -9,13 +9,13 @@ use Rattle.commands.proofs.compile.Compile.carry_out.Goals as goal
 
 pub returns-in-Ok-program-clause-carried : goal.returns-in-Ok-program-clause-carried
 returns-in-Ok-program-clause-carried g c =
-    let score = c.args.self.filter_options.score in
+    let options = c.args.self.filter_options in
     let read = c.in-Ok.ensures.prefix in
     let text = c.as_slice.ensures.value in
-    let made : IsProgramOf c.in-Ok.text.items score c.in-Ok-program.program.items =
-    subst (λ (text : List ℕ). IsProgramOf text score c.in-Ok-program.program.items) text c.in-Ok-program.ensures.ok in
-    let whole : IsProgramOf read.whole score c.in-Ok-program.program.items =
-    whole_program read score c.in-Ok-program.program.items (λ long. c.in-Ok-program.ensures.too_long (rw text long)) made in
+    let made : IsProgramOf c.in-Ok.text.items options c.in-Ok-program.program.items =
+    subst (λ (text : List ℕ). IsProgramOf text options c.in-Ok-program.program.items) text c.in-Ok-program.ensures.ok in
+    let whole : IsProgramOf read.whole options c.in-Ok-program.program.items =
+    whole_program read options c.in-Ok-program.program.items (λ long. c.in-Ok-program.ensures.too_long (rw text long)) made in
     written_carried c.as_slice-in-Ok-program.result.now c.write.result c.write.ensures c.in-Ok.ensures.uses (λ outcome wrote. record {
       text = read.whole;
       is_text = read.is_whole;
@@ -26,16 +26,17 @@ returns-in-Ok-program-clause-carried g c =
 
 pub returns-clause-carried : goal.returns-clause-carried
 returns-clause-carried g c =
-    let score = c.args.self.filter_options.score in
+    let options = c.args.self.filter_options in
     let read = c.in-Ok.ensures.prefix in
     let text = c.as_slice.ensures.value in
     let failure = c.in-Err-program.failure in
-    filter_carried read.whole score failure
-    (whole_failure read score failure
+    filter_carried read.whole options failure
+    (whole_failure read options failure
     (subst (λ (text : List ℕ). MAX_TEXT_LENGTH < length text → IsOfFilter (length_fault text) failure) text c.in-Err-program.ensures.too_long)
-    (subst (λ (text : List ℕ). IsFilterFailure text score failure) text c.in-Err-program.ensures.err))
-    (λ refusal is. record { text = read.whole; is_text = read.is_whole; refused = is }) c.in-Ok.ensures.uses
+    (subst (λ (text : List ℕ). IsFilterFailure text options failure) text c.in-Err-program.ensures.err))
+    (λ refusal is. record { text = read.whole; is_text = read.is_whole; refused = is })
+    (λ flaw pointer is. record { text = read.whole; is_text = read.is_whole; refused = is }) c.in-Ok.ensures.uses
 
 pub returns-clause-usage : goal.returns-clause-usage
 returns-clause-usage g c =
-    failure_usage c.as_slice.result.now c.args.self.filter_options.score c.in-Err-program.failure c.in-Err-program.ensures.err
+    failure_usage c.as_slice.result.now c.args.self.filter_options c.in-Err-program.failure c.in-Err-program.ensures.err
