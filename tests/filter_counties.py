@@ -33,13 +33,18 @@ class Column(NamedTuple):
     def width(self) -> int:
         return self.last - self.first + 1
 
+    @property
+    def is_right_justified(self) -> bool:
+        """Whether it is a house number as a text. The columns of their numbers have the same fields."""
+        return self.name.endswith("_TEXT")
+
     def field(self, line: bytes) -> bytes:
         return line[self.first - 1 : self.last]
 
     def value(self, line: bytes) -> int | str | None:
         """Returns the column's value in a record, or None for NULL."""
         if self.kind is Kind.TEXT:
-            return text_of(self.field(line))
+            return text_of(self.field(line).lstrip(b" ") if self.is_right_justified else self.field(line))
         return number_of(self.field(line)) if self.kind is Kind.NUMBER else coordinate_of(self.field(line))
 
 
@@ -49,7 +54,8 @@ STATEL number 131 132; STATER number 133 134; COUNTYL number 135 137; COUNTYR nu
 TRACTL number 171 176; TRACTR number 177 182; BLOCKL number 183 186; BLOCKR number 187 190;
 FRLONG coordinate 191 200; FRLAT coordinate 201 209; TOLONG coordinate 210 219; TOLAT coordinate 220 228;
 RT text 1 1; VERSION text 2 5; SIDE1 text 16 16; SOURCE text 17 17; FEDIRP text 18 19; FENAME text 20 49; FETYPE text 50 53; FEDIRS text 54 55;
-CFCC text 56 58; FRIADDL text 103 103; TOIADDL text 104 104; FRIADDR text 105 105; TOIADDR text 106 106; COUSUBL text 141 145; COUSUBR text 146 150
+CFCC text 56 58; FRADDL_TEXT text 59 69; TOADDL_TEXT text 70 80; FRADDR_TEXT text 81 91; TOADDR_TEXT text 92 102;
+FRIADDL text 103 103; TOIADDL text 104 104; FRIADDR text 105 105; TOIADDR text 106 106; COUSUBL text 141 145; COUSUBR text 146 150
 """
 
 
@@ -62,6 +68,7 @@ COLUMNS = read_layout()
 BY_NAME = {column.name: column for column in COLUMNS}
 TEXTS = [column for column in COLUMNS if column.kind is Kind.TEXT]
 NUMERIC = [column for column in COLUMNS if column.kind is not Kind.TEXT]
+FIELDS = [column for column in COLUMNS if not column.is_right_justified]
 # The address fields of record types 1 and 6, in order.
 RANGE_FIELDS = ("FRADDL", "TOADDL", "FRADDR", "TOADDR")
 
@@ -138,6 +145,7 @@ UNSPELLABLE = "\t\r\x01\x1f\x7f\x80\x9f"
 # What the texts of a column consist of.
 ALPHABETS = (USUAL, USUAL, USUAL, "an", "Aàn ", MISTAKABLE + "[{@`yYý")
 FAULTY_NUMBERS = ("1 2", "1-4", "x", "+5", "-1", "5.")
+HOUSE_NUMBER_ENDS = ("-20", "-20", "-2", "-20A", "A", "B", "b", " 1/2")
 FAULTY_COORDINATES = ("+", "+-1", "86.5", "1 1", "12x", "+0", "-000000", "0")
 EXTREME_COORDINATES = ("999999999", "-99999999", "-999999999")
 ALTERNATE_NAMES = (0, 0, 0, 0, 1, 2, 3, 5, 8)
@@ -167,6 +175,9 @@ def draw_number(dice: Random, width: int) -> str:
 
 
 def draw_house_number(dice: Random) -> str:
+    """Draws a house number, now and then one with a hyphen, a letter or a fraction, which is a text only."""
+    if chance(dice, 25):
+        return justified(dice, f"{dice.randrange(60)}{dice.choice(HOUSE_NUMBER_ENDS)}", 11)
     return justified(dice, str(dice.randrange(60)), 11) if chance(dice, 70) else draw_number(dice, 11)
 
 
@@ -211,7 +222,7 @@ class Pools:
         self.dice = dice
         self.names = draw_texts(dice, 30, 12, [])
         self.numbers = [str(dice.randrange(100)) for _ in range(4)]
-        self.fields = {column.name: self.draw_fields(column) for column in COLUMNS}
+        self.fields = {column.name: self.draw_fields(column) for column in FIELDS}
 
     def draw_fields(self, column: Column) -> list[str]:
         count = self.dice.randint(2, 12)
@@ -230,7 +241,7 @@ class Pools:
 
     def record(self, tlid: int) -> bytes:
         line = [" "] * 228
-        for column in COLUMNS:
+        for column in FIELDS:
             text = str(tlid).rjust(10) if column.name == "TLID" else self.dice.choice(self.fields[column.name])
             line[column.first - 1 : column.last] = text.ljust(column.width)
         for start, end in (("FRLONG", "TOLONG"), ("FRLAT", "TOLAT")):

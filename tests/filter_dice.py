@@ -1,5 +1,5 @@
 """Filters to compare with SQL: how predicates are drawn, and how they are joined."""
-# Needs only Python 3.11 or later.
+# Needs only Python 3.11 or later, and shapely.
 
 from collections.abc import Callable
 from enum import IntEnum
@@ -7,13 +7,15 @@ from random import Random
 from typing import NamedTuple
 
 from filter_counties import BY_NAME, COLUMNS, TEXTS, Column, County, Kind
-from filter_numbers import Number, NumberDice
-from filter_terms import Term, folded
+from filter_geometry import Shape
+from filter_numbers import Number
+from filter_outlines import ShapeDice, shapes
+from filter_terms import Folding, Term, folded, widths
 
 MOST_PARENTHESES = 64
 # The most words of a filter's program, if no comparison needs a jump of its own to skip more than 32,767 words. The compiler refuses 65,537.
 MOST_WORDS = 45_000
-WORDS_OF_TWO_TEXTS = 1_200
+WORDS_OF_EDGE = 150
 USUAL_NAMES = 63
 # Those of Latin-1 beyond ASCII, with × and ÷, which have their codes among them, and some of ASCII that are alike.
 LETTERS = [chr(code) for code in range(0xC0, 0x100)] + list("AaEeNnOoSsUuYyDdTt")
@@ -71,6 +73,11 @@ def listed(subject: Term, negation: list[str], members: list[Term]) -> Filter:
     return Filter([*subject.tokens, *negation, "IN", "(", *tokens[1:], ")"], sql, words)
 
 
+def words_of_columns(column: Column, other: Column) -> int:
+    """Returns the most words that a comparison of the texts in two columns takes."""
+    return sum(40 * min(width, beside) + 10 for width in widths(column) for beside in widths(other))
+
+
 def of_numbers(made: Filter, numbers: list[Number]) -> Filter:
     """Adds what the filter's numbers have."""
     refusals = frozenset[int]().union(*(number.refusals for number in numbers))
@@ -81,7 +88,7 @@ def term_of(number: Number) -> Term:
     return Term(number.tokens, number.sql, 50 + number.words)
 
 
-class FilterDice(NumberDice):
+class FilterDice(ShapeDice):
     """Draws filters."""
 
     def __init__(self, dice: Random, county: County) -> None:
@@ -92,6 +99,7 @@ class FilterDice(NumberDice):
             *[self.comparison_of_columns] * 2,
             *[self.list_of_numbers] * 2,
             *[self.list_of_texts] * 3,
+            *[self.list_of_columns] * 2,
             *[self.between] * 2,
             *[self.like] * 7,
             self.is_null,
@@ -99,7 +107,12 @@ class FilterDice(NumberDice):
             *[self.has_name] * 2,
             self.starts_in,
             self.constant,
+            *self.spatial_predicates,
         ]
+
+    @property
+    def spatial_predicates(self) -> list[Callable[[], Filter]]:
+        return [*[self.intersects] * 6, *[self.disjoint] * 3, self.within, *[self.starts_in_shape] * 4]
 
     def negation(self) -> list[str]:
         return ["NOT"] if self.chance(35) else []
@@ -147,29 +160,46 @@ class FilterDice(NumberDice):
     # Predicates of texts
 
     def comparison_of_texts(self) -> Filter:
-        """Draws a comparison of a column and a literal, either of them first. With CASEI or ACCENTI the column has to be first."""
+        """Draws a comparison of a column and a literal, either of them first."""
         column, subject = self.column(TEXTS)
         folding = self.folding()
         operator = self.dice.choice(OPERATORS[:2] if folding else OPERATORS)
         terms = [folded(subject, folding), folded(self.text_literal(column, folding), self.reordered(folding))]
-        if not folding and self.chance(25):
+        if self.chance(25):
             terms.reverse()
         return compared(terms[0], operator, terms[1])
 
     def comparison_of_columns(self) -> Filter:
-        (_, first), (_, second) = self.column(TEXTS), self.column(TEXTS)
-        return compared(first, self.dice.choice(OPERATORS), second)._replace(words=WORDS_OF_TWO_TEXTS)
+        (column, first), (other, second) = self.column(TEXTS), self.column(TEXTS)
+        return compared(first, self.dice.choice(OPERATORS), second)._replace(words=words_of_columns(column, other))
 
     def list_of_texts(self) -> Filter:
-        """Draws a list of texts, or now and then of letters for a column of one character."""
+        """Draws a column and a list of texts, or now and then of letters for a column of one character."""
         folding = self.folding()
         if folding and self.chance(30):
             _, subject = self.column([column for column in TEXTS if column.width == 1])
-            literals = [self.text_term(letter) for letter in self.dice.sample(LETTERS, 24)]
+            members = [self.text_term(letter) for letter in self.dice.sample(LETTERS, 24)]
         else:
             column, subject = self.column(TEXTS)
-            literals = [self.text_literal(column, folding) for _ in range(self.dice.randint(1, 4))]
-        return listed(folded(subject, folding), self.negation(), [folded(literal, self.reordered(folding)) for literal in literals])
+            members = [self.member(column, folding) for _ in range(self.dice.randint(1, 4))]
+        return listed(folded(subject, folding), self.negation(), [folded(member, self.reordered(folding)) for member in members])
+
+    def member(self, column: Column, folding: Folding) -> Term:
+        """Draws a literal to compare with this column, or now and then another column if nothing is ignored."""
+        if not folding and self.chance(25):
+            other, term = self.column(TEXTS)
+            return term._replace(words=words_of_columns(column, other))
+        return self.text_literal(column, folding)
+
+    def list_of_columns(self) -> Filter:
+        """Draws a literal and a list of columns, which are wide enough for it."""
+        folding = self.folding()
+        column, first = self.column(TEXTS)
+        wide = [other for other in TEXTS if other.width >= column.width]
+        columns = [first, *(self.column(wide)[1] for _ in range(self.dice.randint(0, 3)))]
+        literal = folded(self.text_literal(column, folding), folding)
+        members = [folded(member, self.reordered(folding)) for member in self.dice.sample(columns, len(columns))]
+        return listed(literal, self.negation(), members)
 
     def like(self) -> Filter:
         column, subject = self.column(TEXTS if self.chance(60) else [BY_NAME["FENAME"]])
@@ -207,14 +237,48 @@ class FilterDice(NumberDice):
         low, high = self.coordinate(column), self.coordinate(column)
         return (high, low) if low > high and self.chance(80) else (low, high)
 
+    def box_around(self, *points: str) -> tuple[list[str], str]:
+        """Draws a box, and returns it with an SQL expression for points in it, which are named as their columns are, without LONG and LAT."""
+        (west, east), (south, north) = self.edges(BY_NAME[f"{points[-1]}LONG"]), self.edges(BY_NAME[f"{points[-1]}LAT"])
+        sql = " AND ".join(f"{point}LONG BETWEEN {west} AND {east} AND {point}LAT BETWEEN {south} AND {north}" for point in points)
+        return self.box_tokens(west, south, east, north), f"({sql})"
+
     def starts_in(self) -> Filter:
-        (west, east), (south, north) = self.edges(BY_NAME["FRLONG"]), self.edges(BY_NAME["FRLAT"])
-        sql = f"(FRLONG BETWEEN {west} AND {east} AND FRLAT BETWEEN {south} AND {north})"
-        sides = [token for millionths in (west, south, east, north) for token in (",", self.spelled_degrees(millionths))]
-        return Filter(["STARTS_IN", "(", "BBOX", "(", *sides[1:], ")", ")"], sql, 100)
+        tokens, sql = self.box_around("FR")
+        return Filter(["STARTS_IN", "(", *tokens, ")"], sql, 100)
 
     def constant(self) -> Filter:
         return Filter(["TRUE"], "1", 10) if self.chance(50) else Filter(["FALSE"], "0", 10)
+
+    # Predicates of geometries
+
+    def property_geometry(self) -> str:
+        return self.dice.choice(("geometry", "geometry", "geometry", "GEOMETRY", '"geometry"'))
+
+    def about_shape(self, tokens: list[str], shape: Shape, arguments: str) -> Filter:
+        shapes.append(shape)
+        return Filter(tokens, f"meets({len(shapes) - 1}, {arguments})", 200 + WORDS_OF_EDGE * len(shape.edges))
+
+    def about_geometry(self, function: str) -> Filter:
+        tokens, shape = self.shape()
+        arguments = [[self.property_geometry()], tokens]
+        first, second = arguments if self.chance(75) else arguments[::-1]
+        return self.about_shape([function, "(", *first, ",", *second, ")"], shape, "FRLONG, FRLAT, TOLONG, TOLAT")
+
+    def intersects(self) -> Filter:
+        return self.about_geometry("S_INTERSECTS")
+
+    def disjoint(self) -> Filter:
+        made = self.about_geometry("S_DISJOINT")
+        return made._replace(sql=f"(NOT {made.sql})")
+
+    def within(self) -> Filter:
+        tokens, sql = self.box_around("FR", "TO")
+        return Filter(["S_WITHIN", "(", self.property_geometry(), ",", *tokens, ")"], sql, 200)
+
+    def starts_in_shape(self) -> Filter:
+        drawn = self.polygons()
+        return self.about_shape(["STARTS_IN", "(", *drawn[0], ")"], drawn[1], "FRLONG, FRLAT")
 
     # Trees
 

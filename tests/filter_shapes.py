@@ -1,220 +1,29 @@
 #!/usr/bin/env python3
-"""Compares spatial filters with shapely: draws shapes near the segments of drawn counties, and runs filters with them by `extractd select`.
+"""Compares spatial filters with shapely: as filters.py does, but only with predicates about shapes near the segments.
 
     python3 filter_shapes.py COUNT [SEED]
 
-`extractd` is taken from the search path. A segment's geometry is the straight line from its start to its end, in whole millionths of a degree. Whether it
-meets a shape is computed by whole numbers. shapely must say the same of every valid shape. Where it doesn't, and on a few other lines, fractions decide.
-Polygons that cross themselves follow the even-odd rule, of which shapely says nothing. Joined filters are evaluated by SQLite, as in filters.py.
-
-Prints each filter with different rows, then how many agree and how many differ, and how often shapely erred, if it did. Exits with 1 if any differs. SEED
-defaults to 1; the same seed draws the same filters.
+A segment's geometry is the straight line from its start to its end, in whole millionths of a degree. Whether it meets a shape is computed by whole numbers.
+shapely must say the same of every valid shape. Where it doesn't, and on a few other lines, fractions decide. Polygons that cross themselves follow the
+even-odd rule, of which shapely says nothing.
 """
 # Needs only Python 3.11 or later, and shapely.
 
 import sys
-from functools import lru_cache
-from math import atan2, gcd
 from random import Random
 
-from filter_counties import BY_NAME, County
-from filter_dice import Filter, FilterDice
-from filter_geometry import Edge, Point, Ring, Shape
-from filter_terms import in_degrees
-from filters import WHITE_SPACE, Makers, main
-
-# An upper bound for the words of a program that compares a line with an edge.
-WORDS_OF_EDGE = 150
-# One in this many lines is also compared by fractions.
-COMPARED_BY_FRACTIONS = 200
-
-# The shapes of a filter, which SQL has by their numbers.
-shapes: list[Shape] = []
-# The shapes and lines of which shapely says something else than whole numbers and fractions do, and those of which fractions do.
-slips: list[tuple[Shape, Edge]] = []
-mistakes: list[tuple[Shape, Edge]] = []
+from filter_counties import County
+from filter_dice import FilterDice
+from filters import Makers, main
 
 
-@lru_cache(10_000)
-def meets(shape: Shape, line: Edge) -> bool:
-    """Returns whether a line meets a shape, and notes other opinions."""
-    found = shape.meets(line)
-    is_doubted = shape.meets_by_shapely(line) == (not found)
-    if is_doubted or hash((len(shape.edges), line)) % COMPARED_BY_FRACTIONS == 0:
-        if shape.meets_by_fractions(line) != found:
-            mistakes.append((shape, line))
-        elif is_doubted:
-            slips.append((shape, line))
-    return found
-
-
-def sql_meets(number: int, *ends: int | None) -> bool | None:
-    """Returns whether the line from a longitude and a latitude to others, or this point, meets a shape; NULL if one of them is."""
-    known = [millionths for millionths in ends if millionths is not None]
-    return meets(shapes[number], ((known[0], known[1]), (known[-2], known[-1]))) if len(known) == len(ends) else None
-
-
-class MappedCounty(County):
-    """A county in whose SQL lines can be compared with shapes."""
-
-    def __init__(self, dice: Random, code: str) -> None:
-        super().__init__(dice, code)
-        self.database.create_function("meets", -1, sql_meets, deterministic=True)
-
-
-def known_lines(county: County) -> list[Edge]:
-    lines = []
-    for segment in county.segments:
-        ends = [BY_NAME[name].value(segment.line) for name in ("FRLONG", "FRLAT", "TOLONG", "TOLAT")]
-        known = [end for end in ends if isinstance(end, int)]
-        if len(known) == 4:
-            lines.append(((known[0], known[1]), (known[2], known[3])))
-    return lines or [((-86_500_000, 32_500_000), (-86_400_000, 32_600_000))]
-
-
-class ShapeDice(FilterDice):
-    """Draws filters about the lines of segments. Most shapes touch some of them, or nearly do."""
+class SpatialDice(FilterDice):
+    """Draws filters about geometries."""
 
     def __init__(self, dice: Random, county: County) -> None:
         super().__init__(dice, county)
-        # Earlier filters have been evaluated.
-        shapes.clear()
-        self.lines = known_lines(county)
-        self.predicates = [*[self.intersects] * 6, *[self.disjoint] * 3, *[self.starts_in_shape] * 4, self.is_null, self.constant]
-
-    # Points
-
-    def point_along(self, line: Edge) -> Point:
-        """Draws a point of a line, or now and then one beyond its ends, if it has such points in whole millionths."""
-        (x1, y1), (x2, y2) = line
-        steps = gcd(x2 - x1, y2 - y1) or 1
-        step = self.dice.randint(0, steps) if self.chance(75) else self.dice.randint(-steps, 2 * steps)
-        return in_degrees(x1 + (x2 - x1) // steps * step), in_degrees(y1 + (y2 - y1) // steps * step)
-
-    def point(self) -> Point:
-        line = self.dice.choice(self.lines)
-        x, y = self.dice.choice((*line, line[0])) if self.chance(45) else self.point_along(line)
-        if self.chance(20):
-            x, y = x + self.dice.randrange(-9, 10) * 10 ** self.dice.randrange(6), y + self.dice.randrange(-9, 10) * 10 ** self.dice.randrange(6)
-        if self.chance(12):
-            x, y = x + self.dice.randint(-1, 1), y + self.dice.randint(-1, 1)
-        if self.chance(1):
-            x, y = self.dice.choice((x, -(10**9), 10**9)), self.dice.choice((y, -(10**9), 10**9))
-        return in_degrees(x), in_degrees(y)
-
-    def points(self, least: int, most: int) -> list[Point]:
-        return [self.point() for _ in range(self.dice.randint(least, most))]
-
-    # Rings
-
-    def rectangle(self) -> Ring:
-        (x1, y1), (x2, y2) = self.point(), self.point()
-        return [(x1, y1), (x2, y1), (x2, y2), (x1, y2)]
-
-    def star(self) -> Ring:
-        """Draws a ring around a middle, which mostly doesn't cross itself."""
-        ring = list(dict.fromkeys(self.points(4, 9)))
-        x, y = sum(point[0] for point in ring) // len(ring), sum(point[1] for point in ring) // len(ring)
-        return sorted(ring, key=lambda point: atan2(point[1] - y, point[0] - x)) if len(ring) > 2 else self.rectangle()
-
-    def ring(self) -> Ring:
-        """Draws a ring, now and then with a vertex that is there twice, or with one on an edge."""
-        drawn = self.dice.randrange(100)
-        ring = self.star() if drawn < 50 else self.points(3, 3) if drawn < 65 else self.rectangle() if drawn < 80 else self.points(4, 8)
-        at = self.dice.randrange(len(ring))
-        if self.chance(12):
-            ring.insert(at, ring[at])
-        if self.chance(12):
-            ring.insert(at, self.point_along((ring[at - 1], ring[at])))
-        return ring if self.chance(50) else ring[::-1]
-
-    def hole(self, ring: Ring) -> Ring:
-        """Draws a hole: mostly the outer ring, drawn together around one of its vertices or around its middle."""
-        if self.chance(25):
-            return self.ring()
-        x, y = sum(point[0] for point in ring) // len(ring), sum(point[1] for point in ring) // len(ring)
-        x, y = self.dice.choice(ring) if self.chance(30) else (x, y)
-        part = self.dice.randint(1, 9)
-        return [(x + (point[0] - x) * part // 10, y + (point[1] - y) * part // 10) for point in ring]
-
-    def rings(self) -> list[Ring]:
-        ring = self.ring()
-        return [ring, *(self.hole(ring) for _ in range(self.dice.choice((0, 0, 1, 1, 2))))]
-
-    # Shapes as tokens
-
-    def pair(self, point: Point) -> str:
-        between = " " if self.chance(80) else self.dice.choice(WHITE_SPACE)
-        return between.join(map(self.spelled_degrees, point))
-
-    def listed_points(self, points: list[Point]) -> list[str]:
-        tokens = [token for point in points for token in (",", self.pair(point))]
-        return ["(", *tokens[1:], ")"]
-
-    def listed_rings(self, rings: list[Ring]) -> list[str]:
-        tokens = [token for ring in rings for token in (",", *self.listed_points([*ring, ring[0]]))]
-        return ["(", *tokens[1:], ")"]
-
-    def box(self) -> tuple[list[str], Shape]:
-        (x1, y1), (x2, y2) = self.point(), self.point()
-        west, east, south, north = *sorted((x1, x2)), *sorted((y1, y2))
-        sides = [token for millionths in (west, south, east, north) for token in (",", self.spelled_degrees(millionths))]
-        return ["BBOX", "(", *sides[1:], ")"], Shape([], [[[(west, south), (east, south), (east, north), (west, north)]]])
-
-    def line(self) -> list[Point]:
-        """Draws a line through points, now and then along a segment's line, or with a point that is there twice."""
-        along = self.dice.choice(self.lines)
-        points = [self.point_along(along) for _ in range(self.dice.randint(2, 3))] if self.chance(25) else self.points(2, 6)
-        return [points[0], *points] if self.chance(10) else points
-
-    def shape(self) -> tuple[list[str], Shape]:
-        drawn = self.dice.randrange(100)
-        if drawn < 12:
-            point = self.point()
-            return ["POINT", *self.listed_points([point])], Shape([point], [])
-        if drawn < 35:
-            line = self.line()
-            return ["LINESTRING", *self.listed_points(line)], Shape(line, [])
-        if drawn < 50:
-            return self.box()
-        if drawn < 80:
-            rings = self.rings()
-            return ["POLYGON", *self.listed_rings(rings)], Shape([], [rings])
-        polygons = [self.rings() for _ in range(self.dice.randint(1, 3))]
-        tokens = [token for rings in polygons for token in (",", *self.listed_rings(rings))]
-        return ["MULTIPOLYGON", "(", *tokens[1:], ")"], Shape([], polygons)
-
-    # Predicates
-
-    def about_shape(self, tokens: list[str], shape: Shape, arguments: str) -> Filter:
-        shapes.append(shape)
-        return Filter(tokens, f"meets({len(shapes) - 1}, {arguments})", 200 + WORDS_OF_EDGE * len(shape.edges))
-
-    def about_geometry(self, function: str) -> Filter:
-        tokens, shape = self.shape()
-        geometry = self.dice.choice(("geometry", "geometry", "geometry", "GEOMETRY", '"geometry"'))
-        return self.about_shape([function, "(", geometry, ",", *tokens, ")"], shape, "FRLONG, FRLAT, TOLONG, TOLAT")
-
-    def intersects(self) -> Filter:
-        return self.about_geometry("S_INTERSECTS")
-
-    def disjoint(self) -> Filter:
-        made = self.about_geometry("S_DISJOINT")
-        return made._replace(sql=f"(NOT {made.sql})")
-
-    def starts_in_shape(self) -> Filter:
-        tokens, shape = self.shape()
-        return self.about_shape(["STARTS_IN", "(", *tokens, ")"], shape, "FRLONG, FRLAT") if tokens[0] != "BBOX" else self.starts_in()
-
-
-def try_shapes() -> int:
-    status = main(Makers(MappedCounty, ShapeDice))
-    if slips:
-        print(f"shapely erred {len(slips)} times")
-    for shape, line in mistakes:
-        print(f"FAILED: whole numbers and fractions differ on {line} and {shape.polygons or shape.path}")
-    return 1 if mistakes else status
+        self.predicates = [*self.spatial_predicates, self.is_null, self.constant]
 
 
 if __name__ == "__main__":
-    sys.exit(try_shapes())
+    sys.exit(main(Makers(dice=SpatialDice)))

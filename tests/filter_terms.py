@@ -1,6 +1,7 @@
 """What the filters that are compared with SQL consist of: columns, literals and patterns, as CQL2 and as SQL."""
 # Needs only Python 3.11 or later.
 
+from collections.abc import Sequence
 from random import Random
 from typing import NamedTuple
 
@@ -9,6 +10,7 @@ from filter_counties import MISTAKABLE, USUAL, Column, County, chance, mistaken,
 # The names of functions, applied from the last to the first.
 Folding = tuple[str, ...]
 FOLDINGS: tuple[Folding, ...] = (("CASEI",), ("ACCENTI",), ("CASEI", "ACCENTI"), ("ACCENTI", "CASEI"))
+WHITE_SPACE = (" ", "  ", "\n", "\t", "\r\n", " \n  ")
 # How often a pattern has this many `%`.
 WILDCARDS = (0, 0, 0, 0, 1, 1, 1, 1, 2, 2, 2, 2, 3, 3, 4, 6)
 
@@ -43,10 +45,16 @@ def in_degrees(millionths: int) -> int:
     return max(1 - 10**9, min(millionths, 10**9 - 1))
 
 
-def words_of_pattern(pieces: list[list[str]]) -> int:
-    """Returns an upper bound. A piece after a `%` is looked for at each of up to 31 places."""
-    places = 1 if len(pieces) == 1 or len(pieces) == 2 and not pieces[1] else 31
-    return 100 + sum(places * (24 * len(piece) + 12) for piece in pieces)
+def widths(column: Column) -> Sequence[int]:
+    """Returns how wide the rest of a field is from each place on at which its text may begin."""
+    return range(1, column.width + 1) if column.is_right_justified else (column.width,)
+
+
+def words_of_pattern(pieces: list[list[str]], column: Column) -> int:
+    """Returns an upper bound. A piece after a `%` is looked for at each place of the rest of the field, and at its end."""
+    is_fixed = len(pieces) == 1 or len(pieces) == 2 and not pieces[1]
+    places = [1 if is_fixed else width + 1 for width in widths(column)]
+    return 110 * len(places) + sum(places) * sum(24 * len(piece) + 12 for piece in pieces)
 
 
 class TermDice:
@@ -126,7 +134,8 @@ class TermDice:
         return Term([quoted(text + blanks)], quoted(text), 24 * len(text) + 100)
 
     def text_literal(self, column: Column, folding: Folding) -> Term:
-        return self.text_term(self.text(self.present(column), column.width, folding))
+        literal = self.text_term(self.text(self.present(column), column.width, folding))
+        return literal._replace(words=(literal.words + 10) * len(widths(column)))
 
     # Patterns
 
@@ -140,7 +149,7 @@ class TermDice:
         while sum(map(len, pieces)) > column.width:
             max(pieces, key=len).pop()
         pattern = quoted("%".join("".join(piece) for piece in pieces))
-        return Term([pattern], pattern, words_of_pattern(pieces))
+        return Term([pattern], pattern, words_of_pattern(pieces, column))
 
     def cut(self, text: str) -> list[str]:
         """Cuts what is before, between and after the `%` of a pattern out of a text. Now and then, pieces overlap, or one is there twice."""

@@ -6,12 +6,12 @@
 `extractd` is taken from the search path. The script also draws counties of a few hundred segments, with blank fields, fields without a number, alternate
 names and further ranges. Each segment is also a row of a table in SQLite, and each filter is also an SQL expression. SQL has the same three-valued logic
 as CQL2. `select` must write the rows of the segments that SQLite selects, byte for byte. A few filters have a number that may be too great, or is too
-deep; `select` must refuse those.
+deep; `select` must refuse those. Whether a segment meets a shape is computed by whole numbers, with which shapely has to agree (filter_outlines.py).
 
-Prints each filter with different rows, then how many agree and how many differ. Exits with 1 if any differs. SEED defaults to 1; the same seed draws the
-same filters.
+Prints each filter with different rows, then how many agree and how many differ, and how often shapely erred, if it did. Exits with 1 if any differs. SEED
+defaults to 1; the same seed draws the same filters.
 """
-# Needs only Python 3.11 or later.
+# Needs only Python 3.11 or later, and shapely.
 
 import os
 import re
@@ -28,6 +28,8 @@ from typing import NamedTuple
 from filter_counties import NUMERIC, Column, County, chance
 from filter_dice import FilterDice
 from filter_numbers import NUMBER_RANGE, TOO_DEEP
+from filter_outlines import MappedCounty, mistakes, slips
+from filter_terms import WHITE_SPACE
 
 CODES = ("00001", "00002")
 # The number of filters that are tried on each pair of counties.
@@ -38,9 +40,8 @@ REFUSALS = {NUMBER_RANGE: b"NumberRange", TOO_DEEP: b"TooDeep"}
 
 KEYWORDS = set(
     "AND OR NOT TRUE FALSE IS NULL LIKE BETWEEN IN DIV CASEI ACCENTI HAS_NUMBER HAS_NAME STARTS_IN BBOX "
-    "S_INTERSECTS S_DISJOINT POINT LINESTRING POLYGON MULTIPOLYGON".split()
+    "S_INTERSECTS S_DISJOINT S_WITHIN POINT LINESTRING POLYGON MULTIPOLYGON".split()
 )
-WHITE_SPACE = (" ", "  ", "\n", "\t", "\r\n", " \n  ")
 
 
 def is_name_byte(character: str) -> bool:
@@ -103,7 +104,7 @@ def lines_of(rows: bytes) -> list[bytes]:
 class Makers(NamedTuple):
     """What makes counties, and filters about one of them."""
 
-    county: Callable[[Random, str], County] = County
+    county: Callable[[Random, str], County] = MappedCounty
     dice: Callable[[Random, County], FilterDice] = FilterDice
 
 
@@ -140,7 +141,11 @@ def main(makers: Makers = Makers()) -> int:
                 differ += 1
             agree += differences.count(None)
     print(f"{agree} filters agree, {differ} differ")
-    return 1 if differ or not agree else 0
+    if slips:
+        print(f"shapely erred {len(slips)} times")
+    for shape, line in mistakes:
+        print(f"FAILED: whole numbers and fractions differ on {line} and {shape.polygons or shape.path}")
+    return 1 if differ or mistakes or not agree else 0
 
 
 if __name__ == "__main__":

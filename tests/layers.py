@@ -29,10 +29,10 @@ CODE = "01007"
 POINTS_OF_A_LINE = 10
 MOST_POINTS = 25
 FORMATS = {"csv": ["CSV:/vsistdin/", "-oo", "KEEP_GEOM_COLUMNS=NO"], "geojsonseq": ["/vsistdin?buffer_limit=-1"]}
-# The columns that the driver has, too. It makes integers of some.
+# The columns that the driver has, too. It makes integers of some. Its house numbers are texts.
 COLUMNS = (
-    "TLID SIDE1 SOURCE FEDIRP FENAME FETYPE FEDIRS CFCC FRADDL TOADDL FRADDR TOADDR FRIADDL TOIADDL FRIADDR TOIADDR ZIPL ZIPR STATEL STATER "
-    "COUNTYL COUNTYR COUSUBL COUSUBR PLACEL PLACER TRACTL TRACTR BLOCKL BLOCKR"
+    "TLID SIDE1 SOURCE FEDIRP FENAME FETYPE FEDIRS CFCC FRADDL TOADDL FRADDR TOADDR FRADDL_TEXT TOADDL_TEXT FRADDR_TEXT TOADDR_TEXT "
+    "FRIADDL TOIADDL FRIADDR TOIADDR ZIPL ZIPR STATEL STATER COUNTYL COUNTYR COUSUBL COUSUBR PLACEL PLACER TRACTL TRACTR BLOCKL BLOCKR"
 ).split()
 LEADING_ZEROS = re.compile("^0+(?=[0-9])")
 
@@ -88,7 +88,8 @@ def points_of(wkt: str) -> list[int]:
 def read(table: bytes, encoding: str) -> Iterator[Segment]:
     """Yields the segments of GDAL's output. Numbers have no leading zeros, and texts no blanks, as in the driver's."""
     for row in csv.DictReader(io.StringIO(table.decode(encoding))):
-        yield Segment([LEADING_ZEROS.sub("", row[name].strip()) for name in COLUMNS], points_of(row["WKT"]))
+        cells = (row[name if name in row else name.removesuffix("_TEXT")] for name in COLUMNS)
+        yield Segment([LEADING_ZEROS.sub("", cell.strip()) for cell in cells], points_of(row["WKT"]))
 
 
 def gdal(*source: str, given: bytes | None = None) -> bytes:

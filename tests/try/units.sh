@@ -10,7 +10,7 @@ describe_parts() {
   documents    what README.md, docs/*.md and examples/README.md show
   verdicts     the programs of tests/verdicts, by `verify` and by the server
   rows         the tables of tests/rows
-  filters      300 filters, against SQLite
+  filters      300 filters, against SQLite; shapes, against shapely; what the abstract tests of CQL2 ask
   addresses    1,000 addresses, against a second reading of the files
   layers       segments in CSV and GeoJSON, against GDAL's reading of the files
   listings     listings of `explain`, against a second reading of the rules
@@ -29,7 +29,8 @@ units_of() {
     documents) printf '%s\n' docs/*.md README.md examples/README.md ;;
     verdicts) printf '%s\n' tests/verdicts/*.txt ;;
     rows) printf '%s\n' tests/rows/*.txt ;;
-    filters | addresses | layers | listings | clients | costs) echo "tests/$1.py" ;;
+    filters) printf '%s\n' tests/filters.py tests/filter_shapes.py tests/annex_a.py tests/filter_geometry.py ;;
+    addresses | layers | listings | clients | costs) echo "tests/$1.py" ;;
     c) printf '%s\n' tests/random_programs.py tests/test_forward.py ;;
     commands) printf '%s\n' tests/try/commands/*.sh ;;
     exhaustion) printf '%s\n' tests/exhaustion/{memory,server,files}.sh ;;
@@ -47,6 +48,7 @@ commands_of() {
     tests/rows/* | tests/annotations.py | tests/calls.py | tools/links.py | tools/edges.py | tools/contract_names.py | tools/mutants.py) echo python3 ;;
     tests/exhaustion/*) echo curl python3 ;;
     tests/costs.py) echo python3.11 valgrind ;;
+    tests/filter*.py | tests/annex_a.py) echo python3.11 python3-shapely ;;
     tests/layers.py) echo python3.11 ogr2ogr ;;
     tests/random_programs.py) echo python3.11 clang llvm-objcopy cc ;;
     *.py) echo python3.11 ;;
