@@ -149,7 +149,7 @@ class TestDocuments:
         """Each parameter of the definition works, and GDAL finds `cql-text` in it."""
         paths = ask(service, "/api").document["paths"]
         given = {item["name"]: item for item in paths["/collections/{collectionId}/items"]["get"]["parameters"]}
-        assert given["filter-lang"]["schema"]["enum"] == ["cql2-text", "cql-text"]
+        assert given["filter-lang"]["schema"]["enum"] == ["cql2-text", "cql2-json", "cql-text"]
         assert given["limit"]["schema"]["maximum"] == 10_000
         values = {"bbox": "-87,32,-86,33", "datetime": "2006-01-01T00:00:00Z", "filter": "TRUE", "f": "json"}
         for name, item in given.items():
@@ -158,11 +158,12 @@ class TestDocuments:
                 assert ask(service, query(**{name: values.get(name, default)})).status == 200, name
 
     def test_queryables_are_of_their_types(self, service: Service) -> None:
-        """A filter accepts a feature's values in all listed columns."""
+        """A filter accepts a feature's values in all listed columns, and the geometry."""
         columns = ask(service, f"/collections/{CODE}/queryables").document["properties"]
+        assert columns.pop("geometry")["format"] == "geometry-linestring"
         for column in columns:
             feature = ask(service, query(filter=f"{column} IS NOT NULL", limit=1)).document["features"]
-            value = feature[0]["properties"][column] if feature else "A"
+            value = feature[0]["properties"][column.removesuffix("_TEXT")] if feature else "A"
             literal = f"'{value}'" if isinstance(value, str) else value
             answer = ask(service, query(filter=f"{column} = {literal}", limit=1))
             assert answer.status == 200 and (answer.document["features"] == feature or column == "FENAME"), column
@@ -416,7 +417,8 @@ class TestBadInput:
             ("bbox-crs=http://www.opengis.net/def/crs/EPSG/0/4326", "bad-parameter", "bbox-crs"),
             ("crs=EPSG:4326", "bad-parameter", "crs"),
             ("filter=TRUE&filter-crs=x", "bad-parameter", "filter-crs"),
-            ("filter=TRUE&filter-lang=cql2-json", "bad-parameter", "filter-lang"),
+            ("filter=TRUE&filter-lang=cql2", "bad-parameter", "filter-lang"),
+            ("filter=true&filter-lang=CQL2-JSON", "bad-parameter", "filter-lang"),
             ("filter=TRUE%00", "bad-parameter", "filter"),
             ("filter=" + "x" * 16_385, "long-filter", "filter"),
             ("filter=%FF", "bad-parameter", None),
@@ -498,6 +500,97 @@ class TestBadInput:
         answer = ask(service, ITEMS)
         assert answer.status == 500 and str(tmp_path) not in json.dumps(answer.document)
         assert f"{tmp_path} has no TGR01001.RT1" in capfd.readouterr().err
+
+
+# Filters as text and as JSON, for the same segments.
+ENCODINGS = [
+    ("CFCC = 'A41'", '{"op":"=","args":[{"property":"CFCC"},"A41"]}'),
+    (
+        "CFCC <> 'A41' OR NOT ZIPL = 36067",
+        '{"op":"or","args":[{"op":"<>","args":[{"property":"CFCC"},"A41"]},'
+        '{"op":"not","args":[{"op":"=","args":[{"property":"ZIPL"},36067]}]}]}',
+    ),
+    ("FENAME LIKE 'L%'", ' {"args" : [{"property":"FENAME"}, "\\u004c%"], "op" : "like"}\n'),
+    ("TRUE", "true"),
+    (
+        "S_INTERSECTS(geometry, BBOX(-86.7, 32.3, -86.5, 32.6))",
+        '{"op":"s_intersects","args":[{"property":"geometry"},{"bbox":[-86.7,32.3,-86.5,32.6]}]}',
+    ),
+]
+
+
+class TestJson:
+    """A filter in JSON is passed on as it is, and its refusals have JSON pointers."""
+
+    @pytest.mark.parametrize("more", [{}, {"FETYPE": "St", "bbox": "-87,32,-86,33"}], ids=["alone", "more"])
+    @pytest.mark.parametrize(("text", "encoded"), ENCODINGS)
+    def test_same_segments(self, service: Service, text: str, encoded: str, more: dict[str, str]) -> None:
+        expected = ask(service, query(filter=text, **more)).document["features"]
+        found = ask(service, query(filter=encoded, **more, **{"filter-lang": "cql2-json"}))
+        assert found.status == 200 and found.document["features"] == expected != []
+
+    def test_values_of_parameters(self, service: Service) -> None:
+        """The values of columns are the same in both languages."""
+        for given in ({"TLID": "0107000006"}, {"FRLONG": "-086.62573"}, {"FENAME": 'O\'Neil "é"'}, {"SOURCE": "J"}):
+            expected = ask(service, query(filter="TRUE", **given)).document["features"]
+            found = ask(service, query(filter="true", **given, **{"filter-lang": "cql2-json"}))
+            assert found.status == 200 and found.document["features"] == expected, given
+
+    @pytest.mark.parametrize("more", [{}, {"CFCC": "A41"}], ids=["alone", "property"])
+    @pytest.mark.parametrize(
+        ("encoded", "number", "place"),
+        [
+            ('{"op":"=","args":[{"property":"ZIPL"},"36067"]}', 92, {"pointer": "/args/1"}),
+            (
+                '{"op":"and","args":[true,{"op":"=","args":[{"property":"ZIP"},1]}]}',
+                91,
+                {"pointer": "/args/1/args/0/property"},
+            ),
+            ('{"op":', 90, {"line": 1, "column": 7}),
+            # The place is after the bracket, which has been read.
+            ('true]},{"op":"or","args":[true', 90, {"line": 1, "column": 6}),
+        ],
+    )
+    def test_refusals(
+        self, service: Service, encoded: str, number: int, place: dict[str, Any], more: dict[str, str]
+    ) -> None:
+        answer = ask(service, query(filter=encoded, **more, **{"filter-lang": "cql2-json"}))
+        problem = answer.document
+        assert (answer.status, problem["refusal"], problem["parameter"]) == (400, number, "filter")
+        assert {name: problem[name] for name in ("line", "column", "pointer") if name in problem} == place
+        assert problem["detail"].startswith(f"refused {number} ") and problem["detail"].count("\n") == 1
+
+    @pytest.mark.parametrize(
+        ("more", "pointer", "expected"),
+        [
+            ({}, " pointer /args/1", "/args/1"),
+            ({}, "", None),
+            ({"CFCC": "A41"}, " pointer /args/0/args/1", "/args/1"),
+            ({"CFCC": "A41"}, " pointer /args/0", None),
+            ({"CFCC": "A41"}, " pointer /args/1", None),
+            ({"CFCC": "A41"}, "", None),
+        ],
+    )
+    def test_command(
+        self, make: Make, tmp_path: Path, more: dict[str, str], pointer: str, expected: str | None
+    ) -> None:
+        """The options of a run, and how the place of a refusal is read, without the built program."""
+        log = tmp_path / "calls"
+        script = f"""
+            printf '%s\\n' "$*" >> {log}
+            case "$*" in
+            *--where=TRUE*) exit 0 ;;
+            *--where=*) printf 'refused 92{pointer} WrongType\\nwrite a number' >&2; exit 1 ;;
+            esac"""
+        service = make(extractd=program_of(tmp_path / "refusing", script))
+        encoded = '{"op":"=","args":[{"property":"ZIPL"},"1"]}'
+        problem = ask(service, query(filter=encoded, **more, **{"filter-lang": "cql2-json"})).document
+        assert problem.get("pointer") == expected and problem["detail"].endswith("WrongType\nwrite a number")
+        *_, last = log.read_text().splitlines()
+        condition = '{"op":"=","args":[{"property":"CFCC"},"A41"]}'
+        text = f'{{"op":"and","args":[{encoded},{condition}]}}' if more else encoded
+        assert last.startswith(f"select --where={text} --filter-lang cql2-json --data ")
+        assert ("compile --filter - --filter-lang cql2-json" in log.read_text()) == bool(more)
 
 
 class Counting:

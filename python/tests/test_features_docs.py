@@ -11,8 +11,10 @@ import pytest
 from counties import EXAMPLES, TOP
 from test_docs import sh_quoted
 from test_features_command import Running, start  # noqa: F401 (a fixture)
+from tigerline._features_documents import CONFORMS_TO
 
 PAGE = (TOP / "docs/features.md").read_text()
+CONFORMANCE = (TOP / "docs/conformance.md").read_text()
 ADDRESS = "http://127.0.0.1:8080"
 
 pytestmark = pytest.mark.usefixtures("scratch")
@@ -47,6 +49,15 @@ def test_python(service: Running, capsys: pytest.CaptureFixture[str]) -> None:
         runner = doctest.DocTestRunner()
         runner.run(test)
         assert runner.failures == 0, capsys.readouterr().out
+
+
+def test_conformance_classes_are_those_of_the_page() -> None:
+    """The service declares the classes of CQL2 that hold, by the table, and the table has all classes."""
+    rows = re.findall(r"^\| [^|]+ \| (yes|no) \| `([a-z0-9-]+)` \|", CONFORMANCE, re.MULTILINE)
+    assert len({name for _, name in rows}) == len(rows) == 14
+    uri = "http://www.opengis.net/spec/cql2/1.0/conf/"
+    declared = [name.removeprefix(uri) for name in CONFORMS_TO if name.startswith(uri)]
+    assert declared == [name for answer, name in rows if answer == "yes"]
 
 
 def test_options_are_those_of_the_command(capsys: pytest.CaptureFixture[str]) -> None:

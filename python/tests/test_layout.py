@@ -31,10 +31,10 @@ def test_kinds_are_those_of_filters() -> None:
         layout.Kind.NUMBER: "number",
     }
     columns = {
-        kind: set(re.search(rf"^\| {kind} \| ([A-Z0-9, ]+) \|", document, re.MULTILINE)[1].split(", "))
+        kind: set(re.search(rf"^\| {kind} \| ([A-Z0-9_, ]+) \|", document, re.MULTILINE)[1].split(", "))
         for kind in by_kind.values()
     }
-    for field in layout.FIELDS:
+    for field in (*layout.FIELDS, *layout.HOUSE_NUMBER_TEXTS):
         assert field.name in columns[by_kind[field.kind]]
 
 

@@ -23,10 +23,12 @@ ITEMS_PARAMETERS = (
 
 _FEATURES = "http://www.opengis.net/spec/ogcapi-features"
 _CQL2 = "http://www.opengis.net/spec/cql2/1.0/conf"
+# Those that docs/conformance.md declares.
+CQL2_CLASSES = ("basic-cql2", "advanced-comparison-operators", "property-property", "cql2-text", "cql2-json")
 CONFORMS_TO = [
     *(f"{_FEATURES}-1/1.0/conf/{name}" for name in ("core", "oas30", "geojson")),
     *(f"{_FEATURES}-3/1.0/conf/{name}" for name in ("queryables", "filter", "features-filter")),
-    f"{_CQL2}/cql2-text",
+    *(f"{_CQL2}/{name}" for name in CQL2_CLASSES),
 ]
 
 Document = dict[str, Any]
@@ -73,8 +75,13 @@ def county(base: str, code: str, extent: Extent | None) -> Document:
 
 
 def queryables(base: str, code: str) -> Document:
-    """Returns the columns that have the same type in a filter as in a feature."""
+    """Returns the geometry, the columns that have the same type in a filter as in a feature, and house numbers as texts."""
     properties: Document = {field.name: {"title": field.name, **_schema(field)} for field in PROPERTIES}
+    properties["geometry"] = {
+        "title": "geometry",
+        "description": "The straight line from the segment's start to its end, without its shape points.",
+        "format": "geometry-linestring",
+    }
     return {
         "$schema": "https://json-schema.org/draft/2020-12/schema",
         "$id": f"{base}/collections/{code}/queryables",
@@ -160,7 +167,7 @@ def _operation(name: str, parameters: list[Document], media_type: str) -> Docume
 _PROBLEM: Document = {
     "type": "object",
     "properties": {
-        **{name: {"type": "string"} for name in ("type", "title", "detail", "parameter", "name")},
+        **{name: {"type": "string"} for name in ("type", "title", "detail", "parameter", "name", "pointer")},
         **{name: {"type": "integer"} for name in ("status", "refusal", "line", "column")},
     },
 }

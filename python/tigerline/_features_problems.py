@@ -5,7 +5,7 @@ from typing import Any
 
 from ._program import Refused
 
-_PLACE = re.compile(r"line ([0-9]+) column ([0-9]+)")
+_PLACE = re.compile(r"line ([0-9]+) column ([0-9]+)|pointer (/.*)")
 RETRY_SECONDS = 5
 
 
@@ -45,11 +45,17 @@ def not_found(what: str) -> Problem:
 
 
 def refused_filter(refused: Refused) -> Problem:
-    """Returns the problem of a filter that `extractd` refuses, with the place in the parameter's text."""
-    found = _PLACE.fullmatch(refused.place)
-    place = {"line": int(found[1]), "column": int(found[2])} if found else {}
-    members = {"parameter": "filter", "refusal": refused.number, "name": refused.name, **place}
+    """Returns the problem of a filter that `extractd` refuses, with the place in the parameter's text or JSON."""
+    members = {"parameter": "filter", "refusal": refused.number, "name": refused.name, **_place(refused.place)}
     return Problem(400, "refused-filter", refused.text, **members)
+
+
+def _place(text: str) -> dict[str, int | str]:
+    """Returns a line and a column, or a JSON pointer (RFC 6901), or nothing if the fault is in the whole filter."""
+    found = _PLACE.fullmatch(text)
+    if found is None:
+        return {}
+    return {"pointer": found[3]} if found[3] else {"line": int(found[1]), "column": int(found[2])}
 
 
 def refused_county(refused: Refused, county: str) -> Problem:

@@ -1,23 +1,28 @@
 """Reads the parameters of a request for features, and makes a filter for `extractd` and a box of them."""
 
+import json
 import math
 import re
 from collections.abc import Collection
 from dataclasses import dataclass
+from decimal import Decimal
 from fractions import Fraction
 from urllib.parse import parse_qsl
 
 from ._features_boxes import FAR, BBox
 from ._features_problems import Problem, bad_parameter
-from ._layout import FIELDS, Field, Kind
+from ._layout import FIELDS, HOUSE_NUMBER_TEXTS, Field, Kind
 
 # In both, the longitude comes first. The files are in NAD 83, which is CRS83.
 CRS84 = "http://www.opengis.net/def/crs/OGC/1.3/CRS84"
 CRS83 = "http://www.opengis.net/def/crs/OGC/1.3/CRS83"
 SYSTEMS = (CRS84, CRS83)
-LANGUAGES = ("cql2-text", "cql-text")
-# The fields that have the same type in a filter as in a feature. Codes don't: ZIPL is a number only in a filter.
-PROPERTIES = tuple(field for field in FIELDS if field.kind is not Kind.CODE)
+CQL2_JSON = "cql2-json"
+# GDAL sends filters only if it finds `cql-text`.
+LANGUAGES = ("cql2-text", CQL2_JSON, "cql-text")
+# The fields that have the same type in a filter as in a feature, and the house numbers as texts. Codes don't: ZIPL is a
+# number only in a filter.
+PROPERTIES = (*(field for field in FIELDS if field.kind is not Kind.CODE), *HOUSE_NUMBER_TEXTS)
 DEFAULT_PAGE = 1000
 LARGEST_NUMBER = 999_999_999_999_999_999
 
@@ -34,23 +39,33 @@ _TIME = re.compile(rf"{_DAY}|({_DAY}|(\.\.)?)/({_DAY}|(\.\.)?)")
 class FeatureSelection:
     """The segments of a county that a request is about.
 
-    The filter and all conditions are true for them, and their geometry meets the box.
+    The filter and all conditions are true for them, and their geometry meets the box. The conditions are in JSON if the
+    filter is.
     """
 
     filter: str | None = None
     conditions: tuple[str, ...] = ()
     box: BBox | None = None
+    is_json: bool = False
 
-    # The part of the text that precedes the filter.
+    # The part of the text that precedes the filter, and the pointer to it in JSON, if there are conditions.
     PREFIX = "("
+    POINTER = "/args/0"
 
     @property
     def text(self) -> str:
         """The filter for `extractd`, which has no box."""
         if not self.conditions:
             return "TRUE" if self.filter is None else self.filter
-        filters = () if self.filter is None else (f"{self.PREFIX}{self.filter})",)
-        return " AND ".join((*filters, *self.conditions))
+        filters = () if self.filter is None else (self.filter,)
+        if self.is_json:
+            return f'{{"op":"and","args":[{",".join((*filters, *self.conditions))}]}}'
+        return " AND ".join((*(f"{self.PREFIX}{text})" for text in filters), *self.conditions))
+
+    @property
+    def options(self) -> list[str]:
+        """The options of `extractd` for the filter's language."""
+        return ["--filter-lang", CQL2_JSON] if self.is_json else []
 
 
 @dataclass(frozen=True)
@@ -97,9 +112,10 @@ def items_query(given: dict[str, str], filter_length: int, largest_page: int) ->
     limit = whole_number(given, "limit", min(DEFAULT_PAGE, largest_page))
     if limit < 1:
         raise bad_parameter("limit", "it is 1 or more")
-    conditions = [equality(field, given[field.name]) for field in PROPERTIES if field.name in given]
+    is_json = text is not None and given.get("filter-lang") == CQL2_JSON
+    conditions = [equality(field, given[field.name], is_json) for field in PROPERTIES if field.name in given]
     return ItemsQuery(
-        FeatureSelection(text, tuple(conditions), box(given["bbox"]) if "bbox" in given else None),
+        FeatureSelection(text, tuple(conditions), box(given["bbox"]) if "bbox" in given else None, is_json),
         min(limit, largest_page),
         whole_number(given, "offset", 0),
         system(given, "crs"),
@@ -123,16 +139,19 @@ def whole_number(given: dict[str, str], name: str, default: int) -> int:
     return int(digits) if len(digits) <= len(str(LARGEST_NUMBER)) else LARGEST_NUMBER
 
 
-def equality(field: Field, value: str) -> str:
+def equality(field: Field, value: str, is_json: bool = False) -> str:
     """Returns the filter for segments with a value in a field. Raises Problem if no segment can have it."""
     if field.kind is Kind.TEXT:
         width = field.last - field.first + 1
         if not value.strip(" ") or len(value) > width or not value.isprintable() or max(value) > "\xff":
             raise bad_parameter(field.name, f"it is a text of up to {width} characters")
-        return f"{field.name} = {quoted(value)}"
-    if not _LITERALS[field.kind].fullmatch(value):
-        raise bad_parameter(field.name, "it is a number that the field can have")
-    return f"{field.name} = {value}"
+        literal = json.dumps(value) if is_json else quoted(value)
+    else:
+        if not _LITERALS[field.kind].fullmatch(value):
+            raise bad_parameter(field.name, "it is a number that the field can have")
+        # A number in JSON has no plus and no zeros at its start.
+        literal = f"{Decimal(value):f}" if is_json else value
+    return f'{{"op":"=","args":[{{"property":"{field.name}"}},{literal}]}}' if is_json else f"{field.name} = {literal}"
 
 
 def quoted(text: str) -> str:

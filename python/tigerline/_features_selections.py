@@ -86,29 +86,30 @@ class Processes:
         with self._slot(client_is_there), tempfile.TemporaryFile() as output:
             watch = self.watch(client_is_there)
             if selection.filter is not None and selection.conditions:
-                self._compile(selection.filter, watch)
+                self._compile(selection, selection.filter, watch)
             try:
-                self._run_select(county, selection.text, output, watch)
+                self._run_select(county, selection, output, watch)
             except Refused as refused:
                 raise _problem(refused, county.code, selection) from None
             return Lines(output)
 
-    def _compile(self, text: str, watch: Watch) -> None:
+    def _compile(self, selection: FeatureSelection, text: str, watch: Watch) -> None:
         """Raises Problem if a filter is refused.
 
         A filter with conditions is first checked alone, so that no parenthesis in it can close the one before it.
         """
         with tempfile.TemporaryFile() as output:
             try:
-                self._run(["compile", "--filter", "-"], output, watch, text.encode())
+                self._run(["compile", "--filter", "-", *selection.options], output, watch, text.encode())
             except Refused as refused:
                 raise refused_filter(refused) from None
 
-    def _run_select(self, county: County, text: str, output: IO[bytes], watch: Watch) -> None:
+    def _run_select(self, county: County, selection: FeatureSelection, output: IO[bytes], watch: Watch) -> None:
         types, geometry = ("12456", "shape") if has_shapes(county) else ("1456", "line")
         with opened_county(county, types, watch) as files:
             layer = ["--format", "geojsonseq", "--geometry", geometry]
-            command = ["select", f"--where={text}", "--data", str(files["1"].parent), *layer, county.code]
+            where = [f"--where={selection.text}", *selection.options]
+            command = ["select", *where, "--data", str(files["1"].parent), *layer, county.code]
             self._run(command, output, watch, b"", county.code)
 
     @contextmanager
@@ -172,6 +173,12 @@ def _problem(refused: Refused, county: str, selection: FeatureSelection) -> Prob
     problem = refused_filter(refused)
     if selection.conditions and problem.members.get("line") == 1:
         problem.members["column"] = max(1, problem.members["column"] - len(FeatureSelection.PREFIX))
+    if selection.conditions and "pointer" in problem.members:
+        pointer: str = problem.members.pop("pointer")
+        inside = pointer.removeprefix(FeatureSelection.POINTER)
+        # What isn't in the filter alone is in the whole.
+        if inside and inside != pointer:
+            problem.members["pointer"] = inside
     return problem
 
 

@@ -68,6 +68,13 @@ FIELDS = (
     Field("TOLONG", 210, 219, Kind.COORDINATE),
     Field("TOLAT", 220, 228, Kind.COORDINATE),
 )
+# The house numbers as texts, which only filters name.
+HOUSE_NUMBER_TEXTS = (
+    Field("FRADDL_TEXT", 59, 69, Kind.TEXT),
+    Field("TOADDL_TEXT", 70, 80, Kind.TEXT),
+    Field("FRADDR_TEXT", 81, 91, Kind.TEXT),
+    Field("TOADDR_TEXT", 92, 102, Kind.TEXT),
+)
 NAMES = tuple(field.name for field in FIELDS)
 TLID = next(field for field in FIELDS if field.name == "TLID")
 

@@ -11,7 +11,7 @@ from pathlib import Path
 from ._interrupts import Interrupts, kill_group
 
 VERSION = "1.0.0"
-_REFUSAL = re.compile(r"refused ([0-9]+)(?: ([a-z0-9 ]+))? ([A-Z][A-Za-z0-9]*(?:\([0-9]+\))?)")
+_REFUSAL = re.compile(r"refused ([0-9]+)(?: ([a-z0-9/ ]+))? ([A-Z][A-Za-z0-9]*(?:\([0-9]+\))?)")
 
 PathLike = str | os.PathLike[str]
 
@@ -19,8 +19,8 @@ PathLike = str | os.PathLike[str]
 class Refused(Exception):
     """A filter, a program or a file of a county was refused (docs/refusals.md).
 
-    `number` and `name` are those of the refusal. `place` is where the fault is, such as `line 1 column 5` or
-    `rt1 line 2`. `text` is what `extractd` wrote. `county` is the county that has the fault, or None if it is in the
+    `number` and `name` are those of the refusal. `place` is where the fault is, such as `line 1 column 5`,
+    `pointer /args/1` or `rt1 line 2`. `text` is what `extractd` wrote. `county` is the county that has the fault, or None if it is in the
     filter or the program.
     """
 
