@@ -1,9 +1,10 @@
 #!/bin/sh
 # Tests the Python package with a built program: python/try.sh PATH_TO_extractd, or with its path in EXTRACTD.
 #
-# Needs Python 3.11 with pytest. Some tests need geopandas, GDAL's tools, hypothesis, mypy, owslib, chromium, dask.distributed or GNU
+# Needs Python 3.11 with pytest. Some tests need geopandas, GDAL's tools, hypothesis, mypy, black, owslib, chromium, dask.distributed or GNU
 # parallel, and are skipped if these are missing. As root it installs what is missing by apt-get: on a bare Debian 12 that is a download
-# of 300 MB, and 1.1 GB on the disk. With REQUIRE_ALL=1, as in CI, a skipped test is a failure.
+# of 300 MB, and 1.1 GB on the disk. With REQUIRE_ALL=1, as in CI, a skipped test is a failure. A test that hangs fails after 10 minutes
+# if pytest-timeout is there.
 #
 # Prints the failures, what was skipped and why, and in the last line how many tests passed and failed. Exit status 0 means that no test
 # failed.
@@ -24,6 +25,8 @@ has_module geopandas || missing="$missing python3-geopandas"
 has_module pytest || missing="$missing python3-pytest"
 has_module hypothesis || missing="$missing python3-hypothesis"
 has_module mypy || missing="$missing python3-mypy"
+has_module black || missing="$missing black"
+has_module pytest_timeout || missing="$missing python3-pytest-timeout"
 has_module owslib || missing="$missing python3-owslib"
 has_module distributed || missing="$missing python3-distributed"
 command -v ogr2ogr > /dev/null || missing="$missing gdal-bin"
@@ -42,4 +45,6 @@ if ! has_module pytest; then
     exit 1
 fi
 cd "$here" || exit
-PYTHONDONTWRITEBYTECODE=1 exec "$python" -m pytest -q -rs
+set --
+has_module pytest_timeout && set -- --timeout 600
+PYTHONDONTWRITEBYTECODE=1 exec "$python" -m pytest -q -rs "$@"

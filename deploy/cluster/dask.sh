@@ -22,4 +22,4 @@ for _ in {1..100}; do
     sleep 0.1
 done
 address=$(sed -n 's/^ *"address": "\(.*\)",$/\1/p' "$scratch/scheduler")
-"$python" -m tigerline "$data" "$out" --where "$filter" --scheduler "$address"
+"$python" -m tigerline select "$data" "$out" --where "$filter" --scheduler "$address"

@@ -62,7 +62,7 @@ by_slurm() {
         "$folder/data" "$folder/rows" "$filter")
     while squeue --noheader --jobs="$job" | grep -q .; do sleep 0.2; done
 }
-by_tigerline() { "$python" -m tigerline data table.csv --overwrite --where "$filter" "$@"; }
+by_tigerline() { "$python" -m tigerline select data table.csv --overwrite --where "$filter" "$@"; }
 same_rows() { cat rows/*.rows | cmp - rows.first && rm -rf rows && mkdir rows; }
 
 by_dask() {

@@ -14,7 +14,7 @@ ROADS = "CFCC LIKE 'A%'"
 SEGMENTS = 60
 # Counts the class A, which is in the 56th byte of a record.
 ROAD_COUNT = sum(record[55:56] == b"A" for record in records(EXAMPLES / "TGR01001.RT1")[: SEGMENTS * len(CODES)])
-COMMAND = [sys.executable, "-m", "tigerline"]
+COMMAND = [sys.executable, "-m", "tigerline", "select"]
 
 
 def write_counties(folder: Path) -> Path:

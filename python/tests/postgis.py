@@ -34,8 +34,8 @@ import tigerline
 from noise import Drawn, cut_parts, draw_addresses, draw_counties, measure, measure_cut
 from test_geocoding_index import Index, Segment
 from test_reversing import METERS, House, beside, houses
-from tigerline._layout import FIELDS
-from tigerline._nearest import foot_of
+from tigerline.layout import FIELDS
+from tigerline.geocoding.nearest import foot_of
 
 PACKAGES = ["postgresql-15", "postgresql-15-postgis-3", "postgresql-15-postgis-3-scripts"]
 PROGRAMS = Path("/usr/lib/postgresql/15/bin")

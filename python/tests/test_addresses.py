@@ -1,8 +1,8 @@
 """Parsing street strings: all readings of a string, the fullest first, or the reason for none."""
 
 import pytest
-from tigerline._addresses import LONGEST_NAME, Crossing, Reading, Reason, Street, parse_street
-from tigerline._geocode_words import _TYPES, DIRECTIONS, TYPES, same_type
+from tigerline.geocoding.addresses import LONGEST_NAME, Crossing, Reading, Reason, Street, parse_street
+from tigerline.geocoding.words import _TYPES, DIRECTIONS, TYPES, same_type
 
 # A street string, and its readings in order: direction, name, type, direction.
 READINGS = """

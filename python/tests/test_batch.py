@@ -28,11 +28,12 @@ from batches import (
     write_counties,
 )
 from test_interrupts import processes_with
-from tigerline import __main__ as command
-from tigerline import _batch, _map_rows
-from tigerline._extract import Request
-from tigerline._interrupts import Interrupts
-from tigerline._tables import Form
+from tigerline import commands
+from tigerline.cluster import batch
+from tigerline.maps import content
+from tigerline.extract import Request
+from tigerline.interrupts import Interrupts
+from tigerline.tables import Form
 
 SEED = 20062
 FORM = Form(("TLID",), "none")
@@ -106,9 +107,9 @@ def test_same_map(data: Path, out: Path, name: str, options: tuple[str, ...]) ->
 def test_too_much_background(
     data: Path, out: Path, monkeypatch: pytest.MonkeyPatch, capsys: pytest.CaptureFixture[str]
 ) -> None:
-    monkeypatch.setattr(_map_rows, "MOST_SEGMENTS", SEGMENTS)
+    monkeypatch.setattr(content, "MOST_SEGMENTS", SEGMENTS)
     options = ("--where", ROADS, "--workers", "2", "--map", str(out / "a.svg"))
-    assert command.main([str(data), str(out / "a.csv"), *options]) == 0
+    assert commands.main(["select", str(data), str(out / "a.csv"), *options]) == 0
     said = "warning: the map shows the selection alone: its counties have more than 60 other segments\n"
     assert capsys.readouterr().err == said and "Not selected" not in (out / "a.svg").read_text()
 
@@ -192,7 +193,7 @@ class TestResume:
         assert process.returncode == 0 and [path.name for path in (out / "a.csv.parts").iterdir()] == ["notes.txt"]
         (out / "b.csv.parts").touch()
         status, _, said = run(data, out / "b.csv", "--where", "TRUE", "--resume")
-        assert status == 3 and said == f"error: {out}/b.csv.parts: File exists\n"
+        assert status == 3 and said == f"error: {out}/b.csv.parts isn't a folder: remove it, or write to another file\n"
 
 
 def test_worker_killed(data: Path, out: Path) -> None:
@@ -224,10 +225,14 @@ class TestFaults:
         ("status", "said", "options"),
         [
             (1, "refused 91 line 1 column 1 UnknownColumn\n", ("--where", "ZIP = 1", "--workers", "2")),
-            (3, "nowhere.bpf: No such file or directory\n", ("--program", "nowhere.bpf", "--workers", "2")),
+            (
+                3,
+                "nowhere.bpf: No such file or directory: check the path\n",
+                ("--program", "nowhere.bpf", "--workers", "2"),
+            ),
             (3, "has no TGR05???.RT1", ("--where", "TRUE", "--workers", "2", "--counties", "AR")),
-            (2, "'0' is no number of at least 1", ("--where", "TRUE", "--workers", "0")),
-            (2, "'-1' is no number of at least 1", ("--where", "TRUE", "--workers=-1")),
+            (2, "'0' is no number from 1 to 10000", ("--where", "TRUE", "--workers", "0")),
+            (2, "'-1' is no number from 1 to 10000", ("--where", "TRUE", "--workers=-1")),
             (2, "not allowed with argument", ("--where", "TRUE", "--workers", "2", "--scheduler", "a:1")),
         ],
     )
@@ -261,15 +266,15 @@ class TestTasks:
         store: Path,
         request: Request = Request("TRUE"),
         form: Form = FORM,
-    ) -> _batch.PartTask:
+    ) -> batch.PartTask:
         with Interrupts() as interrupts:
-            source = _batch.county_tasks(request, data, "01001", form.outputs, interrupts)[0]
+            source = batch.county_tasks(request, data, "01001", form.outputs, interrupts)[0]
         store.mkdir(exist_ok=True)
-        return _batch.part_task(source, form, store)
+        return batch.part_task(source, form, store)
 
-    def refused(self, task: _batch.PartTask, text: str) -> None:
+    def refused(self, task: batch.PartTask, text: str) -> None:
         with pytest.raises(OSError, match=text):
-            _batch.run_part(task)
+            batch.run_part(task)
 
     def test_part_of_another_selection(self, data: Path, tmp_path: Path, extractd: str) -> None:
         """A part has another name if anything that it depends on differs."""
@@ -277,7 +282,7 @@ class TestTasks:
         seen = {self.task(data, tmp_path).path, self.task(data, tmp_path).path}
         assert len(seen) == 1
         first = data / "TGR01001.RT1"
-        changes: list[Callable[[], _batch.PartTask]] = [
+        changes: list[Callable[[], batch.PartTask]] = [
             lambda: self.task(data, tmp_path, Request("NOT FALSE")),
             lambda: self.task(data, tmp_path, Request("TRUE", score="TLID")),
             lambda: self.task(data, tmp_path, Request(program=b"words")),
@@ -289,7 +294,7 @@ class TestTasks:
                     replace(FORM, geometry="line"),
                     replace(FORM, geometry="shape"),
                     replace(FORM, signed=True),
-                    replace(FORM, for_gdal=True),
+                    replace(FORM, largest_score=99),
                     replace(FORM, has_map=True),
                     replace(FORM, has_map=True, has_background=True),
                 )
@@ -307,18 +312,18 @@ class TestTasks:
     def test_spoilt_parts(self, data: Path, tmp_path: Path) -> None:
         """A part without its end, or with a changed byte anywhere, doesn't count as complete."""
         task = self.task(data, tmp_path)
-        _batch.run_part(task)
+        batch.run_part(task)
         content = task.path.read_bytes()
-        assert _batch.is_whole(task.path)
+        assert batch.is_whole(task.path)
         for place in range(0, len(content), 7):
             task.path.write_bytes(content[:place])
-            assert not _batch.is_whole(task.path)
+            assert not batch.is_whole(task.path)
             task.path.write_bytes(content[:place] + bytes([content[place] ^ 4]) + content[place + 1 :])
-            assert not _batch.is_whole(task.path)
+            assert not batch.is_whole(task.path)
 
     def test_other_files(self, data: Path, tmp_path: Path) -> None:
         task = self.task(data, tmp_path / "store")
-        assert _batch.run_part(task) == _batch.host() and _batch.is_whole(task.path)
+        assert batch.run_part(task) == batch.host() and batch.is_whole(task.path)
         os.utime(data / "TGR01001.RT4", (0, 0))
         self.refused(task, "county 01001: .*/TGR01001.RT4 isn't the same file on .*: its size or time differs")
         (data / "TGR01001.RT1").unlink()

@@ -10,6 +10,8 @@ import sys
 from collections.abc import Iterator
 from contextlib import contextmanager
 from pathlib import Path
+from types import ModuleType
+from typing import Any
 
 import pytest
 import tigerline
@@ -30,7 +32,7 @@ from batches import (
 )
 from counties import TOP
 from test_interrupts import processes_with
-from tigerline import __main__ as command
+from tigerline import commands
 
 pytest.importorskip("distributed", reason="no distributed")
 pytestmark = pytest.mark.usefixtures("extractd", "scratch")
@@ -94,13 +96,42 @@ def test_select(data: Path, address: str, frames: None) -> None:
     (data / "TGR01003.RT6").unlink()
     with Client(address, set_as_default=False) as client:
         with pytest.warns(UserWarning, match="has no TGR01003.RT6"):
-            frame = tigerline.select(ROADS, data, client=client)
+            frame = tigerline.select(ROADS, data, client=client, compute=True)
             expected = tigerline.select(ROADS, data)
         assert len(frame) == ROAD_COUNT and frame.equals(expected)
-        with pytest.raises(tigerline.Refused, match="UnknownColumn"):
-            tigerline.select("ZIP = 1", data, client=client)
+        with pytest.raises(tigerline.RefusedError, match="UnknownColumn"):
+            tigerline.select("ZIP = 1", data, client=client, compute=True)
     with pytest.raises(ValueError, match="distributed.Client"):
         tigerline.select(ROADS, data, client="tcp://127.0.0.1:1")
+
+
+@pytest.mark.parametrize("has_dask_geopandas", [True, False])
+def test_partitions(
+    data: Path, address: str, frames: None, monkeypatch: pytest.MonkeyPatch, has_dask_geopandas: bool
+) -> None:
+    """Each county is a partition, which a worker makes when it is computed."""
+    from distributed import Client
+
+    monkeypatch.setitem(sys.modules, "dask_geopandas", ModuleType("dask_geopandas") if has_dask_geopandas else None)
+    expected = tigerline.select(ROADS, data)
+    with Client(address) as client:
+        found = tigerline.select(ROADS, data, client=client)
+        if has_dask_geopandas:
+            assert found.npartitions == len(CODES)
+            found = [found.get_partition(place) for place in range(found.npartitions)]
+        counties = [part.compute() for part in found]
+        assert [set(county.county) for county in counties] == [{code} for code in CODES]
+        assert joined(counties).equals(expected)
+        plain = tigerline.select(ROADS, data, client=client, geometry=False, columns=["TLID"])
+        assert plain.npartitions == len(CODES) and plain.dtypes.equals(plain.compute().dtypes)
+        assert plain.TLID.compute().tolist() == expected.TLID.tolist()
+        with pytest.raises(tigerline.RefusedError, match="UnknownColumn"):
+            failing = tigerline.select("ZIP = 1", data, client=client)
+            (failing if has_dask_geopandas else failing[0]).compute()
+
+
+def joined(frames: list[Any]) -> Any:
+    return pytest.importorskip("pandas").concat(frames, ignore_index=True)
 
 
 def test_worker_killed(data: Path, out: Path, address: str) -> None:
@@ -151,7 +182,7 @@ class TestScheduler:
         self, data: Path, out: Path, address: str, monkeypatch: pytest.MonkeyPatch, capsys: pytest.CaptureFixture[str]
     ) -> None:
         monkeypatch.setattr(logging.root.manager, "disable", logging.NOTSET)  # The command changes it.
-        assert command.main([str(data), str(out / "a.csv"), "--where", "TRUE", "--scheduler", address]) == 3
+        assert commands.main(["select", str(data), str(out / "a.csv"), "--where", "TRUE", "--scheduler", address]) == 3
         output, said = capsys.readouterr()
         assert said.startswith(f"error: no scheduler answers at {address}: ") and said.count("\n") == 1
         assert not output and not list(out.iterdir())
@@ -175,7 +206,7 @@ class TestScheduler:
         assert (out / "a.csv").read_bytes() == (out / "b.csv").read_bytes()
 
     def test_not_installed(self, data: Path, out: Path, tmp_path: Path) -> None:
-        (tmp_path / "distributed.py").write_text("raise ImportError")
+        (tmp_path / "distributed.py").write_text("raise ModuleNotFoundError(name='distributed')")
         status, _, said = run(
             data,
             out / "a.csv",
@@ -185,7 +216,10 @@ class TestScheduler:
             "a:1",
             PYTHONPATH=f"{tmp_path}{os.pathsep}{TOP}/python",
         )
-        assert (status, said) == (3, "error: a scheduler needs dask.distributed: install python3-distributed\n")
+        assert (status, said) == (
+            3,
+            "error: there is no module distributed: apt install python3-distributed, or pip install distributed\n",
+        )
 
 
 class TestScripts:

@@ -4,18 +4,18 @@ from pathlib import Path
 from tempfile import TemporaryDirectory
 
 import pytest
-from tigerline import _layout as layout
-from tigerline._extract import ALL_SEGMENTS, ROWS, Output, county_texts
-from tigerline._interrupts import Interrupts
-from tigerline._rows import read_lines, read_rows
-from tigerline._sources import County
+from tigerline import layout
+from tigerline.extract import ALL_SEGMENTS, ROWS, Output, county_texts
+from tigerline.interrupts import Interrupts
+from tigerline.tuples import read_lines, read_rows
+from tigerline.sources import County
 
 pytest.importorskip("hypothesis", reason="no hypothesis")
 pytest.importorskip("pandas", reason="no pandas")
 import pandas as pd  # noqa: E402
 from hypothesis import given, settings  # noqa: E402
 from hypothesis import strategies as st  # noqa: E402
-from tigerline import _columns  # noqa: E402
+from tigerline import columns  # noqa: E402
 
 TYPES = "1456"
 
@@ -40,7 +40,7 @@ def encoded(rows: list[tuple[int, bytes]]) -> bytes:
 @settings(max_examples=100)
 @given(ROWS_OF_ANY_BYTES)
 def test_rows_are_split(rows: list[tuple[int, bytes]]) -> None:
-    scores, records = _columns.split(encoded(rows))
+    scores, records = columns.split(encoded(rows))
     assert scores.tolist() == [score for score, _ in rows]
     assert [record.tobytes() for record in records] == [record for _, record in rows]
 
@@ -56,11 +56,11 @@ def test_columns_are_those_of_the_table(extractd: str, found: list[bytes]) -> No
             path.write_bytes(b"".join(lines) if record_type == "1" else b"")
         county = County("01001", Path(folder), files)
         rows, table = county_texts(extractd, ALL_SEGMENTS, county, [ROWS, Output(layout.NAMES)], interrupts).texts
-    columns = _columns.columns(_columns.split(rows)[1], layout.NAMES)
+    found_columns = columns.columns_of(columns.split(rows)[1], layout.NAMES)
     tuples = list(read_rows("01001", table, signed=False))
     for name in layout.NAMES:
         expected = [getattr(row, name) for row in tuples]
-        assert [None if pd.isna(value) else value for value in columns[name]] == expected
+        assert [None if pd.isna(value) else value for value in found_columns[name]] == expected
 
 
 @pytest.mark.parametrize(
@@ -84,8 +84,8 @@ def test_lines() -> None:
 
 def test_many_distinct_values() -> None:
     rows = [(index % 11, b"1" + b"%227d" % (index * 7919)) for index in range(5000)]
-    scores, records = _columns.split(encoded(rows))
-    names = _columns.columns(records, ("TOLAT", "BLOCKR", "FENAME"))
+    scores, records = columns.split(encoded(rows))
+    names = columns.columns_of(records, ("TOLAT", "BLOCKR", "FENAME"))
     assert [str(text) for text in names["BLOCKR"]] == ["<NA>"] * 5000
     assert names["TOLAT"].tolist() == [index * 7919 / 1e6 for index in range(5000)]
     assert scores.tolist() == [index % 11 for index in range(5000)]
@@ -110,7 +110,7 @@ def test_what_is_no_row(rows: bytes) -> None:
     good = b"0\t" + b"1" * 228 + b"\n"
     for text in (rows, good + rows, rows + good):
         with pytest.raises(OSError, match="extractd wrote something"):
-            _columns.split(text)
+            columns.split(text)
 
 
 @pytest.mark.parametrize(

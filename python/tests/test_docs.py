@@ -11,6 +11,7 @@ from typing import NamedTuple
 
 import pytest
 from counties import EXAMPLES, TOP
+from tigerline.commands.command_line import SUBCOMMANDS
 
 PAGES = ("README.md", *(f"docs/{path.name}" for path in sorted((TOP / "docs").glob("*.md"))))
 OPTIONS = doctest.NORMALIZE_WHITESPACE
@@ -61,6 +62,15 @@ def test_console(clone: Path, block: Block) -> None:
         script += f"printf '%s\\n' {sh_quoted('$ ' + command)}\n(exit $last)\n{command}\nlast=$?\n"
     done = subprocess.run(["bash", "-c", script], stdout=subprocess.PIPE, stderr=subprocess.STDOUT, text=True)
     assert done.stdout == block.text
+
+
+@pytest.mark.parametrize("name", [name for name in SUBCOMMANDS if name != "serve"])
+def test_example_of_help(clone: Path, name: str, extractd: str) -> None:
+    """It runs in a clone. That of the service doesn't end."""
+    (clone.parent / "bin/extractd").symlink_to(extractd)
+    shown = subprocess.run(["tigerline", name, "--help"], stdout=subprocess.PIPE, text=True, check=True).stdout
+    (example,) = re.findall(r"^example:\n  (.*)$", shown, re.MULTILINE)
+    assert subprocess.run(["bash", "-c", example], stdout=subprocess.PIPE).returncode == 0
 
 
 def test_pages_have_blocks() -> None:

@@ -25,8 +25,8 @@ from counties import (
 )
 from test_features_command import HANGING
 from test_interrupts import processes_with
-from tigerline._layout import FIELDS, Field, Kind
-from tigerline.features import Limits, Service, application
+from tigerline.layout import FIELDS, Field, Kind
+from tigerline.service.application import Limits, Service, application
 
 BASE = "http://127.0.0.1"
 ITEMS = f"/collections/{CODE}/items"
@@ -643,7 +643,7 @@ class TestRuns:
     def test_single_segments_take_no_room(
         self, make: Make, extractd: str, tmp_path: Path, monkeypatch: pytest.MonkeyPatch
     ) -> None:
-        monkeypatch.setattr("tigerline._features_selections.MOST_BUFFERS", 2)
+        monkeypatch.setattr("tigerline.service.selections.MOST_BUFFERS", 2)
         program = Counting(tmp_path, extractd)
         service = make(extractd=program.path)
         ask(service, query(filter="CFCC = 'A41'"))

@@ -8,7 +8,7 @@ from typing import Any
 import pytest
 from counties import CODE, EXAMPLES, copy_county, records
 from test_features import ITEMS, Make, ask, ids, make, points, query, service, tlids  # noqa: F401 (two are fixtures)
-from tigerline.features import Service
+from tigerline.service.application import Service
 
 geometry = pytest.importorskip("shapely.geometry", reason="no shapely")
 

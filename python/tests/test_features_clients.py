@@ -104,7 +104,18 @@ class TestGdal:
     def package(self, extractd: str, data: Path, tmp_path_factory: pytest.TempPathFactory) -> Path:
         """Makes a GeoPackage with the same rows and with columns of the same types."""
         path = tmp_path_factory.mktemp("package") / "large.gpkg"
-        command = [sys.executable, "-m", "tigerline", str(data), str(path), "--where", "TRUE", "--counties", LARGE]
+        command = [
+            sys.executable,
+            "-m",
+            "tigerline",
+            "select",
+            str(data),
+            str(path),
+            "--where",
+            "TRUE",
+            "--counties",
+            LARGE,
+        ]
         environment = {**os.environ, "PYTHONPATH": str(TOP / "python")}
         subprocess.run(command, env=environment, check=True, stdout=subprocess.DEVNULL)
         return path

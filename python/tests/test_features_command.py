@@ -1,4 +1,4 @@
-"""The command `tigerline-features`: start, stop, messages, and HTTP with bad clients."""
+"""The command `tigerline serve`: start, stop, messages, and HTTP with bad clients."""
 
 import json
 import os
@@ -24,8 +24,8 @@ DATA_SEGMENTS_IN = slice(152, 156)
 # A command that never ends, and that no other run of the tests uses.
 HANGING = f"sleep 98765.{os.getpid()}"
 # Shortens the server's times for a test.
-SHORT_TIMES = "from tigerline import _features_server as s; s.IDLE_SECONDS = 1; s.SENDING_SECONDS = 2; "
-RUN = "import sys; from tigerline.features import main; sys.exit(main())"
+SHORT_TIMES = "from tigerline.service import server as s; s.IDLE_SECONDS = 1; s.SENDING_SECONDS = 2; "
+RUN = "import sys; from tigerline.commands import main; sys.exit(main(['serve', *sys.argv[1:]]))"
 
 pytestmark = pytest.mark.usefixtures("scratch")
 
@@ -135,14 +135,17 @@ class TestCommand:
             given = arguments.format(data=EXAMPLES, used=other.getsockname()[1]).split()
             environment = {**os.environ, "PYTHONPATH": str(TOP / "python")}
             done = subprocess.run(
-                [sys.executable, "-m", "tigerline.features", *given], env=environment, capture_output=True, text=True
+                [sys.executable, "-m", "tigerline", "serve", *given],
+                env=environment,
+                capture_output=True,
+                text=True,
             )
         assert done.returncode == status and text in done.stderr.splitlines()[-1] and done.stdout == ""
         assert "Traceback" not in done.stderr
 
     def test_standard_library_alone(self, extractd: str) -> None:
         code = (
-            f"import sys; sys.path.insert(0, {str(TOP / 'python')!r}); from tigerline.features import application; "
+            f"import sys; sys.path.insert(0, {str(TOP / 'python')!r}); from tigerline.service.application import application; "
             f"application({str(EXAMPLES)!r}, {CODE!r})({{'REQUEST_METHOD': 'GET', 'PATH_INFO': {ITEMS!r}, "
             "'wsgi.url_scheme': 'http', 'HTTP_HOST': 'a'}, lambda *a: print(a[0]))"
         )
@@ -295,7 +298,7 @@ class TestBadClients:
         ("before", "served"),
         [
             (SHORT_TIMES, [False] * 5),
-            ("from tigerline import _features_server as s; s.MOST_UNSENT = 10 << 20; ", [False] * 4 + [True]),
+            ("from tigerline.service import server as s; s.MOST_UNSENT = 10 << 20; ", [False] * 4 + [True]),
         ],
         ids=["time", "bytes"],
     )

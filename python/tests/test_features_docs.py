@@ -11,7 +11,8 @@ import pytest
 from counties import EXAMPLES, TOP
 from test_docs import sh_quoted
 from test_features_command import Running, start  # noqa: F401 (a fixture)
-from tigerline._features_documents import CONFORMS_TO
+from tigerline.commands.command_line import parsers
+from tigerline.service.documents import CONFORMS_TO
 
 PAGE = (TOP / "docs/features.md").read_text()
 CONFORMANCE = (TOP / "docs/conformance.md").read_text()
@@ -60,8 +61,6 @@ def test_conformance_classes_are_those_of_the_page() -> None:
     assert declared == [name for answer, name in rows if answer == "yes"]
 
 
-def test_options_are_those_of_the_command(capsys: pytest.CaptureFixture[str]) -> None:
-    from tigerline.features import parser
-
-    options = set(re.findall(r"--[a-z]+", parser().format_help())) - {"--help", "--version"}
+def test_options_are_those_of_the_command() -> None:
+    options = set(re.findall(r"--[a-z]+", parsers()[1]["serve"].format_help())) - {"--help", "--version"}
     assert options == set(re.findall(r"--[a-z]+", PAGE))

@@ -6,10 +6,10 @@ from collections.abc import Iterator
 from itertools import product
 
 import pytest
-from tigerline._features_geojson import NotFeatures, tlids
-from tigerline._features_lines import Lines
-from tigerline._features_problems import ClientLeft
-from tigerline._features_query import box
+from tigerline.service.geojson import NotFeaturesError, tlids
+from tigerline.service.lines import Lines
+from tigerline.service.problems import ClientLeftError
+from tigerline.service.query import box
 
 pytestmark = pytest.mark.usefixtures("scratch")
 
@@ -36,7 +36,7 @@ def stored(text: bytes) -> Lines:
 
 @pytest.mark.parametrize("chunk", [1, CHUNK, 1 << 20])
 def test_pages(monkeypatch: pytest.MonkeyPatch, chunk: int) -> None:
-    monkeypatch.setattr("tigerline._features_lines.CHUNK", chunk)
+    monkeypatch.setattr("tigerline.service.lines.CHUNK", chunk)
     for expected in texts():
         lines = stored(b"".join(expected))
         assert (lines.count, lines.size) == (len(expected), sum(map(len, expected)))
@@ -57,15 +57,15 @@ def feature(number: int) -> bytes:
 
 def test_box_of_a_client_that_leaves(monkeypatch: pytest.MonkeyPatch) -> None:
     """It ends at each check, and the next client gets all that it requests."""
-    monkeypatch.setattr("tigerline._features_lines.CHUNK", 1000)
+    monkeypatch.setattr("tigerline.service.lines.CHUNK", 1000)
     area = box("0,0,0.00001,0.00001")
     expected = b"".join(feature(number) for number in range(40) if number % 3), 26
     for checks in range(100):
         lines = stored(b"".join(map(feature, range(40))))
-        left = [ClientLeft()] + [None] * checks
+        left = [ClientLeftError()] + [None] * checks
         try:
             found = lines.in_box(area, lambda: raise_error(left.pop()))
-        except ClientLeft:
+        except ClientLeftError:
             assert lines.in_box(area, lambda: None).page(0, 100) == expected
         else:
             assert found.page(0, 100) == expected and checks == 2 * (lines.size // 1000 + 1)
@@ -81,5 +81,5 @@ def raise_error(error: Exception | None) -> None:
 @pytest.mark.parametrize("text", ["x", "x\n", '{"type":"Feature","properties":{"score":1,"TLID":1},"geometry":null}\n'])
 def test_other_output(text: str) -> None:
     """Lines that aren't features and a line without an end are refused."""
-    with pytest.raises(NotFeatures):
+    with pytest.raises(NotFeaturesError):
         tlids(stored(text.encode()).page(0, 1)[0])

@@ -3,10 +3,10 @@
 from pathlib import Path
 
 import pytest
-from tigerline._geocode_input import USUAL_NAMES, USUAL_ONE_LINE_NAMES, Address, AddressFile
-from tigerline._interrupts import Interrupts
-from tigerline._one_line import parts_of
-from tigerline._table_input import TableFile, delimiter_of, named_columns
+from tigerline.geocoding.address_input import USUAL_NAMES, USUAL_ONE_LINE_NAMES, Address, AddressFile
+from tigerline.interrupts import Interrupts
+from tigerline.geocoding.one_line import parts_of
+from tigerline.geocoding.table_input import TableFile, delimiter_of, named_columns
 
 STREET = Address("1", "8 Oak St", "Milford", "AL", "35042")
 

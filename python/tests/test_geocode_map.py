@@ -7,11 +7,11 @@ from pathlib import Path
 import pytest
 from counties import EXAMPLES
 from test_geocode_output import MATCHES
-from test_main import run
+from test_main import run_command as run
 from test_maps import page_data, probed
-from tigerline._geocode_map import KINDS, Dots
-from tigerline._interrupts import Interrupts
-from tigerline._map_view import MapSegment
+from tigerline.geocoding.picture import KINDS, Dots
+from tigerline.interrupts import Interrupts
+from tigerline.maps.view import MapSegment
 
 SVG = "{http://www.w3.org/2000/svg}"
 COLORS = {kind.color: kind.name for kind in KINDS}
@@ -37,7 +37,7 @@ def dots_of(picture: str) -> list[tuple[str, str, float, float]]:
 )
 def test_dots(monkeypatch: pytest.MonkeyPatch, has_candidates: bool, expected: list[str]) -> None:
     """Of the places -87.5 33.25, -87 33 and -86 33 the first is the northernmost and the westernmost."""
-    monkeypatch.setattr("tigerline._geocode_map._segments_in", lambda *_: [])
+    monkeypatch.setattr("tigerline.geocoding.picture._segments_in", lambda *_: [])
     dots = Dots(has_candidates)
     assert list(dots.watched(MATCHES)) == MATCHES
     with Interrupts() as interrupts:
@@ -52,7 +52,7 @@ def test_dots(monkeypatch: pytest.MonkeyPatch, has_candidates: bool, expected: l
 def test_page(monkeypatch: pytest.MonkeyPatch, tmp_path: Path) -> None:
     """A browser shows the address and the kind of the place at the pointer, though it is on a street."""
     street = MapSegment("A41", "Oak St", 0, ((-88, 33.25), (-87, 33.25)))
-    monkeypatch.setattr("tigerline._geocode_map._segments_in", lambda *_: [street])
+    monkeypatch.setattr("tigerline.geocoding.picture._segments_in", lambda *_: [street])
     dots = Dots(False)
     assert list(dots.watched(MATCHES)) == MATCHES
     with Interrupts() as interrupts:
@@ -73,4 +73,4 @@ def test_command(tmp_path: Path) -> None:
     legend = re.findall(r">([A-Z][a-z' ]+)</text><text[^>]*>([0-9,]+)<", picture.read_text())
     assert legend[:2] == [("Exact match", "1"), ("Match that isn't exact", "1")] and legend[2][0] == "Segment"
     again = run("geocode", tmp_path / "in.csv", "--map", picture, "--data", EXAMPLES / "town")
-    assert (again.returncode, again.stderr) == (3, f"error: {picture}: File exists\n")
+    assert (again.returncode, again.stderr) == (3, f"error: {picture}: File exists: --overwrite replaces it\n")

@@ -6,9 +6,9 @@ from pathlib import Path
 
 import pytest
 from test_main import layer
-from tigerline._geocode_output import Form, write_matches
-from tigerline._interrupts import Interrupts
-from tigerline._output import pending_file
+from tigerline.geocoding.address_output import Form, write_matches
+from tigerline.interrupts import Interrupts
+from tigerline.output import pending_file
 from tigerline.geocoding import Address, Candidate, Match, Reason, Status
 
 HEAD = "id,address,match,exact,matched_address,coordinates,tlid,side"
@@ -57,7 +57,7 @@ def interrupts() -> Iterator[Interrupts]:
 def written(path: Path, form: Form, interrupts: Interrupts) -> str:
     with pending_file(path, overwrite=False) as file:
         said = write_matches(file, iter(MATCHES), form, interrupts)
-        file.publish()
+        file.publish(interrupts)
     return said
 
 

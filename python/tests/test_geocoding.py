@@ -18,8 +18,8 @@ import pytest
 import tigerline
 from counties import CODE, EXAMPLES, TOP, copy_county, program_of, records, zip_folder
 from test_interrupts import environment, processes_with
-from test_main import run
-from tigerline import geocoding
+from test_main import run_command as run
+from tigerline.geocoding import geocoder
 
 pytestmark = pytest.mark.usefixtures("extractd", "scratch")
 
@@ -175,7 +175,7 @@ class TestOutput:
         )
         written = (out / "a.csv").read_bytes()
         (out / "a.csv").write_text("kept")
-        assert geocode(source, out / "a.csv").stderr == f"error: {out}/a.csv: File exists\n"
+        assert geocode(source, out / "a.csv").stderr == f"error: {out}/a.csv: File exists: --overwrite replaces it\n"
         assert (out / "a.csv").read_text() == "kept"
         assert geocode(source, out / "a.csv", "--overwrite").returncode == 0
         assert (out / "a.csv").read_bytes() == written
@@ -242,7 +242,7 @@ class TestFunction:
         addresses = [(str(number), f"{number} Main St", "", "", "") for number in range(700, 750)]
         expected = list(tigerline.geocode(addresses, EXAMPLES, CODE))
         assert sum(match.status == "Match" for match in expected) > 5
-        monkeypatch.setattr(geocoding, "ADDRESSES_AT_ONCE", 7)
+        monkeypatch.setattr(geocoder, "ADDRESSES_AT_ONCE", 7)
         with pytest.warns(UserWarning, match="names or address ranges may be missing") as warned:
             found = list(tigerline.geocode(iter(addresses), copy_county(tmp_path, "1")))
         assert len(warned) == 1 and len(found) == 50

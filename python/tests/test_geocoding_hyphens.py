@@ -5,7 +5,7 @@ from pathlib import Path
 import pytest
 import tigerline
 from counties import CODE
-from tigerline._geocode_hyphens import hyphenated, is_range, plain_number
+from tigerline.geocoding.hyphens import hyphenated, is_range, plain_number
 from towns import write_cities
 
 pytestmark = pytest.mark.usefixtures("extractd", "scratch")
@@ -116,5 +116,5 @@ def test_faulty_county(tmp_path: Path) -> None:
     write_county(tmp_path)
     path = tmp_path / f"TGR{CODE}.RT1"
     path.write_text(path.read_text() + "10006\n")
-    with pytest.raises(tigerline.Refused, match="refused 1 rt1 line 8 WrongLength"):
+    with pytest.raises(tigerline.RefusedError, match="refused 1 rt1 line 8 WrongLength"):
         list(tigerline.geocode([("", "164-20 Main St", "", "AL", "36001")], tmp_path))

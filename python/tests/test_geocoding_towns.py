@@ -5,7 +5,7 @@ from pathlib import Path
 import pytest
 import tigerline
 from counties import CODE
-from tigerline._geocode_towns import city_key, state_of
+from tigerline.geocoding.towns import city_key, state_of
 from towns import write_cities
 
 pytestmark = pytest.mark.usefixtures("extractd", "scratch")

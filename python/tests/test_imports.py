@@ -1,6 +1,7 @@
 """The imports of the package's modules: none leads back to where it began, and none is inside a function."""
 
 import ast
+import importlib
 from collections.abc import Collection, Iterator, Mapping
 from graphlib import CycleError, TopologicalSorter
 from importlib.util import resolve_name
@@ -9,9 +10,7 @@ import pytest
 from counties import TOP
 
 PACKAGE = TOP / "python/tigerline"
-# Functions import these, so that the rest of the package works without them.
-OPTIONAL = {"distributed", "geopandas", "shapely", "tqdm"}
-
+PACKAGES = ("tigerline", *(f"tigerline.{name}" for name in ("commands", "geocoding", "maps", "service")))
 Sources = Mapping[str, str]
 
 
@@ -26,7 +25,16 @@ def sources() -> Sources:
 
 
 def imported(node: ast.AST, name: str, modules: Collection[str]) -> Iterator[str]:
-    """Yields the modules that a statement of a module imports."""
+    """Yields the modules that a statement of a module imports, and the packages that they are in."""
+    for module in named(node, name, modules):
+        yield module
+        while module := module.rpartition(".")[0]:
+            if not f"{name}.".startswith(f"{module}."):
+                yield module
+
+
+def named(node: ast.AST, name: str, modules: Collection[str]) -> Iterator[str]:
+    """Yields the modules that a statement of a module names."""
     if isinstance(node, ast.Import):
         yield from (alias.name for alias in node.names)
     if isinstance(node, ast.ImportFrom):
@@ -54,7 +62,7 @@ def circle(sources: Sources) -> list[str]:
 
 
 def imports_in_functions(sources: Sources) -> list[str]:
-    """Returns the imports inside functions, except those of optional packages."""
+    """Returns the imports inside functions."""
     return [
         f"{name}, line {node.lineno}: {ast.unparse(node)}"
         for name, text in sources.items()
@@ -62,7 +70,6 @@ def imports_in_functions(sources: Sources) -> list[str]:
         if isinstance(function, ast.FunctionDef | ast.AsyncFunctionDef)
         for node in ast.walk(function)
         if isinstance(node, ast.Import | ast.ImportFrom)
-        and not {module.partition(".")[0] for module in imported(node, name, sources)} <= OPTIONAL
     ]
 
 
@@ -89,10 +96,35 @@ def test_circles(texts: tuple[str, str, str], expected: set[str]) -> None:
 
 
 def test_imports_in_functions() -> None:
-    function = (
-        "def f():\n    from .b import x\n    import shapely.geometry\n    from tqdm import tqdm\n    import json\n"
-    )
+    function = "def f():\n    from .b import x\n    import json\n"
     assert imports_in_functions({"p.a": f"import json\n{function}", "p.b": ""}) == [
         "p.a, line 3: from .b import x",
-        "p.a, line 6: import json",
+        "p.a, line 4: import json",
     ]
+
+
+def test_circle_by_a_package() -> None:
+    """A module of a package imports the package, too."""
+    sources = {
+        "p": "",
+        "p.a": "from .q.c import x",
+        "p.q": "from .b import x",
+        "p.q.b": "from ..a import x",
+        "p.q.c": "",
+    }
+    assert set(circle(sources)) == {"p.a", "p.q", "p.q.b"}
+
+
+def test_names(sources: Sources) -> None:
+    """Modules have no leading underscore, errors end with Error, and public names exist."""
+    assert not [
+        name for name in sources if any(part.startswith("_") and part != "__main__" for part in name.split("."))
+    ]
+    for name, text in sources.items():
+        for node in ast.walk(ast.parse(text)):
+            bases = [ast.unparse(base) for base in node.bases] if isinstance(node, ast.ClassDef) else []
+            if any(base == "Exception" or base.endswith("Error") for base in bases):
+                assert node.name.endswith("Error"), f"{name}: {node.name}"
+        if name in PACKAGES:
+            module = importlib.import_module(name)
+            assert [public for public in module.__all__ if not hasattr(module, public)] == []

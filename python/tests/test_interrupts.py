@@ -13,8 +13,8 @@ from pathlib import Path
 import pytest
 import tigerline
 from counties import CODE, EXAMPLES, TOP, program_of, records, zip_folder
-from tigerline._interrupts import Interrupts
-from tigerline._layout import NAMES
+from tigerline.interrupts import Interrupts
+from tigerline.layout import NAMES
 
 SEED = 20061
 COPIES = 12
@@ -61,7 +61,17 @@ def environment() -> dict[str, str]:
 
 
 def start(large: Path, out: Path) -> subprocess.Popen[bytes]:
-    command = [sys.executable, "-m", "tigerline", str(large), str(out / "a.gpkg"), "--where", "TRUE", "--overwrite"]
+    command = [
+        sys.executable,
+        "-m",
+        "tigerline",
+        "select",
+        str(large),
+        str(out / "a.gpkg"),
+        "--where",
+        "TRUE",
+        "--overwrite",
+    ]
     return subprocess.Popen(
         command, env=environment(), stdout=subprocess.DEVNULL, stderr=subprocess.DEVNULL, start_new_session=True
     )
@@ -103,13 +113,13 @@ import signal, sys
 
 class Watcher:
     def find_spec(self, name, *_):
-        if name == "tigerline.__main__":
+        if name == "tigerline.commands":
             is_ready = signal.getsignal(signal.SIGINT) is signal.SIG_DFL
             print(is_ready, {"typing", "subprocess", "zipfile"} & set(sys.modules))
 
 signal.signal(signal.SIGINT, signal.default_int_handler)
 sys.meta_path.insert(0, Watcher())
-import tigerline._script
+import tigerline.__main__
 """
 
 

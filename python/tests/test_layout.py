@@ -6,7 +6,7 @@ import string
 import pytest
 from counties import TOP
 from tigerline import Row
-from tigerline import _layout as layout
+from tigerline import layout
 
 hypothesis = pytest.importorskip("hypothesis", reason="no hypothesis")
 from hypothesis import given  # noqa: E402

@@ -10,11 +10,12 @@ import subprocess
 import sys
 from collections.abc import Iterator
 from pathlib import Path
+from typing import Any
 
 import pytest
 from counties import CODE, EXAMPLES, SEGMENTS, TOP, copy_county, gdal_rows, points_of, program_of, records, write_shapes
-from tigerline import __main__ as command
-from tigerline import _map_rows
+from tigerline import commands
+from tigerline.maps import content
 
 pytestmark = pytest.mark.usefixtures("scratch")
 
@@ -23,12 +24,19 @@ ROADS = "CFCC LIKE 'A%'"
 STRAIGHT = ("--geometry", "line")  # The example county has no shapes.
 
 
-def run(*arguments: object, before: list[str] | None = None, **options: object) -> subprocess.CompletedProcess[str]:
+def run_command(
+    *arguments: object, before: list[str] | None = None, **options: object
+) -> subprocess.CompletedProcess[str]:
     environment = {**os.environ, "PYTHONPATH": str(TOP / "python"), **options.pop("environment", {})}
     command = [*(before or []), *COMMAND, *map(str, arguments)]
     return subprocess.run(
         command, env=environment, stderr=subprocess.PIPE, text=True, **{"stdout": subprocess.PIPE, **options}
     )
+
+
+def run(*arguments: object, **options: Any) -> subprocess.CompletedProcess[str]:
+    """Runs `tigerline select`."""
+    return run_command("select", *arguments, **options)
 
 
 @pytest.fixture
@@ -55,7 +63,7 @@ def by_tlid(row: dict[str, str]) -> str:
 class TestFormats:
     """Every format has the segments that GDAL's TIGER driver reads."""
 
-    @pytest.mark.parametrize("suffix", ["gpkg", "geojson", "fgb", "csv"])
+    @pytest.mark.parametrize("suffix", ["gpkg", "geojson", "fgb", "shp", "csv"])
     def test_segments_and_points(self, out: Path, tmp_path: Path, suffix: str) -> None:
         write_shapes(copy_county(tmp_path / "data"))
         done = run(tmp_path / "data", out / f"roads.{suffix}", "--where", ROADS, "--geometry", "shape")
@@ -87,6 +95,44 @@ class TestFormats:
         assert len(found) == 240 and set(found[0]) - {"WKT"} == {"county", "score", "TLID", "ZIPL"}
         assert not found[0].get("WKT")
 
+    def test_standard_output(self, out: Path) -> None:
+        options = (EXAMPLES, "-", "--where", ROADS, "--counties", CODE, *STRAIGHT)
+        for engine in ((), ("--workers", "2")):
+            done = run(*options, *engine)
+            assert (done.returncode, done.stderr) == (0, "")
+            assert [row["CFCC"][0] for row in csv.DictReader(done.stdout.splitlines())] == ["A"] * 240
+        done = run(*options, "--resume")
+        assert (done.returncode, done.stdout) == (2, "") and "--resume need a file as OUT" in done.stderr
+
+    def test_missing_driver(self, out: Path) -> None:
+        """GDAL of Debian 12 has no Parquet."""
+        done = run(EXAMPLES, out / "a.parquet", "--where", ROADS, "--counties", CODE, *STRAIGHT)
+        if done.returncode == 0:
+            assert len(layer(out / "a.parquet")) == 240
+        else:
+            assert done.returncode == 3 and "Unable to find driver `Parquet'" in done.stderr and not list(out.iterdir())
+
+    def test_safe_cells(self, out: Path, tmp_path: Path) -> None:
+        lines = records(EXAMPLES / "TGR01001.RT1")[:2]
+        lines[0] = lines[0][:19] + b'=HYPERLINK("x,y")'.ljust(30) + lines[0][49:]
+        (tmp_path / "TGR01001.RT1").write_bytes(b"\n".join(lines))
+        options = (
+            tmp_path,
+            out / "a.csv",
+            "--where",
+            "TRUE",
+            "--columns",
+            "FENAME",
+            "FRLONG",
+            *STRAIGHT,
+            "--overwrite",
+        )
+        for safe, start in (((), ""), (("--safe-cells",), "'")):
+            assert run(*options, *safe).returncode == 0
+            with open(out / "a.csv", newline="") as file:
+                (first, _) = csv.DictReader(file)
+            assert first["FENAME"] == f'{start}=HYPERLINK("x,y")' and first["FRLONG"].startswith("-")
+
     def test_odd_names(self, out: Path) -> None:
         for name in ("a b?c&d=e:f%20.gpkg", "-n.geojson", "CAPITALS.FGB", "\u00e9.csv"):
             path = out / name
@@ -113,6 +159,10 @@ class TestFormats:
         options = ("--where", "TRUE", "--score", "FRLONG", "--counties", CODE, "--columns", "TLID")
         done = run(EXAMPLES, out / "a.gpkg", *options)
         assert done.returncode == 2 and "use --signed" in done.stderr and not list(out.iterdir())
+        done = run(EXAMPLES, out / "a.shp", "--where", "TRUE", "--score", "TLID", "--counties", CODE, *STRAIGHT)
+        assert done.returncode == 0 and all(row["score"] == row["TLID"] for row in layer(out / "a.shp"))
+        for path in out.iterdir():
+            path.unlink()
         assert run(EXAMPLES, out / "a.gpkg", *options, "--signed").returncode == 0
         expected = [int(record[190:200]) for record in records(EXAMPLES / "TGR01001.RT1")]
         assert [int(row["score"]) for row in layer(out / "a.gpkg")] == expected
@@ -178,8 +228,9 @@ class TestMaps:
     def test_too_much_background(
         self, monkeypatch: pytest.MonkeyPatch, out: Path, capsys: pytest.CaptureFixture[str]
     ) -> None:
-        monkeypatch.setattr(_map_rows, "MOST_SEGMENTS", 100)
+        monkeypatch.setattr(content, "MOST_SEGMENTS", 100)
         arguments = [
+            "select",
             str(EXAMPLES),
             str(out / "a.csv"),
             "--where",
@@ -189,7 +240,7 @@ class TestMaps:
             "--map",
             str(out / "a.svg"),
         ]
-        assert command.main(arguments) == 0
+        assert commands.main(arguments) == 0
         assert "warning: the map shows the selection alone: its counties have more than 100" in capsys.readouterr().err
         assert "Not selected" not in (out / "a.svg").read_text()
 
@@ -266,7 +317,17 @@ class TestFaults:
         self.refused(out, 2, "no column has the name ZIP", EXAMPLES, table, "--where", "TRUE", "--columns", "ZIP")
         self.refused(out, 2, "is no county", EXAMPLES, table, "--where", "TRUE", "--counties", "1001")
         self.refused(out, 3, "has no TGR01003.RT1", EXAMPLES, table, "--where", "TRUE", "--counties", "01003")
-        self.refused(out, 3, "nowhere.bpf: not found", EXAMPLES, table, "--program", "nowhere.bpf", "--counties", CODE)
+        self.refused(
+            out,
+            3,
+            "nowhere.bpf: No such file or directory",
+            EXAMPLES,
+            table,
+            "--program",
+            "nowhere.bpf",
+            "--counties",
+            CODE,
+        )
         self.refused(out, 3, "there is no program nowhere", EXAMPLES, table, "--where", "TRUE", "--extractd", "nowhere")
         short = program_of(tmp_path / "short", "echo refused memory >&2; exit 4")
         self.refused(
@@ -285,7 +346,7 @@ class TestFaults:
 
     def test_usage(self, out: Path) -> None:
         for arguments in (
-            (EXAMPLES, out / "a.shp", "--where", "TRUE"),
+            (EXAMPLES, out / "a.kml", "--where", "TRUE"),
             (EXAMPLES, out / "a", "--where", "TRUE"),
             (EXAMPLES, out / "a.csv"),
             (EXAMPLES, out / "a.csv", "--where", "TRUE", "--program", "p"),
@@ -297,7 +358,7 @@ class TestFaults:
     def test_existing_file(self, out: Path) -> None:
         (out / "a.csv").write_text("old")
         options = (EXAMPLES, out / "a.csv", "--where", "TRUE", "--counties", CODE)
-        self.refused(out, 3, f"error: {out}/a.csv: File exists\n", *options)
+        self.refused(out, 3, f"error: {out}/a.csv: File exists: --overwrite replaces it\n", *options)
         assert (out / "a.csv").read_text() == "old"
         self.refused(out, 1, "refused 90", EXAMPLES, out / "a.csv", "--where", "(", "--overwrite", "--counties", CODE)
         assert (out / "a.csv").read_text() == "old"
@@ -306,10 +367,25 @@ class TestFaults:
 
     def test_no_folder(self, out: Path) -> None:
         nowhere = out / "no/a.csv"
-        self.refused(out, 3, f"error: {nowhere}: No such file or directory\n", EXAMPLES, nowhere, "--where", "TRUE")
+        self.refused(
+            out,
+            3,
+            f"error: {nowhere}: No such file or directory: check the path\n",
+            EXAMPLES,
+            nowhere,
+            "--where",
+            "TRUE",
+        )
         (out / "b.csv").mkdir()
         self.refused(
-            out, 3, f"error: {out}/b.csv: Is a directory\n", EXAMPLES, out / "b.csv", "--where", "TRUE", "--overwrite"
+            out,
+            3,
+            f"error: {out}/b.csv: Is a directory: name a file in it\n",
+            EXAMPLES,
+            out / "b.csv",
+            "--where",
+            "TRUE",
+            "--overwrite",
         )
 
     def test_unwritable_folder(
@@ -372,11 +448,31 @@ class TestFaults:
         said = "a.gpkg: ogr2ogr can't write it: it ended early with status 0\n"
         self.refused(out, 3, said, *options, environment={"PATH": path})
 
+    @pytest.mark.parametrize(("has_table", "overwrite"), [(False, False), (True, True), (True, False)])
+    def test_database(self, out: Path, tmp_path: Path, has_table: bool, overwrite: bool) -> None:
+        """Other programs take the place of GDAL's, and show what they are told."""
+        (tmp_path / "bin").mkdir()
+        program_of(tmp_path / "bin/ogr2ogr", f'echo "$@" > {tmp_path}/told; cat > {tmp_path}/table')
+        count = "echo '  features (Integer) = 240'"
+        program_of(tmp_path / "bin/ogrinfo", f'case "$*" in *-so*) exit {int(not has_table)};; *) {count};; esac')
+        options = ("--where", ROADS, "--counties", CODE, *STRAIGHT, *["--overwrite"] * overwrite)
+        path = f"{tmp_path / 'bin'}{os.pathsep}{os.environ['PATH']}"
+        done = run(EXAMPLES, "PG:dbname=roads password=secret", *options, environment={"PATH": path})
+        if has_table and not overwrite:
+            said = "error: the database has a table segments: --overwrite replaces it\n"
+            assert (done.returncode, done.stdout, done.stderr) == (3, "", said) and not (tmp_path / "told").exists()
+            return
+        assert (done.returncode, done.stdout, done.stderr) == (0, "the database: 240 segments\n", "")
+        told = (tmp_path / "told").read_text().split()
+        assert told[:2] == ["-f", "PostgreSQL"] and "-ds_transaction" in told and ("-overwrite" in told) == overwrite
+        assert "PG:dbname=roads password=secret" in (tmp_path / "told").read_text()
+        assert (tmp_path / "table").read_text().count("\n") == 241
+
     def test_no_outputs(self, out: Path) -> None:
         """Standard output or standard error is closed."""
         close = ["sh", "-c", 'exec "$@" >&-', "sh"]
         done = run(EXAMPLES, out / "a.csv", "--where", "TRUE", "--counties", CODE, *STRAIGHT, before=close)
-        assert (done.returncode, done.stderr) == (3, "error: the output can't be written: it is closed\n")
+        assert (done.returncode, done.stderr) == (3, "error: the output can't be written: standard output is closed\n")
         close = ["sh", "-c", 'exec "$@" 2>&-', "sh"]
         done = run(EXAMPLES, out / "a.csv", "--where", "TRUE", "--counties", CODE, *STRAIGHT, before=close)
         assert (done.returncode, done.stdout) == (3, "")

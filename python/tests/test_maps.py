@@ -13,11 +13,13 @@ from pathlib import Path
 from xml.etree import ElementTree
 
 import pytest
-from tigerline._interrupts import Interrupts
-from tigerline._map_rows import box_around, map_segments
-from tigerline._map_view import Box
-from tigerline._program import find_program
-from tigerline.maps import MapSegment, draw_html, draw_svg, table_of
+from tigerline.interrupts import Interrupts
+from tigerline.maps.content import box_around, map_segments
+from tigerline.maps.view import Box
+from tigerline.program import find_program
+from tigerline.maps import draw_html, draw_svg
+from tigerline.maps.rows import table_of
+from tigerline.maps.view import MapSegment
 
 SVG = "{http://www.w3.org/2000/svg}"
 TOWN = Path(__file__).parents[2] / "examples" / "town"
@@ -294,7 +296,7 @@ def select_by_hand() -> bytes:
 
 
 def drawn_by_command(*arguments: str) -> str:
-    command = [sys.executable, "-m", "tigerline.maps", *arguments]
+    command = [sys.executable, "-m", "tigerline", "map", "-", *arguments]
     environment = {**os.environ, "PYTHONPATH": str(PACKAGES)}
     return subprocess.run(
         command, input=select_by_hand(), env=environment, stdout=subprocess.PIPE, check=True
@@ -322,14 +324,14 @@ def test_picture_of_the_readme_is_what_the_command_draws() -> None:
 @pytest.mark.parametrize(
     ("rows", "county", "status", "text"),
     [
-        (None, None, 3, "nowhere: No such file or directory"),
+        (None, None, 3, "nowhere: No such file or directory: check the path"),
         (b"no row\n", None, 3, "rows: this isn't a row that extractd wrote: b'no row\\n'"),
-        (b"", "nowhere", 3, "nowhere: No such file or directory"),
+        (b"", "nowhere", 3, "nowhere: No such file or directory: check the path"),
         (b"", b"1" * 228 + b"\n" + b"2" * 228 + b"\n", 3, "county: refused 2 rt1 line 2 WrongType"),
     ],
 )
 def test_bad_input(tmp_path: Path, rows: bytes | None, county: bytes | str | None, status: int, text: str) -> None:
-    command = [sys.executable, "-m", "tigerline.maps", "nowhere" if rows is None else "rows"]
+    command = [sys.executable, "-m", "tigerline", "map", "nowhere" if rows is None else "rows"]
     if rows is not None:
         (tmp_path / "rows").write_bytes(rows)
     if isinstance(county, bytes):
@@ -342,7 +344,7 @@ def test_bad_input(tmp_path: Path, rows: bytes | None, county: bytes | str | Non
 
 
 def test_closed_pipe() -> None:
-    command = f'"{sys.executable}" -m tigerline.maps /dev/null --caption "$(yes | head -n 60000)"; echo $? >&2'
+    command = f'"{sys.executable}" -m tigerline map /dev/null --caption "$(yes | head -n 60000)"; echo $? >&2'
     environment = {**os.environ, "PYTHONPATH": str(PACKAGES)}
     done = subprocess.run(["sh", "-c", f"{{ {command}; }} | true"], env=environment, stderr=subprocess.PIPE, text=True)
     assert done.stderr == "error: the output can't be written: Broken pipe\n3\n"
@@ -350,7 +352,6 @@ def test_closed_pipe() -> None:
 
 def test_command_needs_only_rows() -> None:
     assert sum(map(int, legend_of(drawn_by_command("--by", "score")).values())) == select_by_hand().count(b"\n")
-    assert drawn_by_command("--html").startswith("<!DOCTYPE html>")
 
 
 # GDAL reads the same points

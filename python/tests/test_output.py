@@ -1,11 +1,13 @@
 """Files that appear completely or not at all."""
 
+import contextlib
 import errno
 import os
 from pathlib import Path
 
 import pytest
-from tigerline._output import pending_file
+from tigerline.interrupts import Interrupts
+from tigerline.output import pending_file
 
 
 def no_links(source: Path, target: Path) -> None:
@@ -21,7 +23,7 @@ def test_publish(tmp_path: Path, monkeypatch: pytest.MonkeyPatch, has_links: boo
     with pending_file(final, overwrite) as file:
         file.path.write_text("new")
         assert not final.exists()
-        file.publish()
+        file.publish(Interrupts())
     assert final.read_text() == "new" and list(tmp_path.iterdir()) == [final]
 
 
@@ -33,9 +35,24 @@ def test_file_that_appears_meanwhile(tmp_path: Path, monkeypatch: pytest.MonkeyP
     with pytest.raises(FileExistsError) as caught, pending_file(final, overwrite=False) as file:
         file.path.write_text("new")
         final.write_text("other")
-        file.publish()
+        file.publish(Interrupts())
     assert caught.value.filename == str(final)
     assert final.read_text() == "other" and list(tmp_path.iterdir()) == [final]
+
+
+@pytest.mark.parametrize("overwrite", [True, False])
+def test_files_of_a_shapefile(tmp_path: Path, overwrite: bool) -> None:
+    """The one with the output's name comes last."""
+    (tmp_path / "a.dbf").write_text("old")
+    with contextlib.ExitStack() as stack:
+        file = stack.enter_context(pending_file(tmp_path / "a.SHP", overwrite))
+        for suffix in (".shp", ".dbf"):
+            file.path.with_suffix(suffix).write_text("new")
+        if not overwrite:
+            stack.enter_context(pytest.raises(FileExistsError, match="a.dbf"))
+        file.publish(Interrupts())
+    assert sorted(path.name for path in tmp_path.iterdir()) == (["a.SHP", "a.dbf"] if overwrite else ["a.dbf"])
+    assert (tmp_path / "a.dbf").read_text() == ("new" if overwrite else "old")
 
 
 def test_link_stays_a_link(tmp_path: Path) -> None:
@@ -43,7 +60,7 @@ def test_link_stays_a_link(tmp_path: Path) -> None:
     (tmp_path / "a.csv").symlink_to("real.csv")
     with pending_file(tmp_path / "a.csv", overwrite=True) as file:
         file.path.write_text("new")
-        file.publish()
+        file.publish(Interrupts())
     assert (tmp_path / "a.csv").is_symlink() and (tmp_path / "real.csv").read_text() == "new"
 
 

@@ -9,8 +9,8 @@ from pathlib import Path
 import pytest
 import tigerline
 from counties import CODE, EXAMPLES, SEGMENTS, TOP, copy_county, program_of, records
-from tigerline import Refused
-from tigerline._layout import NAMES
+from tigerline import RefusedError
+from tigerline.layout import NAMES
 
 HEADER = ",".join(("score", *NAMES)) + "\\n"
 ROW = "0" + "," * len(NAMES) + "\\n"
@@ -61,7 +61,7 @@ class TestStatuses:
         ],
     )
     def test_refusals(self, tmp_path: Path, line: str, number: int, name: str, place: str, county: str | None) -> None:
-        with pytest.raises(Refused) as caught:
+        with pytest.raises(RefusedError) as caught:
             outcome(program_of(tmp_path / "program", f"printf '{TABLE}'; echo '{line}' >&2; exit 1"))
         refused = pickle.loads(pickle.dumps(caught.value))
         assert (refused.number, refused.name, refused.place, refused.county) == (number, name, place, county)
@@ -133,20 +133,20 @@ class TestBuilt:
         assert done.stdout == f"{SEGMENTS}\n[]\n"
 
     def test_filter_is_refused(self, extractd: str) -> None:
-        with pytest.raises(Refused) as caught:
+        with pytest.raises(RefusedError) as caught:
             tigerline.rows("ZIPL = 36067 AND\n  ZIP = 1", EXAMPLES, CODE).__next__()
         assert (caught.value.number, caught.value.place, caught.value.name) == (91, "line 2 column 3", "UnknownColumn")
         assert "the nearest is ZIPL" in caught.value.text and caught.value.county is None
 
     @pytest.mark.parametrize("where", ["", "-1", "--help", "'", "TRUE\0", "FENAME = '\udcff'"])
     def test_odd_filters(self, extractd: str, where: str) -> None:
-        with pytest.raises((Refused, ValueError)):
+        with pytest.raises((RefusedError, ValueError)):
             list(tigerline.rows(where, EXAMPLES, CODE))
 
     def test_long_filter(self, extractd: str) -> None:
         where = "TRUE" + " " * 140_000
         assert len(list(tigerline.rows(where, EXAMPLES, CODE))) == SEGMENTS
-        with pytest.raises(Refused, match="refused 90 line 1 column 140005 Syntax"):
+        with pytest.raises(RefusedError, match="refused 90 line 1 column 140005 Syntax"):
             list(tigerline.rows(where + "(", EXAMPLES, CODE))
 
     def test_program(self, extractd: str, tmp_path: Path) -> None:
@@ -155,7 +155,7 @@ class TestBuilt:
         expected = [int(line[5:15]) for line in records(EXAMPLES / "TGR01001.RT1") if line[55:56] != b"H"]
         for program in (words, path, os.path.relpath(path)):
             assert [row.TLID for row in tigerline.rows(program=program, data=EXAMPLES, counties=CODE)] == expected
-        with pytest.raises(Refused, match="refused 40 place 0 ReadsNothing"):
+        with pytest.raises(RefusedError, match="refused 40 place 0 ReadsNothing"):
             list(tigerline.rows(program=words[16:], data=EXAMPLES, counties=CODE))
         with pytest.raises(OSError, match="nowhere.bpf: not found"):
             list(tigerline.rows(program=tmp_path / "nowhere.bpf", data=EXAMPLES, counties=CODE))
@@ -167,7 +167,7 @@ class TestBuilt:
             file.write(b"x\n")
         iterator = tigerline.rows("TRUE", tmp_path)
         assert {next(iterator).county for _ in range(SEGMENTS)} == {"01001"}
-        with pytest.raises(Refused, match="refused 1 rt1 line 401 WrongLength\ncounty 01003"):
+        with pytest.raises(RefusedError, match="refused 1 rt1 line 401 WrongLength\ncounty 01003"):
             next(iterator)
 
     def test_arguments(self) -> None:

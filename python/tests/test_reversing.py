@@ -13,7 +13,7 @@ from typing import NamedTuple
 import pytest
 import tigerline
 from counties import CODE, EXAMPLES, copy_county, zip_folder
-from test_main import layer, run
+from test_main import layer, run_command as run
 from towns import write_cities
 
 pytest.importorskip("shapely", reason="no shapely")

@@ -6,7 +6,7 @@ from pathlib import Path
 import pytest
 import tigerline
 from counties import CODE, EXAMPLES, SEGMENTS, copy_county, gdal_rows, points_of, records, write_shapes, zip_folder
-from tigerline import _layout as layout
+from tigerline import layout
 
 pytestmark = pytest.mark.usefixtures("extractd", "frames", "scratch")
 

@@ -11,7 +11,7 @@ from pathlib import Path
 import pytest
 import tigerline
 from counties import CODE, EXAMPLES, SEGMENTS, copy_county, program_of, records, write_shapes, zip_folder
-from tigerline import _sources
+from tigerline import sources
 
 EXPECTED = [int(record[5:15]) for record in records(EXAMPLES / f"TGR{CODE}.RT1")]
 
@@ -173,7 +173,7 @@ class TestBadSources:
         assert not (tmp_path / "TGR01001.RT4").exists()
 
     def test_more_than_the_limit(self, tmp_path: Path, never: str, monkeypatch: pytest.MonkeyPatch) -> None:
-        monkeypatch.setattr(_sources, "UNPACKED_LIMIT", 100_000)
+        monkeypatch.setattr(sources, "UNPACKED_LIMIT", 100_000)
         archive = zip_folder(copy_county(tmp_path / "plain"), tmp_path / "TGR01001.ZIP")
         with pytest.raises(OSError, match="unpacks to more than 100,000 bytes"):
             segments(archive, CODE, never)
@@ -241,6 +241,6 @@ class TestBadSources:
     def test_bad_shapes(self, tmp_path: Path, frames: None, extractd: str, line: bytes, said: str) -> None:
         path = write_shapes(copy_county(tmp_path))
         path.write_bytes(b"".join(path.read_bytes().splitlines(keepends=True)[:7]) + line)
-        with pytest.raises(tigerline.Refused) as caught:
+        with pytest.raises(tigerline.RefusedError) as caught:
             tigerline.select("TRUE", tmp_path, CODE)
         assert str(caught.value) == said

@@ -1,4 +1,4 @@
-"""The package's types, and the errors that a caller sees."""
+"""The package's types, the errors that a caller sees, and the format of the code."""
 
 import subprocess
 import sys
@@ -34,3 +34,10 @@ def test_package(tmp_path: Path) -> None:
         '"Row" has no attribute "fename"  [attr-defined]',
     ]
     assert "No overload variant" in shown[3] and shown[-1].startswith("Found 2 errors in 1 file ")
+
+
+def test_format() -> None:
+    pytest.importorskip("black", reason="no black")
+    command = [sys.executable, "-m", "black", "--check", "--quiet", "--diff", "tigerline", "tests"]
+    done = subprocess.run(command, cwd=TOP / "python", stdout=subprocess.PIPE, text=True)
+    assert (done.stdout, done.returncode) == ("", 0)

@@ -7,46 +7,31 @@
 tuples, and needs the standard library alone.
 """
 
-from importlib import import_module
-
-from ._version import __version__ as __version__
+from .optional import required
+from .version import __version__ as __version__
 
 TYPE_CHECKING = False  # True for type checkers. Importing the module typing takes long.
 if TYPE_CHECKING:
-    from ._frames import read_county, select
-    from ._program import Refused
-    from ._rows import Row, rows
-    from .geocoding import Address, Candidate, Match, Reason, Status, geocode
-    from .reversing import Nearest, reverse
+    from .frames import read_county, select
+    from .geocoding import Address, Candidate, Match, Nearest, Reason, Status, geocode, reverse
+    from .program import RefusedError
+    from .tuples import Row, rows
 
 __all__ = [
-    "Address", "Candidate", "Match", "Nearest", "Reason", "Refused", "Row", "Status", "geocode", "read_county",
+    "Address", "Candidate", "Match", "Nearest", "Reason", "RefusedError", "Row", "Status", "geocode", "read_county",
     "reverse", "rows", "select",
 ]  # fmt: skip
 
-# Each name is imported on its first use, so that `rows` works without pandas and commands start quickly.
-_MODULES = {
-    "Address": "geocoding",
-    "Candidate": "geocoding",
-    "Match": "geocoding",
-    "Nearest": "reversing",
-    "Reason": "geocoding",
-    "Refused": "_program",
-    "Row": "_rows",
-    "Status": "geocoding",
-    "geocode": "geocoding",
-    "read_county": "_frames",
-    "reverse": "reversing",
-    "rows": "_rows",
-    "select": "_frames",
-}
+_OTHER_MODULES = {
+    "RefusedError": "program", "Row": "tuples", "read_county": "frames", "rows": "tuples", "select": "frames"
+}  # fmt: skip
 
 
 def __getattr__(name: str) -> object:
-    """Imports a function or a class on its first use."""
-    if name not in _MODULES:
+    """Imports a function or a class on its first use, so that `rows` works without pandas and commands start quickly."""
+    if name not in __all__:
         raise AttributeError(f"module {__name__!r} has no attribute {name!r}")
-    return getattr(import_module(f".{_MODULES[name]}", __name__), name)
+    return getattr(required(f"{__name__}.{_OTHER_MODULES.get(name, 'geocoding')}"), name)
 
 
 def __dir__() -> list[str]:

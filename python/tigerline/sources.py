@@ -1,0 +1,269 @@
+"""Finds the files of counties as the Census Bureau ships them, and presents them as `extractd` expects them."""
+
+import os
+import re
+import stat
+import struct
+import warnings
+import zipfile
+import zlib
+from collections.abc import Container, Iterable, Iterator
+from contextlib import contextmanager
+from dataclasses import dataclass
+from pathlib import Path, PurePosixPath
+from typing import BinaryIO
+
+from .interrupts import Interrupts
+from .scratch import rename_errors_to, scratch_folder
+
+# The FIPS codes of the states, the District of Columbia, and the territories in TIGER/Line.
+STATES = {
+    "AL": "01", "AK": "02", "AZ": "04", "AR": "05", "CA": "06", "CO": "08", "CT": "09", "DE": "10", "DC": "11",
+    "FL": "12", "GA": "13", "HI": "15", "ID": "16", "IL": "17", "IN": "18", "IA": "19", "KS": "20", "KY": "21",
+    "LA": "22", "ME": "23", "MD": "24", "MA": "25", "MI": "26", "MN": "27", "MS": "28", "MO": "29", "MT": "30",
+    "NE": "31", "NV": "32", "NH": "33", "NJ": "34", "NM": "35", "NY": "36", "NC": "37", "ND": "38", "OH": "39",
+    "OK": "40", "OR": "41", "PA": "42", "RI": "44", "SC": "45", "SD": "46", "TN": "47", "TX": "48", "UT": "49",
+    "VT": "50", "VA": "51", "WA": "53", "WV": "54", "WI": "55", "WY": "56", "AS": "60", "GU": "66", "MP": "69",
+    "PR": "72", "UM": "74", "VI": "78",
+}  # fmt: skip
+UNPACKED_LIMIT = 1 << 30
+CHUNK = 1 << 20
+_FILE = re.compile(r"TGR([0-9]{5})\.(?:RT([12456C])|(ZIP))", re.IGNORECASE)
+
+
+@dataclass(frozen=True)
+class County:
+    """The files of a county: one per record type, or a zip file with all of them."""
+
+    code: str
+    folder: Path
+    files: dict[str, Path]
+    archive: Path | None = None
+
+    @property
+    def place(self) -> Path:
+        """The file to name in a message."""
+        return self.archive or self.files["1"]
+
+
+def find_counties(data: Path) -> list[County]:
+    """Returns the counties of a folder and the folders in it, or of a zip file.
+
+    A county may be there several times. Within a folder, unpacked files take precedence over a zip file.
+    """
+    if not data.is_dir():
+        return _counties_of_archive(data)
+    found: list[County] = []
+    for folder, folders, names in os.walk(data, onerror=_report_folder):
+        folders.sort()
+        found += _counties_of_folder(Path(folder), sorted(names))
+    return found
+
+
+def _report_folder(error: OSError) -> None:
+    warnings.warn(f"{error.filename} is left out: {error.strerror}", stacklevel=2)
+
+
+def _counties_of_folder(folder: Path, names: list[str]) -> Iterator[County]:
+    files: dict[str, dict[str, Path]] = {}
+    archives: dict[str, Path] = {}
+    for name in names:
+        found = _FILE.fullmatch(name)
+        if not found:
+            continue
+        code, record_type, archive = found.groups()
+        place = archives if archive else files.setdefault(code, {})
+        key = code if archive else record_type.upper()
+        if key in place:
+            raise OSError(f"{folder} has {place[key].name} and {name}, which are the same file of a county")
+        place[key] = folder / name
+    for code, types in files.items():
+        if "1" in types:
+            yield County(code, folder, types)
+    for code, path in archives.items():
+        if "1" not in files.get(code, {}):
+            yield County(code, folder, {}, path)
+
+
+def _counties_of_archive(path: Path) -> list[County]:
+    if path.exists() and not path.is_file():
+        raise OSError(f"{path} is neither a folder nor a zip file")
+    with _opened_archive(path) as archive:
+        codes = {code for code, record_type in _members(archive, path) if record_type == "1"}
+    if not codes:
+        raise FileNotFoundError(f"{path} has no file of record type 1, such as TGR01001.RT1")
+    return [County(code, path.parent, {}, path) for code in sorted(codes)]
+
+
+def counties_in(data: str | os.PathLike[str], counties: str | Iterable[str] | None) -> list[County]:
+    """Returns the requested counties of a folder and the folders in it, or of a zip file."""
+    folder = Path(data)
+    return choose_counties(find_counties(folder), counties, folder)
+
+
+def choose_counties(found: list[County], counties: str | Iterable[str] | None, data: Path) -> list[County]:
+    """Returns the requested counties, each once, in the order requested.
+
+    "01001" is a county, "01" or "AL" means all counties of a state, and None all counties that are there.
+    """
+    wanted = sorted({county.code for county in found}) if counties is None else []
+    for name in [counties] if isinstance(counties, str) else counties or []:
+        wanted += _codes(name, found, data)
+    if not wanted:
+        raise FileNotFoundError(f"{data} has no county: no file such as TGR01001.RT1 or TGR01001.ZIP")
+    return [_only(code, found, data) for code in dict.fromkeys(wanted)]
+
+
+def _codes(name: str, found: list[County], data: Path) -> list[str]:
+    prefix = STATES.get(name.upper(), name)
+    if not re.fullmatch(r"[0-9]{2}|[0-9]{5}", prefix):
+        raise ValueError(f'{name!r} is no county: counties are written as "01001", or "AL" or "01" for all of a state')
+    codes = sorted({county.code for county in found if county.code.startswith(prefix)})
+    if not codes:
+        pattern = prefix if len(prefix) == 5 else prefix + "???"
+        raise FileNotFoundError(f"{data} has no TGR{pattern}.RT1 and no TGR{pattern}.ZIP")
+    return codes
+
+
+def _only(code: str, found: list[County], data: Path) -> County:
+    """Returns the county that is the fewest folders away from `data`. Raises OSError if two are equally far."""
+    candidates = sorted((county for county in found if county.code == code), key=_depth)
+    if len(candidates) > 1 and _depth(candidates[0]) == _depth(candidates[1]):
+        raise OSError(f"{data} has county {code} twice: {candidates[0].place} and {candidates[1].place}")
+    return candidates[0]
+
+
+def _depth(county: County) -> int:
+    return len(county.folder.parts)
+
+
+def has_shapes(county: County) -> bool:
+    """Returns whether a county has a file of record type 2."""
+    if county.archive is None:
+        return "2" in county.files
+    with _opened_archive(county.archive) as archive:
+        return (county.code, "2") in _members(archive, county.archive)
+
+
+@contextmanager
+def opened_county(county: County, types: str, interrupts: Interrupts) -> Iterator[dict[str, Path]]:
+    """Makes a temporary folder with the files of a county, named in capitals, and yields their paths by record type.
+
+    They are links to files or unpacked from a zip file. Warns if a file of type 4, 5 or 6 is missing.
+    """
+    with scratch_folder() as folder:
+        if county.archive is None:
+            _link(county, types, folder)
+        else:
+            _unpack(county.archive, county.code, types, folder, interrupts)
+        interrupts.check()
+        paths = {record_type: folder / f"TGR{county.code}.RT{record_type}" for record_type in types}
+        present = {record_type: path for record_type, path in paths.items() if path.exists()}
+        _require(county, types, present)
+        yield present
+
+
+def _link(county: County, types: str, folder: Path) -> None:
+    for record_type, path in county.files.items():
+        if record_type in types:
+            _require_regular(path)
+            (folder / f"TGR{county.code}.RT{record_type}").symlink_to(path.absolute())
+
+
+def _require(county: County, types: str, present: dict[str, Path]) -> None:
+    for record_type in "12":
+        if record_type in types and record_type not in present:
+            raise FileNotFoundError(f"{county.archive or county.folder} has no TGR{county.code}.RT{record_type}")
+    missing = missing_names(county, present)
+    if missing is not None:
+        warnings.warn(missing, stacklevel=2)
+
+
+def missing_names(county: County, present: Container[str]) -> str | None:
+    """Returns the names of missing files of type 4, 5 and 6, or None if all are there."""
+    missing = [f"TGR{county.code}.RT{record_type}" for record_type in "456" if record_type not in present]
+    if not missing:
+        return None
+    return f"{county.archive or county.folder} has no {', '.join(missing)}: names or address ranges may be missing"
+
+
+def _require_regular(path: Path) -> None:
+    """Raises OSError for a pipe or a device, which could block whoever opens it."""
+    if path.exists() and not path.is_file():
+        raise OSError(f"{path} isn't a regular file")
+
+
+@contextmanager
+def _opened_archive(path: Path) -> Iterator[zipfile.ZipFile]:
+    _require_regular(path)
+    try:
+        with zipfile.ZipFile(path) as archive:
+            yield archive
+    except (zipfile.BadZipFile, zlib.error, struct.error, EOFError, IndexError, OverflowError, ValueError) as error:
+        raise OSError(f"{path} isn't a whole zip file: {error}") from None
+    except (NotImplementedError, RuntimeError) as error:
+        raise OSError(f"{path} can't be unpacked: {error}") from None
+
+
+def _members(archive: zipfile.ZipFile, path: Path) -> dict[tuple[str, str], zipfile.ZipInfo]:
+    """Returns the members with records, by county and record type.
+
+    Raises OSError for a member that is outside of the archive's folder, a link or another zip file, for repeated
+    members, and for several counties.
+    """
+    found: dict[tuple[str, str], zipfile.ZipInfo] = {}
+    for member in archive.infolist():
+        inside = PurePosixPath(member.filename.replace("\\", "/"))
+        if inside.is_absolute() or ".." in inside.parts:
+            raise OSError(f"{path} has a member outside its folder: {member.filename!r}")
+        name = _FILE.fullmatch(inside.name)
+        if not name or member.is_dir():
+            continue
+        if name[3]:
+            raise OSError(f"{path} has the zip file {member.filename!r} in it: unpack it, and name the folder")
+        if stat.S_ISLNK(member.external_attr >> 16):
+            raise OSError(f"{path} has a link in place of a file: {member.filename!r}")
+        key = name[1], name[2].upper()
+        if key in found:
+            raise OSError(f"{path} has {inside.name} twice")
+        found[key] = member
+    codes = sorted({code for code, _ in found})
+    if len(codes) > 1:
+        raise OSError(f"{path} has more than one county, {' and '.join(codes[:2])}: unpack it, and name the folder")
+    return found
+
+
+def _unpack(path: Path, code: str, types: str, folder: Path, interrupts: Interrupts) -> None:
+    with _opened_archive(path) as archive:
+        members = _members(archive, path)
+        wanted = {record_type: members[code, record_type] for record_type in types if (code, record_type) in members}
+        if sum(member.file_size for member in wanted.values()) > UNPACKED_LIMIT:
+            raise OSError(f"{path} unpacks to more than {UNPACKED_LIMIT:,} bytes")
+        for record_type, member in wanted.items():
+            if member.compress_type not in (zipfile.ZIP_STORED, zipfile.ZIP_DEFLATED):
+                raise OSError(f"{path} can't be unpacked: {member.filename!r} isn't compressed by deflate")
+            unpacked = folder / f"TGR{code}.RT{record_type}"
+            with rename_errors_to(unpacked), open(unpacked, "wb") as file:
+                _unpack_member(archive, member, path, file, interrupts)
+
+
+def _unpack_member(
+    archive: zipfile.ZipFile, member: zipfile.ZipInfo, path: Path, file: BinaryIO, interrupts: Interrupts
+) -> None:
+    """Writes a member to a file. Raises OSError if it doesn't have the stated size.
+
+    `zipfile` stops after the stated size without an error, so it is given one byte more.
+    """
+    stated = member.file_size
+    member.file_size = stated + 1
+    with archive.open(member) as content:
+        while chunk := content.read(CHUNK):
+            interrupts.check()
+            file.write(chunk)
+            if file.tell() > stated:
+                break
+    if file.tell() != stated:
+        more_or_less = "more" if file.tell() > stated else "less"
+        raise OSError(
+            f"{path} isn't a whole zip file: {member.filename!r} has {more_or_less} than the stated {stated} bytes"
+        )
