@@ -72,7 +72,7 @@ extractd compile --filter f.json --filter-lang cql2-json;; 1; refused 90 Syntax\
 extractd compile --filter f.json --filter-lang cql2-json;; 1; refused 90 pointer /args/0/args Syntax\nexpected an array of one value;
   f.json: \x7b"op":"not","args":[\x7b"op":"not","args":[]\x7d]\x7d
 extractd compile --filter f.json --filter-lang cql2-json;; 1; refused 90 pointer /op Syntax\nexpected the name of an operator or a function;
-  f.json: \x7b"op":"!=","args":[1,2]\x7d
+  f.json: \x7b"op":"\x21=","args":[1,2]\x7d
 extractd compile --filter f.json --filter-lang cql2-json;; 1;
   refused 91 pointer /args/0/property UnknownColumn\nno column has this name, and the nearest is ZIPL;
   f.json: \x7b"op":"=","args":[\x7b"property":"ZIP"\x7d,36067]\x7d
