@@ -529,10 +529,12 @@ fn nearest_names(rt: HostRuntime) {
 
 // A text as other query languages have it, and what to write.
 const HINTS: Table = Table {
-    rows: 12,
+    rows: 14,
     text: r#"
-S_CONTAINS(geometry, POINT(1 2)); write STARTS_IN(BBOX(west, south, east, north))
-TRUE AND within(5); write STARTS_IN(BBOX(west, south, east, north))
+S_CONTAINS(geometry, POINT(1 2)); write S_INTERSECTS, S_DISJOINT or S_WITHIN
+TRUE AND within(5); write S_WITHIN(geometry, BBOX(west, south, east, north))
+S_WITHIN(geometry, POLYGON((0 0, 1 0, 1 1, 0 0))); write S_WITHIN(geometry, BBOX(west, south, east, north))
+S_INTERSECTS(geometry, MULTIPOINT((1 2))); write S_INTERSECTS once for each shape, with OR between them
 UPPER(FENAME) = 'MAIN'; write CASEI on both sides
 lower(FENAME) = 'main'; write CASEI on both sides
 ZIPL != 5; write <>
