@@ -1,5 +1,6 @@
 -- Lists of different columns.
-use Rattle.std.proofs.Common.{◌≡◌, ℕ, ◌+◌, ◌<◌, ◌≤◌, true, false, List, [], ◌∷◌, ◌++◌, length, map, get_or, set, take, drop, Option, Some, None, Result, Ok, Err, ◌⊎◌, inl, inr, subst, ◌==◌, refl, sym, ap, ◌∙◌, arith}
+use Rattle.std.proofs.Common.{◌≡◌, ℕ, ◌+◌, ◌<◌, ◌≤◌, true, false, List, [], ◌∷◌, ◌++◌, length, map, get_or, set}
+use Rattle.std.proofs.Common.{take, drop, Option, Some, None, Result, Ok, Err, ◌⊎◌, inl, inr, subst, ◌==◌, refl, sym, ap, ◌∙◌, arith}
 use Rattle.std.proofs.lemmas.Bool.{cases_Bool}
 use Rattle.std.proofs.lemmas.Cmp.{nat_list_eq_equiv}
 use Rattle.std.proofs.lemmas.Grind.{take-set_at}
@@ -13,7 +14,8 @@ use Rattle.std.specs.Set.{is_member}
 use Rattle.cql2.specs.declared.column.Column.{Column as AColumn}
 use Rattle.cql2.specs.declared.column.Column.TheVariants.{Numeric, Text}
 use Rattle.cql2.specs.declared.column.CoordinateColumn.TheVariants.{Frlong, Frlat, Tolong, Tolat}
-use Rattle.cql2.specs.declared.column.NumberColumn.TheVariants.{Tlid, Fraddl, Toaddl, Fraddr, Toaddr, Zipl, Zipr, Statel, Stater, Countyl, Countyr, Placel, Placer, Tractl, Tractr, Blockl, Blockr}
+use Rattle.cql2.specs.declared.column.NumberColumn.TheVariants.{Tlid, Fraddl, Toaddl, Fraddr, Toaddr, Zipl, Zipr, Statel, Stater}
+use Rattle.cql2.specs.declared.column.NumberColumn.TheVariants.{Countyl, Countyr, Placel, Placer, Tractl, Tractr, Blockl, Blockr}
 use Rattle.cql2.specs.declared.column.NumericColumn.TheVariants.{Number, Coordinate}
 use Rattle.cql2.specs.declared.column.TextColumn.TheVariants.{Rt, Version, Side1, Source, Fedirp, Fename, Fetype, Fedirs, Cfcc}
 use Rattle.cql2.specs.declared.column.TextColumn.TheVariants.{FraddlText, ToaddlText, FraddrText, ToaddrText, Friaddl, Toiaddl, Friaddr, Toiaddr}
@@ -125,7 +127,8 @@ module _ (before : List AColumn) (names rest : List (List ℕ)) (name : List ℕ
   column_added column is = sym (next ∙ ap more is)
 
 -- no name is a fault
-pub columns_named-some : {A : Type 0} (f : A → List ℕ) (names : List A) → (length names == 0) ≡ false → columns_after [] (map f names) ≡ columns_named (map f names)
+pub columns_named-some : {A : Type 0} (f : A → List ℕ) (names : List A) → (length names == 0) ≡ false
+    → columns_after [] (map f names) ≡ columns_named (map f names)
 columns_named-some f [] some = cc some
 columns_named-some f (name ∷ names) some = refl
 
