@@ -26,7 +26,7 @@ returns-in-Some-clause-reads g c =
 pub returns-clause-reads : goal.returns-clause-reads
 returns-clause-reads g c =
     let some : 4 ≤ length c.in_ok-vertices.vertices.items =
-        omega (arith, c.len.ensures, c.in_ok-vertices.vertices.ok.0, c.if-len-lt-MIN_RING_POSITIONS.false) in
+    omega (arith, c.len.ensures, c.in_ok-vertices.vertices.ok.0, c.if-len-lt-MIN_RING_POSITIONS.false) in
     λ rest points is.
     let read = c.in_ok-vertices.ensures.reads _ _ is.positions in
     absurd
