@@ -1,8 +1,7 @@
 -- The coordinates of a shape's edges have at most nine digits.
-use Rattle.std.proofs.Common.{List, [], ◌∷◌, ◌++◌}
+use Rattle.std.proofs.Common.{List, [], ◌∷◌, ◌++◌, arith}
 use Rattle.std.specs.List.{flat_map}
-use Rattle.cql2.specs.Geometry.{Edge, edge_of, edges_of_bounds, edges_of_polygon, edges_of_ring, edges_through, point_of}
-use Rattle.cql2.specs.declared.geometry.Bounds.{Bounds}
+use Rattle.cql2.specs.Geometry.{Edge, edge_of, edges_of_polygon, edges_of_ring, edges_through, point_of}
 use Rattle.cql2.specs.declared.geometry.Polygon.{Polygon}
 use Rattle.cql2.specs.declared.geometry.Ring.{Ring}
 use Rattle.cql2.specs.declared.geometry.Vertex.{Vertex}
@@ -17,7 +16,10 @@ short-append [] b one two = two
 short-append (edge ∷ a) b one two = (one.0, short-append a b one.1 two)
 
 vertex_near : (vertex : Vertex) → IsNear (point_of vertex)
-vertex_near vertex = record { longitude = vertex.longitude_fits; latitude = vertex.latitude_fits }
+vertex_near vertex =
+    let longitude = vertex.longitude_fits in
+    let latitude = vertex.latitude_fits in
+    record { longitude = omega arith; latitude = omega arith }
 
 pub edge_short : (vertex next : Vertex) → IsShort (edge_of vertex next)
 edge_short vertex next = record { start = vertex_near vertex; end = vertex_near next }
@@ -37,16 +39,3 @@ rings_short (ring ∷ rings) = short-append (edges_of_ring ring.vertices.items) 
 
 pub polygon_short : {A : Type 0} (polygon : Polygon A) → AreShort (edges_of_polygon polygon)
 polygon_short polygon = rings_short polygon.rings.items
-
-pub bounds_short : (bounds : Bounds) → AreShort (edges_of_bounds bounds)
-bounds_short bounds =
-    let southwest = vertex_near bounds.southwest in
-    let northeast = vertex_near bounds.northeast in
-    let southeast : IsNear _ = record { longitude = northeast.longitude; latitude = southwest.latitude } in
-    let northwest : IsNear _ = record { longitude = southwest.longitude; latitude = northeast.latitude } in (
-      record { start = southwest; end = southeast },
-      (
-        record { start = southeast; end = northeast },
-        (record { start = northeast; end = northwest }, (record { start = northwest; end = southwest }, tt)),
-      ),
-    )

@@ -52,6 +52,10 @@ pub mul-sub : (a b c : ℤ) → a *ℤ (b -ℤ c) ≡ a *ℤ b -ℤ a *ℤ c
 mul-sub a b c =
     *ℤ_comm a (b -ℤ c) ∙ sub-mul b c a ∙ ap (λ (z : ℤ). z -ℤ c *ℤ a) (*ℤ_comm b a) ∙ ap (λ (z : ℤ). a *ℤ b -ℤ z) (*ℤ_comm c a)
 
+pub mul-add : (a b c : ℤ) → a *ℤ (b +ℤ c) ≡ a *ℤ b +ℤ a *ℤ c
+mul-add a b c =
+    *ℤ_comm a (b +ℤ c) ∙ add-mul b c a ∙ ap (λ (z : ℤ). z +ℤ c *ℤ a) (*ℤ_comm b a) ∙ ap (λ (z : ℤ). a *ℤ b +ℤ z) (*ℤ_comm c a)
+
 -- sizes
 
 pub abs-sub : (a b : ℤ) → unsigned_abs (a -ℤ b) ≤ unsigned_abs a + unsigned_abs b

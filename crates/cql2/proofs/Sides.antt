@@ -1,6 +1,6 @@
 -- The side of an edge on which a point lies. It is the difference of what the point and the edge's start lie across the edge. With coordinates of at
--- most nine digits, all of these numbers fit into 64 bits with a sign.
-use Rattle.std.proofs.Common.{◌≡◌, ◌*◌, ◌^◌, ◌<◌, ◌≤◌, ℤ, pos, sym, ap, ◌∙◌, subst, arith}
+-- most 1000 degrees, all of these numbers fit into 64 bits with a sign.
+use Rattle.std.proofs.Common.{◌≡◌, ◌*◌, ◌^◌, ◌≤◌, ℤ, pos, sym, ap, ◌∙◌, subst, arith}
 use Rattle.std.specs.Prelude.{◌-ℤ◌, ◌*ℤ◌, int_lt, unsigned_abs, FitsSigned}
 use Rattle.std.specs.Int.{w64}
 use Rattle.std.proofs.lemmas.Int.{fits_signed_from_abs, ints}
@@ -39,10 +39,10 @@ right_is edge point = ap (λ (z : ℤ). int_lt z (pos 0)) (side_is edge point) �
 
 -- sizes
 
--- a point's coordinates have at most nine digits
+-- a point's coordinates are at most 1000 degrees
 pub record IsNear (point : Point) : Type 0 where
-  pub longitude : unsigned_abs point.longitude < 10 ^ 9
-  pub latitude : unsigned_abs point.latitude < 10 ^ 9
+  pub longitude : unsigned_abs point.longitude ≤ 10 ^ 9
+  pub latitude : unsigned_abs point.latitude ≤ 10 ^ 9
 
 -- so have those of an edge's ends
 pub record IsShort (edge : Edge) : Type 0 where
@@ -50,7 +50,7 @@ pub record IsShort (edge : Edge) : Type 0 where
   pub end : IsNear edge.end
 
 -- a difference of two such coordinates
-difference_small : (a b : ℤ) → unsigned_abs a < 10 ^ 9 → unsigned_abs b < 10 ^ 9 → unsigned_abs (a -ℤ b) ≤ 2 * 10 ^ 9
+difference_small : (a b : ℤ) → unsigned_abs a ≤ 10 ^ 9 → unsigned_abs b ≤ 10 ^ 9 → unsigned_abs (a -ℤ b) ≤ 2 * 10 ^ 9
 difference_small a b one two = let most = abs-sub a b in omega arith
 
 pub eastward_small : (edge : Edge) → IsShort edge → unsigned_abs (eastward edge) ≤ 2 * 10 ^ 9
@@ -63,14 +63,12 @@ northward_small edge short = difference_small edge.end.latitude edge.start.latit
 pub east_small : (edge : Edge) (point : Point) → IsShort edge → IsNear point
     → unsigned_abs (eastward edge *ℤ point.latitude) ≤ 2 * 10 ^ 18
 east_small edge point short near =
-    let far : unsigned_abs point.latitude ≤ 10 ^ 9 = let h = near.latitude in omega arith in
-    abs-mul (eastward edge) point.latitude (2 * 10 ^ 9) (10 ^ 9) (eastward_small edge short) far
+    abs-mul (eastward edge) point.latitude (2 * 10 ^ 9) (10 ^ 9) (eastward_small edge short) near.latitude
 
 pub north_small : (edge : Edge) (point : Point) → IsShort edge → IsNear point
     → unsigned_abs (northward edge *ℤ point.longitude) ≤ 2 * 10 ^ 18
 north_small edge point short near =
-    let far : unsigned_abs point.longitude ≤ 10 ^ 9 = let h = near.longitude in omega arith in
-    abs-mul (northward edge) point.longitude (2 * 10 ^ 9) (10 ^ 9) (northward_small edge short) far
+    abs-mul (northward edge) point.longitude (2 * 10 ^ 9) (10 ^ 9) (northward_small edge short) near.longitude
 
 pub across_small : (edge : Edge) (point : Point) → IsShort edge → IsNear point → unsigned_abs (across edge point) ≤ 4 * 10 ^ 18
 across_small edge point short near =

@@ -5,9 +5,9 @@ use Rattle.tl_segments.specs.Name.{name_equals}
 use Rattle.tl_segments.specs.Range.{lies_on}
 use Rattle.tl_segments.specs.Segment.{SegmentParts, names_of, ranges_of}
 use Rattle.tl_segments.specs.declared.range.RangeFields.{RangeFields}
-use Rattle.cql2.specs.Geometry.{geometry_of, lies_in_some, meets, start_of}
+use Rattle.cql2.specs.Geometry.{contains, geometry_of, lies_in_bounds, lies_in_some, meets, start_of}
 use Rattle.cql2.specs.declared.function.Function.{Function}
-use Rattle.cql2.specs.declared.function.Function.TheVariants.{HasNumber, HasName, Intersects, StartsIn}
+use Rattle.cql2.specs.declared.function.Function.TheVariants.{HasNumber, HasName, Intersects, StartsIn, StartsInBounds, Within}
 
 -- a house number lies on one of the sides of a range
 abbrev pub has_number : ℕ → RangeFields → Bool
@@ -26,3 +26,5 @@ truth_of (HasNumber house) segment = Some (list_any (has_number house.number) (r
 truth_of (HasName text limit) segment = has_name text.bytes.items limit.number segment
 truth_of (Intersects shape) segment = option_map (meets shape) (geometry_of segment.bytes)
 truth_of (StartsIn several) segment = option_map (lies_in_some several) (start_of segment.bytes)
+truth_of (StartsInBounds bounds) segment = option_map (lies_in_bounds bounds) (start_of segment.bytes)
+truth_of (Within bounds) segment = option_map (contains bounds) (geometry_of segment.bytes)

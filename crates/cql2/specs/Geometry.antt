@@ -1,5 +1,5 @@
--- Geometries and where they meet (CQL2, 21-065r2, spatial functions), in whole millionths of a degree. Longitudes grow to the east, latitudes to the
--- north, and lines are straight in them.
+-- Geometries and where they meet (CQL2, 21-065r2, spatial functions), in whole millionths of a degree, and boxes in femtodegrees. Longitudes grow to the
+-- east, latitudes to the north, and lines are straight in them.
 use Rattle.std.specs.Prelude.{ℕ, ℤ, pos, ◌-ℤ◌, ◌*ℤ◌, int_le, int_lt, Bool, false, not, ◌&&◌, ◌||◌, List, [], ◌∷◌, ◌++◌, Option, Some, None, if◌then◌else◌}
 use Rattle.std.specs.Bool.{beq}
 use Rattle.std.specs.Int.{int_max, int_min}
@@ -8,6 +8,8 @@ use Rattle.std.specs.Ordering.{int_eq}
 use Rattle.cql2.specs.Column.{numeric_value}
 use Rattle.cql2.specs.declared.column.CoordinateColumn.TheVariants.{Frlong, Frlat, Tolong, Tolat}
 use Rattle.cql2.specs.declared.column.NumericColumn.TheVariants.{Coordinate}
+use Rattle.cql2.specs.Femtodegrees.{in_femtodegrees}
+use Rattle.cql2.specs.declared.geometry.Bound.{Bound}
 use Rattle.cql2.specs.declared.geometry.Bounds.{Bounds}
 use Rattle.cql2.specs.declared.geometry.Polygon.{Polygon}
 use Rattle.cql2.specs.declared.geometry.Polygons.{Polygons}
@@ -115,15 +117,28 @@ edges_of_ring (first ∷ vertices) = edges_through (first ∷ (vertices ++ first
 abbrev pub edges_of_polygon : {A : Type 0} → Polygon A → List Edge
 edges_of_polygon polygon = flat_map (λ ring. edges_of_ring ring.vertices.items) polygon.rings.items
 
--- the four edges of a box, counterclockwise from its southwest corner
+-- Boxes, in femtodegrees
+
+abbrev pub femtodegrees : Bound → ℤ
+femtodegrees bound = in_femtodegrees bound.millionths bound.rest
+
+-- a point and a line in millionths of a degree, in femtodegrees
+abbrev pub finer : Point → Point
+finer point = record { longitude = in_femtodegrees point.longitude 0; latitude = in_femtodegrees point.latitude 0 }
+
+abbrev pub finer_edge : Edge → Edge
+finer_edge edge = record { start = finer edge.start; end = finer edge.end }
+
+abbrev pub corner : Bound → Bound → Point
+corner longitude latitude = record { longitude = femtodegrees longitude; latitude = femtodegrees latitude }
+
+-- the four edges of a box, to the east and to the north
 abbrev pub edges_of_bounds : Bounds → List Edge
 edges_of_bounds bounds =
-    let southwest = point_of bounds.southwest in
-    let northeast = point_of bounds.northeast in
-    let southeast : Point = record { longitude = bounds.northeast.longitude; latitude = bounds.southwest.latitude } in
-    let northwest : Point = record { longitude = bounds.southwest.longitude; latitude = bounds.northeast.latitude } in
-    record { start = southwest; end = southeast } ∷ record { start = southeast; end = northeast }
-    ∷ record { start = northeast; end = northwest } ∷ record { start = northwest; end = southwest } ∷ []
+    record { start = corner bounds.west bounds.south; end = corner bounds.east bounds.south }
+    ∷ record { start = corner bounds.east bounds.south; end = corner bounds.east bounds.north }
+    ∷ record { start = corner bounds.west bounds.north; end = corner bounds.east bounds.north }
+    ∷ record { start = corner bounds.west bounds.south; end = corner bounds.west bounds.north } ∷ []
 
 -- Shapes
 
@@ -135,10 +150,15 @@ lies_inside polygon point = crosses_odd point (edges_of_polygon polygon)
 abbrev pub lies_in : {A : Type 0} → Point → Polygon A → Bool
 lies_in point polygon = lies_inside polygon point || list_any (λ edge. lies_on edge point) (edges_of_polygon polygon)
 
+-- a point lies in a box or on its edge
 abbrev pub lies_in_bounds : Bounds → Point → Bool
 lies_in_bounds bounds point =
-    int_le bounds.southwest.longitude point.longitude && int_le point.longitude bounds.northeast.longitude
-    && int_le bounds.southwest.latitude point.latitude && int_le point.latitude bounds.northeast.latitude
+    int_le (femtodegrees bounds.west) (finer point).longitude && int_le (finer point).longitude (femtodegrees bounds.east)
+    && int_le (femtodegrees bounds.south) (finer point).latitude && int_le (finer point).latitude (femtodegrees bounds.north)
+
+-- a line lies in a box, which includes its edge: both of the line's ends do
+abbrev pub contains : Bounds → Edge → Bool
+contains bounds line = lies_in_bounds bounds line.start && lies_in_bounds bounds line.end
 
 -- a line has a point in common with a polygon, which its edge belongs to: one of the line's ends lies inside, or it meets the edge
 abbrev pub meets_polygon : {A : Type 0} → Edge → Polygon A → Bool
@@ -150,7 +170,7 @@ abbrev pub meets : {A : Type 0} → Shape A → Edge → Bool
 meets (shape.Point vertex) line = meets_edge line (edge_of vertex vertex)
 meets (shape.Line vertices) line = meets_some (edges_through vertices.items) line
 meets (shape.Bounds bounds) line =
-    lies_in_bounds bounds line.start || lies_in_bounds bounds line.end || meets_some (edges_of_bounds bounds) line
+    lies_in_bounds bounds line.start || lies_in_bounds bounds line.end || meets_some (edges_of_bounds bounds) (finer_edge line)
 meets (shape.Polygons several) line = list_any (meets_polygon line) several.polygons.items
 
 -- a point lies in one of several polygons

@@ -1,5 +1,6 @@
 pub mod Column
 pub mod Expression
+pub mod Femtodegrees
 pub mod Filter
 pub mod Folding
 pub mod Function

@@ -1,5 +1,5 @@
 //! Functions of a segment, which are true, false or NULL.
-use crate::geometry::{Polygons, Shape};
+use crate::geometry::{Bounds, Polygons, Shape};
 use crate::number::{HouseNumber, NameLimit};
 use crate::text::Text;
 use std::alloc::Allocator;
@@ -15,4 +15,8 @@ pub enum Function<A: Allocator> {
     Intersects(Shape<A>),
     /// The segment starts inside one of these polygons or on its edge.
     StartsIn(Polygons<A>),
+    /// The segment starts in a box or on its edge.
+    StartsInBounds(Bounds),
+    /// The straight line from the segment's start to its end lies in a box, which includes its edge.
+    Within(Bounds),
 }

@@ -1,5 +1,6 @@
 //! Geometries in a filter, in millionths of a degree (NAD83).
-ghost use Rattle.std.specs.Prelude.{◌<◌, ◌^◌, ◌≤ℤ◌, unsigned_abs};
+ghost use Rattle.std.specs.Prelude.{◌<◌, ◌≤◌, ◌^◌, ◌≤ℤ◌, unsigned_abs};
+ghost use Rattle.cql2.specs.Femtodegrees.{in_femtodegrees};
 
 use std::alloc::Allocator;
 
@@ -12,13 +13,26 @@ pub struct Vertex {
     ghost latitude_fits: { unsigned_abs latitude < 10 ^ 9 },
 }
 
+/// A bound of a box: a longitude or latitude, exact to 15 decimals of a degree.
+#[derive(Clone, Copy)]
+pub struct Bound {
+    /// Whole millionths of a degree, rounded down.
+    pub millionths: i64,
+    /// The femtodegrees beyond them, of which 10⁹ make a millionth of a degree.
+    pub rest: u32,
+    ghost millionths_fit: { unsigned_abs millionths ≤ 10 ^ 9 },
+    ghost rest_fits: { rest < 10 ^ 9 },
+}
+
 /// A box, which doesn't cross the 180th meridian.
 #[derive(Clone, Copy)]
 pub struct Bounds {
-    pub southwest: Vertex,
-    pub northeast: Vertex,
-    ghost longitudes: { southwest.longitude ≤ℤ northeast.longitude },
-    ghost latitudes: { southwest.latitude ≤ℤ northeast.latitude },
+    pub west: Bound,
+    pub south: Bound,
+    pub east: Bound,
+    pub north: Bound,
+    ghost longitudes: { in_femtodegrees west.millionths west.rest ≤ℤ in_femtodegrees east.millionths east.rest },
+    ghost latitudes: { in_femtodegrees south.millionths south.rest ≤ℤ in_femtodegrees north.millionths north.rest },
 }
 
 /// A closed line through vertices: from each to the next, and from the last back to the first.

@@ -14,7 +14,7 @@ pub use column::{Column, CoordinateColumn, NumberColumn, NumericColumn, TextColu
 pub use expression::{Expression, Number, Operator};
 pub use filter::{Comparison, Filter};
 pub use function::Function;
-pub use geometry::{Bounds, Polygon, Polygons, Ring, Shape, Vertex};
+pub use geometry::{Bound, Bounds, Polygon, Polygons, Ring, Shape, Vertex};
 pub use number::{HouseNumber, Literal, NameLimit};
 pub use pattern::{Folding, Pattern, PatternPart};
 pub use text::Text;

@@ -6,7 +6,7 @@ use std::alloc::Global;
 
 // JSON, and its text, or the fault: the line and column and what is expected there, or the pointer and what is expected there.
 const TEXTS: Table = Table {
-    rows: 72,
+    rows: 73,
     text: r##"
 true; TRUE
  false ; FALSE
@@ -61,6 +61,7 @@ null; /: expected true, false, a number, a string or an object
 {"op":"","args":[]}; /op: expected the name of an operator or a function
 {"op":["and"],"args":[]}; /op: expected the name of an operator or a function
 {"op":"STARTS_IN","args":[{"bbox":[-86.7,32.4,-86.6,32.50]}]}; STARTS_IN(BBOX(-86.7, 32.4, -86.6, 32.50))
+{"bbox":[-86.1234567890123456,0.000000000000001,3,4.0]}; BBOX(-86.1234567890123456, 0.000000000000001, 3, 4.0)
 {"bbox":[1,2,3]}; /bbox: expected an array of four values
 {"bbox":[1,2,3,"4"]}; /bbox/3: expected a number
 {"op":"s_intersects","args":[{"property":"geom"},{"type":"Point","coordinates":[7.02,49.92]}]}; s_intersects("geom", POINT(7.02 49.92))
@@ -109,7 +110,7 @@ true; 500; /
 
 // JSON, and the pointer at which its text is refused, or `read`.
 const READ: Table = Table {
-    rows: 18,
+    rows: 21,
     text: r##"
 {"op":"and","args":[{"op":"=","args":[{"property":"CFCC"},"A41"]},{"op":"not","args":[{"op":"isNull","args":[{"property":"FENAME"}]}]}]}; read
 {"op":"in","args":[{"property":"CFCC"},["A41","A61"]]}; read
@@ -117,6 +118,9 @@ const READ: Table = Table {
 {"op":"like","args":[{"op":"casei","args":[{"property":"FENAME"}]},{"op":"casei","args":["mA_5%"]}]}; read
 {"op":"or","args":[{"op":"HAS_NUMBER","args":[1785]},{"op":"HAS_NAME","args":["O'Hara",5]}]}; read
 {"op":"STARTS_IN","args":[{"bbox":[-86.7,32.4,-86.6,32.5]}]}; read
+{"op":"STARTS_IN","args":[{"bbox":[-86.123456789012345,32.4,-86.1,32.5]}]}; read
+{"op":"STARTS_IN","args":[{"bbox":[-86.1234567890123456,32.4,-86.1,32.5]}]}; /args/0/bbox/0
+{"op":"s_within","args":[{"property":"geometry"},{"bbox":[-86.1,32.4,-86.100000000000001,32.5]}]}; /args/1/bbox/2
 {"op":"and","args":[true,{"op":"=","args":[{"property":"ZIP"},36067]}]}; /args/1/args/0/property
 {"op":"and","args":[true,{"op":"=","args":[{"property":"ZIPL"},"36067"]}]}; /args/1/args/1
 {"op":"=","args":[{"property":"ZIPL"},1e5]}; /args/1
