@@ -1,5 +1,5 @@
 -- Tokens that differ only in where their bytes are in memory spell the same predicate.
-use Rattle.std.proofs.Common.{◌≡◌, ℕ, zero, suc, Bool, true, false, List, [], ◌∷◌, Some, refl, sym, ap, ◌∙◌, subst}
+use Rattle.std.proofs.Common.{◌≡◌, ℕ, zero, suc, ℤ, Bool, true, false, List, [], ◌∷◌, Some, refl, sym, ap, ◌∙◌, subst}
 use denote.Ref.{Bor}
 use Rattle.std.specs.Prelude.{◌+◌, ◌-◌, nat_lt, not, if◌then◌else◌}
 use Rattle.cql2.specs.declared.column.Column.{Column as AColumn}
@@ -21,7 +21,6 @@ use Rattle.cql2.specs.declared.column.TextColumn.{TextColumn}
 use Rattle.cql2.specs.declared.filter.Comparison.{Comparison}
 use Rattle.cql2.specs.declared.filter.Comparison.TheVariants.{Equal, NotEqual, Less, LessOrEqual, Greater, GreaterOrEqual}
 use Rattle.cql2.specs.declared.filter.Filter.{Filter}
-use Rattle.cql2.specs.declared.number.Literal.{Literal}
 use Rattle.cql2.specs.declared.pattern.Folding.{Folding}
 use Rattle.cql2.specs.declared.pattern.Pattern.{Pattern}
 use Rattle.cql2.specs.declared.text.Text.{Text as AText}
@@ -40,7 +39,7 @@ use Rattle.cql2_text.specs.Predicate.{negatable, negated, null_test, is_null, is
 use Rattle.cql2_text.specs.Predicate.{of_subject, of_number, number_null, text_first, text_compared, text_among, text_not_among, text_in_list}
 use Rattle.cql2_text.specs.Predicate.{IsTextLiteral, SpellsExchanged, SpellsOfText, SpellsTextAmong}
 use Rattle.cql2_text.specs.declared.unit.Unit.{Unit}
-use Rattle.cql2_text.specs.declared.unit.Unit.TheVariants.{Degrees, Whole}
+use Rattle.cql2_text.specs.declared.unit.Unit.TheVariants.{Degrees, Femtodegrees, Whole}
 use Rattle.cql2_text.specs.declared.predicate.Subject.{Subject}
 use Rattle.cql2_text.specs.declared.predicate.Subject.TheVariants as subject
 use Rattle.cql2_tokens.specs.declared.token.Keyword.TheVariants as word
@@ -229,10 +228,11 @@ pub number_of-like : (unit : Unit) (numeral another : Numeral) → numeral.is_ne
     → numeral.whole.now ≡ another.whole.now → numeral.decimals.now ≡ another.decimals.now → number_of unit numeral ≡ number_of unit another
 number_of-like Whole numeral another sign whole decimals = rw (sign, whole, decimals) refl
 number_of-like Degrees numeral another sign whole decimals = rw (sign, whole, decimals) refl
+number_of-like Femtodegrees numeral another sign whole decimals = rw (sign, whole, decimals) refl
 
-pub moved-number : (unit : Unit) (words others rest : List Token) (value : Literal) → AreLike words others
-    → IsNumber unit words rest value → Moved (λ w r. IsNumber unit w r value) others rest
-moved-number unit words others rest value alike is =
+pub moved-number : (unit : Unit) (words others rest : List Token) (number : ℤ) → AreLike words others
+    → IsNumber unit words rest number → Moved (λ w r. IsNumber unit w r number) others rest
+moved-number unit words others rest number alike is =
     let like = signed-like words others rest is.numeral alike is.spelled in
     record {
       after = like.later;
@@ -270,7 +270,7 @@ module _ {A : Type 0} {unit : Unit} where
   moved-number-text : (depth : ℕ) (production : NumberProduction) (words others rest : List Token) (made : Expression A) → AreLike words others
       → SpellsNumber unit depth production words rest made → Moved (λ w r. SpellsNumber unit depth production w r made) others rest
   moved-number-text depth _ words others rest _ alike (literal {value = value} is) =
-      let moved = moved-number unit words others rest value alike is in
+      let moved = moved-number unit words others rest value.number alike is in
       record { after = moved.after; alike = moved.alike; is = literal moved.is }
   moved-number-text depth _ _ others rest _ alike (property_name {named = named} is) =
       let first = same-first (Column (column.Numeric named)) rest others refl alike in

@@ -5,7 +5,7 @@ use Rattle.cql2.specs.declared.filter.Filter.{Filter}
 use Rattle.cql2.specs.declared.number.NameLimit.{NameLimit}
 use Rattle.cql2_text.specs.Function.{SpellsFunction, SpellsHasName, SpellsHasNumber, SpellsIntersects, SpellsLimit, SpellsOperands}
 use Rattle.cql2_text.specs.Function.{SpellsStartsIn, SpellsWithin, geometry_first, geometry_last, given, in_box, in_polygons, usual}
-use Rattle.cql2_text.specs.Geometry.{ShapeContent}
+use Rattle.cql2_text.specs.Geometry.{ShapeContent, box_of}
 use Rattle.cql2_text.specs.Number.{count_of, up_to_name_limit}
 use Rattle.cql2_tokens.specs.Alike.{AreLike}
 use Rattle.cql2_tokens.specs.declared.token.FunctionName.{FunctionName}
@@ -31,7 +31,7 @@ operands-shorter _ _ content (geometry_first {words = words} is) = let inner = s
 operands-shorter _ _ content (geometry_last {words = words} is) = let inner = shape-shorter words _ content is in omega arith
 
 starts-shorter : {A : Type 0} (words rest : List Token) (made : Filter A) → SpellsStartsIn words rest made → length rest < length words
-starts-shorter _ _ _ (in_box {words = words} {corners = corners} box is) = let inner = box-shorter words _ corners box in omega arith
+starts-shorter _ _ _ (in_box {words = words} is) = let inner = shape-shorter words _ _ is in omega arith
 starts-shorter _ _ _ (in_polygons {words = words} is) = let inner = shape-shorter words _ _ is in omega arith
 
 pub function-shorter : {A : Type 0} (n : FunctionName) (words rest : List Token) (made : Filter A) → SpellsFunction n words rest made
@@ -106,13 +106,12 @@ module _ {A : Type 0} where
 
   moved-starts_in : (words others rest : List Token) (made : Filter A) → AreLike words others → SpellsStartsIn words rest made
       → Moved (λ w r. SpellsStartsIn w r made) others rest
-  moved-starts_in _ others rest made alike (in_box {words = words} {corners = corners} box is) =
-      let opened = same-first Open (Keyword (word.Shape tag.Bbox) ∷ words) others refl alike in
-      let bbox = same-first (Keyword (word.Shape tag.Bbox)) words opened.later refl opened.alike in
-      let inner = moved-box words bbox.later (Close ∷ rest) corners bbox.alike box in
+  moved-starts_in _ others rest _ alike (in_box {words = words} is) =
+      let opened = same-first Open words others refl alike in
+      let inner = moved-shape words opened.later (Close ∷ rest) _ opened.alike is in
       let closed = same-first Close rest inner.after refl inner.alike in
-      moved-at _ others _ rest (opened.is ∙ ap (λ (l : List Token). Open ∷ l) bbox.is)
-      (record { after = closed.later; alike = closed.alike; is = in_box (rw closed.is at inner.is) is })
+      moved-at _ others _ rest opened.is
+      (record { after = closed.later; alike = closed.alike; is = in_box (rw closed.is at inner.is) })
   moved-starts_in _ others rest _ alike (in_polygons {words = words} is) =
       let opened = same-first Open words others refl alike in
       let inner = moved-shape words opened.later (Close ∷ rest) _ opened.alike is in
@@ -154,7 +153,7 @@ module _ {A : Type 0} where
       let property = same-first (Keyword word.Geometry) (Comma ∷ Keyword (word.Shape tag.Bbox) ∷ is.inner) opened.later refl opened.alike in
       let between = same-first Comma (Keyword (word.Shape tag.Bbox) ∷ is.inner) property.later refl property.alike in
       let bbox = same-first (Keyword (word.Shape tag.Bbox)) is.inner between.later refl between.alike in
-      let box = moved-box is.inner bbox.later (Close ∷ rest) is.corners bbox.alike is.box in
+      let box = moved-box is.inner bbox.later (Close ∷ rest) (box_of is.bounds) bbox.alike is.box in
       let closed = same-first Close rest box.after refl box.alike in
       let from_comma = between.is ∙ ap (λ (l : List Token). Comma ∷ l) bbox.is in
       let from_property = property.is ∙ ap (λ (l : List Token). Keyword word.Geometry ∷ l) from_comma in
@@ -162,15 +161,11 @@ module _ {A : Type 0} where
         after = closed.later;
         alike = closed.alike;
         is = record {
-          corners = is.corners;
+          bounds = is.bounds;
           inner = bbox.later;
           opened = opened.is ∙ ap (λ (l : List Token). Open ∷ l) from_property;
           box = rw closed.is at box.is;
-          start = is.start;
-          «end» = is.«end»;
-          starts = is.starts;
-          ends = is.ends;
-          both = is.both;
+          is = is.is;
         };
       }
 

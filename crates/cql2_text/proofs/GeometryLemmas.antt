@@ -1,17 +1,15 @@
 -- Shapes in terms of their tokens.
-use Rattle.std.proofs.Common.{◌≡◌, ◌≢◌, ◌<◌, ◌≤◌, ◌+◌, ℕ, suc, ◌^◌, ℤ, pos, unsigned_abs, to_z, of_z, w64}
+use Rattle.std.proofs.Common.{◌≡◌, ◌≢◌, ◌<◌, ◌≤◌, suc, ◌^◌, ℤ, unsigned_abs, to_z, of_z, w64}
 use Rattle.std.proofs.Common.{List, [], ◌∷◌, ◌++◌, length, map, refl, sym, ap, ◌∙◌, slice_index_or, Ok, Err, Result, arith}
 use Rattle.std.proofs.lemmas.Int.{fits_signed_from_abs, to_z-of_z}
 use Rattle.cql2.specs.Geometry.{Point as APoint, point_of}
 use Rattle.cql2.specs.declared.geometry.Vertex.{Vertex}
-use Rattle.cql2.specs.declared.number.Literal.{Literal}
-use Rattle.cql2_text.specs.Geometry.{AreItems, ArePolygons, InParentheses, IsBox, IsCoordinate, IsLine, IsPoint, IsPolygon, IsPosition, IsRing, more, one}
-use Rattle.cql2_text.specs.Geometry.{Bounds, ShapeContent, SpellsShape, SpellsTagged, bounds_of, points_of}
+use Rattle.cql2_text.specs.Geometry.{AreCorners, AreItems, ArePolygons, Box, InParentheses, IsBox, IsCoordinate, IsCorner, IsLine, IsPolygon}
+use Rattle.cql2_text.specs.Geometry.{IsPosition, IsRing, ShapeContent, SpellsShape, SpellsTagged, more, one, points_of}
 use Rattle.cql2_text.specs.Number.{coordinate_of}
 use Rattle.cql2_text.specs.Numeral.{IsNumeral}
 use Rattle.cql2_text.specs.declared.fault.FilterFaultKind.{FilterFaultKind}
-use Rattle.cql2_text.specs.declared.shape.Corners.{Corners}
-use Rattle.cql2_text.specs.declared.unit.Unit.TheVariants.{Degrees}
+use Rattle.cql2_text.specs.declared.unit.Unit.TheVariants.{Femtodegrees}
 use Rattle.cql2_tokens.specs.Alike.{AreLike}
 use Rattle.cql2_tokens.specs.declared.token.Keyword.TheVariants as word
 use Rattle.cql2_tokens.specs.declared.token.Numeral.{Numeral}
@@ -19,7 +17,7 @@ use Rattle.cql2_tokens.specs.declared.token.ShapeTag.{ShapeTag}
 use Rattle.cql2_tokens.specs.declared.token.ShapeTag.TheVariants as tag
 use Rattle.cql2_tokens.specs.declared.token.Token.{Token}
 use Rattle.cql2_tokens.specs.declared.token.Token.TheVariants.{Close, Comma, Keyword, Open}
-use Rattle.cql2_text.proofs.AlikeLemmas.{Moved, first-by, moved-at, moved-number, same-first, signed-like}
+use Rattle.cql2_text.proofs.AlikeLemmas.{Moved, first-by, moved-number, same-first, signed-like}
 use Rattle.cql2_text.proofs.NumeralLemmas.{number-shorter, numeral-shorter}
 
 -- Items
@@ -307,69 +305,49 @@ moved-polygons words others rest polygons alike is =
 
 -- Boxes
 
-abbrev west_of : ShapeContent → ℤ
-west_of (Bounds southwest northeast) = southwest.longitude
-west_of content = pos 0
+corner-shorter : (words rest : List Token) (x y : ℤ) → IsCorner words rest x y → length rest < length words
+corner-shorter words rest x y is = omega (arith, number-shorter _ _ _ _ is.first, number-shorter _ _ _ _ is.second)
 
-abbrev south_of : ShapeContent → ℤ
-south_of (Bounds southwest northeast) = southwest.latitude
-south_of content = pos 0
+corners-shorter : (words rest : List Token) (box : Box) → AreCorners words rest box → length rest < length words
+corners-shorter words rest box is =
+    omega (arith, corner-shorter _ _ _ _ is.southwest, corner-shorter _ _ _ _ is.northeast)
 
-abbrev east_of : ShapeContent → ℤ
-east_of (Bounds southwest northeast) = northeast.longitude
-east_of content = pos 0
+pub box-shorter : (words rest : List Token) (box : Box) → IsBox words rest box → length rest < length words
+box-shorter words rest box is = parentheses-shorter AreCorners corners-shorter words rest box is.corners
 
-abbrev north_of : ShapeContent → ℤ
-north_of (Bounds southwest northeast) = northeast.latitude
-north_of content = pos 0
-
-pub record SameCorners (these other : Corners) : Type 0 where
-  pub west : these.west.number ≡ other.west.number
-  pub south : these.south.number ≡ other.south.number
-  pub east : these.east.number ≡ other.east.number
-  pub north : these.north.number ≡ other.north.number
-
-pub same-corners : (these other : Corners) → bounds_of these ≡ bounds_of other → SameCorners these other
-same-corners these other same =
-    record { west = ap west_of same; south = ap south_of same; east = ap east_of same; north = ap north_of same }
-
-point-shorter : (words rest : List Token) (x y : Literal) → IsPoint words rest x y → length rest < length words
-point-shorter words rest x y is = omega (arith, number-shorter _ _ _ _ is.first, number-shorter _ _ _ _ is.second)
-
-inner-box-shorter : (words rest : List Token) (corners : Corners) → IsBox words rest corners → length rest < length words
-inner-box-shorter words rest corners is =
-    omega (arith, point-shorter _ _ _ _ is.southwest, point-shorter _ _ _ _ is.northeast)
-
-pub box-shorter : (words rest : List Token) (corners : Corners) → InParentheses IsBox words rest corners → length rest < length words
-box-shorter words rest corners is = parentheses-shorter IsBox inner-box-shorter words rest corners is
-
-moved-point : (words others rest : List Token) (x y : Literal) → AreLike words others → IsPoint words rest x y
-    → Moved (λ w r. IsPoint w r x y) others rest
-moved-point words others rest x y alike is =
-    let first = moved-number Degrees words others (Comma ∷ is.middle) x alike is.first in
+moved-corner : (words others rest : List Token) (x y : ℤ) → AreLike words others → IsCorner words rest x y
+    → Moved (λ w r. IsCorner w r x y) others rest
+moved-corner words others rest x y alike is =
+    let first = moved-number Femtodegrees words others (Comma ∷ is.middle) x alike is.first in
     let between = same-first Comma is.middle first.after refl first.alike in
-    let second = moved-number Degrees is.middle between.later rest y between.alike is.second in
+    let second = moved-number Femtodegrees is.middle between.later rest y between.alike is.second in
     record {
       after = second.after;
       alike = second.alike;
       is = record { middle = between.later; first = rw between.is at first.is; second = second.is };
     }
 
-moved-inner-box : (words others rest : List Token) (corners : Corners) → AreLike words others → IsBox words rest corners
-    → Moved (λ w r. IsBox w r corners) others rest
-moved-inner-box words others rest corners alike is =
-    let southwest = moved-point words others (Comma ∷ is.from_east) corners.west corners.south alike is.southwest in
+moved-corners : (words others rest : List Token) (box : Box) → AreLike words others → AreCorners words rest box
+    → Moved (λ w r. AreCorners w r box) others rest
+moved-corners words others rest box alike is =
+    let southwest = moved-corner words others (Comma ∷ is.from_east) box.west box.south alike is.southwest in
     let between = same-first Comma is.from_east southwest.after refl southwest.alike in
-    let northeast = moved-point is.from_east between.later rest corners.east corners.north between.alike is.northeast in
+    let northeast = moved-corner is.from_east between.later rest box.east box.north between.alike is.northeast in
     record {
       after = northeast.after;
       alike = northeast.alike;
       is = record { from_east = between.later; southwest = rw between.is at southwest.is; northeast = northeast.is };
     }
 
-pub moved-box : (words others rest : List Token) (corners : Corners) → AreLike words others → InParentheses IsBox words rest corners
-    → Moved (λ w r. InParentheses IsBox w r corners) others rest
-moved-box words others rest corners alike is = moved-parentheses IsBox moved-inner-box words others rest corners alike is
+pub moved-box : (words others rest : List Token) (box : Box) → AreLike words others → IsBox words rest box
+    → Moved (λ w r. IsBox w r box) others rest
+moved-box words others rest box alike is =
+    let moved = moved-parentheses AreCorners moved-corners words others rest box alike is.corners in
+    record {
+      after = moved.after;
+      alike = moved.alike;
+      is = record { corners = moved.is; longitudes = is.longitudes; latitudes = is.latitudes };
+    }
 
 -- Shapes
 
@@ -400,7 +378,7 @@ moved-tagged tag.MultiPolygon words others rest content alike is =
     record { after = moved.after; alike = moved.alike; is = (is.0, moved.is, is.2) }
 moved-tagged tag.Bbox words others rest content alike is =
     let moved = moved-box words others rest is.0 alike is.1 in
-    record { after = moved.after; alike = moved.alike; is = (is.0, moved.is, is.2, is.3) }
+    record { after = moved.after; alike = moved.alike; is = (is.0, moved.is, is.2) }
 
 pub moved-shape : (words others rest : List Token) (content : ShapeContent) → AreLike words others → SpellsShape words rest content
     → Moved (λ w r. SpellsShape w r content) others rest

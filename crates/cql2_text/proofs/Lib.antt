@@ -1,5 +1,4 @@
 pub mod AlikeLemmas
-pub mod BoxLemmas
 pub mod ChainLemmas
 pub mod CharacterLemmas
 pub mod ClauseLemmas
@@ -10,6 +9,7 @@ pub mod GeometryLemmas
 pub mod MovedLemmas
 pub mod NumberLemmas
 pub mod NumeralLemmas
+pub mod OperandLemmas
 pub mod PatternLemmas
 pub mod PlaceLemmas
 pub mod RelationLemmas

@@ -104,7 +104,7 @@ module _ {A : Type 0} where
 module _ {A : Type 0} {unit : AUnit} where
   pub expression-shorter : (depth : ℕ) (production : Production) (words rest : List Token) (made : Expression A)
       → SpellsNumber unit depth production words rest made → length rest < length words
-  expression-shorter depth _ words rest _ (literal {value = value} is) = number-shorter unit words rest value is
+  expression-shorter depth _ words rest _ (literal {value = value} is) = number-shorter unit words rest value.number is
   expression-shorter depth _ _ rest _ (property_name is) = omega arith
   expression-shorter _ _ _ rest _ (opposite {depth = depth} {words = words} {inner = inner} stop few is) =
       let before = expression-shorter depth _ words rest inner is in omega arith
@@ -326,7 +326,7 @@ pub record IsOppositeOf {A : Type 0} (unit : AUnit) (depth : ℕ) (words rest : 
 -- a literal
 pub record IsLiteral {A : Type 0} (unit : AUnit) (words rest : List Token) (made : Expression A) : Type 0 where
   pub value : AValue
-  pub spelled : IsNumber unit words rest value
+  pub spelled : IsNumber unit words rest value.number
   pub is : made ≡ expression.Literal value
 
 numeral-first : (words rest after : List Token) (numeral : Numeral) → IsNumeral words rest numeral → words ≡ Sign Minus ∷ after

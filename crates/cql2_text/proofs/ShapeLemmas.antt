@@ -1,18 +1,10 @@
--- The corners of a box.
-use Rattle.std.proofs.Common.{◌≡◌, ◌≤ℤ◌, ℤ, int_lt, true, false, arith, refl}
-use Rattle.std.proofs.lemmas.Int.{ints}
-use Rattle.cql2_text.specs.Geometry.{Bounds, bounds_of}
-use Rattle.cql2_text.specs.declared.shape.Corners.{Corners}
+-- A box that is turned around.
+use Rattle.std.proofs.Common.{◌≡◌, ◌≤ℤ◌, int_lt, true, w64, to_z, of_z, arith}
+use Rattle.std.proofs.lemmas.Int.{ints, to_z-of_z}
+use Rattle.cql2.specs.declared.number.Literal.{Literal}
 
-pub bounds-are : (corners : Corners) (west south east north : ℤ) → west ≡ corners.west.number → south ≡ corners.south.number
-    → east ≡ corners.east.number → north ≡ corners.north.number
-    → Bounds (record { longitude = west; latitude = south }) (record { longitude = east; latitude = north }) ≡ bounds_of corners
-bounds-are corners west south east north is_west is_south is_east is_north = rw (is_west, is_south, is_east, is_north) refl
-
-pub turned : (read_high read_low high low : ℤ) → int_lt read_high read_low ≡ true → read_high ≡ high → read_low ≡ low → low ≤ℤ high → ⊥
-turned read_high read_low high low is is_high is_low ordered =
-    let less : int_lt high low ≡ true = rw (is_high, is_low) at is in omega (arith, ints)
-
-pub not-turned : (read_high read_low high low : ℤ) → int_lt read_high read_low ≡ false → read_high ≡ high → read_low ≡ low → low ≤ℤ high
-not-turned read_high read_low high low is is_high is_low =
-    let less : int_lt high low ≡ false = rw (is_high, is_low) at is in omega (arith, ints)
+pub turned : (high low : Literal) → int_lt (to_z w64 (of_z w64 high.number)) (to_z w64 (of_z w64 low.number)) ≡ true
+    → low.number ≤ℤ high.number → ⊥
+turned high low is ordered =
+    let less : int_lt high.number low.number ≡ true = rw (to_z-of_z w64 high.number high.fits, to_z-of_z w64 low.number low.fits) at is in
+    omega (arith, ints)

@@ -82,7 +82,7 @@ begins_number words = false
 -- The tokens, up to the rest, form a production that means the expression in this unit, with parentheses and signs nested at most to this depth.
 -- Operators of one level combine from the left. A sign before a number belongs to the number.
 pub data SpellsNumber {A : Type 0} (unit : AUnit) : ℕ → Production → List Token → List Token → Expression A → Type 0 where
-  literal : {depth : ℕ} {words rest : List Token} {value : Literal} → IsNumber unit words rest value
+  literal : {depth : ℕ} {words rest : List Token} {value : Literal} → IsNumber unit words rest value.number
       → SpellsNumber unit depth Factor words rest (expression.Literal value)
   property_name : {depth : ℕ} {rest : List Token} {named : NumericColumn} → is_in unit named ≡ true
       → SpellsNumber unit depth Factor (Column (column.Numeric named) ∷ rest) rest (expression.Column named)

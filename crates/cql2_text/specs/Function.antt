@@ -1,27 +1,21 @@
 -- Functions in terms of their tokens (CQL2, 21-065r2, annex B: function and spatialPredicate), and their content.
 use Rattle.std.specs.Prelude.{◌≡◌, ℕ, List, ◌∷◌, Ok}
 use Rattle.tl_segments.specs.declared.name.TheConstants.{NAME_LENGTH}
-use Rattle.cql2.specs.declared.column.CoordinateColumn.{CoordinateColumn}
-use Rattle.cql2.specs.declared.column.CoordinateColumn.TheVariants.{Frlong, Frlat, Tolong, Tolat}
-use Rattle.cql2.specs.declared.column.NumericColumn.{NumericColumn}
-use Rattle.cql2.specs.declared.column.NumericColumn.TheVariants.{Coordinate}
-use Rattle.cql2.specs.declared.filter.Comparison.TheVariants.{LessOrEqual, GreaterOrEqual}
 use Rattle.cql2.specs.declared.filter.Filter.{Filter}
 use Rattle.cql2.specs.declared.filter.Filter.TheVariants as filter
 use Rattle.cql2.specs.declared.function.Function.{Function}
 use Rattle.cql2.specs.declared.function.Function.TheVariants as function
+use Rattle.cql2.specs.declared.geometry.Bounds.{Bounds as ABounds}
 use Rattle.cql2.specs.declared.geometry.Polygons.{Polygons as APolygons}
 use Rattle.cql2.specs.declared.geometry.Shape.{Shape}
 use Rattle.cql2.specs.declared.number.HouseNumber.{HouseNumber}
-use Rattle.cql2.specs.declared.number.Literal.{Literal}
 use Rattle.cql2.specs.declared.number.NameLimit.{NameLimit}
 use Rattle.cql2.specs.declared.text.Text.{Text}
-use Rattle.cql2_text.specs.Connective.{IsBoth, IsNot}
-use Rattle.cql2_text.specs.Geometry.{InParentheses, IsBox, Polygons, ShapeContent, SpellsShape, polygons_of, shape_content}
+use Rattle.cql2_text.specs.Connective.{IsNot}
+use Rattle.cql2_text.specs.Geometry.{Bounds, Box, IsBox, Polygons, ShapeContent, SpellsShape, box_of, polygons_of, shape_content}
 use Rattle.cql2_text.specs.Number.{house_number_of, name_limit_of}
 use Rattle.cql2_text.specs.Numeral.{IsNumeral}
 use Rattle.cql2_text.specs.Predicate.{IsText}
-use Rattle.cql2_text.specs.declared.shape.Corners.{Corners}
 use Rattle.cql2_tokens.specs.declared.token.FunctionName.{FunctionName}
 use Rattle.cql2_tokens.specs.declared.token.FunctionName.TheVariants as name
 use Rattle.cql2_tokens.specs.declared.token.Keyword.TheVariants as word
@@ -36,12 +30,15 @@ pub data FunctionContent : Type 0 where
   HasName : List ℕ → ℕ → FunctionContent
   Intersects : ShapeContent → FunctionContent
   StartsIn : ShapeContent → FunctionContent
+  Within : Box → FunctionContent
 
 abbrev pub function_content : {A : Type 0} → Function A → FunctionContent
 function_content (function.HasNumber house) = HasNumber house.number
 function_content (function.HasName text limit) = HasName text.bytes.items limit.number
 function_content (function.Intersects shape) = Intersects (shape_content shape)
 function_content (function.StartsIn several) = StartsIn (Polygons (polygons_of several))
+function_content (function.StartsInBounds bounds) = StartsIn (Bounds (box_of bounds))
+function_content (function.Within bounds) = Within (box_of bounds)
 
 -- HAS_NUMBER
 pub record SpellsHasNumber {A : Type 0} (words rest : List Token) (made : Filter A) : Type 0 where
@@ -70,22 +67,10 @@ pub record SpellsHasName {A : Type 0} (words rest : List Token) (made : Filter A
   pub names : SpellsLimit after (Close ∷ rest) limit
   pub is : made ≡ filter.Function (function.HasName text limit)
 
--- at least one number and at most another
-abbrev pub IsWithin : {A : Type 0} → NumericColumn → Literal → Literal → Filter A → Type 0
-IsWithin c low high made = IsBoth (filter.CompareNumber c GreaterOrEqual low) (filter.CompareNumber c LessOrEqual high) made
-
--- the point with these coordinates lies in a box
-pub record IsInBox {A : Type 0} (longitude latitude : CoordinateColumn) (corners : Corners) (made : Filter A) : Type 0 where
-  pub across : Filter A
-  pub along : Filter A
-  pub is_across : IsWithin (Coordinate longitude) corners.west corners.east across
-  pub is_along : IsWithin (Coordinate latitude) corners.south corners.north along
-  pub both : IsBoth across along made
-
 -- STARTS_IN
 pub data SpellsStartsIn {A : Type 0} : List Token → List Token → Filter A → Type 0 where
-  in_box : {words rest : List Token} {corners : Corners} {made : Filter A} → InParentheses IsBox words (Close ∷ rest) corners
-      → IsInBox Frlong Frlat corners made → SpellsStartsIn (Open ∷ Keyword (word.Shape tag.Bbox) ∷ words) rest made
+  in_box : {words rest : List Token} {bounds : ABounds} → SpellsShape words (Close ∷ rest) (Bounds (box_of bounds))
+      → SpellsStartsIn (Open ∷ words) rest (filter.Function (function.StartsInBounds bounds))
   in_polygons : {words rest : List Token} {several : APolygons A} → SpellsShape words (Close ∷ rest) (Polygons (polygons_of several))
       → SpellsStartsIn (Open ∷ words) rest (filter.Function (function.StartsIn several))
 
@@ -108,17 +93,13 @@ pub record SpellsDisjoint {A : Type 0} (words rest : List Token) (made : Filter 
   pub intersects : SpellsIntersects words rest meets
   pub opposite : IsNot meets made
 
--- S_WITHIN: both ends of the line lie in a box
+-- S_WITHIN, of which the second operand is a box
 pub record SpellsWithin {A : Type 0} (words rest : List Token) (made : Filter A) : Type 0 where
-  pub corners : Corners
+  pub bounds : ABounds
   pub inner : List Token
   pub opened : words ≡ Open ∷ Keyword word.Geometry ∷ Comma ∷ Keyword (word.Shape tag.Bbox) ∷ inner
-  pub box : InParentheses IsBox inner (Close ∷ rest) corners
-  pub start : Filter A
-  pub «end» : Filter A
-  pub starts : IsInBox Frlong Frlat corners start
-  pub ends : IsInBox Tolong Tolat corners «end»
-  pub both : IsBoth start «end» made
+  pub box : IsBox inner (Close ∷ rest) (box_of bounds)
+  pub is : made ≡ filter.Function (function.Within bounds)
 
 -- a function, after its name
 abbrev pub SpellsFunction : {A : Type 0} → FunctionName → List Token → List Token → Filter A → Type 0

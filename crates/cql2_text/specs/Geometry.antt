@@ -1,18 +1,17 @@
 -- Spatial literals in terms of their tokens (CQL2, 21-065r2, annex B: spatialInstance).
 use Rattle.std.specs.Prelude.{◌≡◌, ℕ, ◌≤◌, ◌+◌, ℤ, ◌≤ℤ◌, List, [], ◌∷◌, ◌++◌, length, map, Ok}
-use Rattle.cql2.specs.Geometry.{Point as APoint, point_of}
+use Rattle.cql2.specs.Geometry.{Point as APoint, femtodegrees, point_of}
+use Rattle.cql2.specs.declared.geometry.Bounds.{Bounds as ABounds}
 use Rattle.cql2.specs.declared.geometry.Polygon.{Polygon}
 use Rattle.cql2.specs.declared.geometry.Polygons.{Polygons as SomePolygons}
 use Rattle.cql2.specs.declared.geometry.Ring.{Ring}
 use Rattle.cql2.specs.declared.geometry.Shape.{Shape}
 use Rattle.cql2.specs.declared.geometry.Shape.TheVariants as shape
 use Rattle.cql2.specs.declared.geometry.Vertex.{Vertex}
-use Rattle.cql2.specs.declared.number.Literal.{Literal}
 use Rattle.cql2_text.specs.Number.{coordinate_of}
 use Rattle.cql2_text.specs.Numeral.{IsNumber, IsNumeral}
-use Rattle.cql2_text.specs.declared.shape.Corners.{Corners}
 use Rattle.cql2_text.specs.declared.shape.TheConstants.{MAX_VERTICES}
-use Rattle.cql2_text.specs.declared.unit.Unit.TheVariants.{Degrees}
+use Rattle.cql2_text.specs.declared.unit.Unit.TheVariants.{Femtodegrees}
 use Rattle.cql2_tokens.specs.declared.token.Keyword.TheVariants as word
 use Rattle.cql2_tokens.specs.declared.token.Numeral.{Numeral}
 use Rattle.cql2_tokens.specs.declared.token.ShapeTag.{ShapeTag}
@@ -20,11 +19,27 @@ use Rattle.cql2_tokens.specs.declared.token.ShapeTag.TheVariants as tag
 use Rattle.cql2_tokens.specs.declared.token.Token.{Token}
 use Rattle.cql2_tokens.specs.declared.token.Token.TheVariants.{Keyword, Open, Close, Comma}
 
+-- the bounds of a box, in femtodegrees
+pub record Box : Type 0 where
+  pub west : ℤ
+  pub south : ℤ
+  pub east : ℤ
+  pub north : ℤ
+
+abbrev pub box_of : ABounds → Box
+box_of bounds =
+    record {
+      west = femtodegrees bounds.west;
+      south = femtodegrees bounds.south;
+      east = femtodegrees bounds.east;
+      north = femtodegrees bounds.north;
+    }
+
 -- the content of a shape, regardless of where its parts are in memory
 pub data ShapeContent : Type 0 where
   Point : APoint → ShapeContent
   Line : List APoint → ShapeContent
-  Bounds : APoint → APoint → ShapeContent
+  Bounds : Box → ShapeContent
   Polygons : List (List (List APoint)) → ShapeContent
 
 abbrev pub points_of : List Vertex → List APoint
@@ -42,7 +57,7 @@ polygons_of several = map rings_of several.polygons.items
 abbrev pub shape_content : {A : Type 0} → Shape A → ShapeContent
 shape_content (shape.Point vertex) = Point (point_of vertex)
 shape_content (shape.Line vertices) = Line (points_of vertices.items)
-shape_content (shape.Bounds bounds) = Bounds (point_of bounds.southwest) (point_of bounds.northeast)
+shape_content (shape.Bounds bounds) = Bounds (box_of bounds)
 shape_content (shape.Polygons several) = Polygons (polygons_of several)
 
 abbrev pub vertices_of_polygon : List (List APoint) → ℕ
@@ -57,7 +72,7 @@ vertices_of_polygons (polygon ∷ polygons) = vertices_of_polygon polygon + vert
 abbrev pub vertices_of : ShapeContent → ℕ
 vertices_of (Point point) = 1
 vertices_of (Line points) = length points
-vertices_of (Bounds southwest northeast) = 2
+vertices_of (Bounds box) = 2
 vertices_of (Polygons polygons) = vertices_of_polygons polygons
 
 -- Productions
@@ -107,27 +122,22 @@ abbrev pub ArePolygons : List Token → List Token → List (List (List APoint))
 ArePolygons words rest polygons = InParentheses (AreItems IsPolygon) words rest polygons
 
 -- a longitude and a latitude of a box, with a comma between them
-pub record IsPoint (words rest : List Token) (x y : Literal) : Type 0 where
+pub record IsCorner (words rest : List Token) (x y : ℤ) : Type 0 where
   pub middle : List Token
-  pub first : IsNumber Degrees words (Comma ∷ middle) x
-  pub second : IsNumber Degrees middle rest y
+  pub first : IsNumber Femtodegrees words (Comma ∷ middle) x
+  pub second : IsNumber Femtodegrees middle rest y
 
 -- bboxText without its parentheses: the southwest and the northeast corner
-pub record IsBox (words rest : List Token) (corners : Corners) : Type 0 where
+pub record AreCorners (words rest : List Token) (box : Box) : Type 0 where
   pub from_east : List Token
-  pub southwest : IsPoint words (Comma ∷ from_east) corners.west corners.south
-  pub northeast : IsPoint from_east rest corners.east corners.north
+  pub southwest : IsCorner words (Comma ∷ from_east) box.west box.south
+  pub northeast : IsCorner from_east rest box.east box.north
 
 -- a box that isn't turned around
-pub record IsOrdered (corners : Corners) : Type 0 where
-  pub longitudes : corners.west.number ≤ℤ corners.east.number
-  pub latitudes : corners.south.number ≤ℤ corners.north.number
-
-abbrev pub point_at : Literal → Literal → APoint
-point_at x y = record { longitude = x.number; latitude = y.number }
-
-abbrev pub bounds_of : Corners → ShapeContent
-bounds_of corners = Bounds (point_at corners.west corners.south) (point_at corners.east corners.north)
+pub record IsBox (words rest : List Token) (box : Box) : Type 0 where
+  pub corners : InParentheses AreCorners words rest box
+  pub longitudes : box.west ≤ℤ box.east
+  pub latitudes : box.south ≤ℤ box.north
 
 -- a shape, after its tag
 abbrev pub SpellsTagged : ShapeTag → List Token → List Token → ShapeContent → Type 0
@@ -137,8 +147,7 @@ SpellsTagged tag.Polygon words rest content =
     (rings : List (List APoint)) × IsPolygon words rest rings × (content ≡ Polygons (rings ∷ []))
 SpellsTagged tag.MultiPolygon words rest content =
     (polygons : List (List (List APoint))) × ArePolygons words rest polygons × (content ≡ Polygons polygons)
-SpellsTagged tag.Bbox words rest content =
-    (corners : Corners) × InParentheses IsBox words rest corners × IsOrdered corners × (content ≡ bounds_of corners)
+SpellsTagged tag.Bbox words rest content = (box : Box) × IsBox words rest box × (content ≡ Bounds box)
 
 -- a shape
 pub record SpellsShape (words rest : List Token) (content : ShapeContent) : Type 0 where

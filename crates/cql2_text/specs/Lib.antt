@@ -2,6 +2,7 @@ pub mod Clause
 pub mod Compared
 pub mod Connective
 pub mod Content
+pub mod Corners
 pub mod Expression
 pub mod ExpressionContent
 pub mod FilterFault

@@ -8,7 +8,7 @@ use Rattle.tl_segments.specs.declared.limits.TheConstants.{MAX_NAMES}
 use Rattle.cql2_text.specs.declared.fault.FilterFaultKind.{FilterFaultKind}
 use Rattle.cql2_text.specs.declared.fault.FilterFaultKind.TheVariants.{WrongType, NumberRange}
 use Rattle.cql2_text.specs.declared.unit.Unit.{Unit}
-use Rattle.cql2_text.specs.declared.unit.Unit.TheVariants.{Whole, Degrees}
+use Rattle.cql2_text.specs.declared.unit.Unit.TheVariants.{Whole, Degrees, Femtodegrees}
 use Rattle.cql2_tokens.specs.declared.token.Numeral.{Numeral}
 
 abbrev pub signed : Bool → ℕ → ℤ
@@ -23,21 +23,27 @@ abbrev pub whole_amount : ℕ → List ℕ → List ℕ → Result ℕ FilterFau
 whole_amount most whole [] = in_range (decimal_in most whole)
 whole_amount most whole (digit ∷ decimals) = Err WrongType
 
--- decimals as millionths; there are at most six
-abbrev pub parts_of : List ℕ → Option ℕ
-parts_of [] = Some 0
-parts_of (digit ∷ decimals) =
-    elim (decimal_in 6 (digit ∷ decimals)) [ Some parts ↦ Some (parts * 10 ^ (6 - length (digit ∷ decimals))) | None ↦ None ]
+-- A coordinate has at most six decimals, and counts in millionths of a degree; a bound of a box has at most 15, and counts in femtodegrees.
 
--- a coordinate is below 1000 degrees
-abbrev pub millionths : Option ℕ → Option ℕ → Result ℕ FilterFaultKind
-millionths (Some degrees) (Some parts) = if nat_lt degrees 1000 then Ok (degrees * 1000000 + parts) else Err NumberRange
-millionths (Some degrees) None = Err NumberRange
-millionths None parts = Err NumberRange
+-- decimals in units of the last one that there may be
+abbrev pub parts_of : ℕ → List ℕ → Option ℕ
+parts_of most [] = Some 0
+parts_of most (digit ∷ decimals) =
+    elim (decimal_in most (digit ∷ decimals)) [ Some parts ↦ Some (parts * 10 ^ (most - length (digit ∷ decimals))) | None ↦ None ]
+
+-- there are less than 1000 degrees
+abbrev pub with_parts : ℕ → Option ℕ → Option ℕ → Result ℕ FilterFaultKind
+with_parts most (Some degrees) (Some parts) = if nat_lt degrees 1000 then Ok (degrees * 10 ^ most + parts) else Err NumberRange
+with_parts most (Some degrees) None = Err NumberRange
+with_parts most None parts = Err NumberRange
+
+abbrev pub degrees_amount : ℕ → List ℕ → List ℕ → Result ℕ FilterFaultKind
+degrees_amount most whole decimals = with_parts most (decimal_in 18 whole) (parts_of most decimals)
 
 abbrev pub amount_of : Unit → Numeral → Result ℕ FilterFaultKind
 amount_of Whole numeral = whole_amount 18 numeral.whole.now numeral.decimals.now
-amount_of Degrees numeral = millionths (decimal_in 18 numeral.whole.now) (parts_of numeral.decimals.now)
+amount_of Degrees numeral = degrees_amount 6 numeral.whole.now numeral.decimals.now
+amount_of Femtodegrees numeral = degrees_amount 15 numeral.whole.now numeral.decimals.now
 
 abbrev pub signed_by : Bool → Result ℕ FilterFaultKind → Result ℤ FilterFaultKind
 signed_by is_negative (Ok amount) = Ok (signed is_negative amount)
@@ -67,7 +73,8 @@ up_to_name_limit (Err flaw) = Err flaw
 abbrev pub name_limit_of : Numeral → Result ℕ FilterFaultKind
 name_limit_of numeral = up_to_name_limit (count_of 18 numeral)
 
--- Coordinates with any number of decimals. Those after the sixth lie between two millionths: the nearer one counts, and of two as near the even one.
+-- Coordinates of vertices, with any number of decimals. Those after the sixth lie between two millionths: the nearer one counts, and of two as near
+-- the even one.
 
 abbrev pub is_zero : ℕ → Bool
 is_zero digit = digit == 48
@@ -92,8 +99,7 @@ rounded (Ok amount) further = if nat_lt (nearest amount further) 1000000000 then
 rounded (Err flaw) further = Err flaw
 
 abbrev pub rounded_amount : Numeral → Result ℕ FilterFaultKind
-rounded_amount numeral =
-    rounded (millionths (decimal_in 18 numeral.whole.now) (parts_of (take 6 numeral.decimals.now))) (drop 6 numeral.decimals.now)
+rounded_amount numeral = rounded (degrees_amount 6 numeral.whole.now (take 6 numeral.decimals.now)) (drop 6 numeral.decimals.now)
 
 -- the coordinate of a vertex, in millionths of a degree
 abbrev pub coordinate_of : Numeral → Result ℤ FilterFaultKind

@@ -1,6 +1,5 @@
 -- signedNumericLiteral and unsignedNumericLiteral (CQL2, 21-065r2, annex B).
-use Rattle.std.specs.Prelude.{◌≡◌, true, List, ◌∷◌, Ok}
-use Rattle.cql2.specs.declared.number.Literal.{Literal}
+use Rattle.std.specs.Prelude.{◌≡◌, ℤ, true, List, ◌∷◌, Ok}
 use Rattle.cql2_text.specs.Number.{number_of}
 use Rattle.cql2_text.specs.declared.unit.Unit.{Unit}
 use Rattle.cql2_tokens.specs.declared.token.Numeral.{Numeral}
@@ -19,7 +18,7 @@ pub data IsNumeral : List Token → List Token → Numeral → Type 0 where
   negative : {numeral : Numeral} {rest : List Token} → IsNumeral (Sign Minus ∷ Number numeral ∷ rest) rest (below_zero numeral)
 
 -- a number, which may have a sign, in a unit
-pub record IsNumber (unit : Unit) (words rest : List Token) (literal : Literal) : Type 0 where
+pub record IsNumber (unit : Unit) (words rest : List Token) (number : ℤ) : Type 0 where
   pub numeral : Numeral
   pub spelled : IsNumeral words rest numeral
-  pub value : number_of unit numeral ≡ Ok literal.number
+  pub value : number_of unit numeral ≡ Ok number

@@ -1,4 +1,4 @@
--- The units of numbers: coordinates are in millionths of a degree, and all other numbers are whole.
+-- The units of numbers: coordinates are in millionths of a degree, bounds of boxes in femtodegrees, and all other numbers are whole.
 use Rattle.std.specs.Prelude.{Bool, true, false, Option, Some}
 use Rattle.cql2.specs.declared.column.NumericColumn.{NumericColumn}
 use Rattle.cql2.specs.declared.column.NumericColumn.TheVariants.{Number, Coordinate}
@@ -12,7 +12,7 @@ abbrev pub unit_of : Option NumericColumn → Unit
 unit_of (Some (Coordinate column)) = Degrees
 unit_of column = Whole
 
--- a column's numbers are in the unit
+-- a column's numbers are in the unit; none are in femtodegrees
 abbrev pub is_in : Unit → NumericColumn → Bool
 is_in Whole (Number column) = true
 is_in Degrees (Coordinate column) = true
@@ -23,4 +23,4 @@ abbrev pub allows : Unit → Operator → Bool
 allows Whole operator = true
 allows Degrees Add = true
 allows Degrees Subtract = true
-allows Degrees operator = false
+allows unit operator = false

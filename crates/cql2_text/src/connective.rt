@@ -1,11 +1,10 @@
 //! AND, OR and NOT of filters.
 ghost use Rattle.std.specs.Prelude.{◌≡◌, MatchResult};
 ghost use Rattle.cql2_text.specs.Connective.{IsBoth, IsEither, IsNot};
-ghost use Rattle.cql2_text.specs.Function.{IsWithin};
 ghost use Rattle.cql2_text.specs.declared.syntax_fault.SyntaxFault.TheVariants as syntax_fault;
 
 use crate::syntax_fault::SyntaxFault;
-use cql2::{Comparison, Filter, Literal, NumericColumn};
+use cql2::Filter;
 use std::alloc::Allocator;
 
 /// Returns the conjunction of two filters.
@@ -52,18 +51,4 @@ fn boxed<A: Allocator + Copy>(alloc: A, filter: Filter<A>) -> Result<Box<Filter<
         Ok(made) => Ok(made),
         Err(_) => Err(SyntaxFault::Memory),
     }
-}
-
-/// Returns the filter for a column that is at least one number and at most another.
-pub(crate) fn within<A: Allocator + Copy>(
-    alloc: A,
-    column: NumericColumn,
-    low: Literal,
-    high: Literal,
-) -> Result<Filter<A>, SyntaxFault>
-    ensures { MatchResult result (IsWithin column low high) (λ fault. fault ≡ syntax_fault.Memory) }
-{
-    let first = Filter::CompareNumber(column, Comparison::GreaterOrEqual, low);
-    let second = Filter::CompareNumber(column, Comparison::LessOrEqual, high);
-    both(alloc, first, second)
 }

@@ -2,7 +2,7 @@
 ghost use Rattle.std.specs.Prelude.{◌≡◌, ◌∷◌, List, IfOk, MatchResult};
 ghost use Rattle.cql2.specs.declared.filter.Filter.{Filter};
 ghost use Rattle.cql2.specs.declared.number.NameLimit.{NameLimit as ALimit};
-ghost use Rattle.cql2_text.specs.Function.{IsInBox, SpellsDisjoint, SpellsFunction, SpellsHasName, SpellsHasNumber, SpellsIntersects, SpellsLimit};
+ghost use Rattle.cql2_text.specs.Function.{SpellsDisjoint, SpellsFunction, SpellsHasName, SpellsHasNumber, SpellsIntersects, SpellsLimit};
 ghost use Rattle.cql2_text.specs.Function.{SpellsOperands, SpellsStartsIn, SpellsWithin};
 ghost use Rattle.cql2_text.specs.Geometry.{ShapeContent, shape_content};
 ghost use Rattle.cql2_text.specs.Read.{IsNotNext, IsRead, IsReadAs};
@@ -12,15 +12,15 @@ ghost use Rattle.cql2_tokens.specs.declared.token.ShapeTag.TheVariants as tag;
 ghost use Rattle.cql2_tokens.specs.declared.token.Token.{Token};
 ghost use Rattle.cql2_tokens.specs.declared.token.Token.TheVariants as token;
 
-use crate::connective::{both, negated, within};
+use crate::connective::negated;
 use crate::fault::Expected;
 use crate::literal::{house_number, name_limit};
 use crate::operand::{numeral, text};
-use crate::shape::{Corners, area, bbox, shape};
+use crate::shape::{bounds, shape};
 use crate::syntax_fault::SyntaxFault;
 use crate::terminal::{Terminal, expect, next};
-use cql2::{CoordinateColumn, Filter, Function, NameLimit, NumericColumn, Shape};
-use cql2_tokens::{FunctionName, Keyword, ShapeTag, Token};
+use cql2::{Filter, Function, NameLimit, Shape};
+use cql2_tokens::{FunctionName, Keyword, Token};
 use std::alloc::Allocator;
 use tl_segments::NAME_LENGTH;
 
@@ -104,74 +104,18 @@ fn starts_in<'a, A: Allocator + Copy>(
     ensures reads { (rest : List Token) (made : Filter A) → SpellsStartsIn words.now rest made → IsRead result rest made }
 {
     let inner = expect(words, Terminal::Opening)?;
-    match next(inner) {
-        Some((Token::Keyword(Keyword::Shape(ShapeTag::Bbox)), after)) => {
-            let (filter, rest) = starts_in_box(alloc, after)?;
-            Ok((filter, rest))
+    let (shape, rest) = shape(alloc, inner, Expected::Area)?;
+    match shape {
+        Shape::Bounds(bounds) => {
+            let rest = expect(rest, Terminal::Closing)?;
+            Ok((Filter::Function(Function::StartsInBounds(bounds)), rest))
         }
-        _ => {
-            let (filter, rest) = starts_in_area(alloc, inner)?;
-            Ok((filter, rest))
+        Shape::Polygons(several) => {
+            let rest = expect(rest, Terminal::Closing)?;
+            Ok((Filter::Function(Function::StartsIn(several)), rest))
         }
+        _ => Err(SyntaxFault::unexpected(inner, Expected::Area)),
     }
-}
-
-/// Reads the box of STARTS_IN after its tag.
-fn starts_in_box<'a, A: Allocator + Copy>(
-    alloc: A,
-    words: &'a [Token<'a>],
-) -> Result<(Filter<A>, &'a [Token<'a>]), SyntaxFault>
-    ensures ok { IfOk result (λ read. SpellsStartsIn (token.Open ∷ token.Keyword (word.Shape tag.Bbox) ∷ words.now) read.1.now read.0) }
-    ensures reads { (rest : List Token) (made : Filter A)
-        → SpellsStartsIn (token.Open ∷ token.Keyword (word.Shape tag.Bbox) ∷ words.now) rest made → IsRead result rest made }
-{
-    let (corners, rest) = bbox(words)?;
-    let rest = expect(rest, Terminal::Closing)?;
-    let filter = in_box(
-        alloc,
-        CoordinateColumn::Frlong,
-        CoordinateColumn::Frlat,
-        corners,
-    )?;
-    Ok((filter, rest))
-}
-
-/// Reads the polygons of STARTS_IN.
-fn starts_in_area<'a, A: Allocator + Copy>(
-    alloc: A,
-    words: &'a [Token<'a>],
-) -> Result<(Filter<A>, &'a [Token<'a>]), SyntaxFault>
-    ensures ok { IfOk result (λ read. SpellsStartsIn (token.Open ∷ words.now) read.1.now read.0) }
-    ensures reads { (rest : List Token) (made : Filter A) → IsNotNext (word.Shape tag.Bbox) words.now
-        → SpellsStartsIn (token.Open ∷ words.now) rest made → IsRead result rest made }
-{
-    let (several, rest) = area(alloc, words)?;
-    let rest = expect(rest, Terminal::Closing)?;
-    Ok((Filter::Function(Function::StartsIn(several)), rest))
-}
-
-/// Returns the filter for a point in a box, by the columns of its coordinates.
-fn in_box<A: Allocator + Copy>(
-    alloc: A,
-    longitude: CoordinateColumn,
-    latitude: CoordinateColumn,
-    corners: Corners,
-) -> Result<Filter<A>, SyntaxFault>
-    ensures { MatchResult result (IsInBox longitude latitude corners) (λ fault. fault ≡ syntax_fault.Memory) }
-{
-    let across = within(
-        alloc,
-        NumericColumn::Coordinate(longitude),
-        corners.west,
-        corners.east,
-    )?;
-    let along = within(
-        alloc,
-        NumericColumn::Coordinate(latitude),
-        corners.south,
-        corners.north,
-    )?;
-    both(alloc, across, along)
 }
 
 /// Reads the property `geometry` and a shape, in either order, in parentheses.
@@ -264,20 +208,7 @@ fn lies_within<'a, A: Allocator + Copy>(
     let rest = expect(rest, Terminal::Geometry)?;
     let rest = expect(rest, Terminal::Comma)?;
     let rest = expect(rest, Terminal::Bbox)?;
-    let (corners, rest) = bbox(rest)?;
+    let (bounds, rest) = bounds(rest)?;
     let rest = expect(rest, Terminal::Closing)?;
-    let starts = in_box(
-        alloc,
-        CoordinateColumn::Frlong,
-        CoordinateColumn::Frlat,
-        corners,
-    )?;
-    let ends = in_box(
-        alloc,
-        CoordinateColumn::Tolong,
-        CoordinateColumn::Tolat,
-        corners,
-    )?;
-    let filter = both(alloc, starts, ends)?;
-    Ok((filter, rest))
+    Ok((Filter::Function(Function::Within(bounds)), rest))
 }

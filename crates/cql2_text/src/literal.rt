@@ -1,8 +1,8 @@
 //! Numbers.
-ghost use Rattle.std.specs.Prelude.{◌≡◌, ◌≤◌, ◌<◌, ◌^◌, ◌-◌, Ok, Err, unsigned_abs, take, drop, IfOk, IfSome, MatchResult};
+ghost use Rattle.std.specs.Prelude.{◌≡◌, ◌≤◌, ◌<◌, ◌^◌, ◌-◌, ◌*◌, Ok, Err, unsigned_abs, take, drop, IfOk, IfSome, MatchResult};
 ghost use Rattle.std.specs.List.{list_all};
 ghost use Rattle.decimal.specs.Numeral.{decimal_in};
-ghost use Rattle.cql2_text.specs.Number.{number_of, house_number_of, name_limit_of, count_of, signed, whole_amount, millionths, parts_of};
+ghost use Rattle.cql2_text.specs.Number.{number_of, house_number_of, name_limit_of, count_of, signed, whole_amount, degrees_amount, parts_of};
 ghost use Rattle.cql2_text.specs.Number.{coordinate_of, is_half, is_more_than_half, is_zero, nearest, rounded_amount};
 
 use crate::fault::FilterFaultKind;
@@ -16,11 +16,13 @@ use tl_segments::MAX_NAMES;
 const MAX_LITERAL_DIGITS: usize = 18;
 /// The maximum number of digits in a house number.
 const MAX_HOUSE_NUMBER_DIGITS: usize = 11;
-/// The maximum number of decimals in a coordinate.
+/// The maximum number of decimals in a coordinate, which is in millionths of a degree.
 const MAX_DECIMALS: usize = 6;
+/// The maximum number of decimals in a bound of a box, which is in femtodegrees.
+const MAX_BOUND_DECIMALS: usize = 15;
 /// The bound that a coordinate's degrees are below.
 const DEGREES: u64 = 1000;
-/// The same in millionths.
+/// The same in millionths of a degree.
 const MILLIONTHS: u64 = 1_000_000_000;
 
 /// Returns a numeral's value in a unit.
@@ -31,7 +33,8 @@ pub(crate) fn literal_of(unit: Unit, numeral: Numeral) -> Result<Literal, Filter
 {
     let amount = match unit {
         Unit::Whole => whole_amount(numeral.whole, numeral.decimals, MAX_LITERAL_DIGITS),
-        Unit::Degrees => millionths(numeral.whole, numeral.decimals),
+        Unit::Degrees => degrees_amount(numeral.whole, numeral.decimals, MAX_DECIMALS),
+        Unit::Femtodegrees => degrees_amount(numeral.whole, numeral.decimals, MAX_BOUND_DECIMALS),
     };
     match amount {
         Ok(amount) => Ok(signed(numeral.is_negative, amount)),
@@ -70,7 +73,7 @@ fn rounded_amount(numeral: Numeral) -> Result<u64, FilterFaultKind>
     ensures small { IfOk result (λ amount. amount < 10 ^ 9) }
 {
     let (kept, further) = split_decimals(numeral.decimals);
-    let rounded = nearest(millionths(numeral.whole, kept)?, further);
+    let rounded = nearest(degrees_amount(numeral.whole, kept, MAX_DECIMALS)?, further);
     if rounded < MILLIONTHS {
         Ok(rounded)
     } else {
@@ -128,50 +131,45 @@ fn are_zeros(digits: &[u8]) -> bool
     digits.iter().all(|digit| *digit == b'0')
 }
 
-/// Returns degrees as millionths.
-fn millionths(whole: &[u8], decimals: &[u8]) -> Result<u64, FilterFaultKind>
-    ensures value { result ≡ millionths (decimal_in 18 whole.now) (parts_of decimals.now) }
-    ensures small { IfOk result (λ amount. amount < 10 ^ 18) }
+/// Returns degrees with at most `most` decimals, in units of the last one that there may be.
+fn degrees_amount(whole: &[u8], decimals: &[u8], most: usize) -> Result<u64, FilterFaultKind>
+    requires few { most ≤ 15 }
+    ensures value { result ≡ degrees_amount most whole.now decimals.now }
+    ensures small { IfOk result (λ amount. amount < 1000 * 10 ^ most) }
 {
     let Some(degrees) = decimal_value(whole, MAX_LITERAL_DIGITS) else {
         return Err(FilterFaultKind::NumberRange);
     };
-    let Some(parts) = parts_of(decimals) else {
+    let Some(parts) = parts_of(decimals, most) else {
         return Err(FilterFaultKind::NumberRange);
     };
     if degrees < DEGREES {
-        Ok(degrees * 1_000_000 + parts)
+        Ok(degrees * unit(most) + parts)
     } else {
         Err(FilterFaultKind::NumberRange)
     }
 }
 
-/// Returns decimals as millionths.
-fn parts_of(decimals: &[u8]) -> Option<u64>
-    ensures value { result ≡ parts_of decimals.now }
-    ensures small { IfSome result (λ parts. parts < 10 ^ 12) }
+/// Returns at most `most` decimals in units of the last one that there may be.
+fn parts_of(decimals: &[u8], most: usize) -> Option<u64>
+    requires few { most ≤ 15 }
+    ensures value { result ≡ parts_of most decimals.now }
+    ensures small { IfSome result (λ parts. parts < 10 ^ most) }
 {
     if decimals.is_empty() {
         return Some(0);
     }
-    let parts = decimal_value(decimals, MAX_DECIMALS)?;
-    Some(parts * unit(decimals.len()))
+    let parts = decimal_value(decimals, most)?;
+    Some(parts * unit(most - decimals.len()))
 }
 
-/// Returns the millionths that the last decimal stands for, given the number of decimals.
+/// Returns the number of parts into which this many decimals divide a degree.
 fn unit(decimals: usize) -> u64
-    ensures value { result ≡ 10 ^ (6 - decimals) }
-    ensures small { result ≤ 1000000 }
+    requires { decimals ≤ 15 }
+    ensures value { result ≡ 10 ^ decimals }
+    ensures small { result ≤ 10 ^ 15 }
 {
-    match decimals {
-        0 => 1_000_000,
-        1 => 100_000,
-        2 => 10_000,
-        3 => 1_000,
-        4 => 100,
-        5 => 10,
-        _ => 1,
-    }
+    10u64.pow(decimals as u32)
 }
 
 fn signed(is_negative: bool, amount: u64) -> Literal

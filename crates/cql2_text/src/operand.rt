@@ -1,8 +1,7 @@
 //! Literals that a column is compared with or that a function takes.
-ghost use Rattle.std.specs.Prelude.{◌≡◌, ◌≢◌, ◌∷◌, ◌≤◌, ◌<◌, ◌^◌, unsigned_abs, ℕ, List, length, IfOk, Err, MatchResult, false};
+ghost use Rattle.std.specs.Prelude.{◌≡◌, ◌≢◌, ◌∷◌, ◌≤◌, ◌<◌, ◌^◌, unsigned_abs, ℕ, ℤ, List, length, IfOk, Err, MatchResult, false};
 ghost use Rattle.tl_segments.specs.declared.name.TheConstants.{NAME_LENGTH};
 ghost use denote.Ref.{Bor};
-ghost use Rattle.cql2.specs.declared.number.Literal.{Literal as ALiteral};
 ghost use Rattle.cql2.specs.declared.text.Text.{Text as AText};
 ghost use Rattle.cql2_text.specs.Number.{number_of};
 ghost use Rattle.cql2_text.specs.Numeral.{IsNumber, IsNumeral, below_zero};
@@ -75,14 +74,14 @@ pub(crate) fn number<'a>(
     unit: Unit,
     words: &'a [Token<'a>],
 ) -> Result<(Literal, &'a [Token<'a>]), SyntaxFault>
-    ensures ok { IfOk result (λ read. IsNumber unit words.now read.1.now read.0) }
+    ensures ok { IfOk result (λ read. IsNumber unit words.now read.1.now read.0.number) }
 
     // A number that isn't one of the unit is refused for its flaw.
     ensures refused { (numeral : ANumeral) (rest : List Token) (flaw : FilterFaultKind) → IsNumeral words.now rest numeral
         → number_of unit numeral ≡ Err flaw → result ≡ Err (syntax_fault.At (length words.now) 0 flaw) }
     ensures small { IfOk result (λ read. unsigned_abs read.0.number < 10 ^ 18) }
-    ensures reads { (rest : List Token) (literal : ALiteral) → IsNumber unit words.now rest literal
-        → MatchResult result (λ read. (read.1.now ≡ rest) × (read.0.number ≡ literal.number)) (λ fault. ⊥) }
+    ensures reads { (rest : List Token) (number : ℤ) → IsNumber unit words.now rest number
+        → MatchResult result (λ read. (read.1.now ≡ rest) × (read.0.number ≡ number)) (λ fault. ⊥) }
 {
     if begins_clause(words) {
         return Err(SyntaxFault::at(words, FilterFaultKind::WrongType));

@@ -1,11 +1,10 @@
 //! Shapes.
-ghost use Rattle.std.specs.Prelude.{◌≡◌, ◌<◌, ◌+◌, ◌^◌, nat_le, unsigned_abs, map, List, IfOk, MatchOption, MatchResult};
-ghost use Rattle.cql2.specs.Geometry.{Point as APoint, point_of};
-ghost use Rattle.cql2.specs.declared.number.Literal.{Literal as ALiteral};
-ghost use Rattle.cql2_text.specs.Geometry.{InParentheses, IsBox, IsOrdered, IsPoint, Polygons as SomePolygons, ShapeContent, SpellsShape, SpellsTagged};
-ghost use Rattle.cql2_text.specs.Geometry.{bounds_of, point_at, points_of_ring, polygons_of, rings_of, shape_content, vertices_of};
+ghost use Rattle.std.specs.Prelude.{◌≡◌, ◌<◌, ◌+◌, ◌^◌, ℤ, nat_le, unsigned_abs, map, List, IfOk, MatchOption, MatchResult};
+ghost use Rattle.cql2.specs.Geometry.{femtodegrees};
+ghost use Rattle.cql2_text.specs.Corners.{AreSmall, IsOrdered, numbers_of};
+ghost use Rattle.cql2_text.specs.Geometry.{AreCorners, Box, InParentheses, IsBox, IsCorner, ShapeContent, SpellsShape, SpellsTagged};
+ghost use Rattle.cql2_text.specs.Geometry.{box_of, points_of_ring, rings_of, shape_content, vertices_of};
 ghost use Rattle.cql2_text.specs.Geometry.{vertices_of_polygon, vertices_of_polygons};
-ghost use Rattle.cql2_text.specs.Geometry as geometry;
 ghost use Rattle.cql2_text.specs.Read.{IsReadAs};
 ghost use Rattle.cql2_tokens.specs.declared.token.Token.{Token};
 
@@ -15,14 +14,17 @@ use crate::operand::number;
 use crate::syntax_fault::SyntaxFault;
 use crate::terminal::{Terminal, expect, next};
 use crate::unit::Unit;
-use cql2::{Bounds, Literal, Polygon, Polygons, Ring, Shape, Vertex};
+use cql2::{Bound, Bounds, Literal, Polygon, Polygons, Ring, Shape};
 use cql2_tokens::{Keyword, ShapeTag, Token};
 use std::alloc::Allocator;
 
 /// The maximum number of vertices in a shape.
 pub const MAX_VERTICES: usize = 1000;
 
-/// The corners of a box, in millionths of a degree.
+/// The number of femtodegrees in a millionth of a degree.
+const MILLIONTH: i64 = 1_000_000_000;
+
+/// The corners of a box, in femtodegrees.
 #[derive(Clone, Copy)]
 pub(crate) struct Corners {
     pub west: Literal,
@@ -51,22 +53,6 @@ pub(crate) fn shape<'a, A: Allocator + Copy>(
             }
         }
         _ => Err(SyntaxFault::unexpected(words, expected)),
-    }
-}
-
-/// Reads a polygon or several.
-pub(crate) fn area<'a, A: Allocator + Copy>(
-    alloc: A,
-    words: &'a [Token<'a>],
-) -> Result<(Polygons<A>, &'a [Token<'a>]), SyntaxFault>
-    ensures ok { IfOk result (λ read. SpellsShape words.now read.1.now (SomePolygons (polygons_of read.0))) }
-    ensures reads { (rest : List Token) (several : List (List (List APoint))) → SpellsShape words.now rest (SomePolygons several)
-        → IsReadAs polygons_of result rest several }
-{
-    let (shape, rest) = shape(alloc, words, Expected::Area)?;
-    match shape {
-        Shape::Polygons(several) => Ok((several, rest)),
-        _ => Err(SyntaxFault::unexpected(words, Expected::Area)),
     }
 }
 
@@ -106,13 +92,11 @@ fn tagged<'a, A: Allocator + Copy>(
     }
 }
 
-/// Reads the corners of a box that isn't turned around, in parentheses.
-fn bounds<'a>(words: &'a [Token<'a>]) -> Result<(Bounds, &'a [Token<'a>]), SyntaxFault>
-    ensures ok { IfOk result (λ read. (corners : Corners) × InParentheses IsBox words.now read.1.now corners × IsOrdered corners
-        × (geometry.Bounds (point_of read.0.southwest) (point_of read.0.northeast) ≡ bounds_of corners)) }
-    ensures reads { (rest : List Token) (corners : Corners) → InParentheses IsBox words.now rest corners → IsOrdered corners
-        → MatchResult result (λ read. (read.1.now ≡ rest)
-        × (geometry.Bounds (point_of read.0.southwest) (point_of read.0.northeast) ≡ bounds_of corners)) (λ fault. ⊥) }
+/// Reads a box that isn't turned around, after its tag.
+pub(crate) fn bounds<'a>(words: &'a [Token<'a>]) -> Result<(Bounds, &'a [Token<'a>]), SyntaxFault>
+    ensures ok { IfOk result (λ read. IsBox words.now read.1.now (box_of read.0)) }
+    ensures reads { (rest : List Token) (box : Box) → IsBox words.now rest box
+        → MatchResult result (λ read. (read.1.now ≡ rest) × (box_of read.0 ≡ box)) (λ fault. ⊥) }
 {
     let (corners, rest) = bbox(words)?;
     if corners.west.number > corners.east.number {
@@ -123,32 +107,40 @@ fn bounds<'a>(words: &'a [Token<'a>]) -> Result<(Bounds, &'a [Token<'a>]), Synta
         let north = after_commas(words, 3);
         return Err(SyntaxFault::at(north, FilterFaultKind::NumberRange));
     }
-    let southwest = Vertex {
-        longitude: corners.west.number,
-        latitude: corners.south.number,
-    };
-    let northeast = Vertex {
-        longitude: corners.east.number,
-        latitude: corners.north.number,
-    };
-    Ok((
-        Bounds {
-            southwest,
-            northeast,
-        },
-        rest,
-    ))
+    Ok((bounds_of(corners), rest))
+}
+
+/// Returns a box by its corners.
+fn bounds_of(corners: Corners) -> Bounds
+    requires small { AreSmall corners }
+    requires ordered { IsOrdered corners }
+    ensures { box_of result ≡ numbers_of corners }
+{
+    Bounds {
+        west: bound_of(corners.west),
+        south: bound_of(corners.south),
+        east: bound_of(corners.east),
+        north: bound_of(corners.north),
+    }
+}
+
+/// Returns a number of femtodegrees as a bound.
+fn bound_of(number: Literal) -> Bound
+    requires { unsigned_abs number.number < 10 ^ 18 }
+    ensures { femtodegrees result ≡ number.number }
+{
+    Bound {
+        millionths: number.number.div_euclid(MILLIONTH),
+        rest: number.number.rem_euclid(MILLIONTH) as u32,
+    }
 }
 
 /// Reads the southwest and the northeast corner of a box, in parentheses.
-pub(crate) fn bbox<'a>(words: &'a [Token<'a>]) -> Result<(Corners, &'a [Token<'a>]), SyntaxFault>
-    ensures ok { IfOk result (λ read. InParentheses IsBox words.now read.1.now read.0) }
-    ensures west { IfOk result (λ read. unsigned_abs read.0.west.number < 10 ^ 9) }
-    ensures south { IfOk result (λ read. unsigned_abs read.0.south.number < 10 ^ 9) }
-    ensures east { IfOk result (λ read. unsigned_abs read.0.east.number < 10 ^ 9) }
-    ensures north { IfOk result (λ read. unsigned_abs read.0.north.number < 10 ^ 9) }
-    ensures reads { (rest : List Token) (made : Corners) → InParentheses IsBox words.now rest made
-        → MatchResult result (λ read. (read.1.now ≡ rest) × (bounds_of read.0 ≡ bounds_of made)) (λ fault. ⊥) }
+fn bbox<'a>(words: &'a [Token<'a>]) -> Result<(Corners, &'a [Token<'a>]), SyntaxFault>
+    ensures ok { IfOk result (λ read. InParentheses AreCorners words.now read.1.now (numbers_of read.0)) }
+    ensures small { IfOk result (λ read. AreSmall read.0) }
+    ensures reads { (rest : List Token) (box : Box) → InParentheses AreCorners words.now rest box
+        → MatchResult result (λ read. (read.1.now ≡ rest) × (numbers_of read.0 ≡ box)) (λ fault. ⊥) }
 {
     let inner = expect(words, Terminal::Opening)?;
     let (west, south, rest) = corner(inner)?;
@@ -166,15 +158,15 @@ pub(crate) fn bbox<'a>(words: &'a [Token<'a>]) -> Result<(Corners, &'a [Token<'a
 
 /// Reads a longitude and a latitude with a comma between them.
 fn corner<'a>(words: &'a [Token<'a>]) -> Result<(Literal, Literal, &'a [Token<'a>]), SyntaxFault>
-    ensures ok { IfOk result (λ read. IsPoint words.now read.2.now read.0 read.1) }
-    ensures x_fits { IfOk result (λ read. unsigned_abs read.0.number < 10 ^ 9) }
-    ensures y_fits { IfOk result (λ read. unsigned_abs read.1.number < 10 ^ 9) }
-    ensures reads { (rest : List Token) (x y : ALiteral) → IsPoint words.now rest x y
-        → MatchResult result (λ read. (read.2.now ≡ rest) × (point_at read.0 read.1 ≡ point_at x y)) (λ fault. ⊥) }
+    ensures ok { IfOk result (λ read. IsCorner words.now read.2.now read.0.number read.1.number) }
+    ensures x_fits { IfOk result (λ read. unsigned_abs read.0.number < 10 ^ 18) }
+    ensures y_fits { IfOk result (λ read. unsigned_abs read.1.number < 10 ^ 18) }
+    ensures reads { (rest : List Token) (x y : ℤ) → IsCorner words.now rest x y
+        → MatchResult result (λ read. (read.2.now ≡ rest) × (read.0.number ≡ x) × (read.1.number ≡ y)) (λ fault. ⊥) }
 {
-    let (x, rest) = number(Unit::Degrees, words)?;
+    let (x, rest) = number(Unit::Femtodegrees, words)?;
     let rest = expect(rest, Terminal::Comma)?;
-    let (y, rest) = number(Unit::Degrees, rest)?;
+    let (y, rest) = number(Unit::Femtodegrees, rest)?;
     Ok((x, y, rest))
 }
 

@@ -4,12 +4,14 @@ ghost use Rattle.cql2_text.specs.Unit.{allows, is_in, unit_of};
 
 use cql2::{NumericColumn, Operator};
 
-/// The unit of the numbers in a comparison.
+/// The unit of numbers in a filter.
 #[derive(Clone, Copy)]
 pub(crate) enum Unit {
     Whole,
     /// Millionths of a degree, for coordinates.
     Degrees,
+    /// For the bounds of a box. 10¹⁵ are a degree.
+    Femtodegrees,
 }
 
 impl Unit {
@@ -23,7 +25,7 @@ impl Unit {
         }
     }
 
-    /// Returns whether the column's numbers are in this unit.
+    /// Returns whether the column's numbers are in this unit. No column's are in femtodegrees.
     pub fn has(self, column: NumericColumn) -> bool
         ensures { result ≡ is_in self column }
     {

@@ -109,7 +109,7 @@ signed-returns-in_err-literal-clause-reads g t c =
     let starts = sym c.begins_number.ensures ∙ c.if-begins_number.true in
     λ rest made spelled.
     let is = signed-at c.requires.minus starts spelled in
-    absurd (c.in_err-literal.ensures.reads rest is.value is.spelled)
+    absurd (c.in_err-literal.ensures.reads rest is.value.number is.spelled)
 
 pub signed-returns-then-begins_number-clause-ok : goal.signed-returns-then-begins_number-clause-ok
 signed-returns-then-begins_number-clause-ok g t c = rw c.literal_part.ensures (literal c.in_ok-literal.ensures.ok)
@@ -119,7 +119,7 @@ signed-returns-then-begins_number-clause-reads g t c =
     let starts = sym c.begins_number.ensures ∙ c.if-begins_number.true in
     λ rest made spelled.
     let is = signed-at c.requires.minus starts spelled in
-    let read = c.in_ok-literal.ensures.reads rest is.value is.spelled in
+    let read = c.in_ok-literal.ensures.reads rest is.value.number is.spelled in
     (read.0, rw (c.literal_part.ensures, is.is) (ap Literal read.1))
 
 pub signed-returns-in_err-inner-clause-reads : goal.signed-returns-in_err-inner-clause-reads

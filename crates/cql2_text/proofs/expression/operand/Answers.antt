@@ -14,7 +14,7 @@ returns-in_err-literal-in_default-clause-reads g c =
     let named : (k : NumericColumn) → IsNotFirst (Column (column.Numeric k)) c.args.words.now = search rules in
     λ depth rest made parens minus spelled.
     let is = literal-of parens minus named spelled in
-    absurd (c.in_err-literal-in_default.ensures.reads rest is.value is.spelled)
+    absurd (c.in_err-literal-in_default.ensures.reads rest is.value.number is.spelled)
 
 pub returns-else-not-has-clause-ok : goal.returns-else-not-has-clause-ok
 returns-else-not-has-clause-ok g c =
@@ -31,5 +31,5 @@ returns-in_ok-literal-in_default-clause-reads g c =
     let named : (k : NumericColumn) → IsNotFirst (Column (column.Numeric k)) c.args.words.now = search rules in
     λ depth rest made parens minus spelled.
     let is = literal-of parens minus named spelled in
-    let read = c.in_ok-literal-in_default.ensures.reads rest is.value is.spelled in
+    let read = c.in_ok-literal-in_default.ensures.reads rest is.value.number is.spelled in
     (read.0, rw (c.literal_part.ensures, is.is) (ap Literal read.1))

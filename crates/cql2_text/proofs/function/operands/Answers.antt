@@ -3,7 +3,7 @@ use Rattle.cql2_text.specs.declared.syntax_fault.SyntaxFault.TheVariants.{Memory
 use Rattle.cql2_tokens.specs.declared.token.Keyword.TheVariants as word
 use Rattle.cql2_tokens.specs.declared.token.Token.{Token}
 use Rattle.cql2_tokens.specs.declared.token.Token.TheVariants.{Keyword}
-use Rattle.cql2_text.proofs.BoxLemmas.{operands-open}
+use Rattle.cql2_text.proofs.OperandLemmas.{operands-open}
 use Rattle.cql2_text.proofs.TokenLemmas.{word-is}
 use Rattle.cql2_text.proofs.function.operands.Goals as goal
 

@@ -1,7 +1,7 @@
 use Rattle.std.proofs.Common.{◌≡◌, refl, rules}
 use Rattle.cql2_text.specs.Function.{geometry_first}
 use Rattle.cql2_text.specs.declared.syntax_fault.SyntaxFault.TheVariants.{Memory}
-use Rattle.cql2_text.proofs.BoxLemmas.{operands-first}
+use Rattle.cql2_text.proofs.OperandLemmas.{operands-first}
 use Rattle.cql2_text.proofs.function.shape_after_property.Goals as goal
 
 pub returns-clause-ok : goal.returns-clause-ok

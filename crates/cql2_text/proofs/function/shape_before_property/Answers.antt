@@ -3,7 +3,7 @@ use Rattle.cql2_text.specs.Function.{geometry_last}
 use Rattle.cql2_text.specs.declared.syntax_fault.SyntaxFault.TheVariants.{Memory}
 use Rattle.cql2_tokens.specs.declared.token.Keyword.TheVariants as word
 use Rattle.cql2_tokens.specs.declared.token.Token.TheVariants.{Close, Keyword}
-use Rattle.cql2_text.proofs.BoxLemmas.{operands-last}
+use Rattle.cql2_text.proofs.OperandLemmas.{operands-last}
 use Rattle.cql2_text.proofs.function.shape_before_property.Goals as goal
 
 pub returns-clause-ok : goal.returns-clause-ok

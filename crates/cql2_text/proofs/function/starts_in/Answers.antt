@@ -1,55 +1,59 @@
-use Rattle.std.proofs.Common.{◌≡◌, ◌≢◌, List, ◌∷◌, rules}
+use Rattle.std.proofs.Common.{◌≡◌, ap, sym, ◌∙◌, rules}
+use Rattle.cql2_text.specs.Content.{Function}
+use Rattle.cql2_text.specs.Function.{StartsIn, in_box, in_polygons}
+use Rattle.cql2_text.specs.Geometry.{shape_content}
 use Rattle.cql2_text.specs.declared.syntax_fault.SyntaxFault.TheVariants.{Memory}
-use Rattle.cql2_tokens.specs.declared.token.Keyword.TheVariants as word
-use Rattle.cql2_tokens.specs.declared.token.ShapeTag.TheVariants as tag
-use Rattle.cql2_tokens.specs.declared.token.Token.{Token}
-use Rattle.cql2_tokens.specs.declared.token.Token.TheVariants.{Keyword}
-use Rattle.cql2_text.proofs.BoxLemmas.{box-is, starts-open}
+use Rattle.cql2_text.proofs.OperandLemmas.{area-of}
 use Rattle.cql2_text.proofs.function.starts_in.Goals as goal
 
-pub returns-in_err-inner-clause-reads : goal.returns-in_err-inner-clause-reads
-returns-in_err-inner-clause-reads g c =
+pub returns-in_err-shape-clause-reads : goal.returns-in_err-shape-clause-reads
+returns-in_err-shape-clause-reads g c =
     λ rest made is.
-    let opened = starts-open is in
-    absurd (c.in_err-inner.ensures _ opened.1)
-
-pub returns-in_ok-filter-in-Some-Keyword-Shape-Bbox-default-clause-ok : goal.returns-in_ok-filter-in-Some-Keyword-Shape-Bbox-default-clause-ok
-returns-in_ok-filter-in-Some-Keyword-Shape-Bbox-default-clause-ok g c =
-    let k = c.in-Some-Keyword-Shape-Bbox-default in
-    let box = box-is _ _ _ _ _ k.ensures k.field-0-0-is k.field-0-0-0-is k.field-0-0-0-0-is in
-    rw (c.in_ok-inner.ensures, box) c.in_ok-filter-in-Some-Keyword-Shape-Bbox-default.ensures.ok
-
-pub returns-in_err-filter-in-Some-Keyword-Shape-Bbox-default-clause-reads : goal.returns-in_err-filter-in-Some-Keyword-Shape-Bbox-default-clause-reads
-returns-in_err-filter-in-Some-Keyword-Shape-Bbox-default-clause-reads g c =
-    let k = c.in-Some-Keyword-Shape-Bbox-default in
-    let box = box-is _ _ _ _ _ k.ensures k.field-0-0-is k.field-0-0-0-is k.field-0-0-0-0-is in
-    λ rest made is.
-    let memory : c.in_err-filter-in-Some-Keyword-Shape-Bbox-default.field-0.0 ≡ Memory =
-    c.in_err-filter-in-Some-Keyword-Shape-Bbox-default.ensures.reads rest made (rw (c.in_ok-inner.ensures, box) at is) in
+    let area = area-of is in
+    let inner : area.inner ≡ c.in_ok-inner.inner.now = cc (area.opened, c.in_ok-inner.ensures) in
+    let memory : c.in_err-shape.field-0.0 ≡ Memory = c.in_err-shape.ensures.reads _ _ (rw inner at area.spelled) in
     search rules
 
-pub returns-in_ok-filter-in-Some-Keyword-Shape-Bbox-default-clause-reads : goal.returns-in_ok-filter-in-Some-Keyword-Shape-Bbox-default-clause-reads
-returns-in_ok-filter-in-Some-Keyword-Shape-Bbox-default-clause-reads g c =
-    let k = c.in-Some-Keyword-Shape-Bbox-default in
-    let box = box-is _ _ _ _ _ k.ensures k.field-0-0-is k.field-0-0-0-is k.field-0-0-0-0-is in
+pub returns-in_err-rest-in-Bounds-clause-reads : goal.returns-in_err-rest-in-Bounds-clause-reads
+returns-in_err-rest-in-Bounds-clause-reads g c =
     λ rest made is.
-    c.in_ok-filter-in-Some-Keyword-Shape-Bbox-default.ensures.reads rest made (rw (c.in_ok-inner.ensures, box) at is)
+    let area = area-of is in
+    let inner : area.inner ≡ c.in_ok-inner.inner.now = cc (area.opened, c.in_ok-inner.ensures) in
+    let read = c.in_ok-shape.ensures.reads _ _ (rw inner at area.spelled) in
+    absurd (c.in_err-rest-in-Bounds.ensures _ read.0)
 
-pub returns-in_ok-filter-in_default-clause-ok : goal.returns-in_ok-filter-in_default-clause-ok
-returns-in_ok-filter-in_default-clause-ok g c = rw c.in_ok-inner.ensures c.in_ok-filter-in_default.ensures.ok
+pub returns-in-Bounds-clause-ok : goal.returns-in-Bounds-clause-ok
+returns-in-Bounds-clause-ok g c =
+    let spelled = rw (c.in_ok-rest-in-Bounds.ensures, ap shape_content c.in-Bounds.is) at c.in_ok-shape.ensures.ok in
+    rw c.in_ok-inner.ensures (in_box spelled)
 
-pub returns-in_err-filter-in_default-clause-reads : goal.returns-in_err-filter-in_default-clause-reads
-returns-in_err-filter-in_default-clause-reads g c =
-    let inner = c.in_ok-inner.inner.now in
-    let no_box : (w : List Token) → inner ≢ Keyword (word.Shape tag.Bbox) ∷ w = search rules in
+pub returns-in-Bounds-clause-reads : goal.returns-in-Bounds-clause-reads
+returns-in-Bounds-clause-reads g c =
     λ rest made is.
-    let memory : c.in_err-filter-in_default.field-0.0 ≡ Memory =
-    c.in_err-filter-in_default.ensures.reads rest made no_box (rw c.in_ok-inner.ensures at is) in
-    search rules
+    let area = area-of is in
+    let inner : area.inner ≡ c.in_ok-inner.inner.now = cc (area.opened, c.in_ok-inner.ensures) in
+    let read = c.in_ok-shape.ensures.reads _ _ (rw inner at area.spelled) in
+    let same = sym (ap shape_content c.in-Bounds.is) ∙ read.1 in
+    (cc (read.0, c.in_ok-rest-in-Bounds.ensures), ap (λ s. Function (StartsIn s)) same ∙ sym area.same)
 
-pub returns-in_ok-filter-in_default-clause-reads : goal.returns-in_ok-filter-in_default-clause-reads
-returns-in_ok-filter-in_default-clause-reads g c =
-    let inner = c.in_ok-inner.inner.now in
-    let no_box : (w : List Token) → inner ≢ Keyword (word.Shape tag.Bbox) ∷ w = search rules in
+pub returns-in_err-rest-in-Polygons-clause-reads : goal.returns-in_err-rest-in-Polygons-clause-reads
+returns-in_err-rest-in-Polygons-clause-reads g c =
     λ rest made is.
-    c.in_ok-filter-in_default.ensures.reads rest made no_box (rw c.in_ok-inner.ensures at is)
+    let area = area-of is in
+    let inner : area.inner ≡ c.in_ok-inner.inner.now = cc (area.opened, c.in_ok-inner.ensures) in
+    let read = c.in_ok-shape.ensures.reads _ _ (rw inner at area.spelled) in
+    absurd (c.in_err-rest-in-Polygons.ensures _ read.0)
+
+pub returns-in-Polygons-clause-ok : goal.returns-in-Polygons-clause-ok
+returns-in-Polygons-clause-ok g c =
+    let spelled = rw (c.in_ok-rest-in-Polygons.ensures, ap shape_content c.in-Polygons.is) at c.in_ok-shape.ensures.ok in
+    rw c.in_ok-inner.ensures (in_polygons spelled)
+
+pub returns-in-Polygons-clause-reads : goal.returns-in-Polygons-clause-reads
+returns-in-Polygons-clause-reads g c =
+    λ rest made is.
+    let area = area-of is in
+    let inner : area.inner ≡ c.in_ok-inner.inner.now = cc (area.opened, c.in_ok-inner.ensures) in
+    let read = c.in_ok-shape.ensures.reads _ _ (rw inner at area.spelled) in
+    let same = sym (ap shape_content c.in-Polygons.is) ∙ read.1 in
+    (cc (read.0, c.in_ok-rest-in-Polygons.ensures), ap (λ s. Function (StartsIn s)) same ∙ sym area.same)

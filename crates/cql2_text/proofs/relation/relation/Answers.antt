@@ -1,4 +1,4 @@
-use Rattle.std.proofs.Common.{◌≡◌, List, true, false, sym, ◌∙◌, rules}
+use Rattle.std.proofs.Common.{◌≡◌, List, false, sym, ◌∙◌, rules}
 use Rattle.cql2_text.specs.Predicate.{IsSubject, IsTextLiteral, of_subject}
 use Rattle.cql2_text.specs.Scan.{begins_operand}
 use Rattle.cql2_text.specs.declared.predicate.Subject.{Subject}

@@ -1,5 +1,4 @@
-use Rattle.std.proofs.Common.{◌≡◌, refl}
-use Rattle.cql2_text.proofs.CoordinateLemmas.{degrees-small}
+use Rattle.std.proofs.Common.{◌≡◌}
 use Rattle.cql2_text.proofs.shape.corner.Goals as goal
 
 pub returns-clause-ok : goal.returns-clause-ok
@@ -30,10 +29,4 @@ returns-clause-reads c =
     let first = c.in_ok-x.ensures.reads _ _ is.first in
     let middle : is.middle ≡ c.in_ok-rest.rest.now = cc (first.0, c.in_ok-rest.ensures) in
     let second = c.in_ok-y.ensures.reads _ _ (rw middle at is.second) in
-    (second.0, rw (first.1, second.1) refl)
-
-pub returns-clause-x_fits : goal.returns-clause-x_fits
-returns-clause-x_fits c = degrees-small c.in_ok-x.ensures.ok.numeral _ c.in_ok-x.ensures.ok.value
-
-pub returns-clause-y_fits : goal.returns-clause-y_fits
-returns-clause-y_fits c = degrees-small c.in_ok-y.ensures.ok.numeral _ c.in_ok-y.ensures.ok.value
+    (second.0, first.1, second.1)

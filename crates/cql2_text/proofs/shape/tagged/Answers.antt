@@ -1,5 +1,5 @@
 use Rattle.std.proofs.Common.{◌≡◌, [], ◌∷◌, ap, sym, ◌∙◌, rules}
-use Rattle.cql2_text.specs.Geometry.{Line, Point, Polygons, SpellsTagged}
+use Rattle.cql2_text.specs.Geometry.{Bounds, Line, Point, Polygons, SpellsTagged}
 use Rattle.cql2_text.specs.declared.syntax_fault.SyntaxFault.TheVariants.{Memory}
 use Rattle.cql2_tokens.specs.declared.token.ShapeTag.TheVariants as tag
 use Rattle.cql2_text.proofs.shape.tagged.Goals as goal
@@ -35,7 +35,7 @@ pub returns-in_err-bounds-in-Bbox-clause-reads : goal.returns-in_err-bounds-in-B
 returns-in_err-bounds-in-Bbox-clause-reads g c =
     λ rest content is.
     let own : SpellsTagged tag.Bbox c.args.words.now rest content = rw c.in-Bbox.is at is in
-    absurd (c.in_err-bounds-in-Bbox.ensures.reads _ _ own.1 own.2)
+    absurd (c.in_err-bounds-in-Bbox.ensures.reads _ _ own.1)
 
 pub returns-in_ok-vertex-in-Point-clause-reads : goal.returns-in_ok-vertex-in-Point-clause-reads
 returns-in_ok-vertex-in-Point-clause-reads g c =
@@ -70,5 +70,5 @@ pub returns-in_ok-bounds-in-Bbox-clause-reads : goal.returns-in_ok-bounds-in-Bbo
 returns-in_ok-bounds-in-Bbox-clause-reads g c =
     λ rest content is.
     let own : SpellsTagged tag.Bbox c.args.words.now rest content = rw c.in-Bbox.is at is in
-    let read = c.in_ok-bounds-in-Bbox.ensures.reads _ _ own.1 own.2 in
-    (read.0, read.1 ∙ sym own.3)
+    let read = c.in_ok-bounds-in-Bbox.ensures.reads _ _ own.1 in
+    (read.0, ap (λ x. Bounds x) read.1 ∙ sym own.2)
