@@ -10,7 +10,7 @@ use Rattle.tl_segments.specs.declared.limits.TheConstants.{MAX_RANGES}
 use Rattle.cql2.specs.Function.{truth_of}
 use Rattle.cql2.specs.Truth.{is as is_truth}
 use Rattle.cql2.specs.declared.function.Function.{Function}
-use Rattle.cql2.specs.declared.function.Function.TheVariants.{HasNumber, HasName, Intersects, StartsIn}
+use Rattle.cql2.specs.declared.function.Function.TheVariants.{HasNumber, HasName, Intersects, StartsIn, StartsInBounds, Within}
 use Rattle.cql2.specs.declared.geometry.Shape.TheVariants as shape
 use Rattle.cql2_code.specs.Function.{asks_function, asks_has_name, asks_has_number, checks_for_end, is_named_from, lies_from, name_block}
 use Rattle.cql2_code.specs.Question.{Question, Joined, answer}
@@ -20,7 +20,7 @@ use Rattle.cql2_code.proofs.ByteLemmas.{AreSmall, small_blanks}
 use Rattle.cql2_code.proofs.NameLemmas.{has_name_rightly}
 use Rattle.cql2_code.proofs.NumberLemmas.{small_fits}
 use Rattle.cql2_code.proofs.RangeLemmas.{has_number_rightly}
-use Rattle.cql2_code.proofs.ShapeLemmas.{intersects_rightly, meets_soundly, starts_in_rightly}
+use Rattle.cql2_code.proofs.ShapeLemmas.{intersects_rightly, meets_soundly, starts_in_bounds_rightly, starts_in_rightly, within_rightly, within_soundly}
 use Rattle.cql2_code.proofs.TextLemmas.{IsWanted, text_wanted}
 
 -- Names and ranges: their numbers are within their types
@@ -89,6 +89,8 @@ function_soundly (HasName text limit) asked =
     has_name_sound text.bytes.items limit.number asked (text_wanted text.bytes.items text.is_text) limit.fits
 function_soundly (Intersects shape) asked = meets_soundly Whole shape asked
 function_soundly (StartsIn several) asked = meets_soundly Start (shape.Polygons several) asked
+function_soundly (StartsInBounds bounds) asked = within_soundly Start bounds asked
+function_soundly (Within bounds) asked = within_soundly Whole bounds asked
 
 pub function_rightly : {A : Type 0} (segment : SegmentParts) → IsSegment segment → (function : Function A) (asked : Bool)
     → answer (asks_function function asked) segment ≡ is_truth (truth_of function segment) asked
@@ -97,3 +99,5 @@ function_rightly segment is (HasName text limit) asked =
     has_name_rightly segment is text.bytes.items limit.number (text_wanted text.bytes.items text.is_text).few limit.fits asked
 function_rightly segment is (Intersects shape) asked = intersects_rightly segment shape asked
 function_rightly segment is (StartsIn several) asked = starts_in_rightly segment several asked
+function_rightly segment is (StartsInBounds bounds) asked = starts_in_bounds_rightly segment bounds asked
+function_rightly segment is (Within bounds) asked = within_rightly segment bounds asked

@@ -3,6 +3,9 @@ pub mod Accepted
 pub mod AcceptedWhole
 pub mod AmongLemmas
 pub mod Blocks
+pub mod BoundsHands
+pub mod BoundsMarks
+pub mod BoundsSides
 pub mod ByteLemmas
 pub mod Calls
 pub mod Casts
@@ -73,6 +76,8 @@ pub mod TextLemmas
 pub mod TrimLemmas
 pub mod WantedLemmas
 pub mod Whole
+pub mod WithinLemmas
+pub mod WithinMarks
 pub mod WordLemmas
 pub mod Words
 pub mod Written

@@ -1,5 +1,5 @@
 -- Runs of the code that reads a segment's line.
-use Rattle.std.proofs.Common.{◌≡◌, ℕ, ◌-◌, ◌<◌, ◌^◌, ℤ, pos, Option, Some, None, IfSome, refl, ◌∙◌, subst, arith}
+use Rattle.std.proofs.Common.{◌≡◌, ℕ, ◌-◌, ◌≤◌, ◌^◌, ℤ, pos, Option, Some, None, IfSome, refl, ◌∙◌, subst, arith}
 use Rattle.std.specs.Prelude.{unsigned_abs}
 use Rattle.bpf_helpers.specs.Meaning.{coordinate_word}
 use Rattle.bpf_helpers.specs.declared.helper.Helper.TheVariants.{Coord}
@@ -30,11 +30,11 @@ use Rattle.cql2_code.proofs.Words.{word}
 
 -- coordinates have at most nine digits, and a missing one counts as 0
 
-or_zero_small : (found : Option ℤ) → IfSome found (IsUpTo (10 ^ 9 - 1)) → unsigned_abs (or_zero found) < 10 ^ 9
+or_zero_small : (found : Option ℤ) → IfSome found (IsUpTo (10 ^ 9 - 1)) → unsigned_abs (or_zero found) ≤ 10 ^ 9
 or_zero_small None few = omega arith
 or_zero_small (Some millionths) few = omega arith
 
-at_small : (segment : SegmentParts) (column : CoordinateColumn) → unsigned_abs (coordinate_at segment column) < 10 ^ 9
+at_small : (segment : SegmentParts) (column : CoordinateColumn) → unsigned_abs (coordinate_at segment column) ≤ 10 ^ 9
 at_small segment column = or_zero_small _ (column_up_to (Coordinate column) segment.bytes)
 
 pub line_short : (extent : Extent) (segment : SegmentParts) → IsShort (line_of extent segment)

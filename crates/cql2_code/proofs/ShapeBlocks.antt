@@ -1,4 +1,4 @@
--- The block that asks whether a segment's line meets a shape is sound.
+-- The blocks that ask whether a segment's line is marked are sound.
 use Rattle.std.proofs.Common.{◌≡◌, ℕ, ◌+◌, pos, Bool, true, false, is_some, List, [], ◌∷◌, ◌++◌, if◌then◌else◌, refl, ap, ◌∙◌, subst, arith}
 use Rattle.std.proofs.Common.{lit≤, lit<}
 use Rattle.std.proofs.lemmas.Bool.{false≢true}
@@ -15,14 +15,17 @@ use Rattle.bpf_kinds.specs.Results.{extend}
 use Rattle.bpf_kinds.specs.declared.kind.Kind.TheVariants.{Nothing, Number}
 use Rattle.bpf_verify.proofs.StateLaws.{reflexive}
 use Rattle.tl_segments.specs.Segment.{IsSegment}
-use Rattle.cql2.specs.Geometry.{meets}
+use Rattle.cql2.specs.Geometry.{Edge}
 use Rattle.cql2.specs.declared.filter.Comparison.{Comparison}
 use Rattle.cql2.specs.declared.filter.Comparison.TheVariants.{Equal, NotEqual}
+use Rattle.cql2.specs.declared.geometry.Bounds.{Bounds}
 use Rattle.cql2.specs.declared.geometry.Shape.{Shape}
+use Rattle.cql2.proofs.Sides.{IsShort}
 use Rattle.cql2_code.specs.Layout.{copy, from_argument_1, from_result, into_argument_1, into_kept, into_result, move, skip_if, wide_load}
 use Rattle.cql2_code.specs.Question.{coordinate_id}
 use Rattle.cql2_code.specs.ShapeCode.{end_latitude, end_longitude, from_first, into_end_latitude, into_first, into_second, into_side, line_code}
-use Rattle.cql2_code.specs.ShapeCode.{line_of, lead_code, mark_comparison, marks_code, meets_shape, shape_code}
+use Rattle.cql2_code.specs.ShapeCode.{Marking, asks_marks, line_of, lead_code, mark_comparison, marks_code, marks_shape, shape_code}
+use Rattle.cql2_code.specs.WithinCode.{ends_in, marks_within}
 use Rattle.cql2_code.specs.declared.line.Extent.{Extent}
 use Rattle.cql2_code.proofs.AbstractState.{answered, any_number, drawn, knowing, nothing, rests_after, resting, setting_2, setting_3, setting_4, state_before}
 use Rattle.cql2_code.proofs.Accepted.{skip_good, skip_needs}
@@ -35,13 +38,15 @@ use Rattle.cql2_code.proofs.Leads.{Arrives, IsAt, exit_of}
 use Rattle.cql2_code.proofs.LineRuns.{fourth, line_runs, line_short, start_hand}
 use Rattle.cql2_code.proofs.Passes.{AllPass, Passes, passes_coordinate, passes_move_1, passes_wide_load_1}
 use Rattle.cql2_code.proofs.Runs.{led, skip_leads}
-use Rattle.cql2_code.proofs.ShapeDraws.{lead_draws, shape_draws}
-use Rattle.cql2_code.proofs.ShapeHands.{Hand, copies_argument_1_to_first, copies_first_to_result, filled, lead_runs}
+use Rattle.cql2_code.proofs.ShapeDraws.{lead_draws, shape_draws, within_draws}
+use Rattle.cql2_code.proofs.ShapeHands.{Hand, Moves, copies_argument_1_to_first, copies_first_to_result, filled, lead_runs}
 use Rattle.cql2_code.proofs.ShapeInsns as insns
 use Rattle.cql2_code.proofs.ShapeInsns.{full, full_proper, proper_is}
-use Rattle.cql2_code.proofs.ShapeMet.{mark_of, shape_turns}
+use Rattle.cql2_code.proofs.ShapeMarks.{marked_if}
+use Rattle.cql2_code.proofs.ShapeMet.{mark_of, marks_are, shape_turns}
 use Rattle.cql2_code.proofs.Steps.{Begins, Runs, Scratch, Setting, and_on, and_then}
 use Rattle.cql2_code.proofs.Steps.{begins_at, branches_on_immediate, has_front, no_more, one_more, running, steps_on}
+use Rattle.cql2_code.proofs.WithinMarks.{within_marks}
 
 -- the code that reads the line passes
 
@@ -187,11 +192,21 @@ takes_marks = record {
   });
 }
 
-module _ {A : Type 0} (extent : Extent) (shape : Shape A) where
-  marks_draws : Draws (marks_code shape)
-  marks_draws =
-      draws_both lead_code (shape_code shape ++ copy into_first from_argument_1 ∷ []) lead_draws
-      (draws_both (shape_code shape) (copy into_first from_argument_1 ∷ []) (shape_draws shape) insns.copies_argument_1_to_first)
+-- a code leaves marks in register 1 that say whether the line is marked
+pub record Sets (on : Setting) (base : Scratch) (line : Edge) (code : List Insn) (hand : Hand) (is_marked : Bool) : Type 0 where
+  pub to : Hand
+  pub runs : Moves on base line code hand to
+  pub mark_is : to.mark ≡ mark_of false false is_marked
+
+-- a marking's code passes the verifier's checks, and marks the lines that it is to mark
+pub record IsSoundMarking (marking : Marking) : Type 0 where
+  pub draws : Draws marking.code
+  pub sets : (on : Setting) (base : Scratch) (line : Edge) → IsShort line → (hand : Hand) → hand.mark ≡ 0
+      → Sets on base line marking.code hand (marking.is_marked line)
+
+module _ (extent : Extent) (marking : Marking) (sound : IsSoundMarking marking) where
+  marks_draws : Draws (marks_code marking)
+  marks_draws = draws_both marking.code (copy into_first from_argument_1 ∷ []) sound.draws insns.copies_argument_1_to_first
 
   comparison_good : (code : List Insn) (comparison : Comparison) (skip place : ℕ)
       → (let insns = copy into_result from_first ∷ skip_if comparison (Immediate (pos 0)) skip in
@@ -206,22 +221,22 @@ module _ {A : Type 0} (extent : Extent) (shape : Shape A) where
       )
 
   block_good : (code : List Insn) (falls : Bool) (skip place : ℕ)
-      → (let insns = line_code extent ++ (marks_code shape ++ mark_comparison falls skip) in
+      → (let insns = line_code extent ++ (marks_code marking ++ mark_comparison falls skip) in
       Settled true code place insns skip → AreGoodAt true code place insns)
   block_good code falls skip place placed =
       let back = mark_comparison falls skip in
       let comparison = if falls then Equal else NotEqual in
       let there = place + word_count (line_code extent) in
-      let end = there + word_count (marks_code shape) in
-      let after = second_placed (Rests true code) code place (line_code extent) (marks_code shape ++ back) skip placed in
-      let last = second_placed (Rests true code) code there (marks_code shape) back skip after in
+      let end = there + word_count (marks_code marking) in
+      let after = second_placed (Rests true code) code place (line_code extent) (marks_code marking ++ back) skip placed in
+      let last = second_placed (Rests true code) code there (marks_code marking) back skip after in
       let more : Continues code end = record { begins = ap is_some last.has.0; needs = ap (state_before true) last.has.0 } in
-      let has = has_front code there (marks_code shape) back after.has in
-      let needs = (continues_at code there (marks_code shape) has marks_draws more).needs in
-      good-append true code place (line_code extent) (marks_code shape ++ back)
-      (all_good true code place (line_code extent) (drawn true) (has_front code place (line_code extent) (marks_code shape ++ back) placed.has) needs
+      let has = has_front code there (marks_code marking) back after.has in
+      let needs = (continues_at code there (marks_code marking) has marks_draws more).needs in
+      good-append true code place (line_code extent) (marks_code marking ++ back)
+      (all_good true code place (line_code extent) (drawn true) (has_front code place (line_code extent) (marks_code marking ++ back) placed.has) needs
       (line_passes extent))
-      (good-append true code there (marks_code shape) back (marks_draws.good code there has more) (comparison_good code comparison skip end last))
+      (good-append true code there (marks_code marking) back (marks_draws.good code there has more) (comparison_good code comparison skip end last))
 
   -- the exit by the marks
   exit_is : (falls met : Bool) (end skip : ℕ)
@@ -232,7 +247,7 @@ module _ {A : Type 0} (extent : Extent) (shape : Shape A) where
   exit_is false false end skip = refl
 
   module _ (on : Setting) (falls : Bool) (skip place : ℕ) (segment : IsSegment on.segment)
-      (placed : IsAt on.code place (line_code extent ++ (marks_code shape ++ mark_comparison falls skip)) skip) (from : Scratch) where
+      (placed : IsAt on.code place (line_code extent ++ (marks_code marking ++ mark_comparison falls skip)) skip) (from : Scratch) where
     abbrev comparison : Comparison
     comparison = if falls then Equal else NotEqual
 
@@ -243,50 +258,48 @@ module _ {A : Type 0} (extent : Extent) (shape : Shape A) where
     there = place + word_count (line_code extent)
 
     abbrev end : ℕ
-    end = there + word_count (marks_code shape)
+    end = there + word_count (marks_code marking)
 
     abbrev base : Scratch
     base = fourth extent on from
 
-    at_there : IsAt on.code there (marks_code shape ++ mark_comparison falls skip) skip
-    at_there = second_placed (Begins on.code) on.code place (line_code extent) (marks_code shape ++ mark_comparison falls skip) skip placed
+    at_there : IsAt on.code there (marks_code marking ++ mark_comparison falls skip) skip
+    at_there = second_placed (Begins on.code) on.code place (line_code extent) (marks_code marking ++ mark_comparison falls skip) skip placed
 
     at_end : IsAt on.code end (mark_comparison falls skip) skip
-    at_end = second_placed (Begins on.code) on.code there (marks_code shape) (mark_comparison falls skip) skip at_there
+    at_end = second_placed (Begins on.code) on.code there (marks_code marking) (mark_comparison falls skip) skip at_there
 
     at_skips : IsAt on.code (end + 1) skips skip
     at_skips = second_placed (Begins on.code) on.code end (copy into_result from_first ∷ []) skips skip at_end
 
-    -- the marks that the shape's code leaves
+    -- the marks that the code leaves
     record Marked : Type 0 where
       hand : Hand
-      runs : Runs on (marks_code shape) (filled (fourth extent on from) (line_of extent on.segment) (start_hand extent on from))
+      runs : Runs on (marks_code marking) (filled (fourth extent on from) (line_of extent on.segment) (start_hand extent on from))
           (filled (fourth extent on from) (line_of extent on.segment) hand)
-      first : hand.first ≡ mark_of false false (meets shape (line_of extent on.segment))
+      first : hand.first ≡ mark_of false false (marking.is_marked (line_of extent on.segment))
 
     marked : Marked
     marked =
         let line = line_of extent on.segment in
-        let short = line_short extent on.segment in
-        let lead = lead_runs on (fourth extent on from) line short (start_hand extent on from) in
-        let there = shape_turns on (fourth extent on from) line short shape _ refl refl in
+        let there = sound.sets on (fourth extent on from) line (line_short extent on.segment) (start_hand extent on from) refl in
         record {
           hand = record there.to { first = there.to.mark };
-          runs = and_then lead.runs (and_then there.runs (one_more (copies_argument_1_to_first on (fourth extent on from) line there.to) no_more));
+          runs = and_then there.runs (one_more (copies_argument_1_to_first on (fourth extent on from) line there.to) no_more);
           first = there.mark_is;
         }
 
     -- the comparison of the marks leads to the exit for the answer
-    compares_marks : (hand : Hand) → hand.first ≡ mark_of false false (meets shape (line_of extent on.segment))
+    compares_marks : (hand : Hand) → hand.first ≡ mark_of false false (marking.is_marked (line_of extent on.segment))
         → Arrives on (running on (filled base (line_of extent on.segment) hand) end)
-        (exit_of falls (meets shape (line_of extent on.segment)) (end + 1 + word_count skips) skip)
+        (exit_of falls (marking.is_marked (line_of extent on.segment)) (end + 1 + word_count skips) skip)
     compares_marks hand is =
         let line = line_of extent on.segment in
         let taken : Scratch = filled base line (record hand { lead = hand.first }) in
         let further = skip_leads on taken (Immediate (pos 0)) hand.first 0 (branches_on_immediate on taken hand.first (pos 0)) comparison skip (end + 1)
         at_skips in
         let exit = ap (λ (n : ℕ). led comparison n 0 skip (end + 1 + word_count skips)) is
-        ∙ exit_is falls (meets shape line) (end + 1 + word_count skips) skip in
+        ∙ exit_is falls (marking.is_marked line) (end + 1 + word_count skips) skip in
         let there = subst (Arrives on (running on taken (end + 1))) exit further in
         let next = begins_at on.code (end + 1) skips at_skips.has at_skips.end in
         record {
@@ -295,38 +308,58 @@ module _ {A : Type 0} (extent : Extent) (shape : Shape A) where
               ((copies_first_to_result on base line hand).step end at_end.has.0 next) there.reaches;
         }
 
-    whole : end + 1 + word_count skips ≡ place + word_count (line_code extent ++ (marks_code shape ++ mark_comparison falls skip))
+    whole : end + 1 + word_count skips ≡ place + word_count (line_code extent ++ (marks_code marking ++ mark_comparison falls skip))
     whole =
-        let first = word_count-append (line_code extent) (marks_code shape ++ mark_comparison falls skip) in
-        let second = word_count-append (marks_code shape) (mark_comparison falls skip) in
+        let first = word_count-append (line_code extent) (marks_code marking ++ mark_comparison falls skip) in
+        let second = word_count-append (marks_code marking) (mark_comparison falls skip) in
         let third = word_count-cons (copy into_result from_first) skips in
         omega arith
 
-    block_leads : Arrives on (running on from place) (exit_of falls (meets shape (line_of extent on.segment))
-        (place + word_count (line_code extent ++ (marks_code shape ++ mark_comparison falls skip))) skip)
+    block_leads : Arrives on (running on from place) (exit_of falls (marking.is_marked (line_of extent on.segment))
+        (place + word_count (line_code extent ++ (marks_code marking ++ mark_comparison falls skip))) skip)
     block_leads =
         let last = subst (λ (p : ℕ). Arrives on (running on (filled base (line_of extent on.segment) marked.hand) end)
-        (exit_of falls (meets shape (line_of extent on.segment)) p skip)) whole (compares_marks marked.hand marked.first) in
+        (exit_of falls (marking.is_marked (line_of extent on.segment)) p skip)) whole (compares_marks marked.hand marked.first) in
         let begins_end = ap is_some at_end.has.0 in
-        let has = has_front on.code there (marks_code shape) (mark_comparison falls skip) at_there.has in
-        let begins_there = begins_at on.code there (marks_code shape) has begins_end in
+        let has = has_front on.code there (marks_code marking) (mark_comparison falls skip) at_there.has in
+        let begins_there = begins_at on.code there (marks_code marking) has begins_end in
         record {
           scratch = last.scratch;
           reaches = and_on on _ (running on (filled base (line_of extent on.segment) (start_hand extent on from)) there) _
               ((line_runs extent on from).reaches place
-              (has_front on.code place (line_code extent) (marks_code shape ++ mark_comparison falls skip) placed.has) begins_there)
+              (has_front on.code place (line_code extent) (marks_code marking ++ mark_comparison falls skip) placed.has) begins_there)
               (and_on on _ (running on (filled base (line_of extent on.segment) marked.hand) end) _ (marked.runs.reaches there has begins_end) last.reaches);
         }
 
   -- the block is sound
-  pub meets_sound : IsSoundBlock (meets_shape extent shape)
-  meets_sound = record {
+  pub marks_sound : IsSoundBlock (asks_marks extent marking)
+  marks_sound = record {
     needs = λ keeps falls skip. refl;
     good = λ keeps code falls skip place kept placed. by_keeps keeps code falls skip place kept placed;
     leads = λ on falls skip place segment placed from. block_leads on falls skip place segment placed from;
   }
     where
-      by_keeps : (keeps : Bool) (code : List Insn) (falls : Bool) (skip place : ℕ) → Keeps keeps ((meets_shape extent shape).code falls skip)
-          → Settled keeps code place ((meets_shape extent shape).code falls skip) skip → AreGoodAt keeps code place ((meets_shape extent shape).code falls skip)
+      by_keeps : (keeps : Bool) (code : List Insn) (falls : Bool) (skip place : ℕ) → Keeps keeps ((asks_marks extent marking).code falls skip)
+          → Settled keeps code place ((asks_marks extent marking).code falls skip) skip
+          → AreGoodAt keeps code place ((asks_marks extent marking).code falls skip)
       by_keeps true code falls skip place kept placed = block_good code falls skip place placed
       by_keeps false code falls skip place kept placed = absurd (false≢true (kept refl))
+
+-- a shape's marking, and that of a box
+pub shape_sound : {A : Type 0} (shape : Shape A) → IsSoundMarking (marks_shape shape)
+shape_sound shape = record {
+  draws = draws_both lead_code (shape_code shape) lead_draws (shape_draws shape);
+  sets = λ on base line short hand held.
+      let lead = lead_runs on base line short hand in
+      let there = shape_turns on base line short shape _ refl held in
+      record { to = there.to; runs = and_then lead.runs there.runs; mark_is = there.mark_is };
+}
+
+pub within_sound : (extent : Extent) (bounds : Bounds) → IsSoundMarking (marks_within extent bounds)
+within_sound extent bounds = record {
+  draws = within_draws extent bounds;
+  sets = λ on base line short hand held.
+      let there = within_marks on base line short bounds hand extent in
+      let met = ends_in extent bounds line in
+      record { to = there.to; runs = there.runs; mark_is = there.mark_is ∙ ap (marked_if met) held ∙ marks_are false false false met };
+}

@@ -82,7 +82,7 @@ module _ (on : Setting) (base : Scratch) (line : Edge) where
       (Holds (record hand { second = word line.start.longitude }))
   copies_start_longitude_to_second hand = changes on _ (SetRegister into_second (value.Number _)) _ _ (λ place. refl) (λ place next. refl)
 
-  copies_end_longitude_to_second : (hand : Hand)
+  pub copies_end_longitude_to_second : (hand : Hand)
       → Does on (copy into_second from_end_longitude) (Holds hand)
       (Holds (record hand { second = word line.end.longitude }))
   copies_end_longitude_to_second hand = changes on _ (SetRegister into_second (value.Number _)) _ _ (λ place. refl) (λ place next. refl)
@@ -102,7 +102,7 @@ module _ (on : Setting) (base : Scratch) (line : Edge) where
       (Holds (record hand { lead = hand.first }))
   copies_first_to_result hand = changes on _ (SetRegister into_result (value.Number _)) _ _ (λ place. refl) (λ place next. refl)
 
-  subtracts_second_from_first : (hand : Hand)
+  pub subtracts_second_from_first : (hand : Hand)
       → Does on (combine operation.Subtract into_first from_second) (Holds hand)
       (Holds (record hand { first = result_of operation.Subtract Bits64 hand.first hand.second }))
   subtracts_second_from_first hand = changes on _ (SetRegister into_first (value.Number _)) _ _ (λ place. refl) (λ place next. refl)
@@ -132,7 +132,7 @@ module _ (on : Setting) (base : Scratch) (line : Edge) where
       (Holds (record hand { first = result_of operation.Multiply Bits64 hand.first (immediate_operand number) }))
   multiplies_first number hand = changes on _ (SetRegister into_first (value.Number _)) _ _ (λ place. refl) (λ place next. refl)
 
-  multiplies_second : (number : ℤ) (hand : Hand)
+  pub multiplies_second : (number : ℤ) (hand : Hand)
       → Does on (combine_number operation.Multiply into_second number) (Holds hand)
       (Holds (record hand { second = result_of operation.Multiply Bits64 hand.second (immediate_operand number) }))
   multiplies_second number hand = changes on _ (SetRegister into_second (value.Number _)) _ _ (λ place. refl) (λ place next. refl)
@@ -157,7 +157,7 @@ module _ (on : Setting) (base : Scratch) (line : Edge) where
       (Holds (record hand { mark = result_of operation.And Bits64 hand.mark (immediate_operand number) }))
   masks_argument_1 number hand = changes on _ (SetRegister into_argument_1 (value.Number _)) _ _ (λ place. refl) (λ place next. refl)
 
-  loads_second : (number : ℕ) (hand : Hand) → number < 2 ^ 64
+  pub loads_second : (number : ℕ) (hand : Hand) → number < 2 ^ 64
       → Does on (wide_load into_second number) (Holds hand) (Holds (record hand { second = number }))
   loads_second number hand fits =
       subst (λ (n : ℕ). Does on (wide_load into_second number) (Holds hand) (Holds (record hand { second = n }))) (wide_is number fits)
@@ -246,7 +246,7 @@ module _ (on : Setting) (base : Scratch) (line : Edge) where
     pub second : ℕ
     pub runs : Moves code hand (record hand { first = word number; second = second })
 
-  found : (code : List Insn) (hand : Hand) (number : ℤ) (first second : ℕ) → first ≡ word number
+  pub found : (code : List Insn) (hand : Hand) (number : ℤ) (first second : ℕ) → first ≡ word number
       → Moves code hand (record hand { first = first; second = second }) → Finds code hand number
   found code hand number first second is runs =
       record { second = second; runs = subst (λ (n : ℕ). Moves code hand (record hand { first = n; second = second })) is runs }
@@ -299,7 +299,7 @@ module _ (on : Setting) (base : Scratch) (line : Edge) where
         (record { first = (near_fits line.end short.end).0; second = (near_fits line.start short.start).0 }) (eastward_fits line short))
         (one_more (copies_end_longitude_to_first _) (one_more (subtracts_start_longitude_from_first _) no_more))
 
-    northward_runs : (hand : Hand) → Moves line_northward hand (record hand { second = word (northward line) })
+    pub northward_runs : (hand : Hand) → Moves line_northward hand (record hand { second = word (northward line) })
     northward_runs hand =
         subst (λ (n : ℕ). Moves line_northward hand (record hand { second = n }))
         (subtracts line.end.latitude line.start.latitude

@@ -106,10 +106,20 @@ subtracts_second_from_first = draws (combine operation.Subtract into_first from_
     (record nine_numbers { k3 = Number (alu operation.Subtract Bits64 full full) }) refl refl refl
     (numbers any_is any_is any_is (result_is operation.Subtract) any_is any_is any_is any_is any_is)
 
+pub adds_second_to_first : Draws (combine operation.Add into_first from_second ∷ [])
+adds_second_to_first = draws (combine operation.Add into_first from_second)
+    (record nine_numbers { k3 = Number (alu operation.Add Bits64 full full) }) refl refl refl
+    (numbers any_is any_is any_is (result_is operation.Add) any_is any_is any_is any_is any_is)
+
 pub subtracts_start_longitude_from_first : Draws (combine operation.Subtract into_first from_start_longitude ∷ [])
 subtracts_start_longitude_from_first = draws (combine operation.Subtract into_first from_start_longitude)
     (record nine_numbers { k3 = Number (alu operation.Subtract Bits64 full full) }) refl refl refl
     (numbers any_is any_is any_is (result_is operation.Subtract) any_is any_is any_is any_is any_is)
+
+pub subtracts_start_longitude_from_second : Draws (combine operation.Subtract into_second from_start_longitude ∷ [])
+subtracts_start_longitude_from_second = draws (combine operation.Subtract into_second from_start_longitude)
+    (record nine_numbers { k4 = Number (alu operation.Subtract Bits64 full full) }) refl refl refl
+    (numbers any_is any_is any_is any_is (result_is operation.Subtract) any_is any_is any_is any_is)
 
 pub subtracts_start_latitude_from_second : Draws (combine operation.Subtract into_second from_start_latitude ∷ [])
 subtracts_start_latitude_from_second = draws (combine operation.Subtract into_second from_start_latitude)
@@ -142,6 +152,16 @@ pub multiplies_second : (number : ℤ) → FitsSigned w64 number → Draws (comb
 multiplies_second number fits = draws (combine_number operation.Multiply into_second number)
     (record nine_numbers { k4 = Number (alu operation.Multiply Bits64 full (single (immediate_operand number))) }) refl refl refl
     (numbers any_is any_is any_is any_is (by_number_is operation.Multiply number fits) any_is any_is any_is any_is)
+
+pub divides_first : (number : ℤ) → FitsSigned w64 number → Draws (combine_number operation.SignedDivide into_first number ∷ [])
+divides_first number fits = draws (combine_number operation.SignedDivide into_first number)
+    (record nine_numbers { k3 = Number (alu operation.SignedDivide Bits64 full (single (immediate_operand number))) }) refl refl refl
+    (numbers any_is any_is any_is (by_number_is operation.SignedDivide number fits) any_is any_is any_is any_is any_is)
+
+pub lowers_first : (number : ℤ) → FitsSigned w64 number → Draws (combine_number operation.Subtract into_first number ∷ [])
+lowers_first number fits = draws (combine_number operation.Subtract into_first number)
+    (record nine_numbers { k3 = Number (alu operation.Subtract Bits64 full (single (immediate_operand number))) }) refl refl refl
+    (numbers any_is any_is any_is (by_number_is operation.Subtract number fits) any_is any_is any_is any_is any_is)
 
 pub masks_first : (number : ℤ) → FitsSigned w64 number → Draws (combine_number operation.And into_first number ∷ [])
 masks_first number fits = draws (combine_number operation.And into_first number)

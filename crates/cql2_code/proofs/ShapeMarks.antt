@@ -1,19 +1,19 @@
 -- Runs of the code of an edge: it marks that the line meets the edge.
 use Rattle.std.proofs.Common.{◌≡◌, ℕ, ℤ, pos, Bool, true, false, not, List, ◌++◌, if◌then◌else◌, refl, ap, ◌∙◌, subst}
 use Rattle.std.specs.Prelude.{FitsSigned, ◌&&◌, ◌||◌, int_lt}
-use Rattle.std.specs.Int.{w64, int_max, int_min}
+use Rattle.std.specs.Int.{w64}
 use Rattle.bpf_insn.specs.Arithmetic.{immediate_operand, result_of}
 use Rattle.bpf_insn.specs.declared.instruction.Insn.{Insn}
 use Rattle.bpf_insn.specs.declared.instruction.Operation.TheVariants as operation
 use Rattle.bpf_insn.specs.declared.instruction.Width.TheVariants.{Bits64}
-use Rattle.cql2.specs.Geometry.{Edge, boxes_overlap, is_left, is_right, lies_beside, meets_edge}
+use Rattle.cql2.specs.Geometry.{Edge, are_greater, are_less, boxes_overlap, is_left, is_right, lies_beside, meets_edge}
 use Rattle.cql2.specs.declared.filter.Comparison.TheVariants.{Greater, GreaterOrEqual, Less, LessOrEqual}
 use Rattle.cql2.proofs.Sides.{IsShort, across}
 use Rattle.cql2_code.specs.Layout.{from_result}
 use Rattle.cql2_code.specs.ShapeCode.{compare, compare_number, edge_code, from_end_latitude, from_end_longitude, from_first, from_second, from_side}
-use Rattle.cql2_code.specs.ShapeCode.{from_start_latitude, from_start_longitude, marks_met, meets_code, unless_apart}
-use Rattle.cql2_code.specs.ShapeCode.{unless_beside}
+use Rattle.cql2_code.specs.ShapeCode.{from_start_latitude, from_start_longitude, limits_of, marks_met, meets_code, unless_beside, unless_beyond}
 use Rattle.cql2_code.specs.Skipping.{Compared, unless_both}
+use Rattle.cql2_code.specs.declared.edges.Limits.{Limits}
 use Rattle.cql2_code.proofs.DrawnRuns.{ComparesBoth, holds, runs_unless_both}
 use Rattle.cql2_code.proofs.ShapeHands.{Hand, Moves, compares_end_latitude, compares_end_longitude, compares_first_result, compares_first_second}
 use Rattle.cql2_code.proofs.ShapeHands.{compares_side_result, compares_side_second, compares_start_latitude, compares_start_longitude, copies_first_to_side}
@@ -34,10 +34,17 @@ pub fits_either : (other : Bool) (a b : ℤ) → FitsSigned w64 a → FitsSigned
 fits_either true a b one two = two
 fits_either false a b one two = one
 
-both_are : {a b x y : Bool} → a ≡ x → b ≡ y → (a && b) ≡ (x && y)
+-- limits fit into 64 bits with a sign
+pub record LimitsFit (limits : Limits) : Type 0 where
+  pub west : FitsSigned w64 limits.west
+  pub east : FitsSigned w64 limits.east
+  pub south : FitsSigned w64 limits.south
+  pub north : FitsSigned w64 limits.north
+
+pub both_are : {a b x y : Bool} → a ≡ x → b ≡ y → (a && b) ≡ (x && y)
 both_are {a} {b} {x} {y} one two = ap (λ (t : Bool). t && b) one ∙ ap (λ (t : Bool). x && t) two
 
-neither : (x y rest : Bool) → (not x && (not y && rest)) ≡ (not (x || y) && rest)
+pub neither : (x y rest : Bool) → (not x && (not y && rest)) ≡ (not (x || y) && rest)
 neither true y rest = refl
 neither false y rest = refl
 
@@ -54,6 +61,12 @@ grouped true e s n rest = refl
 grouped false true s n rest = refl
 grouped false false true n rest = refl
 grouped false false false n rest = refl
+
+-- a line isn't beyond limits in any of the four directions
+abbrev pub reaches : Edge → Limits → Bool
+reaches line limits =
+    (not (are_less line.start.longitude line.end.longitude limits.west) && not (are_greater line.start.longitude line.end.longitude limits.east))
+    && (not (are_less line.start.latitude line.end.latitude limits.south) && not (are_greater line.start.latitude line.end.latitude limits.north))
 
 module _ (on : Setting) (base : Scratch) (line : Edge) where
   -- a code leaves these marks, and what register 0 holds
@@ -81,7 +94,7 @@ module _ (on : Setting) (base : Scratch) (line : Edge) where
   }
 
   -- the part is skipped if both comparisons hold
-  skipping : (first second : Compared) (part : List Insn) (hand : Hand) (x y a b : ℕ) (both met : Bool)
+  pub skipping : (first second : Compared) (part : List Insn) (hand : Hand) (x y a b : ℕ) (both met : Bool)
       → ComparesBoth on (filled base line hand) first second x y a b → (holds first x y && holds second a b) ≡ both → Marks part hand met
       → Marks (unless_both first second part) hand (not both && met)
   skipping first second part hand x y a b both met compares is marks =
@@ -96,76 +109,55 @@ module _ (on : Setting) (base : Scratch) (line : Edge) where
       by_both true runs = record { to = hand; runs = runs; lead = refl; mark_is = refl }
       by_both false runs = record { to = marks.to; runs = runs; lead = marks.lead; mark_is = marks.mark_is }
 
+  pub beyond_marks : (limits : Limits) → LimitsFit limits → IsShort line → (part : List Insn) (hand : Hand) (met : Bool) → Marks part hand met
+      → Marks (unless_beyond limits part) hand (reaches line limits && met)
+  beyond_marks limits fit short part hand met marks =
+      let start = near_fits line.start short.start in
+      let end = near_fits line.end short.end in
+      subst (Marks (unless_beyond limits part) hand)
+      (grouped (are_less line.start.longitude line.end.longitude limits.west) (are_greater line.start.longitude line.end.longitude limits.east)
+      (are_less line.start.latitude line.end.latitude limits.south) (are_greater line.start.latitude line.end.latitude limits.north) met)
+      (skipping (compare_number Less from_start_longitude limits.west) (compare_number Less from_end_longitude limits.west) _ hand _ _ _ _ _ _
+      (record {
+        turned_first = compares_start_longitude on base line GreaterOrEqual limits.west hand;
+        second_compares = compares_end_longitude on base line Less limits.west hand;
+      })
+      (both_are (compares_less line.start.longitude limits.west (record { first = start.0; second = fit.west }))
+      (compares_less line.end.longitude limits.west (record { first = end.0; second = fit.west })))
+      (skipping (compare_number Greater from_start_longitude limits.east) (compare_number Greater from_end_longitude limits.east) _ hand _ _ _ _ _ _
+      (record {
+        turned_first = compares_start_longitude on base line LessOrEqual limits.east hand;
+        second_compares = compares_end_longitude on base line Greater limits.east hand;
+      })
+      (both_are (compares_greater line.start.longitude limits.east (record { first = start.0; second = fit.east }))
+      (compares_greater line.end.longitude limits.east (record { first = end.0; second = fit.east })))
+      (skipping (compare_number Less from_start_latitude limits.south) (compare_number Less from_end_latitude limits.south) _ hand _ _ _ _ _ _
+      (record {
+        turned_first = compares_start_latitude on base line GreaterOrEqual limits.south hand;
+        second_compares = compares_end_latitude on base line Less limits.south hand;
+      })
+      (both_are (compares_less line.start.latitude limits.south (record { first = start.1; second = fit.south }))
+      (compares_less line.end.latitude limits.south (record { first = end.1; second = fit.south })))
+      (skipping (compare_number Greater from_start_latitude limits.north) (compare_number Greater from_end_latitude limits.north) part hand _ _ _ _ _ met
+      (record {
+        turned_first = compares_start_latitude on base line LessOrEqual limits.north hand;
+        second_compares = compares_end_latitude on base line Greater limits.north hand;
+      })
+      (both_are (compares_greater line.start.latitude limits.north (record { first = start.1; second = fit.north }))
+      (compares_greater line.end.latitude limits.north (record { first = end.1; second = fit.north })))
+      marks))))
+
   module _ (short : IsShort line) (edge : Edge) (edge_short : IsShort edge) where
-    abbrev west : ℤ
-    west = int_min edge.start.longitude edge.end.longitude
-
-    abbrev east : ℤ
-    east = int_max edge.start.longitude edge.end.longitude
-
-    abbrev south : ℤ
-    south = int_min edge.start.latitude edge.end.latitude
-
-    abbrev north : ℤ
-    north = int_max edge.start.latitude edge.end.latitude
-
-    longitudes_fit : (other : Bool) → FitsSigned w64 (if other then edge.end.longitude else edge.start.longitude)
-    longitudes_fit other = fits_either other _ _ (near_fits edge.start edge_short.start).0 (near_fits edge.end edge_short.end).0
-
-    latitudes_fit : (other : Bool) → FitsSigned w64 (if other then edge.end.latitude else edge.start.latitude)
-    latitudes_fit other = fits_either other _ _ (near_fits edge.start edge_short.start).1 (near_fits edge.end edge_short.end).1
-
-    west_fits : FitsSigned w64 west
-    west_fits = longitudes_fit (int_lt edge.end.longitude edge.start.longitude)
-
-    east_fits : FitsSigned w64 east
-    east_fits = fits_either (int_lt edge.end.longitude edge.start.longitude) _ _ (near_fits edge.end edge_short.end).0 (near_fits edge.start edge_short.start).0
-
-    south_fits : FitsSigned w64 south
-    south_fits = latitudes_fit (int_lt edge.end.latitude edge.start.latitude)
-
-    north_fits : FitsSigned w64 north
-    north_fits = fits_either (int_lt edge.end.latitude edge.start.latitude) _ _ (near_fits edge.end edge_short.end).1 (near_fits edge.start edge_short.start).1
-
-    pub apart_marks : (part : List Insn) (hand : Hand) (met : Bool) → Marks part hand met
-        → Marks (unless_apart edge part) hand (boxes_overlap line edge && met)
-    apart_marks part hand met marks =
-        let start = near_fits line.start short.start in
-        let end = near_fits line.end short.end in
-        subst (Marks (unless_apart edge part) hand)
-        (grouped (int_lt line.start.longitude west && int_lt line.end.longitude west)
-        (int_lt east line.start.longitude && int_lt east line.end.longitude)
-        (int_lt line.start.latitude south && int_lt line.end.latitude south)
-        (int_lt north line.start.latitude && int_lt north line.end.latitude) met)
-        (skipping (compare_number Less from_start_longitude west) (compare_number Less from_end_longitude west) _ hand _ _ _ _ _ _
-        (record {
-          turned_first = compares_start_longitude on base line GreaterOrEqual west hand;
-          second_compares = compares_end_longitude on base line Less west hand;
-        })
-        (both_are (compares_less line.start.longitude west (record { first = start.0; second = west_fits }))
-        (compares_less line.end.longitude west (record { first = end.0; second = west_fits })))
-        (skipping (compare_number Greater from_start_longitude east) (compare_number Greater from_end_longitude east) _ hand _ _ _ _ _ _
-        (record {
-          turned_first = compares_start_longitude on base line LessOrEqual east hand;
-          second_compares = compares_end_longitude on base line Greater east hand;
-        })
-        (both_are (compares_greater line.start.longitude east (record { first = start.0; second = east_fits }))
-        (compares_greater line.end.longitude east (record { first = end.0; second = east_fits })))
-        (skipping (compare_number Less from_start_latitude south) (compare_number Less from_end_latitude south) _ hand _ _ _ _ _ _
-        (record {
-          turned_first = compares_start_latitude on base line GreaterOrEqual south hand;
-          second_compares = compares_end_latitude on base line Less south hand;
-        })
-        (both_are (compares_less line.start.latitude south (record { first = start.1; second = south_fits }))
-        (compares_less line.end.latitude south (record { first = end.1; second = south_fits })))
-        (skipping (compare_number Greater from_start_latitude north) (compare_number Greater from_end_latitude north) part hand _ _ _ _ _ met
-        (record {
-          turned_first = compares_start_latitude on base line LessOrEqual north hand;
-          second_compares = compares_end_latitude on base line Greater north hand;
-        })
-        (both_are (compares_greater line.start.latitude north (record { first = start.1; second = north_fits }))
-        (compares_greater line.end.latitude north (record { first = end.1; second = north_fits })))
-        marks))))
+    limits_fit : LimitsFit (limits_of edge)
+    limits_fit =
+        let start = near_fits edge.start edge_short.start in
+        let end = near_fits edge.end edge_short.end in
+        record {
+          west = fits_either (int_lt edge.end.longitude edge.start.longitude) _ _ start.0 end.0;
+          east = fits_either (int_lt edge.end.longitude edge.start.longitude) _ _ end.0 start.0;
+          south = fits_either (int_lt edge.end.latitude edge.start.latitude) _ _ start.1 end.1;
+          north = fits_either (int_lt edge.end.latitude edge.start.latitude) _ _ end.1 start.1;
+        }
 
     -- the line's ends, on the sides of the edge
     beside_second : (part : List Insn) (hand : Hand) (met : Bool) → hand.side ≡ word (across edge line.start) → hand.first ≡ word (across edge line.end)
@@ -237,7 +229,8 @@ module _ (on : Setting) (base : Scratch) (line : Edge) where
         (beside_second _ hand _ side first second
         (after found start.runs refl
         (after between (one_more (copies_first_to_side on base line found) no_more) refl
-        (after last end.runs refl (beside_result _ last _ refl refl lead (apart_marks marks_met last true (marks_here last)))))))
+        (after last end.runs refl
+        (beside_result _ last _ refl refl lead (beyond_marks (limits_of edge) limits_fit short marks_met last true (marks_here last)))))))
 
     pub edge_marks : (hand : Hand) → hand.lead ≡ word (across line line.start) → Marks (edge_code edge) hand (meets_edge line edge)
     edge_marks hand lead =

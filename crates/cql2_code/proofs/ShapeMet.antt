@@ -1,34 +1,36 @@
 -- Runs of the code of a shape: it marks that the line meets the shape.
 use Rattle.std.proofs.Common.{◌≡◌, ℕ, pos, Bool, true, false, not, List, [], ◌∷◌, ◌++◌, if◌then◌else◌, refl, sym, ap, ◌∙◌, subst}
-use Rattle.std.specs.Prelude.{◌&&◌, ◌||◌, int_lt}
+use Rattle.std.specs.Prelude.{◌||◌}
 use Rattle.std.specs.Bool.{beq}
 use Rattle.std.specs.List.{flat_map, list_any}
 use Rattle.bpf_insn.specs.Arithmetic.{immediate_operand, result_of}
 use Rattle.bpf_insn.specs.declared.instruction.Insn.{Insn}
 use Rattle.bpf_insn.specs.declared.instruction.Operation.TheVariants as operation
 use Rattle.bpf_insn.specs.declared.instruction.Width.TheVariants.{Bits64}
-use Rattle.cql2.specs.Geometry.{Edge, Point, crosses_odd, edge_of, edges_of_bounds, edges_of_polygon, edges_through, is_crossed, lies_in_bounds}
-use Rattle.cql2.specs.Geometry.{meets, meets_edge, meets_polygon, meets_some}
-use Rattle.cql2.specs.declared.filter.Comparison.TheVariants.{Equal, Greater, Less}
+use Rattle.cql2.specs.Geometry.{Edge, Point, crosses_odd, edge_of, edges_of_bounds, edges_of_polygon, edges_through, finer_edge, is_crossed}
+use Rattle.cql2.specs.Geometry.{lies_in_bounds, meets, meets_edge, meets_polygon, meets_some}
+use Rattle.cql2.specs.declared.filter.Comparison.TheVariants.{Equal}
 use Rattle.cql2.specs.declared.geometry.Bounds.{Bounds}
 use Rattle.cql2.specs.declared.geometry.Polygon.{Polygon}
 use Rattle.cql2.specs.declared.geometry.Shape.{Shape}
 use Rattle.cql2.specs.declared.geometry.Shape.TheVariants as shape
-use Rattle.cql2.proofs.Edges.{AreShort, bounds_short, edge_short, polygon_short, through_short}
+use Rattle.cql2.proofs.Edges.{AreShort, edge_short, polygon_short, through_short}
 use Rattle.cql2.proofs.Sides.{IsShort, across}
-use Rattle.cql2_code.specs.ShapeCode.{bounds_code, compare_number, edge_code, end_in_code, from_end_latitude, from_end_longitude, from_first}
-use Rattle.cql2_code.specs.ShapeCode.{from_start_latitude, from_start_longitude, inside_code, marks_met, polygon_code, polygon_edge_code, shape_code}
-use Rattle.cql2_code.specs.Skipping.{Compared, unless}
-use Rattle.cql2_code.proofs.DrawnRuns.{Compares, holds, runs_unless}
-use Rattle.cql2_code.proofs.Operands.{int_at_most}
-use Rattle.cql2_code.proofs.ShapeHands.{Hand, Moves, compares_end_latitude, compares_end_longitude, compares_first, compares_start_latitude}
-use Rattle.cql2_code.proofs.ShapeHands.{compares_start_longitude, copies_argument_1_to_first, filled, marks_argument_1, masks_argument_1, masks_first}
+use Rattle.cql2_code.specs.ShapeCode.{bounds_code, bounds_edge_code, compare_number, edge_code, from_end_latitude, from_end_longitude, from_first}
+use Rattle.cql2_code.specs.ShapeCode.{from_start_latitude, from_start_longitude, inside_code, marks_met, polygon_code, polygon_edge_code, rectangles_of}
+use Rattle.cql2_code.specs.ShapeCode.{shape_code, unless_outside}
+use Rattle.cql2_code.specs.Skipping.{unless}
+use Rattle.cql2_code.specs.declared.bounds.Rectangle.{Rectangle}
+use Rattle.cql2_code.proofs.BoundsMarks.{AreUpright, bounds_edge_marks, box_edge, edges_upright}
+use Rattle.cql2_code.proofs.DrawnRuns.{holds, runs_unless}
+use Rattle.cql2_code.proofs.ShapeHands.{Hand, Moves, compares_first}
+use Rattle.cql2_code.proofs.ShapeHands.{copies_argument_1_to_first, filled, marks_argument_1, masks_argument_1, masks_first}
 use Rattle.cql2_code.proofs.ShapeHands.{sides_run}
-use Rattle.cql2_code.proofs.ShapeMarks.{Leaves, Marks, after, edge_marks, marked, marked_if, marks_here, meets_marks}
+use Rattle.cql2_code.proofs.ShapeMarks.{Leaves, after, edge_marks, marked, marked_if, meets_marks}
 use Rattle.cql2_code.proofs.ShapeRays.{exchanged_if, rays_run}
-use Rattle.cql2_code.proofs.SideWords.{near_fits}
 use Rattle.cql2_code.proofs.Steps.{Runs, Scratch, Setting, and_then, no_more, one_more}
-use Rattle.cql2_code.proofs.Words.{compares_greater, compares_less, word}
+use Rattle.cql2_code.proofs.WithinMarks.{end_in, start_in}
+use Rattle.cql2_code.proofs.Words.{word}
 
 -- the marks, by whether the rays from the line's start and end have crossed an odd number of edges, and whether the line meets the shape
 abbrev pub mark_of : Bool → Bool → Bool → ℕ
@@ -63,7 +65,7 @@ or-assoc : (a b c : Bool) → ((a || b) || c) ≡ (a || (b || c))
 or-assoc true b c = refl
 or-assoc false b c = refl
 
-marks_are : (a b c met : Bool) → marked_if met (mark_of a b c) ≡ mark_of a b (c || met)
+pub marks_are : (a b c met : Bool) → marked_if met (mark_of a b c) ≡ mark_of a b (c || met)
 marks_are a b c true = marked_is a b c ∙ ap (mark_of a b) (sym (or-true c))
 marks_are a b c false = ap (mark_of a b) (sym (or-false c))
 
@@ -142,18 +144,6 @@ inside_is false false true = refl
 inside_is true false true = refl
 inside_is false true true = refl
 inside_is true true true = refl
-
-grouped : (a b c d : Bool) → (a && (b && (c && (d && true)))) ≡ (((a && b) && c) && d)
-grouped false b c d = refl
-grouped true false c d = refl
-grouped true true false d = refl
-grouped true true true false = refl
-grouped true true true true = refl
-
-four_are : {a b c d w x y z : Bool} → a ≡ w → b ≡ x → c ≡ y → d ≡ z → (((a && b) && c) && d) ≡ (((w && x) && y) && z)
-four_are {a} {b} {c} {d} {w} {x} {y} {z} first second third fourth =
-    ap (λ (t : Bool). ((t && b) && c) && d) first ∙ ap (λ (t : Bool). ((w && t) && c) && d) second
-    ∙ ap (λ (t : Bool). ((w && x) && t) && d) third ∙ ap (λ (t : Bool). ((w && x) && y) && t) fourth
 
 inside_last : (c s e m : Bool) → ((c || m) || (s || e)) ≡ (c || ((s || e) || m))
 inside_last true s e m = refl
@@ -284,85 +274,30 @@ module _ (on : Setting) (base : Scratch) (line : Edge) (short : IsShort line) wh
 
   -- a box
 
-  skipping : (compared : Compared) (part : List Insn) (hand : Hand) (x y : ℕ) (skipped met : Bool)
-      → Compares on (filled base line hand) compared x y → holds compared x y ≡ skipped → Marks on base line part hand met
-      → Marks on base line (unless compared part) hand (not skipped && met)
-  skipping compared part hand x y skipped met compares is marks =
-      by_answer skipped
-      (subst (λ (t : Bool). Runs on (unless compared part) (filled base line hand) (if t then filled base line hand else filled base line marks.to)) is
-      (runs_unless on (filled base line hand) compared x y compares part (filled base line marks.to) marks.runs))
-    where
-      by_answer : (t : Bool)
-          → Runs on (unless compared part) (filled base line hand) (if t then filled base line hand else filled base line marks.to)
-          → Marks on base line (unless compared part) hand (not t && met)
-      by_answer true runs = record { to = hand; runs = runs; lead = refl; mark_is = refl }
-      by_answer false runs = record { to = marks.to; runs = runs; lead = marks.lead; mark_is = marks.mark_is }
+  bounds_edges_turn : (edges : List Rectangle) → AreUpright edges → (c : Bool)
+      → Turns (flat_map bounds_edge_code edges) (mark_of false false c)
+      (mark_of false false (c || list_any (λ (edge : Rectangle). meets_edge (finer_edge line) (box_edge edge)) edges))
+  bounds_edges_turn [] are c = turns_as _ _ _ (ap (mark_of false false) (sym (or-false c))) (turns_none (mark_of false false c))
+  bounds_edges_turn (edge ∷ edges) are c =
+      let met = meets_edge (finer_edge line) (box_edge edge) in
+      turns_as _ _ _
+      (ap (mark_of false false)
+      (or-assoc c met (list_any (λ (edge : Rectangle). meets_edge (finer_edge line) (box_edge edge)) edges)))
+      (turns_both (bounds_edge_code edge) (flat_map bounds_edge_code edges) _ _ _
+      (λ hand lead held. leaves_as _ _ (ap (marked_if met) held ∙ marks_are false false c met) (bounds_edge_marks on base line short edge are.0 hand lead))
+      (bounds_edges_turn edges are.1 (c || met)))
 
-  module _ (bounds : Bounds) where
-    corners_near : IsShort (edge_of bounds.southwest bounds.northeast)
-    corners_near = edge_short bounds.southwest bounds.northeast
-
-    -- whether a point lies in the box, by the four comparisons
-    inside_bounds : (point : Point)
-        → (not (int_lt point.longitude bounds.southwest.longitude) && (not (int_lt bounds.northeast.longitude point.longitude)
-        && (not (int_lt point.latitude bounds.southwest.latitude) && (not (int_lt bounds.northeast.latitude point.latitude) && true))))
-        ≡ lies_in_bounds bounds point
-    inside_bounds point =
-        grouped (not (int_lt point.longitude bounds.southwest.longitude)) (not (int_lt bounds.northeast.longitude point.longitude))
-        (not (int_lt point.latitude bounds.southwest.latitude)) (not (int_lt bounds.northeast.latitude point.latitude))
-        ∙ four_are (sym (int_at_most bounds.southwest.longitude point.longitude)) (sym (int_at_most point.longitude bounds.northeast.longitude))
-        (sym (int_at_most bounds.southwest.latitude point.latitude)) (sym (int_at_most point.latitude bounds.northeast.latitude))
-
-    start_in : (hand : Hand) → Marks on base line (end_in_code bounds from_start_longitude from_start_latitude) hand (lies_in_bounds bounds line.start)
-    start_in hand =
-        let here = near_fits line.start short.start in
-        let southwest = near_fits (edge_of bounds.southwest bounds.northeast).start corners_near.start in
-        let northeast = near_fits (edge_of bounds.southwest bounds.northeast).end corners_near.end in
-        subst (Marks on base line (end_in_code bounds from_start_longitude from_start_latitude) hand) (inside_bounds line.start)
-        (skipping (compare_number Less from_start_longitude bounds.southwest.longitude) _ hand _ _ _ _
-        (compares_start_longitude on base line Less bounds.southwest.longitude hand)
-        (compares_less line.start.longitude bounds.southwest.longitude (record { first = here.0; second = southwest.0 }))
-        (skipping (compare_number Greater from_start_longitude bounds.northeast.longitude) _ hand _ _ _ _
-        (compares_start_longitude on base line Greater bounds.northeast.longitude hand)
-        (compares_greater line.start.longitude bounds.northeast.longitude (record { first = here.0; second = northeast.0 }))
-        (skipping (compare_number Less from_start_latitude bounds.southwest.latitude) _ hand _ _ _ _
-        (compares_start_latitude on base line Less bounds.southwest.latitude hand)
-        (compares_less line.start.latitude bounds.southwest.latitude (record { first = here.1; second = southwest.1 }))
-        (skipping (compare_number Greater from_start_latitude bounds.northeast.latitude) _ hand _ _ _ _
-        (compares_start_latitude on base line Greater bounds.northeast.latitude hand)
-        (compares_greater line.start.latitude bounds.northeast.latitude (record { first = here.1; second = northeast.1 }))
-        (marks_here on base line hand)))))
-
-    end_in : (hand : Hand) → Marks on base line (end_in_code bounds from_end_longitude from_end_latitude) hand (lies_in_bounds bounds line.end)
-    end_in hand =
-        let here = near_fits line.end short.end in
-        let southwest = near_fits (edge_of bounds.southwest bounds.northeast).start corners_near.start in
-        let northeast = near_fits (edge_of bounds.southwest bounds.northeast).end corners_near.end in
-        subst (Marks on base line (end_in_code bounds from_end_longitude from_end_latitude) hand) (inside_bounds line.end)
-        (skipping (compare_number Less from_end_longitude bounds.southwest.longitude) _ hand _ _ _ _
-        (compares_end_longitude on base line Less bounds.southwest.longitude hand)
-        (compares_less line.end.longitude bounds.southwest.longitude (record { first = here.0; second = southwest.0 }))
-        (skipping (compare_number Greater from_end_longitude bounds.northeast.longitude) _ hand _ _ _ _
-        (compares_end_longitude on base line Greater bounds.northeast.longitude hand)
-        (compares_greater line.end.longitude bounds.northeast.longitude (record { first = here.0; second = northeast.0 }))
-        (skipping (compare_number Less from_end_latitude bounds.southwest.latitude) _ hand _ _ _ _
-        (compares_end_latitude on base line Less bounds.southwest.latitude hand)
-        (compares_less line.end.latitude bounds.southwest.latitude (record { first = here.1; second = southwest.1 }))
-        (skipping (compare_number Greater from_end_latitude bounds.northeast.latitude) _ hand _ _ _ _
-        (compares_end_latitude on base line Greater bounds.northeast.latitude hand)
-        (compares_greater line.end.latitude bounds.northeast.latitude (record { first = here.1; second = northeast.1 }))
-        (marks_here on base line hand)))))
-
-    bounds_turn : Turns (bounds_code bounds) 0
-        (mark_of false false ((lies_in_bounds bounds line.start || lies_in_bounds bounds line.end) || meets_some (edges_of_bounds bounds) line))
-    bounds_turn =
-        let start = lies_in_bounds bounds line.start in
-        turns_both (end_in_code bounds from_start_longitude from_start_latitude) _ _ (mark_of false false start) _
-        (λ hand lead held. leaves_as _ _ (ap (marked_if start) held ∙ marks_are false false false start) (start_in hand))
-        (turns_both (end_in_code bounds from_end_longitude from_end_latitude) _ _ (mark_of false false (start || lies_in_bounds bounds line.end)) _
-        (λ hand lead held. leaves_as _ _
-        (ap (marked_if (lies_in_bounds bounds line.end)) held ∙ marks_are false false start (lies_in_bounds bounds line.end)) (end_in hand))
-        (edges_turn (edges_of_bounds bounds) (bounds_short bounds) false false (start || lies_in_bounds bounds line.end)))
+  bounds_turn : (bounds : Bounds) → Turns (bounds_code bounds) 0
+      (mark_of false false
+      ((lies_in_bounds bounds line.start || lies_in_bounds bounds line.end) || meets_some (edges_of_bounds bounds) (finer_edge line)))
+  bounds_turn bounds =
+      let start = lies_in_bounds bounds line.start in
+      let end = lies_in_bounds bounds line.end in
+      turns_both (unless_outside bounds from_start_longitude from_start_latitude marks_met) _ _ (mark_of false false start) _
+      (λ hand lead held. leaves_as _ _ (ap (marked_if start) held ∙ marks_are false false false start) (start_in on base line short bounds hand))
+      (turns_both (unless_outside bounds from_end_longitude from_end_latitude marks_met) _ _ (mark_of false false (start || end)) _
+      (λ hand lead held. leaves_as _ _ (ap (marked_if end) held ∙ marks_are false false start end) (end_in on base line short bounds hand))
+      (bounds_edges_turn (rectangles_of bounds) (edges_upright bounds) (start || end)))
 
   -- a shape's code marks that the line meets the shape
   pub shape_turns : {A : Type 0} (shape : Shape A) → Turns (shape_code shape) 0 (mark_of false false (meets shape line))

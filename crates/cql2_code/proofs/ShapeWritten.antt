@@ -27,6 +27,14 @@ flat_map_both code [] b = refl
 flat_map_both code (part ∷ a) b =
     ap (λ (rest : List Insn). code part ++ rest) (flat_map_both code a b) ∙ sym (append_assoc (code part) (flat_map code a) (flat_map code b))
 
+pub four_written : {T : Type 0} (code : T → List Insn) (a b c d : T) (old : List Insn)
+    → flat_map code (a ∷ b ∷ c ∷ d ∷ []) ++ old ≡ code a ++ (code b ++ (code c ++ (code d ++ old)))
+four_written {T} code a b c d old =
+    append_assoc (code a) (flat_map code (b ∷ c ∷ d ∷ [])) old
+    ∙ ap (λ (rest : List Insn). code a ++ rest) (append_assoc (code b) (flat_map code (c ∷ d ∷ [])) old
+    ∙ ap (λ (rest : List Insn). code b ++ rest) (append_assoc (code c) (flat_map code (d ∷ [])) old
+    ∙ ap (λ (rest : List Insn). code c ++ rest) (append_assoc (code d) [] old)))
+
 -- a part is refused, after which the code of those that are done was written
 pub before_refused : {T X : Type 0} (code : T → List Insn) {parts before : List T} (others done : List T) (part : T) (old new : List Insn)
     {fault : CompileFault} (result : Result X CompileFault) (other : List Insn) → parts ≡ before ++ done → before ≡ others ++ part ∷ []

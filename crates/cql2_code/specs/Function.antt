@@ -8,13 +8,15 @@ use Rattle.cql2.specs.declared.column.CoordinateColumn.TheVariants.{Frlong, Frla
 use Rattle.cql2.specs.declared.column.NumericColumn.TheVariants.{Coordinate}
 use Rattle.cql2.specs.declared.filter.Comparison.TheVariants.{NotEqual, LessOrEqual, Greater, GreaterOrEqual}
 use Rattle.cql2.specs.declared.function.Function.{Function}
-use Rattle.cql2.specs.declared.function.Function.TheVariants.{HasNumber, HasName, Intersects, StartsIn}
+use Rattle.cql2.specs.declared.function.Function.TheVariants.{HasNumber, HasName, Intersects, StartsIn, StartsInBounds, Within}
+use Rattle.cql2.specs.declared.geometry.Bounds.{Bounds}
 use Rattle.cql2.specs.declared.geometry.Shape.{Shape}
 use Rattle.cql2.specs.declared.geometry.Shape.TheVariants.{Polygons}
 use Rattle.cql2_code.specs.Columns.{has_value, test}
 use Rattle.cql2_code.specs.Layout.{Prepends, Writes}
-use Rattle.cql2_code.specs.Question.{Question, Coded, Decided, Joined, Opposite, if_asked}
+use Rattle.cql2_code.specs.Question.{Block, Question, Coded, Decided, Joined, Opposite, if_asked}
 use Rattle.cql2_code.specs.ShapeCode.{meets_shape}
+use Rattle.cql2_code.specs.WithinCode.{within_bounds}
 use Rattle.cql2_code.specs.declared.fault.CompileFault.{CompileFault}
 use Rattle.cql2_code.specs.declared.line.Extent.{Extent}
 use Rattle.cql2_code.specs.declared.line.Extent.TheVariants.{Whole, Start}
@@ -80,8 +82,15 @@ abbrev pub knows_line : Extent → Question
 knows_line Whole = Joined true (knows_point Frlong Frlat) (knows_point Tolong Tolat)
 knows_line Start = knows_point Frlong Frlat
 
+-- whether a block's answer is the one asked, of a line that is read
+abbrev pub asks_line : Extent → Block → Bool → Question
+asks_line extent block asked = Joined true (knows_line extent) (if_asked (Coded block) asked)
+
 abbrev pub asks_meets : {A : Type 0} → Extent → Shape A → Bool → Question
-asks_meets extent shape asked = Joined true (knows_line extent) (if_asked (Coded (meets_shape extent shape)) asked)
+asks_meets extent shape asked = asks_line extent (meets_shape extent shape) asked
+
+abbrev pub asks_within : Extent → Bounds → Bool → Question
+asks_within extent bounds asked = asks_line extent (within_bounds extent bounds) asked
 
 -- Functions
 
@@ -91,3 +100,5 @@ asks_function (HasNumber house) asked = asks_has_number house.number asked
 asks_function (HasName text limit) asked = asks_has_name text.bytes.items limit.number asked
 asks_function (Intersects shape) asked = asks_meets Whole shape asked
 asks_function (StartsIn several) asked = asks_meets Start (Polygons several) asked
+asks_function (StartsInBounds bounds) asked = asks_within Start bounds asked
+asks_function (Within bounds) asked = asks_within Whole bounds asked

@@ -12,3 +12,4 @@ pub mod Pieces
 pub mod Question
 pub mod ShapeCode
 pub mod Skipping
+pub mod WithinCode

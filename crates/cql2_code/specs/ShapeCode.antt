@@ -1,7 +1,8 @@
 -- The code that decides whether a segment's line meets a shape. Registers 7 and 8 hold the longitude and latitude where the line starts, registers 9
 -- and 5 those where it ends, and register 0 how far its start lies across it. Register 1 holds the marks: 1 and 2 while the rays from the two ends
 -- have crossed an odd number of a polygon's edges, and 4 once the line meets the shape. Registers 2 to 4 are for computing.
-use Rattle.std.specs.Prelude.{ℕ, ◌+◌, ℤ, pos, ◌-ℤ◌, ◌*ℤ◌, int_lt, Bool, List, [], ◌∷◌, ◌++◌, Option, Some, None, if◌then◌else◌}
+use Rattle.std.specs.Prelude.{ℕ, ◌+◌, ◌-◌, ◌*◌, ◌^◌, ◌==◌, ◌&&◌, ℤ, pos, ◌+ℤ◌, ◌-ℤ◌, ◌*ℤ◌, int_lt, Bool, List, [], ◌∷◌, ◌++◌, Option, Some, None}
+use Rattle.std.specs.Prelude.{if◌then◌else◌}
 use Rattle.std.specs.Int.{int_max, int_min}
 use Rattle.std.specs.List.{flat_map}
 use Rattle.std.proofs.Common.{lit≤}
@@ -16,13 +17,14 @@ use Rattle.bpf_insn.specs.declared.instruction.Source.TheVariants as source
 use Rattle.bpf_insn.specs.declared.instruction.Width.TheVariants.{Bits64}
 use Rattle.bpf_insn.specs.declared.register.Register.{Register}
 use Rattle.bpf_insn.specs.declared.register.WritableRegister.{WritableRegister}
-use Rattle.cql2.specs.Geometry.{Edge, Point, eastward, edge_of, edges_of_bounds, edges_of_polygon, edges_of_ring, edges_through, meets, northward}
+use Rattle.cql2.specs.Geometry.{Edge, Point, eastward, edge_of, edges_of_polygon, edges_of_ring, edges_through, meets, northward}
 use Rattle.cql2.specs.Column.{numeric_value}
 use Rattle.cql2.specs.declared.column.CoordinateColumn.{CoordinateColumn}
 use Rattle.cql2.specs.declared.column.CoordinateColumn.TheVariants.{Frlong, Frlat, Tolong, Tolat}
 use Rattle.cql2.specs.declared.column.NumericColumn.TheVariants.{Coordinate}
 use Rattle.cql2.specs.declared.filter.Comparison.{Comparison}
 use Rattle.cql2.specs.declared.filter.Comparison.TheVariants.{Equal, NotEqual, Less, LessOrEqual, Greater, GreaterOrEqual}
+use Rattle.cql2.specs.declared.geometry.Bound.{Bound}
 use Rattle.cql2.specs.declared.geometry.Bounds.{Bounds}
 use Rattle.cql2.specs.declared.geometry.Polygon.{Polygon}
 use Rattle.cql2.specs.declared.geometry.Ring.{Ring}
@@ -32,7 +34,12 @@ use Rattle.tl_segments.specs.Segment.{SegmentParts}
 use Rattle.cql2_code.specs.Layout.{comparison_code, copy, from_argument_1, from_kept, from_result, into_argument_1, into_kept, into_result}
 use Rattle.cql2_code.specs.Layout.{move, subject_code, wide_load}
 use Rattle.cql2_code.specs.Question.{Block}
-use Rattle.cql2_code.specs.Skipping.{Compared, skip, unless, unless_both}
+use Rattle.cql2_code.specs.Skipping.{Compared, skip, turned, unless, unless_both}
+use Rattle.cql2_code.specs.declared.bounds.Corner.{Corner}
+use Rattle.cql2_code.specs.declared.bounds.Rectangle.{Rectangle}
+use Rattle.cql2_code.specs.declared.bounds.Rounding.{Rounding}
+use Rattle.cql2_code.specs.declared.bounds.Rounding.TheVariants.{Down, Up}
+use Rattle.cql2_code.specs.declared.edges.Limits.{Limits}
 use Rattle.cql2_code.specs.declared.line.Extent.{Extent}
 use Rattle.cql2_code.specs.declared.line.Extent.TheVariants.{Whole, Start}
 use Rattle.cql2_code.specs.declared.question.Subject.TheVariants as subject
@@ -137,17 +144,21 @@ rays_code edge = ray_code edge from_start_latitude from_side (pos 1) ++ ray_code
 abbrev pub marks_met : List Insn
 marks_met = combine_number operation.Or into_argument_1 (pos 4) ∷ []
 
--- a part is skipped if both ends lie beyond an edge in one of the four directions
-abbrev pub unless_apart : Edge → List Insn → List Insn
-unless_apart edge part =
-    let west = int_min edge.start.longitude edge.end.longitude in
-    let east = int_max edge.start.longitude edge.end.longitude in
-    let south = int_min edge.start.latitude edge.end.latitude in
-    let north = int_max edge.start.latitude edge.end.latitude in
-    unless_both (compare_number Less from_start_longitude west) (compare_number Less from_end_longitude west)
-    (unless_both (compare_number Greater from_start_longitude east) (compare_number Greater from_end_longitude east)
-    (unless_both (compare_number Less from_start_latitude south) (compare_number Less from_end_latitude south)
-    (unless_both (compare_number Greater from_start_latitude north) (compare_number Greater from_end_latitude north) part)))
+-- a part is skipped if both ends lie beyond limits in one of the four directions
+abbrev pub unless_beyond : Limits → List Insn → List Insn
+unless_beyond limits part =
+    unless_both (compare_number Less from_start_longitude limits.west) (compare_number Less from_end_longitude limits.west)
+    (unless_both (compare_number Greater from_start_longitude limits.east) (compare_number Greater from_end_longitude limits.east)
+    (unless_both (compare_number Less from_start_latitude limits.south) (compare_number Less from_end_latitude limits.south)
+    (unless_both (compare_number Greater from_start_latitude limits.north) (compare_number Greater from_end_latitude limits.north) part)))
+
+abbrev pub limits_of : Edge → Limits
+limits_of edge = record {
+  west = int_min edge.start.longitude edge.end.longitude;
+  east = int_max edge.start.longitude edge.end.longitude;
+  south = int_min edge.start.latitude edge.end.latitude;
+  north = int_max edge.start.latitude edge.end.latitude;
+}
 
 -- a part is skipped if registers 2 and 3 are both greater than another, or both less
 abbrev pub unless_beside : Register → List Insn → List Insn
@@ -165,7 +176,7 @@ beside_by other words =
 abbrev pub meets_code : Edge → List Insn
 meets_code edge =
     unless_beside from_second
-    (point_across edge.start ++ copy into_side from_first ∷ (point_across edge.end ++ unless_beside from_result (unless_apart edge marks_met)))
+    (point_across edge.start ++ copy into_side from_first ∷ (point_across edge.end ++ unless_beside from_result (unless_beyond (limits_of edge) marks_met)))
 
 abbrev pub edge_code : Edge → List Insn
 edge_code edge = sides_code edge ++ meets_code edge
@@ -185,18 +196,115 @@ ring_code ring = flat_map polygon_edge_code (edges_of_ring ring.vertices.items)
 abbrev pub polygon_code : {A : Type 0} → Polygon A → List Insn
 polygon_code polygon = flat_map polygon_edge_code (edges_of_polygon polygon) ++ inside_code
 
+-- Boxes. The line's coordinates are whole millionths of a degree, so that bounds can be rounded inwards.
+
+-- the least whole number of millionths of a degree that isn't below a bound
+abbrev pub rounded_up : Bound → ℤ
+rounded_up bound = if bound.rest == 0 then bound.millionths else bound.millionths +ℤ pos 1
+
+abbrev pub inner_limits : Rectangle → Limits
+inner_limits edge =
+    record { west = rounded_up edge.west; east = edge.east.millionths; south = rounded_up edge.south; north = edge.north.millionths }
+
+-- a part is skipped unless an end of the line lies in a box, by the registers of the end's longitude and latitude
+abbrev pub unless_outside : Bounds → Register → Register → List Insn → List Insn
+unless_outside bounds longitude latitude part =
+    unless (compare_number Less longitude (rounded_up bounds.west))
+    (unless (compare_number Greater longitude bounds.east.millionths)
+    (unless (compare_number Less latitude (rounded_up bounds.south))
+    (unless (compare_number Greater latitude bounds.north.millionths) part)))
+
+-- these jumps, past the words of the part
+abbrev pub outside_by : Bounds → Register → Register → ℕ → List Insn
+outside_by bounds longitude latitude words =
+    skip (compare_number Less longitude (rounded_up bounds.west)) (words + 3)
+    ∷ skip (compare_number Greater longitude bounds.east.millionths) (words + 2)
+    ∷ skip (compare_number Less latitude (rounded_up bounds.south)) (words + 1)
+    ∷ skip (compare_number Greater latitude bounds.north.millionths) words ∷ []
+
+-- the edges of a box
+abbrev pub south_edge : Bounds → Rectangle
+south_edge bounds = record { west = bounds.west; south = bounds.south; east = bounds.east; north = bounds.south }
+
+abbrev pub east_edge : Bounds → Rectangle
+east_edge bounds = record { west = bounds.east; south = bounds.south; east = bounds.east; north = bounds.north }
+
+abbrev pub north_edge : Bounds → Rectangle
+north_edge bounds = record { west = bounds.west; south = bounds.north; east = bounds.east; north = bounds.north }
+
+abbrev pub west_edge : Bounds → Rectangle
+west_edge bounds = record { west = bounds.west; south = bounds.south; east = bounds.west; north = bounds.north }
+
+abbrev pub rectangles_of : Bounds → List Rectangle
+rectangles_of bounds = south_edge bounds ∷ east_edge bounds ∷ north_edge bounds ∷ west_edge bounds ∷ []
+
+-- where an edge starts and ends
+abbrev pub southwest : Rectangle → Corner
+southwest edge = record { longitude = edge.west; latitude = edge.south }
+
+abbrev pub northeast : Rectangle → Corner
+northeast edge = record { longitude = edge.east; latitude = edge.north }
+
+-- A corner in whole millionths of a degree, and the femtodegrees beyond them. How far the corner lies across the line is, in millionths, what the
+-- former does and a 10^9th of what the latter do.
+abbrev pub whole_point : Corner → Point
+whole_point corner = record { longitude = corner.longitude.millionths; latitude = corner.latitude.millionths }
+
+abbrev pub rest_point : Corner → Point
+rest_point corner = record { longitude = pos corner.longitude.rest; latitude = pos corner.latitude.rest }
+
+-- a 10^9th of the number in register 3, rounded: a quotient towards zero is rounded down where no number is negative
+abbrev pub rounding_shift : Rounding → ℕ
+rounding_shift Down = 4 * 10 ^ 18
+rounding_shift Up = 4 * 10 ^ 18 + (10 ^ 9 - 1)
+
+abbrev pub round_first : Rounding → List Insn
+round_first rounding =
+    wide_load into_second (rounding_shift rounding) ∷ combine operation.Add into_first from_second
+    ∷ combine_number operation.SignedDivide into_first (pos 1000000000) ∷ combine_number operation.Subtract into_first (pos 2000000000)
+    ∷ combine_number operation.Subtract into_first (pos 2000000000) ∷ []
+
+-- how far a point lies across the line is added to register 3
+abbrev pub add_across : Point → List Insn
+add_across point =
+    copy into_second from_end_longitude ∷ combine operation.Subtract into_second from_start_longitude
+    ∷ combine_number operation.Multiply into_second point.latitude ∷ combine operation.Add into_first from_second
+    ∷ (line_northward ++ combine_number operation.Multiply into_second point.longitude ∷ combine operation.Subtract into_first from_second ∷ [])
+
+-- how far a corner lies across the line, rounded to whole millionths, into register 3
+abbrev pub rounded_across : Rounding → Corner → List Insn
+rounded_across rounding corner = point_across (rest_point corner) ++ (round_first rounding ++ add_across (whole_point corner))
+
+abbrev pub corner_across : Rounding → Corner → List Insn
+corner_across rounding corner =
+    if corner.longitude.rest == 0 && corner.latitude.rest == 0 then point_across (whole_point corner) else rounded_across rounding corner
+
+-- how far an edge's start and end do, into registers 2 and 3
+abbrev pub corners_across : Rounding → Rectangle → List Insn
+corners_across rounding edge =
+    corner_across rounding (southwest edge) ++ copy into_side from_first ∷ corner_across rounding (northeast edge)
+
+-- a part is skipped if registers 2 and 3 both compare with register 0 like this
+abbrev pub unless_both_lie : Comparison → List Insn → List Insn
+unless_both_lie comparison part = unless_both (compare comparison from_side from_result) (compare comparison from_first from_result) part
+
+-- these jumps, past the words of the part
+abbrev pub both_lie_by : Comparison → ℕ → List Insn
+both_lie_by comparison words = skip (turned (compare comparison from_side from_result)) 1 ∷ skip (compare comparison from_first from_result) words ∷ []
+
+-- The line meets an edge. An edge goes to the east or to the north, so that the line doesn't lie beside it if it isn't beyond it.
+abbrev pub bounds_edge_code : Rectangle → List Insn
+bounds_edge_code edge =
+    corners_across Up edge
+    ++ unless_both_lie Greater (corners_across Down edge ++ unless_both_lie Less (unless_beyond (inner_limits edge) marks_met))
+
 -- an end of the line lies in a box
-abbrev pub end_in_code : Bounds → Register → Register → List Insn
-end_in_code bounds longitude latitude =
-    unless (compare_number Less longitude bounds.southwest.longitude)
-    (unless (compare_number Greater longitude bounds.northeast.longitude)
-    (unless (compare_number Less latitude bounds.southwest.latitude)
-    (unless (compare_number Greater latitude bounds.northeast.latitude) marks_met)))
+abbrev pub ends_code : Bounds → List Insn
+ends_code bounds =
+    unless_outside bounds from_start_longitude from_start_latitude marks_met ++ unless_outside bounds from_end_longitude from_end_latitude marks_met
 
 abbrev pub bounds_code : Bounds → List Insn
-bounds_code bounds =
-    end_in_code bounds from_start_longitude from_start_latitude
-    ++ (end_in_code bounds from_end_longitude from_end_latitude ++ flat_map edge_code (edges_of_bounds bounds))
+bounds_code bounds = ends_code bounds ++ flat_map bounds_edge_code (rectangles_of bounds)
 
 abbrev pub shape_code : {A : Type 0} → Shape A → List Insn
 shape_code (shape.Point vertex) = edge_code (edge_of vertex vertex)
@@ -231,9 +339,14 @@ line_code extent =
     keep_coordinate 0 Frlong
     ++ (keep_coordinate 1 Frlat ++ (keep_coordinate 2 (end_longitude extent) ++ (read_coordinate (end_latitude extent) ++ set_registers)))
 
--- the marks that the code of a shape leaves in register 3
-abbrev pub marks_code : {A : Type 0} → Shape A → List Insn
-marks_code shape = lead_code ++ (shape_code shape ++ copy into_first from_argument_1 ∷ [])
+-- A code that leaves marks in register 1: 4 if the line is marked, and otherwise 0.
+pub record Marking : Type 0 where
+  pub code : List Insn
+  pub is_marked : Edge → Bool
+
+-- the marks, into register 3
+abbrev pub marks_code : Marking → List Insn
+marks_code marking = marking.code ++ copy into_first from_argument_1 ∷ []
 
 -- the marks are compared with 0
 abbrev pub mark_comparison : Bool → ℕ → List Insn
@@ -254,9 +367,16 @@ line_of extent segment = record {
   end = record { longitude = coordinate_at segment (end_longitude extent); latitude = coordinate_at segment (end_latitude extent) };
 }
 
--- the line meets a shape
-abbrev pub meets_shape : {A : Type 0} → Extent → Shape A → Block
-meets_shape extent shape = record {
-  code = λ falls skip. line_code extent ++ (marks_code shape ++ mark_comparison falls skip);
-  answer = λ segment. meets shape (line_of extent segment);
+-- the line that is read is marked
+abbrev pub asks_marks : Extent → Marking → Block
+asks_marks extent marking = record {
+  code = λ falls skip. line_code extent ++ (marks_code marking ++ mark_comparison falls skip);
+  answer = λ segment. marking.is_marked (line_of extent segment);
 }
+
+-- lines that meet a shape are marked
+abbrev pub marks_shape : {A : Type 0} → Shape A → Marking
+marks_shape shape = record { code = lead_code ++ shape_code shape; is_marked = meets shape }
+
+abbrev pub meets_shape : {A : Type 0} → Extent → Shape A → Block
+meets_shape extent shape = asks_marks extent (marks_shape shape)

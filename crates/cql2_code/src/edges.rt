@@ -6,7 +6,7 @@ ghost use Rattle.cql2.specs.declared.filter.Comparison.TheVariants.{GreaterOrEqu
 ghost use Rattle.cql2.specs.Geometry.{eastward, edge_of, northward, point_of};
 ghost use Rattle.cql2_code.specs.ShapeCode as shape_code;
 ghost use Rattle.cql2_code.specs.ShapeCode.{across_by, beside_by, edge_code, end_across, marks_met, meets_code, point_across, polygon_edge_code};
-ghost use Rattle.cql2_code.specs.ShapeCode.{ray_code, rays_code, sides_code, start_across, unless_apart};
+ghost use Rattle.cql2_code.specs.ShapeCode.{limits_of, ray_code, rays_code, sides_code, start_across, unless_beyond};
 ghost use Rattle.cql2_code.specs.Layout.{IsPrepended, wide_load};
 
 use crate::fault::CompileFault;
@@ -25,6 +25,15 @@ use std::alloc::Allocator;
 pub(crate) struct Edge {
     pub start: Vertex,
     pub end: Vertex,
+}
+
+/// The range of an edge's longitudes and latitudes.
+#[derive(Clone, Copy)]
+pub(crate) struct Limits {
+    pub west: i32,
+    pub east: i32,
+    pub south: i32,
+    pub north: i32,
 }
 
 /// Returns how far an edge goes to the east.
@@ -67,6 +76,18 @@ fn north(edge: Edge) -> i32
     ensures { result ≡ int_max edge.start.latitude edge.end.latitude }
 {
     edge.start.latitude.max(edge.end.latitude) as i32
+}
+
+/// Returns the range of an edge's longitudes and latitudes.
+fn limits_of(edge: Edge) -> Limits
+    ensures { result ≡ limits_of (edge_of edge.start edge.end) }
+{
+    Limits {
+        west: west(edge),
+        east: east(edge),
+        south: south(edge),
+        north: north(edge),
+    }
 }
 
 /// Returns the comparison that holds unless an end of the line lies to the west of an edge, by how far the end and the edge's start lie across it.
@@ -158,18 +179,25 @@ fn prepend_rays<A: Allocator + Copy>(
 }
 
 /// Returns the code that leaves in register 3 how far a point lies across the line.
-fn point_across(point: Vertex) -> [Insn; 7]
-    ensures { result ≡ point_across (point_of point) }
+pub(crate) fn point_across(longitude: i32, latitude: i32) -> [Insn; 7]
+    ensures { result ≡ point_across (record { longitude = longitude; latitude = latitude }) }
 {
     [
         copy(into_first(), from_kept(2)),
         combine(Operation::Subtract, into_first(), from_kept(0)),
-        combine_number(Operation::Multiply, into_first(), point.latitude as i32),
+        combine_number(Operation::Multiply, into_first(), latitude),
         copy(into_second(), from_end_latitude()),
         combine(Operation::Subtract, into_second(), from_kept(1)),
-        combine_number(Operation::Multiply, into_second(), point.longitude as i32),
+        combine_number(Operation::Multiply, into_second(), longitude),
         combine(Operation::Subtract, into_first(), from_second()),
     ]
+}
+
+/// Returns the code that leaves in register 3 how far a vertex lies across the line.
+fn vertex_across(vertex: Vertex) -> [Insn; 7]
+    ensures { result ≡ point_across (point_of vertex) }
+{
+    point_across(vertex.longitude as i32, vertex.latitude as i32)
 }
 
 /// Returns the code that skips words if the numbers in registers 2 and 3 are both greater than another, or both less.
@@ -185,21 +213,34 @@ fn beside(other: Register, words: u8) -> [Insn; 4]
     ]
 }
 
-/// Returns the code that marks that the line meets an edge, unless it lies beyond the edge in one of the four directions.
-fn apart(edge: Edge) -> [Insn; 9]
-    ensures { result ≡ unless_apart (edge_of edge.start edge.end) marks_met }
+/// Returns the code that marks that the line meets a shape, unless both of the line's ends lie beyond limits in one of the four directions.
+pub(crate) fn marks_unless_beyond(limits: Limits) -> [Insn; 9]
+    ensures { result ≡ unless_beyond limits marks_met }
 {
+    let Limits {
+        west,
+        east,
+        south,
+        north,
+    } = limits;
     [
-        skip_by_number(Comparison::GreaterOrEqual, from_kept(0), west(edge), 1),
-        skip_by_number(Comparison::Less, from_kept(2), west(edge), 7),
-        skip_by_number(Comparison::LessOrEqual, from_kept(0), east(edge), 1),
-        skip_by_number(Comparison::Greater, from_kept(2), east(edge), 5),
-        skip_by_number(Comparison::GreaterOrEqual, from_kept(1), south(edge), 1),
-        skip_by_number(Comparison::Less, from_end_latitude(), south(edge), 3),
-        skip_by_number(Comparison::LessOrEqual, from_kept(1), north(edge), 1),
-        skip_by_number(Comparison::Greater, from_end_latitude(), north(edge), 1),
+        skip_by_number(Comparison::GreaterOrEqual, from_kept(0), west, 1),
+        skip_by_number(Comparison::Less, from_kept(2), west, 7),
+        skip_by_number(Comparison::LessOrEqual, from_kept(0), east, 1),
+        skip_by_number(Comparison::Greater, from_kept(2), east, 5),
+        skip_by_number(Comparison::GreaterOrEqual, from_kept(1), south, 1),
+        skip_by_number(Comparison::Less, from_end_latitude(), south, 3),
+        skip_by_number(Comparison::LessOrEqual, from_kept(1), north, 1),
+        skip_by_number(Comparison::Greater, from_end_latitude(), north, 1),
         combine_number(Operation::Or, into_argument_1(), 4),
     ]
+}
+
+/// Returns the code that marks that the line meets an edge, unless it lies beyond the edge in one of the four directions.
+fn apart(edge: Edge) -> [Insn; 9]
+    ensures { result ≡ unless_beyond (limits_of (edge_of edge.start edge.end)) marks_met }
+{
+    marks_unless_beyond(limits_of(edge))
 }
 
 /// Writes the code that marks that the line meets an edge.
@@ -211,9 +252,9 @@ fn prepend_meets<A: Allocator + Copy>(
 {
     code.prepend_all(&apart(edge))?;
     code.prepend_all(&beside(from_result(), 9))?;
-    code.prepend_all(&point_across(edge.end))?;
+    code.prepend_all(&vertex_across(edge.end))?;
     code.prepend(copy(into_side(), from_first()))?;
-    code.prepend_all(&point_across(edge.start))?;
+    code.prepend_all(&vertex_across(edge.start))?;
     code.prepend_all(&beside(from_second(), 28))
 }
 

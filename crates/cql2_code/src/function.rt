@@ -5,10 +5,12 @@ ghost use Rattle.cql2_code.specs.Function.{asks_function};
 ghost use Rattle.cql2_code.specs.Layout.{Prepends};
 
 use crate::fault::CompileFault;
+use crate::line::Extent;
 use crate::names::{prepend_has_name, prepend_has_number};
 use crate::question::Exits;
 use crate::shapes::{prepend_intersects, prepend_starts_in};
 use crate::suffix::CodeSuffix;
+use crate::within::prepend_within;
 use cql2::Function;
 use std::alloc::Allocator;
 
@@ -29,5 +31,9 @@ pub(crate) fn prepend_function<A: Allocator + Copy>(
         }
         Function::Intersects(shape) => prepend_intersects(code, shape, asked, exits),
         Function::StartsIn(several) => prepend_starts_in(code, several, asked, exits),
+        Function::StartsInBounds(bounds) => {
+            prepend_within(code, *bounds, Extent::Start, asked, exits)
+        }
+        Function::Within(bounds) => prepend_within(code, *bounds, Extent::Whole, asked, exits),
     }
 }

@@ -2,6 +2,7 @@
 #![tactic(auto)]
 
 mod arithmetic;
+mod bounds;
 mod bytes;
 mod compiler;
 mod edges;
@@ -24,6 +25,7 @@ mod shapes;
 mod suffix;
 mod text_columns;
 mod texts;
+mod within;
 
 pub use compiler::compile;
 pub use fault::CompileFault;

@@ -90,7 +90,7 @@ fn prepend_kept<A: Allocator + Copy>(
 }
 
 /// Writes the code that reads the line.
-fn prepend_coordinates<A: Allocator + Copy>(
+pub(crate) fn prepend_coordinates<A: Allocator + Copy>(
     code: &mut CodeSuffix<A>,
     extent: Extent,
 ) -> Result<(), CompileFault>

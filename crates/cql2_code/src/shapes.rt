@@ -2,28 +2,26 @@
 ghost use Rattle.std.specs.Prelude.{◌≡◌, ◌≤◌, ◌<◌, ◌-◌, ◌++◌, ◌∷◌, [], drop, length};
 ghost use Rattle.std.specs.List.{flat_map};
 ghost use Rattle.bpf_insn.specs.Code.{word_count};
-ghost use Rattle.cql2.specs.Geometry.{edge_of, edges_of_bounds, edges_of_ring, edges_through};
+ghost use Rattle.cql2.specs.Geometry.{edge_of, edges_of_ring, edges_through};
 ghost use Rattle.cql2.specs.declared.geometry.Shape.TheVariants as shape_variants;
 ghost use Rattle.cql2_code.specs.Function.{asks_meets};
 ghost use Rattle.cql2_code.specs.Layout as layout;
 ghost use Rattle.cql2_code.specs.Layout.{IsPrepended, Prepends};
 ghost use Rattle.cql2_code.specs.Question.{Coded};
 ghost use Rattle.cql2_code.specs.ShapeCode as shape_code;
-ghost use Rattle.cql2_code.specs.ShapeCode.{bounds_code, edge_code, end_in_code, inside_code, mark_comparison, meets_shape, polygon_code, polygon_edge_code};
-ghost use Rattle.cql2_code.specs.ShapeCode.{ring_code};
+ghost use Rattle.cql2_code.specs.ShapeCode.{edge_code, inside_code, mark_comparison, meets_shape, polygon_code, polygon_edge_code, ring_code};
 ghost use Rattle.cql2_code.specs.declared.line.Extent.TheVariants.{Start, Whole};
 
+use crate::bounds::prepend_bounds;
 use crate::edges::{Edge, prepend_edge, prepend_polygon_edge};
 use crate::fault::CompileFault;
-use crate::instructions::{copy, from_argument_1, from_kept, into_argument_1, into_result};
+use crate::instructions::{copy, from_argument_1, into_argument_1, into_result};
 use crate::line::{Extent, prepend_known_line, prepend_line};
 use crate::question::Exits;
-use crate::shape_instructions::{
-    combine_number, from_end_latitude, from_first, into_first, skip_by_number,
-};
+use crate::shape_instructions::{combine_number, from_first, into_first, skip_by_number};
 use crate::suffix::CodeSuffix;
-use bpf_insn::{Insn, Operation, Register};
-use cql2::{Bounds, Comparison, Polygon, Polygons, Shape, Vertex};
+use bpf_insn::{Insn, Operation};
+use cql2::{Comparison, Polygon, Polygons, Shape, Vertex};
 use std::alloc::Allocator;
 
 /// Writes the code that asks whether the line from a segment's start to its end meets a shape, or whether it doesn't.
@@ -87,7 +85,7 @@ fn prepend_start_meets<A: Allocator + Copy>(
 }
 
 /// Writes the comparison of the marks with 0.
-fn prepend_marks<A: Allocator + Copy>(
+pub(crate) fn prepend_marks<A: Allocator + Copy>(
     code: &mut CodeSuffix<A>,
     exits: Exits,
 ) -> Result<(), CompileFault>
@@ -143,72 +141,6 @@ fn edge_to(vertices: &[Vertex], next: usize) -> Edge
         start: vertices[next - 1],
         end: vertices[next],
     }
-}
-
-/// Writes the code that marks that the line meets a box.
-fn prepend_bounds<A: Allocator + Copy>(
-    code: &mut CodeSuffix<A>,
-    bounds: Bounds,
-) -> Result<(), CompileFault>
-    ensures { IsPrepended result (bounds_code bounds ++ code.old) code.new }
-{
-    prepend_edges(code, &corners(bounds))?;
-    code.prepend_all(&end_in(bounds, from_kept(2), from_end_latitude()))?;
-    code.prepend_all(&end_in(bounds, from_kept(0), from_kept(1)))
-}
-
-/// Returns the corners of a box, counterclockwise from the southwest corner back to it.
-fn corners(bounds: Bounds) -> [Vertex; 5]
-    ensures { edges_through result ≡ edges_of_bounds bounds }
-{
-    let southeast = Vertex {
-        longitude: bounds.northeast.longitude,
-        latitude: bounds.southwest.latitude,
-    };
-    let northwest = Vertex {
-        longitude: bounds.southwest.longitude,
-        latitude: bounds.northeast.latitude,
-    };
-    [
-        bounds.southwest,
-        southeast,
-        bounds.northeast,
-        northwest,
-        bounds.southwest,
-    ]
-}
-
-/// Returns the code that marks that the line meets a box if an end of the line lies in it, by that end's registers.
-fn end_in(bounds: Bounds, longitude: Register, latitude: Register) -> [Insn; 5]
-    ensures { result ≡ end_in_code bounds longitude latitude }
-{
-    [
-        skip_by_number(
-            Comparison::Less,
-            longitude,
-            bounds.southwest.longitude as i32,
-            4,
-        ),
-        skip_by_number(
-            Comparison::Greater,
-            longitude,
-            bounds.northeast.longitude as i32,
-            3,
-        ),
-        skip_by_number(
-            Comparison::Less,
-            latitude,
-            bounds.southwest.latitude as i32,
-            2,
-        ),
-        skip_by_number(
-            Comparison::Greater,
-            latitude,
-            bounds.northeast.latitude as i32,
-            1,
-        ),
-        combine_number(Operation::Or, into_argument_1(), 4),
-    ]
 }
 
 /// Writes the code that marks that the line meets one of several polygons.

@@ -1,0 +1,10 @@
+use Rattle.cql2_code.proofs.Refused.{prepends_as}
+use Rattle.cql2_code.proofs.Written.{asked_written, joined}
+use Rattle.cql2_code.proofs.within.prepend_within.Goals as goal
+
+pub returns : goal.returns
+returns g c =
+    prepends_as c.prepend_known_line.result _
+    (λ all front. joined c.words-words.ensures.value
+    (asked_written c.args.asked c.asked.ensures.falls c.asked.ensures.skip c.in_ok-prepend_lies_within.ensures) c.exits_before-exits.ensures.before front)
+    c.prepend_known_line.ensures
