@@ -232,16 +232,15 @@ class FilterDice(ShapeDice):
         sql = f"CASE WHEN EXISTS (SELECT 1 FROM names WHERE {is_name}) THEN 1 WHEN {is_known} THEN 0 END"
         return Filter(["HAS_NAME", "(", *name.tokens, *limit, ")"], f"({sql})", 20 * most + 100)
 
-    def edges(self, column: Column) -> tuple[int, int]:
-        """Draws two coordinates, mostly the smaller one first."""
-        low, high = self.coordinate(column), self.coordinate(column)
-        return (high, low) if low > high and self.chance(80) else (low, high)
+    def edges(self, column: Column) -> list[int]:
+        """Draws two bounds in femtodegrees, the lesser one first."""
+        return self.bounds(self.coordinate(column), self.coordinate(column))
 
     def box_around(self, *points: str) -> tuple[list[str], str]:
         """Draws a box, and returns it with an SQL expression for points in it, which are named as their columns are, without LONG and LAT."""
         (west, east), (south, north) = self.edges(BY_NAME[f"{points[-1]}LONG"]), self.edges(BY_NAME[f"{points[-1]}LAT"])
-        sql = " AND ".join(f"{point}LONG BETWEEN {west} AND {east} AND {point}LAT BETWEEN {south} AND {north}" for point in points)
-        return self.box_tokens(west, south, east, north), f"({sql})"
+        ends = ", ".join(f"{point}LONG, {point}LAT" for point in points)
+        return self.box_tokens(west, south, east, north), f"lies_in({west}, {south}, {east}, {north}, {ends})"
 
     def starts_in(self) -> Filter:
         tokens, sql = self.box_around("FR")

@@ -108,9 +108,13 @@ def is_place_inside(at: Place, rings: list[Ring]) -> bool:
 
 
 class Shape:
-    """A point, a line through points, or polygons. A polygon's rings bound it, whichever of them is the outer one."""
+    """A point, a line through points, or polygons. A polygon's rings bound it, whichever of them is the outer one.
 
-    def __init__(self, path: list[Point], polygons: list[list[Ring]]) -> None:
+    `scale` of its units are a millionth of a degree.
+    """
+
+    def __init__(self, path: list[Point], polygons: list[list[Ring]], scale: int = 1) -> None:
+        self.scale = scale
         self.polygons = polygons
         self.edges = [(path[0], path[0]), *pairwise(path)] if path else [edge for rings in polygons for edge in ring_edges(rings)]
         self.path = path
@@ -140,8 +144,8 @@ class Shape:
 
     @cached_property
     def prepared(self) -> list[Any]:
-        """The shape for shapely, in parts; nothing if one isn't valid, such as a polygon that crosses itself."""
-        parts = list(self.shapely_parts())
+        """The shape for shapely, in parts; nothing if one isn't valid, such as a polygon that crosses itself, or if its numbers are too large to be exact."""
+        parts = list(self.shapely_parts()) if self.scale == 1 else []
         return list(map(prep, parts)) if all(part.is_valid for part in parts) else []
 
     def meets_by_shapely(self, line: Edge) -> bool | None:

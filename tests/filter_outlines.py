@@ -10,6 +10,8 @@ from filter_geometry import Edge, Point, Ring, Shape
 from filter_numbers import NumberDice
 from filter_terms import WHITE_SPACE, in_degrees
 
+# Femtodegrees in a millionth of a degree. The bounds of boxes are exact.
+FEMTODEGREES = 10**9
 # One in this many lines is also compared by fractions.
 COMPARED_BY_FRACTIONS = 200
 
@@ -23,6 +25,8 @@ mistakes: list[tuple[Shape, Edge]] = []
 @lru_cache(10_000)
 def meets(shape: Shape, line: Edge) -> bool:
     """Returns whether a line meets a shape, and notes other opinions."""
+    start, end = [(x * shape.scale, y * shape.scale) for x, y in line]
+    line = (start, end)
     found = shape.meets(line)
     is_doubted = shape.meets_by_shapely(line) == (not found)
     if is_doubted or hash((len(shape.edges), line)) % COMPARED_BY_FRACTIONS == 0:
@@ -39,12 +43,20 @@ def sql_meets(number: int, *ends: int | None) -> bool | None:
     return meets(shapes[number], ((known[0], known[1]), (known[-2], known[-1]))) if len(known) == len(ends) else None
 
 
+def sql_lies_in(west: int, south: int, east: int, north: int, *ends: int | None) -> bool | None:
+    """Returns whether all points lie in a box, whose bounds are in femtodegrees; NULL if a longitude or a latitude is."""
+    known = [millionths * FEMTODEGREES for millionths in ends if millionths is not None]
+    inside = all(west <= x <= east for x in known[::2]) and all(south <= y <= north for y in known[1::2])
+    return inside if len(known) == len(ends) else None
+
+
 class MappedCounty(County):
-    """A county whose SQL compares lines with shapes."""
+    """A county whose SQL compares lines with shapes and boxes."""
 
     def __init__(self, dice: Random, code: str) -> None:
         super().__init__(dice, code)
         self.database.create_function("meets", -1, sql_meets, deterministic=True)
+        self.database.create_function("lies_in", -1, sql_lies_in, deterministic=True)
 
 
 def known_lines(county: County) -> list[Edge]:
@@ -156,12 +168,32 @@ class ShapeDice(NumberDice):
 
     def box(self) -> tuple[list[str], Shape]:
         (x1, y1), (x2, y2) = self.point(), self.point()
-        west, east, south, north = *sorted((x1, x2)), *sorted((y1, y2))
-        return self.box_tokens(west, south, east, north), Shape([], [[[(west, south), (east, south), (east, north), (west, north)]]])
+        west, east, south, north = *self.bounds(x1, x2), *self.bounds(y1, y2)
+        ring = [(west, south), (east, south), (east, north), (west, north)]
+        return self.box_tokens(west, south, east, north), Shape([], [[ring]], FEMTODEGREES)
+
+    def bounds(self, *millionths: int) -> list[int]:
+        """Draws two bounds in femtodegrees, the lesser one first: these millionths of a degree, or numbers near them."""
+        return sorted(self.nearby(number) for number in millionths)
+
+    def nearby(self, millionths: int) -> int:
+        if self.chance(60):
+            return millionths * FEMTODEGREES
+        unit: int = 10 ** self.dice.randrange(9)
+        rest = self.dice.choice((1, self.dice.randrange(FEMTODEGREES // unit))) * unit
+        return millionths * FEMTODEGREES + self.dice.choice((rest, -rest))
 
     def box_tokens(self, *sides: int) -> list[str]:
-        tokens = [token for side in sides for token in (",", self.spelled_degrees(side))]
+        tokens = [token for side in sides for token in (",", self.exact_degrees(side))]
         return ["BBOX", "(", *tokens[1:], ")"]
+
+    def exact_degrees(self, femtodegrees: int) -> str:
+        """Writes degrees with up to 15 decimals."""
+        millionths, rest = divmod(abs(femtodegrees), FEMTODEGREES)
+        if rest == 0:
+            return self.spelled_degrees(femtodegrees // FEMTODEGREES)
+        decimals = f"{millionths % 10**6:06}{rest:09}"
+        return f"{'-' if femtodegrees < 0 else ''}{millionths // 10**6}.{decimals.rstrip('0') if self.chance(50) else decimals}"
 
     def line(self) -> list[Point]:
         """Draws a line through points, now and then along a segment's line, or with a point that is there twice."""

@@ -15,6 +15,7 @@ defaults to 1; the same seed draws the same filters.
 
 import os
 import re
+import sqlite3
 import subprocess
 import sys
 import tempfile
@@ -112,7 +113,12 @@ def draw_trial(dice: Random, makers: Makers, counties: list[County]) -> Trial:
     drawn = makers.dice(dice, dice.choice(counties)).filter()
     score = dice.choice(NUMERIC) if chance(dice, 30) else None
     asked = dice.sample(counties, dice.randint(1, len(counties)))
-    rows = b"" if drawn.refusals else b"".join(county.rows(drawn.sql, score) for county in asked)
+    try:
+        rows = b"" if drawn.refusals else b"".join(county.rows(drawn.sql, score) for county in asked)
+    except sqlite3.OperationalError as error:
+        if "parser stack overflow" not in str(error):
+            raise
+        return draw_trial(dice, makers, counties)  # SQLite takes fewer nested parentheses than a filter may have.
     return Trial(spelled(dice, drawn.tokens), score, [county.code for county in asked], rows, drawn.refusals)
 
 
