@@ -1,6 +1,6 @@
 -- Lines of source code, each with the place in the program that it belongs to.
 use Rattle.std.specs.Prelude.{◌≡◌, ℕ, ◌+◌, Bool, ◌==◌, nat_lt, nat_le, if◌then◌else◌, List, [], ◌∷◌, ◌++◌, length, Option, Some, None}
-use Rattle.std.specs.Prelude.{option_map, option_and_then, Result, Ok, Err}
+use Rattle.std.specs.Prelude.{option_map, option_and_then, Result, Ok, Err, codes}
 use Rattle.std.specs.List.{after_first, before_first, position_or_len}
 use Rattle.std.specs.Str.{is_utf8}
 use Rattle.std.specs.Str.Lines.{lines}
@@ -19,6 +19,10 @@ pub record SourceLine : Type 0 where
 
 abbrev pub line_of : PlacedLine → SourceLine
 line_of line = record { place = line.place; text = line.text.now }
+
+-- a line as a listing shows it
+abbrev pub source_text : SourceLine → List ℕ
+source_text line = codes "; " ++ line.text ++ codes "\n"
 
 -- the place written in one to five decimal digits, if a program can have it
 unfoldable pub place_in : List ℕ → Option ℕ

@@ -4,4 +4,6 @@
 pub mod laws;
 mod source_lines;
 
-pub use source_lines::{LinesFault, MAX_PLACE, PlacedLine, SourceLineFaultKind, SourceLines};
+pub use source_lines::{
+    LinesFault, MAX_PLACE, PlacedLine, SourceLineFaultKind, SourceLines, push_source,
+};

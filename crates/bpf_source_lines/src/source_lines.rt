@@ -1,7 +1,8 @@
 //! Source lines and their faults.
 ghost use Rattle.std.specs.Prelude.{◌≡◌, ◌≤◌, ◌+◌, ◌∷◌, ◌++◌, [], IfOk, IfSome, OnOk, MatchResult, Ok, Err, map, option_map};
+ghost use Rattle.std.specs.String.{string_bytes};
 ghost use Rattle.bpf_source_lines.specs.LinesFault as line_fault;
-ghost use Rattle.bpf_source_lines.specs.SourceLines.{IsChecked, checked, line_in, line_of, lines_in, parts_of, place_in};
+ghost use Rattle.bpf_source_lines.specs.SourceLines.{IsChecked, checked, line_in, line_of, lines_in, lines_or_none, parts_of, place_in, source_text};
 
 use bpf_assembler::first_line;
 use decimal::decimal_value;
@@ -91,6 +92,13 @@ impl<'a> SourceLines<'a> {
         Ok(SourceLines { file })
     }
 
+    /// Returns the lines of a file, or none if it has a fault.
+    pub fn or_none(file: &'a [u8]) -> SourceLines<'a>
+        ensures { parts_of result ≡ lines_or_none (lines_in file.now) }
+    {
+        SourceLines { file }
+    }
+
     /// Returns the lines, or none if the file has a fault.
     pub fn read<A: Allocator + Copy>(self, alloc: A) -> Result<Vec<PlacedLine<'a>, A>, AllocError>
         ensures { IfOk result (λ lines. map line_of lines.items ≡ parts_of self.entry) }
@@ -111,6 +119,18 @@ impl<'a> SourceLines<'a> {
         }
         Ok(lines)
     }
+}
+
+/// Pushes a line as a listing shows it.
+pub fn push_source<A: Allocator>(
+    text: &mut String<A>,
+    line: &PlacedLine<'_>,
+) -> Result<(), AllocError>
+    ensures { OnOk result (string_bytes text.new ≡ string_bytes text.old ++ source_text (line_of line.now)) }
+{
+    text.push_str("; ")?;
+    text.push_str(line.text)?;
+    text.push_str("\n")
 }
 
 fn push_line<'a, A: Allocator>(
