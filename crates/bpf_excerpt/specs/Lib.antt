@@ -1,0 +1,4 @@
+pub mod Reading
+pub mod Reason
+pub mod Excerpt
+pub mod Listed
