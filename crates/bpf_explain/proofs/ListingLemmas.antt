@@ -21,9 +21,9 @@ use Rattle.bpf_verify.specs.Visit.{Visit, IsShownUpTo, visit_at, visited_all, vi
 use Rattle.bpf_verify.specs.declared.abstract_state.AbstractState.{AbstractState}
 use Rattle.bpf_notes.specs.Facts.{note_text, noted, prefix_text}
 use Rattle.bpf_explain.specs.Explanation.{ExplainsRefusal}
-use Rattle.bpf_explain.specs.Listing.{ListingParts, empty, known_after, lines_after, lines_until, listing, refusal_line, refused_text, source_text}
+use Rattle.bpf_explain.specs.Listing.{ListingParts, empty, known_after, lines_after, lines_until, listing, refusal_line, refused_text}
 use Rattle.bpf_explain.specs.Listing.{sources_text, visit_text, visited}
-use Rattle.bpf_source_lines.specs.SourceLines.{SourceLine, line_of}
+use Rattle.bpf_source_lines.specs.SourceLines.{SourceLine, line_of, source_text}
 use Rattle.bpf_source_lines.specs.declared.source_lines.PlacedLine.{PlacedLine}
 
 -- the number of lines up to a place, if none is after it

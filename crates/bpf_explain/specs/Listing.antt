@@ -9,7 +9,7 @@ use Rattle.bpf_verify.specs.declared.abstract_state.AbstractState.{AbstractState
 use Rattle.bpf_notes.specs.Facts.{instruction_line}
 use Rattle.bpf_explain.specs.Access.{text_if}
 use Rattle.bpf_explain.specs.Failure.{failure_text}
-use Rattle.bpf_source_lines.specs.SourceLines.{SourceLine}
+use Rattle.bpf_source_lines.specs.SourceLines.{SourceLine, source_text}
 
 -- a listing so far: its text, what was known before the last instruction that was reached, the last instruction, and the remaining source lines
 pub record ListingParts : Type 0 where
@@ -28,9 +28,6 @@ lines_until place lines = before_first (λ line. nat_lt place line.place) lines
 
 unfoldable pub lines_after : ℕ → List SourceLine → List SourceLine
 lines_after place lines = drop (position_or_len (λ line. nat_lt place line.place) lines) lines
-
-abbrev pub source_text : SourceLine → List ℕ
-source_text line = codes "; " ++ line.text ++ codes "\n"
 
 unfoldable pub sources_text : List SourceLine → List ℕ
 sources_text lines = flat_map source_text lines

@@ -4,13 +4,15 @@ ghost use Rattle.std.specs.List.{All};
 ghost use Rattle.std.specs.String.{string_bytes};
 ghost use Rattle.bpf_verify.specs.LiftedState.{IsProperState};
 ghost use Rattle.bpf_explain.specs.Failure.{argument_text, called_number, failure_facts, failure_text, failure_words, more_facts, registers_text, slots_text};
-ghost use Rattle.bpf_explain.specs.Failure.{requirement, requirement_of, requirement_text};
+ghost use Rattle.bpf_explain.specs.Failure.{numbers_text, requirement, requirement_of, requirement_text};
 ghost use Rattle.bpf_notes.specs.Notation.{IsPart};
 
 use crate::access::{push_access_if, push_base, push_number, push_offset_if, push_register};
+use crate::arithmetic::push_arithmetic;
 use crate::reach::{push_outside, push_unwritten};
 use bpf_helpers::{Argument, Helper};
 use bpf_insn::Insn;
+use bpf_kinds::Interval;
 use bpf_meaning::Cause;
 use bpf_notes::{Part, helper_of, push_fact, push_facts, registers_read, slots_read};
 use bpf_verify::AbstractState;
@@ -36,11 +38,8 @@ fn failure_words(cause: Cause) -> &'static str
     ensures { result.now ≡ failure_words cause }
 {
     match cause {
-        Cause::OutOfProgram | Cause::IntoWide => "",
+        Cause::OutOfProgram | Cause::IntoWide | Cause::PointerArithmetic => "",
         Cause::ReadsNothing(_) => "reads r",
-        Cause::PointerArithmetic => {
-            "a pointer is only copied, or moved by a number from -32768 to 32767: "
-        }
         Cause::LeavesArea => "moves a pointer to an offset outside -32768..32767: ",
         Cause::NotPointer => "the base is no pointer: ",
         Cause::OutOfBounds | Cause::UnwrittenFrame => "",
@@ -69,9 +68,11 @@ fn push_failure_facts<A: Allocator + Copy>(
     match cause {
         Cause::OutOfProgram | Cause::IntoWide => Ok(()),
         Cause::ReadsNothing(register) => push_nothing(text, register),
-        Cause::PointerArithmetic | Cause::LeavesArea | Cause::ComparesPointer => {
+        Cause::PointerArithmetic => {
+            push_arithmetic(text, known, insn)?;
             push_registers(alloc, text, known, insn)
         }
+        Cause::LeavesArea | Cause::ComparesPointer => push_registers(alloc, text, known, insn),
         Cause::NotPointer => push_base(text, known, insn),
         Cause::OutOfBounds => push_outside(text, known, insn),
         Cause::UnwrittenFrame => {
@@ -207,12 +208,19 @@ fn push_requirement<A: Allocator>(
 {
     match requirement {
         Argument::Unused => text.push_str("anything"),
-        Argument::Number(x) => {
-            text.push_str("a number from ")?;
-            push_number(text, x.low)?;
-            text.push_str(" to ")?;
-            push_number(text, x.high)
-        }
+        Argument::Number(x) => push_numbers(text, x),
         Argument::Frame => text.push_str("a pointer into the frame"),
     }
+}
+
+fn push_numbers<A: Allocator>(text: &mut String<A>, x: Interval) -> Result<(), AllocError>
+    ensures { OnOk result (string_bytes text.new ≡ string_bytes text.old ++ numbers_text x) }
+{
+    if x.low == 0 && x.high == u64::MAX {
+        return text.push_str("any number");
+    }
+    text.push_str("a number from ")?;
+    push_number(text, x.low)?;
+    text.push_str(" to ")?;
+    push_number(text, x.high)
 }

@@ -2,6 +2,7 @@
 #![tactic(auto)]
 
 mod access;
+mod arithmetic;
 mod explanation;
 mod failure;
 pub mod laws;

@@ -2,7 +2,7 @@
 ghost use Rattle.std.specs.Prelude.{◌≡◌, ◌≤◌, ◌++◌, Some, nat_lt, length, ◌<◌, IfOk, IfSome, OnOk};
 ghost use Rattle.std.specs.List.{position, position_or_len};
 ghost use Rattle.std.specs.String.{string_bytes};
-ghost use Rattle.bpf_explain.specs.Listing.{accepted_text, empty, lines_after, lines_until, refusal_line, refused_text, source_text, sources_text};
+ghost use Rattle.bpf_explain.specs.Listing.{accepted_text, empty, lines_after, lines_until, refusal_line, refused_text, sources_text};
 ghost use Rattle.bpf_verify.specs.LiftedState.{IsProperState};
 ghost use Rattle.bpf_notes.specs.Facts.{noted, prefix_text};
 ghost use Rattle.std.specs.Prelude.{codes, map};
@@ -12,7 +12,7 @@ use crate::failure::push_failure;
 use bpf_insn::Insn;
 use bpf_meaning::Cause;
 use bpf_notes::{note, push_instruction_line};
-use bpf_source_lines::PlacedLine;
+use bpf_source_lines::{PlacedLine, push_source};
 use bpf_verify::{AbstractState, Visitor};
 use std::alloc::{AllocError, Allocator};
 use std::marker::Model;
@@ -153,14 +153,6 @@ fn push_sources<A: Allocator>(
         push_source(text, line)?;
     }
     Ok(())
-}
-
-fn push_source<A: Allocator>(text: &mut String<A>, line: &PlacedLine<'_>) -> Result<(), AllocError>
-    ensures { OnOk result (string_bytes text.new ≡ string_bytes text.old ++ source_text (line_of line.now)) }
-{
-    text.push_str("; ")?;
-    text.push_str(line.text)?;
-    text.push_str("\n")
 }
 
 /// Pushes the line that says why an instruction is refused.
