@@ -3,16 +3,16 @@ use Rattle.std.proofs.Common.{◌≡◌, ℕ, ◌+◌, ◌<◌, ◌≤◌, Bool,
 use Rattle.std.proofs.Common.{drop, unwrap_or, get_or, None, Some, refl, ap, sym, ◌∙◌, subst, arith, drop-cons, length-drop}
 use Rattle.std.proofs.Common.{Option, ◌-◌, ◌^◌, add-one, append_assoc}
 use Rattle.std.specs.List.{flat_map}
-use Rattle.std.proofs.lemmas.Bool.Decides.{nat_tests}
 use Rattle.std.proofs.lemmas.List.{append-nil, drop_all, get_or-map}
 use Rattle.std.proofs.lemmas.Option.{slice_get-get_or}
 use Rattle.tl_segments.specs.Segment.{SegmentParts, blank_segment}
 use Rattle.tl_segments.specs.County.{AreTlids, tlid_of}
-use Rattle.geocode.specs.Candidates.{IsCandidate, IsComplete, IsNext, numbers_with, segment_at}
+use Rattle.geocode.specs.Candidates.{IsComplete, IsNext, numbers_with, segment_at}
 use Rattle.geocode.specs.Hits.{has_name}
-use Rattle.geocode.specs.Span.{IncludesHits, covers}
+use Rattle.geocode.specs.Span.{IncludesHits}
 use Rattle.geocode.specs.declared.candidates.Candidate.{Candidate}
 use Rattle.geocode.proofs.HitLemmas.{tlids-long}
+use Rattle.geocode.proofs.SpanLemmas.{whole_includes}
 
 -- the numbers are less than the length
 abbrev pub AreBelow : ℕ → List ℕ → Type 0
@@ -142,9 +142,6 @@ module _ {Y : Type 0} (f : SegmentParts → List Y) (segments : List SegmentPart
       by [] so_far is = sym (append-nil now) ∙ so_far
       by (n ∷ rest) so_far (is, left) = let clash = is.candidate in cc
 
-covers-whole : (number : ℕ) → covers (record { low = 0; high = 2 ^ 16 - 1 }) number ≡ true
-covers-whole number = grind (arith, nat_tests)
-
 -- the next of all segments
 pub all-next : (segments : List SegmentParts) (n : ℕ) (left : List ℕ → Type 0) → n < length segments
     → left (numbers_with (λ segment. true) (n + 1) (drop (n + 1) segments))
@@ -157,7 +154,7 @@ all-next segments n left inside after =
       record {
         span = record { low = 0; high = 2 ^ 16 - 1 };
         candidate = refl;
-        includes = λ house none. let clash = sym (covers-whole house.number) ∙ none in cc;
+        includes = whole_includes (segment_at segments n);
       },
       after,
     )

@@ -1,9 +1,10 @@
 -- Chains of segments by the keys of their names.
 use Rattle.std.proofs.Common.{◌≡◌, ℕ, ◌+◌, ◌<◌, ◌≤◌, nat_eq, Bool, true, false, if◌then◌else◌, List, [], ◌∷◌, ◌++◌, length}
 use Rattle.std.proofs.Common.{get_or, slice_get, Some, refl, ap, sym, ◌∙◌, subst, arith}
-use Rattle.std.proofs.Common.{◌-◌, ◌||◌, nat_le, None, take, drop, drop-cons, add-one}
+use Rattle.std.proofs.Common.{◌-◌, ◌||◌, nat_le, None, take, drop, drop-cons, add-one, replicate, set, zero, suc}
 use Rattle.std.specs.List.{list_any}
 use Rattle.std.specs.Option.{option_map_or}
+use Rattle.std.proofs.lemmas.List.{get_or-set_other, get_or-set_same}
 use Rattle.std.proofs.lemmas.List.Elements.{All-get_or, All-push}
 use Rattle.std.proofs.lemmas.List.Folds.{list_any_more}
 use Rattle.std.proofs.lemmas.Option.{get_or_from_slice_get, slice_get_within}
@@ -122,6 +123,55 @@ module _ {A : Type 0} (old now new : NameIndex A) (segment : ℕ) (span : Span) 
         (subst (IsChain new.links.items (first_of new q)) (chain-one_name segment (chains q) before (test name) (fresh q)) chain);
     spans = λ segments includes spanned. more.spans segments includes (so_far.spans segments includes spanned);
   }
+
+-- every name has the same key if there is just one
+key_of-one : (hash : ℕ) → key_of 1 hash ≡ 0
+unfolding key_of
+key_of-one hash = refl
+
+none_any : {X : Type 0} (test : X → Bool) (xs : List X) → ((x : X) → test x ≡ false) → list_any test xs ≡ false
+none_any test [] none = refl
+none_any test (x ∷ xs) none = rw (none x) (none_any test xs none)
+
+-- a test that is the same for all elements
+any_same : {X : Type 0} (test : X → Bool) (all : Bool) (x : X) (xs : List X) → ((x : X) → test x ≡ all) → list_any test (x ∷ xs) ≡ all
+any_same test true x xs same = rw (same x) refl
+any_same test false x xs same = none_any test (x ∷ xs) same
+
+-- with just one key, a segment that is put in front of the others is so for all of its names
+pub AddsNames-one : {A : Type 0} (old new : NameIndex A) (segment : ℕ) (span : Span) (name : List ℕ) (names : List (List ℕ)) (hash : ℕ)
+    → old.keys ≡ 1 → AddsTo old new (key_of old.keys hash) segment span → AddsNames old new segment span (name ∷ names)
+AddsNames-one old new segment span name names hash one more = record {
+  keys = more.keys;
+  chains = λ chains chained fresh q.
+      let at_one : (hash : ℕ) → nat_eq (key_of old.keys hash) q ≡ nat_eq 0 q =
+      λ hash. ap (λ key. nat_eq key q) (ap (λ keys. key_of keys hash) one ∙ key_of-one hash) in
+      let same : nat_eq (key_of old.keys hash) q ≡ list_any (λ name. nat_eq (key_of old.keys (hash_of name)) q) (name ∷ names) =
+      at_one hash ∙ sym (any_same (λ name. nat_eq (key_of old.keys (hash_of name)) q) (nat_eq 0 q) name names
+      (λ name. at_one (hash_of name))) in
+      let chain = subst
+      (λ (first : List ℕ). IsChain new.links.items (first_of new q) (if nat_eq (key_of old.keys hash) q then first else chains q)) (fresh q)
+      (more.chains chains chained q) in
+      subst (λ (test : Bool). IsChain new.links.items (first_of new q) (if test then segment ∷ chains q else chains q)) same chain;
+  spans = more.spans;
+}
+
+-- no key has a link yet
+pub no_firsts : (count key : ℕ) → ◌≡◌ {A = ℕ} (get_or (replicate count 0) key 0) 0
+no_firsts zero key = refl
+no_firsts (suc count) zero = refl
+no_firsts (suc count) (suc key) = no_firsts count key
+
+-- the number of a key's first link, after that of one key was written
+pub first-set : (firsts : List ℕ) (key value q : ℕ) → key < length firsts
+    → get_or (set firsts key value) q 0 ≡ (if nat_eq key q then value else get_or firsts q 0)
+first-set firsts key value q inside = by (nat_eq key q) refl
+  where
+    by : (same : Bool) → nat_eq key q ≡ same → get_or (set firsts key value) q 0 ≡ (if same then value else get_or firsts q 0)
+    by true is =
+        let at : q ≡ key = grind (arith, nat_tests) in
+        ap (λ q. get_or (set firsts key value) q 0) at ∙ get_or-set_same firsts key value 0 inside
+    by false is = get_or-set_other firsts key q value 0 (λ at. let clash : nat_eq key q ≡ true = grind (arith, nat_tests) in cc)
 
 -- a number stays new to a list when a greater number is put in front of it or not
 pick-new : (test : Bool) (n m : ℕ) (numbers : List ℕ) → n < m → with_first n numbers ≡ n ∷ numbers

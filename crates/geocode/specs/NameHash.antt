@@ -15,6 +15,6 @@ hash_with hash byte = mixed hash (to_ascii_lowercase byte)
 unfoldable pub hash_of : List ℕ → ℕ
 hash_of name = fold hash_with FNV_OFFSET name
 
--- the key of a hash, out of `keys` keys; blank names have an extra key of their own
+-- the key of a hash, out of `keys` keys: a single key is that of all names; otherwise blank names have an extra key of their own
 unfoldable pub key_of : ℕ → ℕ → ℕ
-key_of keys hash = if hash == FNV_OFFSET then keys else hash % keys
+key_of keys hash = if keys == 1 then 0 else if hash == FNV_OFFSET then keys else hash % keys

@@ -1,7 +1,6 @@
 -- An index of the names of a county's segments: each key has a chain of the segments with a name that has this key.
-use Rattle.std.specs.Prelude.{◌≡◌, ℕ, ◌+◌, ◌-◌, ◌<◌, nat_eq, nat_le, Bool, false, if◌then◌else◌, List, [], ◌∷◌, Option, Some, None}
-use Rattle.std.specs.Prelude.{All, slice_get, unwrap_or}
-use Rattle.std.specs.HashMap.{get}
+use Rattle.std.specs.Prelude.{◌≡◌, ℕ, ◌-◌, ◌<◌, nat_eq, nat_le, Bool, false, if◌then◌else◌, List, [], ◌∷◌, Option, Some, None}
+use Rattle.std.specs.Prelude.{All, slice_get, slice_index_or}
 use Rattle.std.specs.List.{list_any}
 use Rattle.std.specs.Option.{option_map_or}
 use Rattle.tl_segments.specs.Segment.{SegmentParts, names_of}
@@ -38,7 +37,7 @@ IsChain links number (segment ∷ segments) = (next : ℕ) × IsLink links numbe
 
 -- the number of the first link of a key
 abbrev pub first_of : {A : Type 0} → NameIndex A → ℕ → ℕ
-first_of index key = unwrap_or (get nat_eq index.firsts key) 0
+first_of index key = slice_index_or index.firsts.items key 0
 
 -- the segments of each key
 abbrev pub HasChains : {A : Type 0} → NameIndex A → (ℕ → List ℕ) → Type 0

@@ -23,8 +23,9 @@ use tl_segments::{County, NAME_LENGTH};
 /// the key in each county and walks its chain, which has the segments with the name and, on average, at most eight others. Segments without a name
 /// have a chain of their own. A chain keeps the span of each segment's house numbers, so most segments that don't have the number aren't read.
 ///
-/// Each name of a segment, including alternate names, takes 16 bytes. The keys add at most 7 bytes per name (if every key is used and their map has
-/// just grown), typically about 4. A county therefore takes at most 23 bytes per name of its segments, typically about 20, plus less than 600 bytes.
+/// Each name of a segment, including alternate names, takes 12 bytes, and the keys half a byte more. A county adds less than 100 bytes. If its segments
+/// have more than eight names on average, as only a crafted county has, all names have the same key: a county then takes 12 bytes per segment, and a
+/// search looks at all its segments.
 #[derive(Drop)]
 pub struct Gazetteer<A: Allocator> {
     indexes: Vec<NameIndex<A>, A>,

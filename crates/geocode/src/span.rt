@@ -10,6 +10,9 @@ use std::alloc::Allocator;
 use tl_fields::number as number_of;
 use tl_segments::{Range, Segment};
 
+/// The most ranges of a segment whose span is computed: in a crafted file, thousands of segments share a thousand ranges.
+const MAX_SPANNED_RANGES: u64 = 32;
+
 /// The least and the greatest house number of a segment, each halved and capped at 65,535. Lets a search skip segments
 /// without reading them.
 #[derive(Clone, Copy)]
@@ -31,8 +34,18 @@ impl Span {
         high: 0,
     };
 
-    /// Returns the span of the numbers at the ends of those sides of the segment that have a number at both ends.
+    /// Returns the span of the numbers at the ends of those sides of the segment that have a number at both ends, or that of all house numbers for
+    /// a segment with many ranges.
     pub(crate) fn of<A: Allocator>(segment: &Segment<A>) -> Self
+        ensures { IncludesHits result segment.now }
+    {
+        if segment.ranges() > MAX_SPANNED_RANGES {
+            return Span::WHOLE;
+        }
+        Span::of_ranges(segment)
+    }
+
+    fn of_ranges<A: Allocator>(segment: &Segment<A>) -> Self
         ensures { IncludesHits result segment.now }
     {
         let mut span = Span::EMPTY;

@@ -1,11 +1,10 @@
-use Rattle.std.proofs.Common.{rules, ◌≡◌, [], ℕ, ◌+◌, nat_eq, true, ◌∷◌, ◌++◌, length, sym, ◌∙◌, subst, unwrap_or, arith}
+use Rattle.std.proofs.Common.{rules, ◌≡◌, ◌<◌, [], ℕ, ◌+◌, nat_eq, true, false, if◌then◌else◌, ◌∷◌, ◌++◌, length, ap, sym, ◌∙◌, subst, get_or, set, arith}
 use Rattle.std.proofs.lemmas.Bool.Decides.{nat_tests}
 use Rattle.std.proofs.lemmas.Grind.{common_steps}
-use Rattle.std.specs.HashMap.{get}
 use Rattle.geocode.specs.NameHash.{key_of}
 use Rattle.geocode.specs.NameIndex.{AddsSpans, IsChain, is_link_of, with_first, first_of}
 use Rattle.geocode.specs.declared.name_index.Link.{Link}
-use Rattle.geocode.proofs.NameIndexLemmas.{AddsSpans-push, IsChain-cases, IsChain-first, IsChain-push, with_first-same}
+use Rattle.geocode.proofs.NameIndexLemmas.{AddsSpans-push, IsChain-cases, IsChain-first, IsChain-push, first-set, with_first-same}
 use Rattle.geocode.proofs.name_index.NameIndex.add.Goals as goal
 
 pub returns-then-is_link_of : goal.returns-then-is_link_of
@@ -28,22 +27,31 @@ pub returns : goal.returns
 returns g c = record {
   keys = search rules;
   chains = λ chains chained q.
-      let links = c.args.self.now.links.items in
+      let index = c.args.self.now in
+      let links = index.links.items in
+      let firsts = index.firsts.items in
       let segment = c.args.segment in
       let next = c.first_of_key-next.result in
-      let first : ℕ = unwrap_or (get nat_eq c.insert.new.self q) 0 in
+      let key = c.key-key.result in
+      let count = c.len-2.result in
+      let first : ℕ = get_or (set firsts key count) q 0 in
       let more : Link = record { segment = segment; span = c.args.span; next = next } in
       let pushed : c.push.new.self.items ≡ links ++ more ∷ [] = c.in_ok-push.ensures.items in
-      IsChain-cases (nat_eq (key_of c.args.self.now.keys c.args.hash) q) c.push.new.self.items first
-      (with_first segment (chains q)) (chains q)
+      let counted : count ≡ length links + 1 = grind (arith, common_steps) in
+      let inside : key < length firsts = omega (arith, c.key-key.ensures.small, index.first_of_each) in
+      let found : first ≡ (if nat_eq key q then count else first_of index q) = first-set firsts key count q inside in
+      IsChain-cases (nat_eq (key_of index.keys c.args.hash) q) c.push.new.self.items first (with_first segment (chains q)) (chains q)
       (λ same.
-      let was : first_of c.args.self.now q ≡ next = grind (arith, nat_tests, common_steps) in
-      let at : first ≡ length links + 1 = grind (arith, nat_tests, common_steps) in
+      let here : nat_eq key q ≡ true = ap (λ key. nat_eq key q) c.key-key.ensures.value ∙ same in
+      let is : key ≡ q = grind (arith, nat_tests) in
+      let at : first ≡ length links + 1 = found ∙ ap (λ here. if here then count else first_of index q) here ∙ counted in
+      let was : first_of index q ≡ next = subst (λ q. first_of index q ≡ next) is (sym c.first_of_key-next.ensures) in
       let chain = subst (λ number. IsChain links number (chains q)) was (chained q) in
       rw (pushed, at) (IsChain-first links segment c.args.span next (chains q) chain (sym c.is_link_of.ensures ∙ c.if-is_link_of.false)))
       (λ apart.
-      let at : first ≡ first_of c.args.self.now q = grind (arith, nat_tests, common_steps) in
-      rw (pushed, at) (IsChain-push links more (first_of c.args.self.now q) (chains q) (chained q)));
+      let there : nat_eq key q ≡ false = ap (λ key. nat_eq key q) c.key-key.ensures.value ∙ apart in
+      let at : first ≡ first_of index q = found ∙ ap (λ here. if here then count else first_of index q) there in
+      rw (pushed, at) (IsChain-push links more (first_of index q) (chains q) (chained q)));
   spans =
       let links = c.args.self.now.links.items in
       let more : Link = record { segment = c.args.segment; span = c.args.span; next = c.first_of_key-next.result } in

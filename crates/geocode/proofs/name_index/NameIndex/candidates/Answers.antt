@@ -10,7 +10,7 @@ returns g c = λ segments name is same.
     let index = c.args.self.now in
     let key = key_of index.keys (hash_of name) in
     let number = ap (λ (hash : ℕ). first_of index (key_of index.keys hash)) (sym same)
-    ∙ sym (c.first_of_key.ensures ∙ ap (first_of index) c.key.ensures) in
+    ∙ sym (c.first_of_key.ensures ∙ ap (first_of index) c.key.ensures.value) in
     record {
       test = has_key index.keys key;
       left = record {

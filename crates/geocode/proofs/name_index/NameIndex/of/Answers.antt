@@ -23,9 +23,9 @@ loop-n-preserved g c =
     let inside : n < length segments = omega (arith, c.loop-n-test.true, c.loop-n.auto.n) in
     let included : IncludesHits c.of.result (segment_at segments n) =
     subst (IncludesHits c.of.result) (sym (segment_at-read segments n c.index-segments-n.result inside c.index-segments-n.is)) c.of.ensures in (
-      IsIndexFrom-next c.loop-n.index c.add_names.new.self n c.of.result segments (inside, c.index-segments-n.is)
-          (subst (λ (n : ℕ). IsIndexFrom c.loop-n.index n (drop n segments)) after c.loop-n.invariant.0) c.in_ok-add_names.ensures,
-      c.in_ok-add_names.ensures.spans segments included c.loop-n.invariant.1,
+      IsIndexFrom-next c.loop-n.index c.add_segment.new.self n c.of.result segments (inside, c.index-segments-n.is)
+          (subst (λ (n : ℕ). IsIndexFrom c.loop-n.index n (drop n segments)) after c.loop-n.invariant.0) c.in_ok-add_segment.ensures,
+      c.in_ok-add_segment.ensures.spans segments included c.loop-n.invariant.1,
     )
 
 pub returns : goal.returns

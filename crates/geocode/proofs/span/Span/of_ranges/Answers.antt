@@ -5,8 +5,8 @@ use Rattle.geocode.specs.Hits.{hits_on_range}
 use Rattle.geocode.specs.Span.{covers}
 use Rattle.geocode.proofs.HitLemmas.{flat_map-at, read-within}
 use Rattle.geocode.proofs.SpanLemmas.{hits-on_no_side}
-use Rattle.geocode.proofs.span.Span.of.Goals as goal
-use Rattle.geocode.proofs.span.Span.of.Goals.{in-Some, in_default}
+use Rattle.geocode.proofs.span.Span.of_ranges.Goals as goal
+use Rattle.geocode.proofs.span.Span.of_ranges.Goals.{in-Some, in_default}
 
 pub loop-n-preserved : goal.loop-n-preserved
 loop-n-preserved g c house none =
