@@ -1,2 +1,3 @@
 mod CellLemmas
+pub mod OutputLemmas
 mod ShapedLemmas

@@ -1,6 +1,7 @@
-pub mod LookupResult
+pub mod AddressQuery
 pub mod Batch
 pub mod Lines
-pub mod AddressQuery
+pub mod LookupResult
+pub mod Output
 pub mod ReadyWriter
 pub mod ShapedLookup

@@ -13,29 +13,37 @@ use std::alloc::{AllocError, Allocator, Global};
 use std::marker::Model;
 use tl_segments::{County, Shapes};
 
+/// An index of street names: a batch's own, or one that it borrows.
+#[derive(Drop)]
+enum Index<'a, A: Allocator> {
+    Own(Gazetteer<A>),
+    Borrowed(&'a Gazetteer<A>),
+}
+
 /// Counties to look for addresses in, with their codes and an index of their street names. Contracts see it as a record with the fields `counties`
 /// and `codes`.
 #[derive(Drop)]
 pub struct Batch<'a, A: Allocator> {
     counties: &'a [County<A>],
     codes: &'a [&'a str],
-    gazetteer: Gazetteer<A>,
+    index: Index<'a, A>,
 }
 
 impl<'a, A: Allocator> Model for Batch<'a, A> {
     ghost use Rattle.std.specs.Prelude.{map};
-    ghost use Rattle.batch.specs.Batch.{BatchParts};
+    ghost use Rattle.batch.specs.Batch.{BatchParts, gazetteer_in};
     ghost use Rattle.geocode.specs.Gazetteer.{IsGazetteerOf};
 
     ghost Value = { BatchParts };
 
     ghost view = { λ batch. record { counties = batch.counties.now; codes = map (λ code. code.now) batch.codes.now } };
 
-    ghost invariant = { λ batch. IsGazetteerOf batch.gazetteer batch.counties.now };
+    ghost invariant = { λ batch. IsGazetteerOf (gazetteer_in batch.index) batch.counties.now };
 }
 
 impl<'a, A: Allocator + Copy> Batch<'a, A> {
     ghost use Rattle.addresses.specs.Address.{parts_of};
+    ghost use Rattle.geocode.specs.Gazetteer.{IsGazetteerOf};
     ghost use Rattle.batch.specs.LookupResult.{lookup_of};
     ghost use Rattle.batch.specs.LookupResult as looked_up;
     ghost use Rattle.batch.specs.Lines.{id_of, lines_of, lines_with};
@@ -48,8 +56,24 @@ impl<'a, A: Allocator + Copy> Batch<'a, A> {
         Ok(Batch {
             counties,
             codes,
-            gazetteer: Gazetteer::of(alloc, counties)?,
+            index: Index::Own(Gazetteer::of(alloc, counties)?),
         })
+    }
+
+    /// Looks for addresses in counties whose street names are already indexed. The codes are in the order of the counties.
+    pub fn with(
+        gazetteer: &'a Gazetteer<A>,
+        counties: &'a [County<A>],
+        codes: &'a [&'a str],
+    ) -> Self
+        requires { IsGazetteerOf gazetteer.now counties.now }
+        ensures { result ≡ record { counties = counties.now; codes = map (λ code. code.now) codes.now } }
+    {
+        Batch {
+            counties,
+            codes,
+            index: Index::Borrowed(gazetteer),
+        }
     }
 
     /// Writes the lines of an address, at least one, in place of the lines that are there. CSV records are built in `tables` memory.
@@ -116,7 +140,7 @@ impl<'a, A: Allocator + Copy> Batch<'a, A> {
             Ok(address_query) => address_query,
             Err(reason) => return Ok(LookupResult::NotFound(reason)),
         };
-        let lookup = address_query.lookup(alloc, &self.gazetteer, self.counties)?;
+        let lookup = address_query.lookup(alloc, self.gazetteer(), self.counties)?;
         placed_lookup(alloc, address_query.query.number, &lookup, shapes)
     }
 
@@ -125,8 +149,18 @@ impl<'a, A: Allocator + Copy> Batch<'a, A> {
         ensures { IfOk result (λ lookup. looked_up.parts_of lookup ≡ lookup_of self.now.counties (parts_of address.now)) }
     {
         match AddressQuery::of(address) {
-            Ok(address_query) => address_query.lookup(alloc, &self.gazetteer, self.counties),
+            Ok(address_query) => address_query.lookup(alloc, self.gazetteer(), self.counties),
             Err(reason) => Ok(LookupResult::NotFound(reason)),
+        }
+    }
+
+    /// Returns the index of the counties' street names.
+    fn gazetteer(&self) -> &Gazetteer<A>
+        ensures { IsGazetteerOf result.now self.now.counties }
+    {
+        match &self.index {
+            Index::Own(gazetteer) => gazetteer,
+            Index::Borrowed(gazetteer) => gazetteer,
         }
     }
 }

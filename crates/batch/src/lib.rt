@@ -6,6 +6,7 @@ mod batch;
 mod cells;
 mod lines;
 mod lookup;
+mod output;
 mod reason;
 mod row;
 mod shaped;
