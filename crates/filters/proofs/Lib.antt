@@ -1,0 +1,3 @@
+pub mod FilterLemmas
+mod JsonLemmas
+mod PointedLemmas
