@@ -121,7 +121,7 @@ impl<'a> Case<'a> {
 }
 
 /// Parses the form of a layer, its geometry and its column.
-fn layer_of(cell: &str) -> Result<Layer, TableFault> {
+pub fn layer_of(cell: &str) -> Result<Layer, TableFault> {
     let (form, rest) = cell.split_once(' ').ok_or(TableFault::Word)?;
     let (geometry, name) = rest.split_once(' ').ok_or(TableFault::Word)?;
     let layout = Layout {
@@ -240,7 +240,7 @@ fn are_texts_refused(alloc: Global, plan: FaultPlan, length: usize) -> bool {
 }
 
 /// The program that selects every segment.
-fn every(rt: &impl Abort, alloc: Global) -> Verified<Global> {
+pub fn every(rt: &impl Abort, alloc: Global) -> Verified<Global> {
     let program = program(alloc, "every").expect(rt, "program");
     accept(alloc, &program).expect(rt, "accepted")
 }

@@ -7,6 +7,8 @@ mod advances;
 #[cfg(test)]
 mod calls;
 #[cfg(test)]
+mod county_layers;
+#[cfg(test)]
 mod extracts;
 #[cfg(test)]
 mod formats;

@@ -1,1 +1,2 @@
+mod CountiesLemmas
 mod LayerLemmas

@@ -1,3 +1,4 @@
+pub mod Counties
 pub mod Layer
 pub mod LayerParts
 pub mod ShapeTable
