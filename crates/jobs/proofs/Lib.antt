@@ -1,3 +1,4 @@
+mod ListingLemmas
 mod MapLemmas
 pub mod SegmentLemmas
 mod RowsLemmas

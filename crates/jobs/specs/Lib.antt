@@ -3,3 +3,4 @@ pub mod Segments
 pub mod Table
 pub mod Inside
 pub mod Run
+pub mod Listing

@@ -6,6 +6,7 @@ mod event;
 mod fault;
 mod job;
 pub mod laws;
+mod listing;
 mod rows;
 mod table;
 mod turn;

@@ -23,10 +23,10 @@ pub const MAX_JOBS: usize = 64;
 /// as a record with the fields `counties`, `jobs` and `last_id`.
 #[derive(Drop)]
 pub struct Jobs<A: Allocator> {
-    alloc: A,
+    pub(crate) alloc: A,
     counties: Vec<County<A>, A>,
-    total: u64,
-    jobs: BTreeMap<u64, Job<A>, A>,
+    pub(crate) total: u64,
+    pub(crate) jobs: BTreeMap<u64, Job<A>, A>,
     last_id: u64,
 }
 
