@@ -28,6 +28,9 @@ type Packet = ArrayVec<u8, MAX_PACKET_LENGTH>;
 pub enum MediaType {
     Plain,
     Octets,
+    Csv,
+    /// Features of GeoJSON, one after the other.
+    Features,
 }
 
 impl MediaType {
@@ -38,6 +41,8 @@ impl MediaType {
         match self {
             MediaType::Plain => "text/plain",
             MediaType::Octets => "application/octet-stream",
+            MediaType::Csv => "text/csv",
+            MediaType::Features => "application/geo+json-seq",
         }
     }
 }

@@ -15,7 +15,8 @@ use Rattle.http_routes.specs.Routes.{matches, route_of, routes, row}
 use Rattle.http_routes.specs.Table.{FindsRoutes, entry, pattern}
 use Rattle.http_routes.proofs.SeekLemmas.{seek_alone, seek_among, seek_literal}
 use Rattle.http_routes.specs.declared.route.Route.{Route}
-use Rattle.http_routes.specs.declared.route.Route.TheVariants.{Verify, Assemble, Disassemble, Extract, Geocode, Jobs, Job}
+use Rattle.http_routes.specs.declared.route.Route.TheVariants.{Index, Health, Verify, Assemble, Disassemble, Extract, Explain, Select, Compile, Geocode, GeocodeBatch, Jobs, FilterJobs}
+use Rattle.http_routes.specs.declared.route.Route.TheVariants.{OpenJobs, Job}
 
 -- the effect of inserting a route's path on the rows
 pub row_inserted : (route : Route) (old new : RowsOf (RouteOf Route)) (result : Result (Unit {0}) InsertError)
@@ -38,10 +39,12 @@ refused_for_memory route old new error is free = by_error error (row_inserted ro
 
 -- the rows in the router's order
 before_job : RowsOf (RouteOf Route)
-before_job = entry Assemble ∷ entry Disassemble ∷ entry Extract ∷ entry Geocode ∷ []
+before_job =
+    entry Assemble ∷ entry Compile ∷ entry Disassemble ∷ entry Explain ∷ entry Extract ∷ entry FilterJobs ∷ entry GeocodeBatch ∷ entry Geocode
+    ∷ entry Health ∷ []
 
 after_job : RowsOf (RouteOf Route)
-after_job = entry Jobs ∷ entry Verify ∷ []
+after_job = entry Jobs ∷ entry OpenJobs ∷ entry Select ∷ entry Verify ∷ entry Index ∷ []
 
 pub table : RowsOf (RouteOf Route)
 table = before_job ++ entry Job ∷ after_job

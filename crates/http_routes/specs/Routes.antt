@@ -1,10 +1,11 @@
 -- The routes: their paths and methods, and the action of each.
 use Rattle.std.specs.Prelude.{ℕ, Bool, ◌==◌, ◌||◌, ◌&&◌, not, false, List, [], ◌∷◌, ◌++◌, length, drop, find, map, codes, Option, option_map, nat_lt, nat_eq}
-use Rattle.std.specs.List.{starts_with}
+use Rattle.std.specs.List.{flat_map, starts_with}
 use Rattle.std.specs.Str.{bytes_eq}
 use Rattle.http_routes.specs.declared.route.Action.{Action}
 use Rattle.http_routes.specs.declared.route.Route.{Route}
-use Rattle.http_routes.specs.declared.route.Route.TheVariants.{Verify, Assemble, Disassemble, Extract, Geocode, Jobs, Job}
+use Rattle.http_routes.specs.declared.route.Route.TheVariants.{Index, Health, Verify, Assemble, Disassemble, Extract, Explain, Select, Compile, Geocode, GeocodeBatch, Jobs, FilterJobs}
+use Rattle.http_routes.specs.declared.route.Route.TheVariants.{OpenJobs, Job}
 use Rattle.http_routes.specs.declared.route.Action.TheVariants as action
 use Rattle.http_routes.specs.declared.route.Verb.{Verb}
 use Rattle.http_routes.specs.declared.route.Verb.TheVariants.{Get, Post, Delete}
@@ -22,12 +23,20 @@ pub record RowParts : Type 0 where
 
 -- the table
 abbrev pub row : Route → RowParts
+row Index = record { path = codes "/"; actions = (codes "GET", action.Index) ∷ [] }
+row Health = record { path = codes "/health"; actions = (codes "GET", action.Health) ∷ [] }
 row Verify = record { path = codes "/verify"; actions = (codes "POST", action.Verify) ∷ [] }
 row Assemble = record { path = codes "/assemble"; actions = (codes "POST", action.Assemble) ∷ [] }
 row Disassemble = record { path = codes "/disassemble"; actions = (codes "POST", action.Disassemble) ∷ [] }
 row Extract = record { path = codes "/extract"; actions = (codes "POST", action.Extract) ∷ [] }
+row Explain = record { path = codes "/explain"; actions = (codes "POST", action.Explain) ∷ [] }
+row Select = record { path = codes "/select"; actions = (codes "POST", action.Select) ∷ [] }
+row Compile = record { path = codes "/compile"; actions = (codes "POST", action.Compile) ∷ [] }
 row Geocode = record { path = codes "/geocode"; actions = (codes "GET", action.Geocode) ∷ [] }
+row GeocodeBatch = record { path = codes "/geocode-batch"; actions = (codes "POST", action.GeocodeBatch) ∷ [] }
 row Jobs = record { path = codes "/jobs"; actions = (codes "POST", action.Submit) ∷ [] }
+row FilterJobs = record { path = codes "/filter-jobs"; actions = (codes "POST", action.SubmitFilter) ∷ [] }
+row OpenJobs = record { path = codes "/open-jobs"; actions = (codes "GET", action.List) ∷ [] }
 row Job = record { path = codes "/jobs/{id}"; actions = (codes "GET", action.Fetch) ∷ (codes "DELETE", action.Drop) ∷ [] }
 
 abbrev pub has_slash : List ℕ → Bool
@@ -45,7 +54,9 @@ matches route text = bytes_eq (row route).path text
 
 -- all routes, in the order in which a router tries them; the one with a parameter is last
 abbrev pub routes : List Route
-routes = Assemble ∷ Disassemble ∷ Extract ∷ Geocode ∷ Jobs ∷ Verify ∷ Job ∷ []
+routes =
+    Assemble ∷ Compile ∷ Disassemble ∷ Explain ∷ Extract ∷ FilterJobs ∷ GeocodeBatch ∷ Geocode ∷ Health ∷ Jobs ∷ OpenJobs ∷ Select ∷ Verify ∷ Index
+    ∷ Job ∷ []
 
 -- the route that matches a path
 abbrev pub route_of : List ℕ → Option Route
@@ -64,3 +75,7 @@ listed (name ∷ next ∷ names) = name ++ codes ", " ++ listed (next ∷ names)
 -- the methods of a route, as in the `Allow` header (RFC 9110, section 10.2.1)
 abbrev pub allow : Route → List ℕ
 allow route = listed (map (λ pair. pair.0) (row route).actions)
+
+-- a line for each route: its methods and its path
+abbrev pub index : List ℕ
+index = flat_map (λ route. allow route ++ codes " " ++ (row route).path ++ 10 ∷ []) routes

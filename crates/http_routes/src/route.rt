@@ -1,19 +1,27 @@
 //! The table of routes.
 ghost use Rattle.std.specs.Prelude.{◌≡◌, ◌≤◌, length, map, find, option_map};
 ghost use Rattle.std.specs.Str.{bytes_eq};
-ghost use Rattle.http_routes.specs.Routes.{action_of, allow, row, verb_name};
+ghost use Rattle.http_routes.specs.Routes.{action_of, allow, index, row, verb_name};
 
 use http::Method;
 
 /// The action that a request names by its path and method.
 #[derive(Clone, Copy, PartialEq, Eq)]
 pub enum Action {
+    Index,
+    Health,
     Verify,
     Assemble,
     Disassemble,
     Extract,
+    Explain,
+    Select,
+    Compile,
     Geocode,
+    GeocodeBatch,
     Submit,
+    SubmitFilter,
+    List,
     Fetch,
     Drop,
 }
@@ -21,12 +29,20 @@ pub enum Action {
 /// A path, or the paths of all jobs.
 #[derive(Clone, Copy, PartialEq, Eq)]
 pub enum Route {
+    Index,
+    Health,
     Verify,
     Assemble,
     Disassemble,
     Extract,
+    Explain,
+    Select,
+    Compile,
     Geocode,
+    GeocodeBatch,
     Jobs,
+    FilterJobs,
+    OpenJobs,
     Job,
 }
 
@@ -73,13 +89,21 @@ macro_rules! row {
 
 impl Route {
     /// All routes, each once.
-    pub(crate) const ALL: [Route; 7] = [
+    pub(crate) const ALL: [Route; 15] = [
         Route::Assemble,
+        Route::Compile,
         Route::Disassemble,
+        Route::Explain,
         Route::Extract,
+        Route::FilterJobs,
+        Route::GeocodeBatch,
         Route::Geocode,
+        Route::Health,
         Route::Jobs,
+        Route::OpenJobs,
+        Route::Select,
         Route::Verify,
+        Route::Index,
         Route::Job,
     ];
 
@@ -90,12 +114,20 @@ impl Route {
         ensures methods { map (λ pair. (verb_name pair.0, pair.1)) result.methods.now ≡ (row self).actions }
     {
         row!(self;
+            Index: "/" "GET" Get Index;
+            Health: "/health" "GET" Get Health;
             Verify: "/verify" "POST" Post Verify;
             Assemble: "/assemble" "POST" Post Assemble;
             Disassemble: "/disassemble" "POST" Post Disassemble;
             Extract: "/extract" "POST" Post Extract;
+            Explain: "/explain" "POST" Post Explain;
+            Select: "/select" "POST" Post Select;
+            Compile: "/compile" "POST" Post Compile;
             Geocode: "/geocode" "GET" Get Geocode;
+            GeocodeBatch: "/geocode-batch" "POST" Post GeocodeBatch;
             Jobs: "/jobs" "POST" Post Submit;
+            FilterJobs: "/filter-jobs" "POST" Post SubmitFilter;
+            OpenJobs: "/open-jobs" "GET" Get List;
             Job: "/jobs/{id}" "GET, DELETE" Get Fetch, Delete Drop;
         )
     }
@@ -127,4 +159,26 @@ fn action_among(methods: &[(Verb, Action)], method: &[u8]) -> Option<Action>
 {
     let found = methods.iter().find(|pair| pair.0.is(method))?;
     Some(found.1)
+}
+
+/// Returns a text with a line for each route: its methods and its path.
+pub fn index() -> &'static str
+    ensures { result.now ≡ index }
+{
+    "POST /assemble
+POST /compile
+POST /disassemble
+POST /explain
+POST /extract
+POST /filter-jobs
+POST /geocode-batch
+GET /geocode
+GET /health
+POST /jobs
+GET /open-jobs
+POST /select
+POST /verify
+GET /
+GET, DELETE /jobs/{id}
+"
 }
