@@ -1,5 +1,5 @@
 -- The answers of the code are the replies of the definitions.
-use Rattle.std.proofs.Common.{◌≡◌, ℕ, Option, Some, None, ap, refl, subst}
+use Rattle.std.proofs.Common.{◌≡◌, ℕ, List, Option, Some, None, Bor, inl, inr, ap, refl, subst, sym}
 use Rattle.std.specs.Prelude.{Result}
 use Rattle.http_reply.specs.Reply.{ReplyParts, reply_text}
 use Rattle.http_reply.specs.declared.status.Status.TheVariants.{NotFound}
@@ -12,12 +12,42 @@ use Rattle.jobs.specs.declared.fault.JobFault.TheVariants.{Full, NoJob, Program,
 use Rattle.counted_io.specs.ReaderWriter.{Writer}
 use Rattle.counted_io.specs.Writing.{WritesText}
 use Rattle.counted_io.specs.declared.writing.WriteFault.{WriteFault}
-use Rattle.wire.specs.Answer.{IsJobReply, status_reply}
+use Rattle.wire.specs.Answer.{IsFilterProgram, IsJobReply, IsTableReply, Submits, SubmitsTo, status_reply}
 use Rattle.wire.specs.Reading.{WritesReply}
+use Rattle.wire.specs.Turn.{IsTurn}
 
 pub writes_such : (is_reply : ReplyParts → Type 0) (reply : ReplyParts) (written : Result (Unit {0}) WriteFault) (old new : Writer)
     → is_reply reply → WritesText (reply_text reply) written old new → WritesReply is_reply written old new
 writes_such is_reply reply written old new is writes = record { reply = reply; is_such = is; writes = writes }
+
+-- a reply that is such is also another one
+pub writes_implied : (is_reply is_other : ReplyParts → Type 0) (written : Result (Unit {0}) WriteFault) (old new : Writer)
+    → ((reply : ReplyParts) → is_reply reply → is_other reply) → WritesReply is_reply written old new → WritesReply is_other written old new
+writes_implied is_reply is_other written old new implies wrote =
+    record { reply = wrote.reply; is_such = implies wrote.reply wrote.is_such; writes = wrote.writes }
+
+-- a program with these bytes is submitted
+pub of_submission : (program : Bor (List ℕ)) (body : List ℕ) (old new : Table) (reply : ReplyParts) → program.now ≡ body
+    → IsTableReply (λ made. made ≡ Submit program) old reply new → IsTableReply (Submits body) old reply new
+of_submission program body old new reply same is = record {
+  event = is.event;
+  is_event = subst (λ made. Submits body made) (sym is.is_event) same;
+  table_reply = is.table_reply;
+  step = is.step;
+  is_reply = is.is_reply;
+}
+
+-- so is the program of a filter
+pub of_filter_submission : (query filter : List ℕ) (program : Bor (List ℕ)) (bytes : List ℕ) (old new : Table) (reply : ReplyParts)
+    → program.now ≡ bytes → IsFilterProgram query filter bytes → IsTableReply (λ made. made ≡ Submit program) old reply new
+    → SubmitsTo query filter old reply new
+of_filter_submission query filter program bytes old new reply same compiled is = inl (record {
+  event = is.event;
+  is_event = (bytes, compiled, subst (λ made. Submits bytes made) (sym is.is_event) same);
+  table_reply = is.table_reply;
+  step = is.step;
+  is_reply = is.is_reply;
+})
 
 -- an invalid id belongs to no job
 pub of_no_job : (make : ℕ → Event) (id : Option ℕ) (table : Table) → None ≡ id → IsJobReply make id table (status_reply NotFound) table
@@ -39,6 +69,17 @@ step_counties old (Drop id) Dropped new (there, is) = ap (λ (table : Table). ta
 step_counties old (Drop id) (Refused NoJob) new step = ap (λ (table : Table). table.counties) step.1
 -- there are no other replies
 step_counties old event reply new none = absurd none
+
+-- nor does the submission of a filter
+pub filter_counties : (query filter : List ℕ) (old : Table) (reply : ReplyParts) (new : Table) → SubmitsTo query filter old reply new
+    → new.counties ≡ old.counties
+filter_counties query filter old reply new (inl submitted) = step_counties old submitted.event submitted.table_reply new submitted.step
+filter_counties query filter old reply new (inr refused) = ap (λ (table : Table). table.counties) refused.1
+
+-- nor does a turn
+pub turn_counties : (old : Table) (reply : Option JobReply) (new : Table) → IsTurn old reply new → new.counties ≡ old.counties
+turn_counties old None new turn = ap (λ (table : Table). table.counties) turn.1
+turn_counties old (Some reply) new turn = step_counties old (Turn turn.0) reply new turn.2
 
 -- nor does an event for a job
 pub job_counties : (make : ℕ → Event) (id : Option ℕ) (old : Table) (reply : ReplyParts) (new : Table) → IsJobReply make id old reply new

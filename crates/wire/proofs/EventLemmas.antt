@@ -20,23 +20,25 @@ use Rattle.jobs.specs.declared.event.Reply.TheVariants as table_reply
 use Rattle.jobs.specs.declared.fault.JobFault.TheVariants.{NoJob}
 use Rattle.tl_segments.specs.County.{CountyParts}
 use Rattle.wire.proofs.DecisionLemmas.{one_decision, with_body}
-use Rattle.wire.specs.Answer.{Answers, AnswersAction, IsJobReply, Replies}
+use Rattle.wire.specs.Answer.{Answers, AnswersAction, ChangesTable, IsJobReply, Replies, SubmitsTo}
 use Rattle.wire.specs.Answer.{IsTableReply, job_reply, memory_reply, rows_reply, status_reply}
 use Rattle.wire.specs.Decision.{AnnouncesBody, RoutedParts, DecisionParts, Refuses, Accepts}
 use Rattle.wire.specs.Decision.{IsDecided, routed_by, decide, decide_body, takes_body}
-use Rattle.wire.specs.Event.{Act, Acts, AreActs, AreExchanges, RequestsEvent, IsEventOf}
+use Rattle.wire.specs.Event.{Act, Acts, AreActs, AreExchanges, IsRefusedFilter, LacksProgram, RefusesFilter, RequestsEvent, IsEventOf}
 use Rattle.wire.specs.Event.{IsEvent, IsExchange, IsNoExchange, IsOwnReply, Replied, Requests}
 use Rattle.wire.specs.Event.{Rested, Turned, is_requested}
 use Rattle.wire.specs.declared.decision.RequestRead.{RequestRead}
 use Rattle.wire.specs.State.{StateParts, new_state}
 
-pub same_table : (state other : StateParts) → state.table ≡ other.table → state ≡ other
-same_table state other same = ap (λ (table : Table). record { table = table }) same
+pub same_state : (state other : StateParts) → state.table ≡ other.table → state.codes ≡ other.codes → state ≡ other
+same_state state other table codes =
+    ap (λ (table : Table). record { table = table; codes = state.codes }) table
+    ∙ ap (λ (codes : List (List ℕ)). record { table = other.table; codes = codes }) codes
 
--- The reply to such an event: there is no such event, and the table is unchanged; or the table received one and replied to it.
-abbrev pub IsReplyTo : (Event → Type 0) → StateParts → ReplyParts → StateParts → Type 0
-IsReplyTo is_such old reply new =
-    (((event : Event) → is_such event → ⊥) × (new ≡ old)) ⊎ IsTableReply is_such old.table reply new.table
+-- The reply to such an event: there is no such event, unless a filter is refused, and nothing is changed; or the table received one and replied to it.
+abbrev pub IsReplyTo : (Event → Type 0) → Type 0 → StateParts → ReplyParts → StateParts → Type 0
+IsReplyTo is_such Excuse old reply new =
+    (((event : Event) → is_such event → Excuse) × (new ≡ old)) ⊎ ChangesTable (IsTableReply is_such) old reply new
 
 reply_as : {is_such is_other : Event → Type 0} {old new : Table} {reply : ReplyParts}
     → ((event : Event) → is_such event → is_other event) → IsTableReply is_such old reply new → IsTableReply is_other old reply new
@@ -52,25 +54,35 @@ module _ (old : StateParts) (reply : ReplyParts) (new : StateParts) where
   abbrev OfJob : (ℕ → Event) → Option ℕ → Event → Type 0
   OfJob make id event = (q : ℕ) × (id ≡ Some q) × (event ≡ make q)
 
-  of_job : (make : ℕ → Event) (id : Option ℕ) → IsJobReply make id old.table reply new.table → IsReplyTo (OfJob make id) old reply new
-  of_job make None is = inl ((λ event made. none made.0 made.1), same_table new old is.1)
+  of_job : (make : ℕ → Event) (id : Option ℕ) → ChangesTable (IsJobReply make id) old reply new → IsReplyTo (OfJob make id) ⊥ old reply new
+  of_job make None is = inl ((λ event made. none made.0 made.1), same_state new old is.0.1 is.1)
     where
       none : (q : ℕ) → None ≡ Some q → ⊥
       none q is = cc
-  of_job make (Some id) is = inr (reply_as (λ event made. (id, refl, made)) is)
+  of_job make (Some id) is = inr (reply_as (λ event made. (id, refl, made)) is.0, is.1)
 
-  of_action : (action : Action) (request : RoutedParts) → AnswersAction action old request reply new → IsReplyTo (IsEventOf action request) old reply new
+  of_filter : (request : RoutedParts) → ChangesTable (SubmitsTo request.query request.body) old reply new
+      → IsReplyTo (IsEventOf action.SubmitFilter request) (LacksProgram action.SubmitFilter request reply) old reply new
+  of_filter request (inl submitted, codes) = inr (submitted, codes)
+  of_filter request (inr refused, codes) = inl ((λ event is. refused.0), same_state new old refused.1 codes)
+
+  of_action : (action : Action) (request : RoutedParts) → AnswersAction action old request reply new
+      → IsReplyTo (IsEventOf action request) (LacksProgram action request reply) old reply new
   of_action action.Submit request answers = inr answers
+  of_action action.SubmitFilter request answers = of_filter request answers
   of_action action.Fetch request answers = of_job event.Fetch (job_id request.path) answers
   of_action action.Drop request answers = of_job event.Drop (job_id request.path) answers
   of_action action request answers = inl ((λ event is. is), answers.1)
 
-  pub of_decision : (decision : DecisionParts) → Answers old decision reply new → IsReplyTo (RequestsEvent decision) old reply new
+  pub of_decision : (decision : DecisionParts) → Answers old decision reply new
+      → IsReplyTo (RequestsEvent decision) (RefusesFilter decision reply) old reply new
   of_decision (Accepts request) answers = of_action request.action request answers
   of_decision decision answers = inl ((λ event is. is), answers.1)
 
 action_requested : (action : Action) (request : RoutedParts) (event : Event) → IsEventOf action request event → IsTrue (is_requested event)
 action_requested action.Submit request (event.Submit program) is = refl
+action_requested action.SubmitFilter request (event.Turn id) is = absurd is.2
+action_requested action.SubmitFilter request event is = refl
 action_requested action.Fetch request event is = subst (λ event. IsTrue (is_requested event)) (sym is.2) refl
 action_requested action.Drop request event is = subst (λ event. IsTrue (is_requested event)) (sym is.2) refl
 action_requested action request event is = absurd is
@@ -79,10 +91,10 @@ requested : (decision : DecisionParts) (event : Event) → RequestsEvent decisio
 requested (Accepts request) event is = action_requested request.action request event is
 requested decision event is = absurd is
 
-is_event : (decision : DecisionParts) (old new : StateParts) (reply : ReplyParts) → IsReplyTo (RequestsEvent decision) old reply new
-    → (new ≡ old) ⊎ IsEvent old reply new
+is_event : (decision : DecisionParts) (old new : StateParts) (reply : ReplyParts)
+    → IsReplyTo (RequestsEvent decision) (RefusesFilter decision reply) old reply new → (new ≡ old) ⊎ IsEvent old reply new
 is_event decision old new reply (inl unchanged) = inl unchanged.1
-is_event decision old new reply (inr changed) = inr (reply_as (requested decision) changed)
+is_event decision old new reply (inr changed) = inr (reply_as (requested decision) changed.0, changed.1)
 
 pub one_event_lem : (input : List ℕ) (request_read : RequestRead) (old new : StateParts) (reply : ReplyParts) → Replies input request_read old reply new
     → (new ≡ old) ⊎ IsEvent old reply new
@@ -106,21 +118,21 @@ module _ (old now new : StateParts) (acts : List Act) (leads : LeadsTo now acts 
       (exchange ∷ leads.0, inr (exchange, leads.0, refl, is, leads.1), (now.table, step, leads.2))
 
   decided : (input : List ℕ) (reply : ReplyParts) (decision : DecisionParts) → IsDecided input decision
-      → IsReplyTo (RequestsEvent decision) old reply now → LeadsTo old (Replied input reply ∷ acts) new
+      → IsReplyTo (RequestsEvent decision) (RefusesFilter decision reply) old reply now → LeadsTo old (Replied input reply ∷ acts) new
   decided input reply decision is (inl unchanged) = not_exchanged (Replied input reply) nothing unchanged.1
     where
-      nothing : (event : Event) → Requests input event → reply ≡ memory_reply
+      nothing : (event : Event) → Requests input event → (reply ≡ memory_reply) ⊎ IsRefusedFilter input reply
       nothing event requests =
           let same = one_decision input requests.0 decision requests.1 is in
-          absurd (unchanged.0 event (subst (λ decision. RequestsEvent decision event) same requests.2))
+          inr (decision, is, unchanged.0 event (subst (λ decision. RequestsEvent decision event) same requests.2))
   decided input reply decision is (inr changed) =
-      exchanged (Replied input reply) (record { event = changed.event; reply = changed.table_reply }) ((decision, is, changed.is_event), changed.is_reply)
-      changed.step
+      exchanged (Replied input reply) (record { event = changed.0.event; reply = changed.0.table_reply })
+      ((decision, is, changed.0.is_event), changed.0.is_reply) changed.0.step
 
   pub acted : (act : Act) → Acts old act now → LeadsTo old (act ∷ acts) new
   acted (Replied input reply) (request_read, inl given) = decided input reply given.0 given.1 (of_decision old reply now given.0 given.3)
-  acted (Replied input reply) (request_read, inr stopped) = not_exchanged (Replied input reply) (λ event requests. stopped.3) stopped.4
-  acted (Turned id reply) (next, step) = exchanged (Turned id reply) (record { event = event.Turn id; reply = reply }) refl step
+  acted (Replied input reply) (request_read, inr stopped) = not_exchanged (Replied input reply) (λ event requests. inl stopped.3) stopped.4
+  acted (Turned id reply) (next, step, codes) = exchanged (Turned id reply) (record { event = event.Turn id; reply = reply }) refl step
   acted Rested (none, same) = not_exchanged Rested tt same
 
 pub acts_lead : (old : StateParts) (acts : List Act) (new : StateParts) → AreActs old acts new → LeadsTo old acts new
@@ -140,6 +152,7 @@ fetch_of_action action.Drop request other id is also = absurd (none also.0 also.
   where
     none : (q : ℕ) → event.Fetch id ≡ event.Drop q → ⊥
     none q is = cc
+fetch_of_action action.SubmitFilter request other id is also = absurd also.2
 fetch_of_action action request other id is also = absurd also
 
 fetch_decided : (decision : DecisionParts) (other : Event) (id : ℕ) → RequestsEvent decision other → RequestsEvent decision (event.Fetch id)
@@ -151,6 +164,7 @@ fetch_decided decision other id is also = absurd is
 with_body_no_job : (action : Action) (request : RoutedParts) (id : ℕ) → takes_body action ≡ true → IsEventOf action request (event.Fetch id) → ⊥
 with_body_no_job action.Fetch request id takes is = cc
 with_body_no_job action.Drop request id takes is = cc
+with_body_no_job action.SubmitFilter request id takes is = is.2
 with_body_no_job action request id takes is = is
 
 body_no_job : (head : Head) (action : Action) (body : List ℕ) (id : ℕ) (fits : Bool) → takes_body action ≡ true
@@ -169,6 +183,15 @@ announces_no_job input id announced (decision, inr (head, rest, has, is), reques
     body_no_job announced.head announced.action (take announced.count rest) id (nat_le announced.count (length rest)) announced.takes
     (subst (λ decision. RequestsEvent decision (event.Fetch id)) decided requests)
 
+-- nor is a filter refused
+fetch_of_no_filter : (decision : DecisionParts) (reply : ReplyParts) (id : ℕ) → RequestsEvent decision (event.Fetch id) → RefusesFilter decision reply → ⊥
+fetch_of_no_filter (Accepts request) reply id fetches refused = by_action request.action fetches refused
+  where
+    by_action : (action : Action) → IsEventOf action request (event.Fetch id) → LacksProgram action request reply → ⊥
+    by_action action.SubmitFilter fetches refused = fetches.2
+    by_action action fetches refused = refused
+fetch_of_no_filter decision reply id fetches refused = refused
+
 -- the reply about a job, if there is one
 abbrev pub reply_of_job : (JobParts → ReplyParts) → Option JobParts → ReplyParts
 reply_of_job made None = status_reply NotFound
@@ -184,13 +207,14 @@ fetched old new id (table_reply.Rows done total rows) (job, there, is_done, is_t
 fetched old new id (table_reply.Refused NoJob) step = (rw step.0 refl, step.1)
 fetched old new id reply step = absurd step
 
-module _ (counties : List CountyParts) (acts : List Act) (state : StateParts) (are : AreActs (new_state counties) acts state) where
+module _ (codes : List (List ℕ)) (counties : List CountyParts) (acts : List Act) (state : StateParts)
+    (are : AreActs (new_state codes counties) acts state) where
   replied : (id : ℕ) (found : Option JobParts) → job_of state.table id ≡ found
       → (reply_of_job (job_rows state.table) found ≡ status_reply NotFound)
       ⊎ IsOwnReply counties acts id (reply_of_job (job_rows state.table) found)
   replied id None there = inl refl
   replied id (Some job) there =
-      let leads = acts_lead (new_state counties) acts state are in
+      let leads = acts_lead (new_state codes counties) acts state are in
       let so_far = whole_run counties leads.0 state.table leads.2 in
       inr (record {
         exchanges = leads.0;
@@ -207,10 +231,11 @@ module _ (counties : List CountyParts) (acts : List Act) (state : StateParts) (a
       let fetches = subst (λ decision. RequestsEvent decision (event.Fetch id)) (one_decision input requests.0 given.0 requests.1 given.1)
       requests.2 in
       elim (of_decision state reply new given.0 given.3) [
-        | inl unchanged ↦ absurd (unchanged.0 (event.Fetch id) fetches)
+        | inl unchanged ↦ absurd (fetch_of_no_filter given.0 reply id fetches (unchanged.0 (event.Fetch id) fetches))
         | inr changed ↦
-            let step = subst (λ event. Step state.table event changed.table_reply new.table)
-            (fetch_decided given.0 changed.event id changed.is_event fetches) changed.step in
+            let made = changed.0 in
+            let step = subst (λ event. Step state.table event made.table_reply new.table)
+            (fetch_decided given.0 made.event id made.is_event fetches) made.step in
             subst (λ reply. (reply ≡ status_reply NotFound) ⊎ IsOwnReply counties acts id reply)
-            (sym (changed.is_reply ∙ (fetched state.table new.table id changed.table_reply step).0)) (replied id (job_of state.table id) refl)
+            (sym (made.is_reply ∙ (fetched state.table new.table id made.table_reply step).0)) (replied id (job_of state.table id) refl)
       ]

@@ -1,6 +1,8 @@
 mod AnswerLemmas
 mod DecisionLemmas
-mod EventLemmas
+pub mod EventLemmas
+mod ExplanationLemmas
+mod FilterLemmas
 mod ServingLemmas
 mod QueryLemmas
 mod VerdictLemmas

@@ -1,8 +1,15 @@
 -- Unless an allocation fails, the same input has one reply and leaves one state.
-use Rattle.std.proofs.Common.{◌≡◌, ◌≢◌, ◌<◌, ℕ, List, All, Option, Some, None, inl, inr, refl, sym, ap, ◌∙◌, subst}
+use Rattle.std.proofs.Common.{◌≡◌, ◌≢◌, ◌<◌, ℕ, Bool, true, false, List, All, Option, Some, None, ◌⊎◌, inl, inr, refl, sym, ap, ◌∙◌, subst}
 use Rattle.std.specs.Borrow.{Bor}
+use Rattle.addresses.specs.AddressFault as address_fault
+use Rattle.addresses.specs.declared.fault.AddressFault.{AddressFault}
+use Rattle.batch.proofs.OutputLemmas.{fault_is, no_output_fault, one_output, one_output_fault}
+use Rattle.batch.specs.Output.{IsAddressesFault, IsFaultOf}
 use Rattle.bpf_insn.proofs.CodeLemmas as code_of
 use Rattle.bpf_insn.proofs.EncoderLemmas as encoder
+use Rattle.bpf_flow.proofs.FlowLemmas.{has_no_fault}
+use Rattle.bpf_flow.specs.Flow as flow
+use Rattle.bpf_flow.specs.Flow.{IsForward}
 use Rattle.bpf_insn.specs.Code.{IsCodeOf}
 use Rattle.bpf_insn.specs.CodeFault as code_fault
 use Rattle.bpf_insn.specs.declared.fault.CodeFault.{CodeFault}
@@ -14,12 +21,18 @@ use Rattle.bpf_text.specs.declared.fault.SourceFault.TheVariants.{NotUtf8, Text}
 use Rattle.bpf_assembler.specs.declared.fault.TextFault.TheVariants as text_fault
 use Rattle.bpf_assembler.specs.declared.fault.TextFault.TheVariants.{InLine}
 use Rattle.bpf_program.proofs.VerdictLemmas as verdict
+use Rattle.bpf_program.specs.Program.{IsProgramFault}
+use Rattle.bpf_program.specs.ProgramFault as program_fault
+use Rattle.bpf_program.specs.declared.program.ProgramFault.{ProgramFault}
+use Rattle.bpf_program.specs.declared.program.ProgramFault.TheVariants as early
 use Rattle.http_reply.specs.Reply.{ReplyParts}
+use Rattle.http_reply.specs.declared.reply.MediaType.TheVariants.{Csv}
 use Rattle.http_reply.specs.declared.status.Status.TheVariants as status
 use Rattle.http_routes.specs.Target.{job_id}
 use Rattle.http_routes.specs.declared.route.Action.{Action}
 use Rattle.http_routes.specs.declared.route.Action.TheVariants as action
 use Rattle.jobs.proofs.VerdictLemmas as submission
+use Rattle.jobs.specs.Listing.{listing}
 use Rattle.jobs.specs.Table.{JobParts, Step, Table, job_of, new_job, with_job, without_job}
 use Rattle.jobs.specs.declared.event.Event.{Event}
 use Rattle.jobs.specs.declared.event.Event.TheVariants as event
@@ -28,11 +41,12 @@ use Rattle.jobs.specs.declared.event.Reply.TheVariants.{Submitted, Dropped, Refu
 use Rattle.jobs.specs.declared.fault.JobFault.TheVariants.{Full, NoJob, Program, Memory}
 use Rattle.tl_segments.specs.County.{CountyParts}
 use Rattle.wire.proofs.DecisionLemmas.{one_decision}
-use Rattle.wire.proofs.EventLemmas.{fetched, reply_of_job, same_table}
+use Rattle.wire.proofs.EventLemmas.{fetched, reply_of_job, same_state}
+use Rattle.wire.proofs.ExplanationLemmas.{one_explained}
 use Rattle.wire.proofs.VerdictLemmas.{one_extract, one_verdict}
-use Rattle.wire.specs.Answer.{Answers, AnswersAction, IsJobReply, AssemblesTo, DisassemblesTo, GeocodesTo, Replies, Submits, IsTableReply}
-use Rattle.wire.specs.Answer.{job_reply, memory_reply, octets, plain, refusal_reply, source_reply}
-use Rattle.wire.specs.Decision.{RoutedParts, DecisionParts, Accepts}
+use Rattle.wire.specs.Answer.{Answers, AnswersAction, IsJobReply, AssemblesTo, DisassemblesTo, ExplainsTo, GeocodesAllTo, GeocodesTo, IsEarlyFault, IsExplanation, Replies, Submits, IsTableReply}
+use Rattle.wire.specs.Answer.{body_reply, job_reply, memory_reply, octets, plain, refusal_reply, source_reply}
+use Rattle.wire.specs.Decision.{RoutedParts, DecisionParts, IsDecided, Accepts, SendsFilter, takes_filter}
 use Rattle.wire.specs.State.{StateParts}
 use Rattle.wire.specs.declared.decision.RequestRead.{RequestRead}
 
@@ -94,11 +108,78 @@ module _ (reply other : ReplyParts) (are : AreKnown reply other) where
       (not_memory other also.0 are.given also.2) in
       is.2 ∙ ap code_reply one ∙ sym also.2
 
+  -- a fault that is found before the verdict, if an allocation didn't fail
+  abbrev early_reply : ProgramFault → ReplyParts
+  early_reply fault = refusal_reply (program_fault.refusal fault)
+
+  known_early : (given : ReplyParts) (fault : ProgramFault) → given ≢ memory_reply → given ≡ early_reply fault → fault ≢ early.Memory
+  known_early given fault known is_reply memory = known (is_reply ∙ ap early_reply memory)
+
+  early_fault : (program : List ℕ) (fault : ProgramFault) → IsEarlyFault program fault → IsProgramFault program fault
+  early_fault program (early.Code fault) is = is
+  early_fault program (early.Flow fault) is = is
+  early_fault program (early.Verify fault) is = absurd is
+  early_fault program early.Memory is = is
+
+  -- a code whose jumps are forward has no such fault
+  no_early_fault : (program : List ℕ) (code : List Insn) (fault : ProgramFault) → IsCodeOf program code → IsForward code → IsEarlyFault program fault
+      → fault ≢ early.Memory → ⊥
+  no_early_fault program code (early.Code fault) is forward faulty known = faulty.1 (code_of.memory_alone program code fault is faulty.0)
+  no_early_fault program code (early.Flow fault) is forward faulty known =
+      has_no_fault code fault forward
+      (subst (λ (c : List Insn). flow.IsFirstFault c fault) (verdict.same_code program faulty.0 code faulty.1 is) faulty.2)
+  no_early_fault program code (early.Verify fault) is forward faulty known = faulty
+  no_early_fault program code early.Memory is forward faulty known = known refl
+
+  one_explanation : (program : List ℕ) → ExplainsTo program reply → ExplainsTo program other → reply ≡ other
+  one_explanation program (inr (inr memory)) also = absurd (are.known memory)
+  one_explanation program is (inr (inr memory)) = absurd (are.given memory)
+  one_explanation program (inl is) (inl also) =
+      one_explained also.0 reply other
+      (subst (λ (code : List Insn). IsExplanation code reply) (verdict.same_code program is.0 also.0 is.1 also.1) is.3) also.3
+  one_explanation program (inl is) (inr (inl also)) =
+      absurd (no_early_fault program is.0 also.0 is.1 is.2 also.1 (known_early other also.0 are.given also.2))
+  one_explanation program (inr (inl is)) (inl also) =
+      absurd (no_early_fault program also.0 is.0 also.1 also.2 is.1 (known_early reply is.0 are.known is.2))
+  one_explanation program (inr (inl is)) (inr (inl also)) =
+      is.2
+      ∙ ap early_reply (verdict.one_fault program is.0 also.0 (early_fault program is.0 is.1) (early_fault program also.0 also.1)
+      (known_early reply is.0 are.known is.2) (known_early other also.0 are.given also.2))
+      ∙ sym also.2
+
   one_place : (counties : List CountyParts) (query : List ℕ) → GeocodesTo counties query reply → GeocodesTo counties query other
       → reply ≡ other
   one_place counties query (inr memory) also = absurd (are.known memory)
   one_place counties query is (inr memory) = absurd (are.given memory)
   one_place counties query (inl is) (inl also) = is ∙ sym also
+
+  abbrev address_reply : AddressFault → ReplyParts
+  address_reply fault = refusal_reply (address_fault.refusal fault)
+
+  -- a fault of a file of addresses, if an allocation didn't fail
+  known_fault : (file : List ℕ) (given : ReplyParts) (fault : AddressFault) → given ≢ memory_reply → given ≡ address_reply fault
+      → IsAddressesFault file fault → IsFaultOf file fault
+  known_fault file given fault known is_reply is = fault_is file fault (λ memory. known (is_reply ∙ ap address_reply memory)) is
+
+  one_batch : (codes : List (List ℕ)) (counties : List CountyParts) (file : List ℕ) → GeocodesAllTo codes counties file reply
+      → GeocodesAllTo codes counties file other → reply ≡ other
+  one_batch codes counties file (inl is) (inl also) =
+      is.2 ∙ ap (body_reply Csv) (one_output file codes counties is.0 also.0 is.1 also.1) ∙ sym also.2
+  one_batch codes counties file (inl is) (inr (fault, faulty, is_reply)) =
+      absurd (no_output_fault file codes counties is.0 fault is.1 (known_fault file other fault are.given is_reply faulty))
+  one_batch codes counties file (inr (fault, faulty, is_reply)) (inl also) =
+      absurd (no_output_fault file codes counties also.0 fault also.1 (known_fault file reply fault are.known is_reply faulty))
+  one_batch codes counties file (inr (fault, faulty, is_reply)) (inr (fault', faulty', is_reply')) =
+      is_reply
+      ∙ ap address_reply (one_output_fault file fault fault' (known_fault file reply fault are.known is_reply faulty)
+      (known_fault file other fault' are.given is_reply' faulty'))
+      ∙ sym is_reply'
+
+  one_list : (table : Table) → (reply ≡ plain status.Ok (listing table)) ⊎ (reply ≡ memory_reply)
+      → (other ≡ plain status.Ok (listing table)) ⊎ (other ≡ memory_reply) → reply ≡ other
+  one_list table (inr memory) also = absurd (are.known memory)
+  one_list table is (inr memory) = absurd (are.given memory)
+  one_list table (inl is) (inl also) = is ∙ sym also
 
 -- A submission has the same reply for each program with these bytes.
 resubmitted : (old new : Table) (program copy : Bor (List ℕ)) (reply : JobReply) → program.now ≡ copy.now
@@ -141,18 +222,18 @@ module _ (old new again : StateParts) (reply other : ReplyParts) (are : AreKnown
   one_of_job : (make : ℕ → Event) (id : Option ℕ)
       → ((q : ℕ) (table_reply other_reply : JobReply) → Step old.table (make q) table_reply new.table → Step old.table (make q) other_reply again.table
       → IsOne (job_reply table_reply) (job_reply other_reply) new.table again.table)
-      → IsJobReply make id old.table reply new.table → IsJobReply make id old.table other again.table → IsOne reply other new again
-  one_of_job make None steps is also = (is.0 ∙ sym also.0, same_table new again (is.1 ∙ sym also.1))
+      → IsJobReply make id old.table reply new.table → IsJobReply make id old.table other again.table → IsOne reply other new.table again.table
+  one_of_job make None steps is also = (is.0 ∙ sym also.0, is.1 ∙ sym also.1)
   one_of_job make (Some id) steps is also =
       let both = steps id is.table_reply also.table_reply (subst (λ event. Step old.table event is.table_reply new.table) is.is_event is.step)
       (subst (λ event. Step old.table event also.table_reply again.table) also.is_event also.step) in
-      (is.is_reply ∙ both.0 ∙ sym also.is_reply, same_table new again both.1)
+      (is.is_reply ∙ both.0 ∙ sym also.is_reply, both.1)
 
   not_refused : (reply : ReplyParts) (table_reply : JobReply) → reply ≢ memory_reply → reply ≡ job_reply table_reply → table_reply ≢ Refused Memory
   not_refused reply table_reply known is_reply memory = known (is_reply ∙ ap job_reply memory)
 
   one_submission : (body : List ℕ) → IsTableReply (Submits body) old.table reply new.table
-      → IsTableReply (Submits body) old.table other again.table → IsOne reply other new again
+      → IsTableReply (Submits body) old.table other again.table → IsOne reply other new.table again.table
   one_submission body is also =
       let first = submitted body is.event is.is_event in
       let second = submitted body also.event also.is_event in
@@ -163,31 +244,45 @@ module _ (old new again : StateParts) (reply other : ReplyParts) (are : AreKnown
       (not_refused reply is.table_reply are.known is.is_reply) (not_refused other also.table_reply are.given also.is_reply) in
       let same = one_table old.table new.table again.table first.0 is.table_reply step
       (subst (λ table_reply. Step old.table (event.Submit first.0) table_reply again.table) (sym one) copied) in
-      (is.is_reply ∙ ap job_reply one ∙ sym also.is_reply, same_table new again same)
+      (is.is_reply ∙ ap job_reply one ∙ sym also.is_reply, same)
 
-  one_answer : (action : Action) (request : RoutedParts) → AnswersAction action old request reply new
+  -- a request about jobs doesn't change the codes
+  one_change : IsOne reply other new.table again.table → new.codes ≡ old.codes → again.codes ≡ old.codes → IsOne reply other new again
+  one_change one is also = (one.0, same_state new again one.1 (is ∙ sym also))
+
+  one_answer : (action : Action) (request : RoutedParts) → takes_filter action ≡ false → AnswersAction action old request reply new
       → AnswersAction action old request other again → IsOne reply other new again
-  one_answer action.Verify request is also =
+  one_answer action.Index request no_filter is also = (is.0 ∙ sym also.0, is.1 ∙ sym also.1)
+  one_answer action.Health request no_filter is also = (is.0 ∙ sym also.0, is.1 ∙ sym also.1)
+  one_answer action.Verify request no_filter is also =
       (one_verdict request.body reply other is.0 also.0 are.known are.given, is.1 ∙ sym also.1)
-  one_answer action.Assemble request is also = (one_source reply other are request.body is.0 also.0, is.1 ∙ sym also.1)
-  one_answer action.Disassemble request is also = (one_text reply other are request.body is.0 also.0, is.1 ∙ sym also.1)
-  one_answer action.Extract request is also =
+  one_answer action.Assemble request no_filter is also = (one_source reply other are request.body is.0 also.0, is.1 ∙ sym also.1)
+  one_answer action.Disassemble request no_filter is also = (one_text reply other are request.body is.0 also.0, is.1 ∙ sym also.1)
+  one_answer action.Explain request no_filter is also = (one_explanation reply other are request.body is.0 also.0, is.1 ∙ sym also.1)
+  one_answer action.Extract request no_filter is also =
       (one_extract old.table.counties request.body reply other is.0 also.0 are.known are.given, is.1 ∙ sym also.1)
-  one_answer action.Geocode request is also =
+  one_answer action.Geocode request no_filter is also =
       (one_place reply other are old.table.counties request.query is.0 also.0, is.1 ∙ sym also.1)
-  one_answer action.Submit request is also = one_submission request.body is also
-  one_answer action.Fetch request is also = one_of_job event.Fetch (job_id request.path) (λ id table_reply other_reply step step'.
+  one_answer action.GeocodeBatch request no_filter is also =
+      (one_batch reply other are old.codes old.table.counties request.body is.0 also.0, is.1 ∙ sym also.1)
+  one_answer action.Submit request no_filter is also = one_change (one_submission request.body is.0 also.0) is.1 also.1
+  one_answer action.List request no_filter is also = (one_list reply other are old.table is.0 also.0, is.1 ∙ sym also.1)
+  one_answer action.Fetch request no_filter is also = one_change (one_of_job event.Fetch (job_id request.path) (λ id table_reply other_reply step step'.
       let first = fetched old.table new.table id table_reply step in
       let second = fetched old.table again.table id other_reply step' in
-      (first.0 ∙ sym second.0, first.1 ∙ sym second.1)) is also
-  one_answer action.Drop request is also = one_of_job event.Drop (job_id request.path) (λ id table_reply other_reply step step'.
+      (first.0 ∙ sym second.0, first.1 ∙ sym second.1)) is.0 also.0) is.1 also.1
+  one_answer action.Drop request no_filter is also = one_change (one_of_job event.Drop (job_id request.path) (λ id table_reply other_reply step step'.
       let first = dropped old.table new.table id table_reply step in
       let second = dropped old.table again.table id other_reply step' in
-      (first.0 ∙ sym second.0, first.1 ∙ sym second.1)) is also
+      (first.0 ∙ sym second.0, first.1 ∙ sym second.1)) is.0 also.0) is.1 also.1
+  one_answer action.Select request no_filter is also = let no : ⊥ = cc in absurd no
+  one_answer action.Compile request no_filter is also = let no : ⊥ = cc in absurd no
+  one_answer action.SubmitFilter request no_filter is also = let no : ⊥ = cc in absurd no
 
-  one_decided : (decision : DecisionParts) → Answers old decision reply new → Answers old decision other again → IsOne reply other new again
-  one_decided (Accepts request) is also = one_answer request.action request is also
-  one_decided decision is also = (is.0 ∙ sym also.0, is.1 ∙ sym also.1)
+  one_decided : (decision : DecisionParts) → ((request : RoutedParts) → decision ≡ Accepts request → takes_filter request.action ≡ false)
+      → Answers old decision reply new → Answers old decision other again → IsOne reply other new again
+  one_decided (Accepts request) no_filter is also = one_answer request.action request (no_filter request refl) is also
+  one_decided decision no_filter is also = (is.0 ∙ sym also.0, is.1 ∙ sym also.1)
 
 -- a reply to an input, other than out of memory
 pub record IsKnownReply (input : List ℕ) (old : StateParts) (reply : ReplyParts) (new : StateParts) : Type 0 where
@@ -196,10 +291,18 @@ pub record IsKnownReply (input : List ℕ) (old : StateParts) (reply : ReplyPart
   pub bytes : AreBytes reply
   pub known : reply ≢ memory_reply
 
-pub one_reply_lem : (input : List ℕ) (old new again : StateParts) (reply other : ReplyParts) → IsKnownReply input old reply new
-    → IsKnownReply input old other again → IsOne reply other new again
-one_reply_lem input old new again reply other first second = by first.replies second.replies
+pub one_reply_lem : (input : List ℕ) (old new again : StateParts) (reply other : ReplyParts) → (SendsFilter input → ⊥)
+    → IsKnownReply input old reply new → IsKnownReply input old other again → IsOne reply other new again
+one_reply_lem input old new again reply other no_filter first second = by first.replies second.replies
   where
+    filterless : (decision : DecisionParts) → IsDecided input decision → (request : RoutedParts) → decision ≡ Accepts request
+        → takes_filter request.action ≡ false
+    filterless decision decided request is = by_test (takes_filter request.action) refl
+      where
+        by_test : (takes : Bool) → takes_filter request.action ≡ takes → takes ≡ false
+        by_test false test = refl
+        by_test true test = absurd (no_filter (request, subst (λ decision. IsDecided input decision) is decided, test))
+
     by : Replies input first.request_read old reply new → Replies input second.request_read old other again → IsOne reply other new again
     by (inr stopped) also = absurd (first.known stopped.3)
     by is (inr stopped) = absurd (second.known stopped.3)
@@ -207,4 +310,4 @@ one_reply_lem input old new again reply other first second = by first.replies se
         let are : AreKnown reply other =
         record { known = first.known; given = second.known; small = first.bytes; little = second.bytes } in
         let same = one_decision input also.0 is.0 also.1 is.1 in
-        one_decided old new again reply other are is.0 is.3 (subst (λ decision. Answers old decision other again) same also.3)
+        one_decided old new again reply other are is.0 (filterless is.0 is.1) is.3 (subst (λ decision. Answers old decision other again) same also.3)

@@ -1,6 +1,11 @@
 -- The reply to a decision, and the state after it.
-use Rattle.std.specs.Prelude.{◌≡◌, ◌<◌, ◌⊎◌, ℕ, List, [], ◌∷◌, ◌++◌, codes, decimal, Option, Some, None}
-use Rattle.bpf_insn.specs.Code.{IsFirstFault}
+use Rattle.std.specs.Prelude.{◌≡◌, ◌<◌, ◌⊎◌, ℕ, List, [], ◌∷◌, ◌++◌, codes, decimal, Option, Some, None, Result, Ok, Err, IsUtf8}
+use Rattle.addresses.specs.AddressFault as address_fault
+use Rattle.addresses.specs.declared.fault.AddressFault.{AddressFault}
+use Rattle.batch.specs.Output.{IsAddressesFault, IsOutputOf}
+use Rattle.bpf_explain.specs.Explanation.{IsExplained}
+use Rattle.bpf_flow.specs.Flow.{IsForward}
+use Rattle.bpf_insn.specs.Code.{IsCodeOf, IsFirstFault}
 use Rattle.bpf_insn.specs.CodeFault as code_fault
 use Rattle.bpf_insn.specs.declared.fault.CodeFault.{CodeFault}
 use Rattle.bpf_insn.specs.declared.instruction.Insn.{Insn}
@@ -13,19 +18,30 @@ use Rattle.bpf_text.specs.declared.fault.SourceFault.TheVariants.{NotUtf8, Text}
 use Rattle.bpf_program.specs.Program.{IsProgramFault, IsSafeProgram}
 use Rattle.bpf_program.specs.ProgramFault as program_fault
 use Rattle.bpf_program.specs.declared.program.ProgramFault.{ProgramFault}
+use Rattle.bpf_program.specs.declared.program.ProgramFault.TheVariants as early
+use Rattle.bpf_verify.specs.VerifyFault as verify_fault
+use Rattle.bpf_verify.specs.declared.fault.VerifyFault.{VerifyFault}
+use Rattle.filters.specs.Failure.{failure_text}
+use Rattle.filters.specs.Filter.{IsCodeOfText, IsFilterFailure, IsProgramOf}
+use Rattle.filters.specs.declared.failure.FilterFailure.{FilterFailure}
+use Rattle.filters.specs.declared.failure.FilterFailure.TheVariants as filter_failure
+use Rattle.filters.specs.declared.filter.FilterOptions.{FilterOptions}
 use Rattle.geocode.specs.HitLine.{hit_lines}
 use Rattle.geocode.specs.Query.{QueryParts, hits_of}
 use Rattle.http_reply.specs.Reply.{ReplyParts}
 use Rattle.http_reply.specs.Status.{text}
-use Rattle.http_reply.specs.declared.reply.MediaType.TheVariants.{Plain, Octets}
+use Rattle.http_reply.specs.declared.reply.MediaType.{MediaType}
+use Rattle.http_reply.specs.declared.reply.MediaType.TheVariants.{Plain, Octets, Csv}
+use Rattle.http_reply.specs.declared.reply.MediaType.TheVariants as media_type
 use Rattle.http_reply.specs.declared.status.Status.{Status}
 use Rattle.http_reply.specs.declared.status.Status.TheVariants as status
-use Rattle.http_routes.specs.Routes.{allow}
+use Rattle.http_routes.specs.Routes.{allow, index}
 use Rattle.http_routes.specs.Target.{job_id}
 use Rattle.http_routes.specs.declared.route.Action.{Action}
 use Rattle.http_routes.specs.declared.route.Action.TheVariants as action
 use Rattle.http_routes.specs.declared.route.Route.{Route}
 use Rattle.jobs.specs.JobFault as job_fault
+use Rattle.jobs.specs.Listing.{listing}
 use Rattle.jobs.specs.Segments.{segments_of}
 use Rattle.jobs.specs.Table.{Step, Table}
 use Rattle.jobs.specs.declared.event.Event.{Event}
@@ -34,12 +50,15 @@ use Rattle.jobs.specs.declared.event.Reply.{Reply as JobReply}
 use Rattle.jobs.specs.declared.event.Reply.TheVariants.{Submitted, Turned, Rows, Dropped, Refused}
 use Rattle.jobs.specs.declared.fault.JobFault.{JobFault}
 use Rattle.jobs.specs.declared.fault.JobFault.TheVariants.{Full, NoJob, Program, Memory}
+use Rattle.layers.specs.Counties.{IsLayerOf}
+use Rattle.layers.specs.Layer.{LayerParts}
+use Rattle.layers.specs.Layer as layers
 use Rattle.refusals.specs.Refusal.{RefusalParts, line, memory}
 use Rattle.refusals.specs.declared.refusal.Class.{Class}
 use Rattle.refusals.specs.declared.refusal.Class.TheVariants as class
 use Rattle.tl_segments.specs.County.{CountyParts}
 use Rattle.wire.specs.Decision.{AnnouncesBody, RoutedParts, DecisionParts, IsDecided, Refuses, Disallows, Accepts, request_read_of}
-use Rattle.wire.specs.Query.{requested_place}
+use Rattle.wire.specs.Query.{AreOptionsOf, HasNoOptions, requested_layer, requested_place}
 use Rattle.wire.specs.State.{StateParts, counties_of}
 use Rattle.wire.specs.declared.decision.RequestRead.{RequestRead}
 use Rattle.wire.specs.declared.decision.RequestRead.TheVariants.{Partial}
@@ -47,9 +66,13 @@ use Rattle.wire.specs.declared.decision.RequestRead.TheVariants.{Partial}
 abbrev pub plain : Status → List ℕ → ReplyParts
 plain status body = record { status = status; media = Plain; allow = None; body = body }
 
+-- a 200 with a body of this media type
+abbrev pub body_reply : MediaType → List ℕ → ReplyParts
+body_reply media body = record { status = status.Ok; media = media; allow = None; body = body }
+
 -- a 200 with a body of bytes
 abbrev pub octets : List ℕ → ReplyParts
-octets body = record { status = status.Ok; media = Octets; allow = None; body = body }
+octets body = body_reply Octets body
 
 -- a status with its own text
 abbrev pub status_reply : Status → ReplyParts
@@ -103,6 +126,78 @@ ExtractsTo counties program reply =
     × (reply ≡ octets rows))
     ⊎ ((fault : ProgramFault) × IsProgramFault program fault × (reply ≡ refusal_reply (program_fault.refusal fault)))
 
+-- the listing of a code; if the code is refused, it ends at the refused instruction, and the refusal's line follows
+abbrev pub explained_reply : List ℕ → Result (Unit {0}) VerifyFault → ReplyParts
+explained_reply text (Ok accepted) = plain status.Ok text
+explained_reply text (Err fault) = plain status.UnprocessableEntity (text ++ line (verify_fault.refusal fault) ++ 10 ∷ [])
+
+abbrev pub IsExplanation : List Insn → ReplyParts → Type 0
+IsExplanation code reply =
+    (text : List ℕ) × (verdict : Result (Unit {0}) VerifyFault) × IsExplained code [] text verdict × (reply ≡ explained_reply text verdict)
+
+-- a fault of a program's bytes, or of its jumps and its end
+abbrev pub IsEarlyFault : List ℕ → ProgramFault → Type 0
+IsEarlyFault program (early.Verify fault) = ⊥
+IsEarlyFault program fault = IsProgramFault program fault
+
+-- the explanation of a program's verdict, or a fault that is found before the verdict
+abbrev pub ExplainsTo : List ℕ → ReplyParts → Type 0
+ExplainsTo program reply =
+    ((code : List Insn) × IsCodeOf program code × IsForward code × IsExplanation code reply)
+    ⊎ ((fault : ProgramFault) × IsEarlyFault program fault × (reply ≡ refusal_reply (program_fault.refusal fault)))
+    ⊎ (reply ≡ memory_reply)
+
+-- ---- filters
+
+-- the lines that report why a filter has no program
+abbrev pub failure_reply : FilterFailure → ReplyParts
+failure_reply filter_failure.Memory = memory_reply
+failure_reply failure = plain status.UnprocessableEntity (failure_text failure)
+
+-- the filter isn't UTF-8, or a parameter of the query has an unknown value
+abbrev pub IsMalformedFilter : List ℕ → List ℕ → Type 0
+IsMalformedFilter query filter = (IsUtf8 filter → ⊥) ⊎ HasNoOptions query
+
+-- the reply for a filter that has no program
+pub data IsFilterRefused (query filter : List ℕ) (reply : ReplyParts) : Type 0 where
+  malformed : IsMalformedFilter query filter → reply ≡ status_reply status.BadRequest → IsFilterRefused query filter reply
+  failed : (options : FilterOptions) → AreOptionsOf query options → (failure : FilterFailure) → IsFilterFailure filter options failure
+      → reply ≡ failure_reply failure → IsFilterRefused query filter reply
+  out_of_memory : reply ≡ memory_reply → IsFilterRefused query filter reply
+
+abbrev pub media_of : LayerParts → MediaType
+media_of layers.Rows = Octets
+media_of (layers.Table layout) = Csv
+media_of (layers.Features layout) = media_type.Features
+
+-- the text is the layer of the segments for which the filter is true in the counties, with the requested scores
+pub record IsSelected (counties : List CountyParts) (layer : LayerParts) (query filter text : List ℕ) : Type 0 where
+  pub options : FilterOptions
+  pub are_options : AreOptionsOf query options
+  pub code : List Insn
+  pub is_code : IsCodeOfText filter options code
+  pub is_layer : IsLayerOf layer code counties text
+
+-- the requested layer of the segments for which the filter is true
+abbrev pub SelectsTo : List CountyParts → List ℕ → List ℕ → ReplyParts → Type 0
+SelectsTo counties query filter reply =
+    ((layer : LayerParts) × (requested_layer query ≡ Some layer) × (text : List ℕ) × IsSelected counties layer query filter text
+    × (reply ≡ body_reply (media_of layer) text))
+    ⊎ ((requested_layer query ≡ None) × (reply ≡ status_reply status.BadRequest))
+    ⊎ IsFilterRefused query filter reply
+
+-- the program of a filter, with the requested scores
+pub record IsFilterProgram (query filter program : List ℕ) : Type 0 where
+  pub options : FilterOptions
+  pub are_options : AreOptionsOf query options
+  pub is_program : IsProgramOf filter options program
+
+abbrev pub CompilesTo : List ℕ → List ℕ → ReplyParts → Type 0
+CompilesTo query filter reply =
+    ((program : List ℕ) × IsFilterProgram query filter program × (reply ≡ octets program)) ⊎ IsFilterRefused query filter reply
+
+-- ---- places
+
 -- the lines of the hits
 abbrev pub place_reply : List CountyParts → Option QueryParts → ReplyParts
 place_reply counties None = status_reply status.BadRequest
@@ -110,6 +205,14 @@ place_reply counties (Some place) = plain status.Ok (hit_lines (hits_of place co
 
 abbrev pub GeocodesTo : List CountyParts → List ℕ → ReplyParts → Type 0
 GeocodesTo counties query reply = (reply ≡ place_reply counties (requested_place query)) ⊎ (reply ≡ memory_reply)
+
+-- the lines of a file's addresses in counties with these codes, or the file's fault
+abbrev pub GeocodesAllTo : List (List ℕ) → List CountyParts → List ℕ → ReplyParts → Type 0
+GeocodesAllTo codes counties file reply =
+    ((text : List ℕ) × IsOutputOf file codes counties text × (reply ≡ body_reply Csv text))
+    ⊎ ((fault : AddressFault) × IsAddressesFault file fault × (reply ≡ refusal_reply (address_fault.refusal fault)))
+
+-- ---- jobs
 
 abbrev pub job_fault_reply : JobFault → ReplyParts
 job_fault_reply NoJob = status_reply status.NotFound
@@ -147,16 +250,39 @@ abbrev pub IsJobReply : (ℕ → Event) → Option ℕ → Table → ReplyParts 
 IsJobReply make None old reply new = (reply ≡ status_reply status.NotFound) × (new ≡ old)
 IsJobReply make (Some id) old reply new = IsTableReply (λ event. event ≡ make id) old reply new
 
+-- the program of a filter is submitted
+abbrev pub SubmitsFilter : List ℕ → List ℕ → Event → Type 0
+SubmitsFilter query filter event = (program : List ℕ) × IsFilterProgram query filter program × Submits program event
+
+-- the reply to the submission of a filter's program, or for a filter that has none
+abbrev pub SubmitsTo : List ℕ → List ℕ → Table → ReplyParts → Table → Type 0
+SubmitsTo query filter old reply new =
+    IsTableReply (SubmitsFilter query filter) old reply new ⊎ (IsFilterRefused query filter reply × (new ≡ old))
+
+-- a request about jobs, which changes at most their table
+abbrev pub ChangesTable : (Table → ReplyParts → Table → Type 0) → StateParts → ReplyParts → StateParts → Type 0
+ChangesTable Is old reply new = Is old.table reply new.table × (new.codes ≡ old.codes)
+
+-- ---- all actions
+
 -- The reply to each action, and the state after it. A request about jobs is one event of their table, and nothing else changes the state.
 abbrev pub AnswersAction : Action → StateParts → RoutedParts → ReplyParts → StateParts → Type 0
+AnswersAction action.Index old request reply new = (reply ≡ plain status.Ok index) × (new ≡ old)
+AnswersAction action.Health old request reply new = (reply ≡ plain status.Ok (codes "ok\n")) × (new ≡ old)
 AnswersAction action.Verify old request reply new = IsVerified request.body reply × (new ≡ old)
 AnswersAction action.Assemble old request reply new = AssemblesTo request.body reply × (new ≡ old)
 AnswersAction action.Disassemble old request reply new = DisassemblesTo request.body reply × (new ≡ old)
+AnswersAction action.Explain old request reply new = ExplainsTo request.body reply × (new ≡ old)
 AnswersAction action.Extract old request reply new = ExtractsTo (counties_of old) request.body reply × (new ≡ old)
+AnswersAction action.Select old request reply new = SelectsTo (counties_of old) request.query request.body reply × (new ≡ old)
+AnswersAction action.Compile old request reply new = CompilesTo request.query request.body reply × (new ≡ old)
 AnswersAction action.Geocode old request reply new = GeocodesTo (counties_of old) request.query reply × (new ≡ old)
-AnswersAction action.Submit old request reply new = IsTableReply (Submits request.body) old.table reply new.table
-AnswersAction action.Fetch old request reply new = IsJobReply event.Fetch (job_id request.path) old.table reply new.table
-AnswersAction action.Drop old request reply new = IsJobReply event.Drop (job_id request.path) old.table reply new.table
+AnswersAction action.GeocodeBatch old request reply new = GeocodesAllTo old.codes (counties_of old) request.body reply × (new ≡ old)
+AnswersAction action.Submit old request reply new = ChangesTable (IsTableReply (Submits request.body)) old reply new
+AnswersAction action.SubmitFilter old request reply new = ChangesTable (SubmitsTo request.query request.body) old reply new
+AnswersAction action.List old request reply new = ((reply ≡ plain status.Ok (listing old.table)) ⊎ (reply ≡ memory_reply)) × (new ≡ old)
+AnswersAction action.Fetch old request reply new = ChangesTable (IsJobReply event.Fetch (job_id request.path)) old reply new
+AnswersAction action.Drop old request reply new = ChangesTable (IsJobReply event.Drop (job_id request.path)) old reply new
 
 -- the reply to a decision
 abbrev pub Answers : StateParts → DecisionParts → ReplyParts → StateParts → Type 0

@@ -12,7 +12,7 @@ use Rattle.http_reply.specs.declared.status.Status.TheVariants.{BadRequest, NotF
 use Rattle.http_routes.specs.Routes.{action_of, route_of}
 use Rattle.http_routes.specs.Target.{path_of, query_of}
 use Rattle.http_routes.specs.declared.route.Action.{Action}
-use Rattle.http_routes.specs.declared.route.Action.TheVariants.{Geocode, Fetch, Drop}
+use Rattle.http_routes.specs.declared.route.Action.TheVariants.{Index, Health, Geocode, Select, Compile, SubmitFilter, List as ListJobs, Fetch, Drop}
 use Rattle.http_routes.specs.declared.route.Route.{Route}
 use Rattle.wire.specs.declared.decision.RequestRead.{RequestRead}
 use Rattle.wire.specs.declared.decision.RequestRead.TheVariants.{Complete, Partial}
@@ -38,10 +38,20 @@ request_read_of (Disallows route) = Partial
 
 -- the actions with a body: all those requested by POST
 abbrev pub takes_body : Action → Bool
+takes_body Index = false
+takes_body Health = false
 takes_body Geocode = false
+takes_body ListJobs = false
 takes_body Fetch = false
 takes_body Drop = false
 takes_body action = true
+
+-- the actions whose body is a filter
+abbrev pub takes_filter : Action → Bool
+takes_filter Select = true
+takes_filter Compile = true
+takes_filter SubmitFilter = true
+takes_filter action = false
 
 -- the status for a request without a usable body length
 abbrev pub length_status : LengthFault → Status
@@ -79,6 +89,10 @@ abbrev pub IsDecided : List ℕ → DecisionParts → Type 0
 IsDecided input decision =
     (HasNoHead input × (decision ≡ Refuses BadRequest))
     ⊎ ((head : Head) × (rest : List ℕ) × HasHead input head rest × (decision ≡ decide head rest))
+
+-- the input is a request with a filter
+abbrev pub SendsFilter : List ℕ → Type 0
+SendsFilter input = (request : RoutedParts) × IsDecided input (Accepts request) × IsTrue (takes_filter request.action)
 
 -- the action of a head, by its route and its method
 abbrev pub requested_action : Head → Option Action

@@ -11,7 +11,7 @@ use Rattle.jobs.specs.declared.event.Event.{Event}
 use Rattle.jobs.specs.declared.event.Event.TheVariants.{Turn, Fetch, Drop}
 use Rattle.jobs.specs.declared.event.Reply.{Reply as JobReply}
 use Rattle.tl_segments.specs.County.{CountyParts}
-use Rattle.wire.specs.Answer.{Replies, Submits, IsTableReply, job_reply, memory_reply, rows_reply}
+use Rattle.wire.specs.Answer.{ChangesTable, IsFilterRefused, Replies, Submits, SubmitsFilter, IsTableReply, job_reply, memory_reply, rows_reply}
 use Rattle.wire.specs.Decision.{RoutedParts, DecisionParts, IsDecided, Refuses, Disallows, Accepts}
 use Rattle.wire.specs.State.{StateParts}
 use Rattle.wire.specs.declared.decision.RequestRead.{RequestRead}
@@ -23,11 +23,12 @@ is_requested event = true
 
 -- one event of the table of jobs, which a request can be, and the table's reply
 abbrev pub IsEvent : StateParts → ReplyParts → StateParts → Type 0
-IsEvent old reply new = IsTableReply (λ event. IsTrue (is_requested event)) old.table reply new.table
+IsEvent old reply new = ChangesTable (IsTableReply (λ event. IsTrue (is_requested event))) old reply new
 
--- the request to the table: run a program as a job, return the progress of the job with an id, or remove it
+-- the request to the table: run a program, or the program of a filter, as a job, return the progress of the job with an id, or remove it
 abbrev pub IsEventOf : Action → RoutedParts → Event → Type 0
 IsEventOf action.Submit request event = Submits request.body event
+IsEventOf action.SubmitFilter request event = SubmitsFilter request.query request.body event
 IsEventOf action.Fetch request event = (id : ℕ) × (job_id request.path ≡ Some id) × (event ≡ Fetch id)
 IsEventOf action.Drop request event = (id : ℕ) × (job_id request.path ≡ Some id) × (event ≡ Drop id)
 IsEventOf action request event = ⊥
@@ -41,6 +42,20 @@ RequestsEvent (Disallows route) event = ⊥
 abbrev pub Requests : List ℕ → Event → Type 0
 Requests input event = (decision : DecisionParts) × IsDecided input decision × RequestsEvent decision event
 
+-- a filter has no program to submit
+abbrev pub LacksProgram : Action → RoutedParts → ReplyParts → Type 0
+LacksProgram action.SubmitFilter request reply = IsFilterRefused request.query request.body reply
+LacksProgram action request reply = ⊥
+
+abbrev pub RefusesFilter : DecisionParts → ReplyParts → Type 0
+RefusesFilter (Accepts request) reply = LacksProgram request.action request reply
+RefusesFilter (Refuses status) reply = ⊥
+RefusesFilter (Disallows route) reply = ⊥
+
+-- the reply to an input refuses a filter whose program would be submitted
+abbrev pub IsRefusedFilter : List ℕ → ReplyParts → Type 0
+IsRefusedFilter input reply = (decision : DecisionParts) × IsDecided input decision × RefusesFilter decision reply
+
 -- an act of a server: it replies to an input, makes a turn of the job with an id, or has no turn to make
 pub data Act : Type 0 where
   Replied : List ℕ → ReplyParts → Act
@@ -49,7 +64,7 @@ pub data Act : Type 0 where
 
 abbrev pub Acts : StateParts → Act → StateParts → Type 0
 Acts old (Replied input reply) new = (request_read : RequestRead) × Replies input request_read old reply new
-Acts old (Turned id reply) new = IsNextTurn old.table (Some id) × Step old.table (Turn id) reply new.table
+Acts old (Turned id reply) new = IsNextTurn old.table (Some id) × Step old.table (Turn id) reply new.table × (new.codes ≡ old.codes)
 Acts old Rested new = IsNextTurn old.table None × (new ≡ old)
 
 -- acts in order
@@ -63,9 +78,9 @@ IsExchange (Replied input reply) exchange = Requests input exchange.event × (re
 IsExchange (Turned id reply) exchange = exchange ≡ record { event = Turn id; reply = reply }
 IsExchange Rested exchange = ⊥
 
--- an act that is no exchange: it requests nothing of the table, or an allocation fails before the table sees the request
+-- an act that is no exchange: it requests nothing of the table, or an allocation fails or a filter is refused before the table sees the request
 abbrev pub IsNoExchange : Act → Type 0
-IsNoExchange (Replied input reply) = (event : Event) → Requests input event → reply ≡ memory_reply
+IsNoExchange (Replied input reply) = (event : Event) → Requests input event → (reply ≡ memory_reply) ⊎ IsRefusedFilter input reply
 IsNoExchange (Turned id reply) = ⊥
 IsNoExchange Rested = Unit {0}
 

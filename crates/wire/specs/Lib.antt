@@ -7,4 +7,5 @@ pub mod Answer
 pub mod Event
 pub mod Serving
 pub mod Reading
+pub mod Refused
 pub mod Reply

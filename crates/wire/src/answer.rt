@@ -30,6 +30,8 @@ pub(crate) enum Answer<'a, A: Allocator> {
         body: Vec<u8, A>,
     },
     Refused(Refusal),
+    /// A 422 with lines made for the request.
+    RefusedLines(Vec<u8, A>),
     /// A status with a line.
     Line {
         status: Status,
@@ -62,6 +64,10 @@ impl<'a, A: Allocator> Answer<'a, A> {
             Answer::Refused(refusal) => Reply {
                 status: class_status(refusal.class()),
                 ..plain(with_line_end(refusal.line()), &[])
+            },
+            Answer::RefusedLines(lines) => Reply {
+                status: Status::UnprocessableEntity,
+                ..plain(ArrayVec::new(), lines.as_slice())
             },
             Answer::Line { status, line } => Reply {
                 status: *status,

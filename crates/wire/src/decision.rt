@@ -138,7 +138,15 @@ fn read_routed<'a, A: Allocator + Copy, R: CountedRead>(
 fn takes_body(action: Action) -> bool
     ensures { result ≡ takes_body action }
 {
-    !matches!(action, Action::Geocode | Action::Fetch | Action::Drop)
+    !matches!(
+        action,
+        Action::Index
+            | Action::Health
+            | Action::Geocode
+            | Action::List
+            | Action::Fetch
+            | Action::Drop
+    )
 }
 
 /// Returns the status for a request without a usable body length.

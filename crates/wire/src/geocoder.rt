@@ -1,18 +1,16 @@
 //! The answer to a query for a place.
-ghost use Rattle.std.specs.Prelude.{◌≡◌, ◌⊎◌, IfOk, option_map};
-ghost use Rattle.std.specs.Cow.{cow_str_bytes};
+ghost use Rattle.std.specs.Prelude.{◌≡◌, ◌⊎◌, IfOk};
 ghost use Rattle.geocode.specs.Gazetteer.{IsGazetteerOf};
 ghost use Rattle.wire.specs.Answer.{GeocodesTo, place_reply};
-ghost use Rattle.wire.specs.Query.{requested_place, first_value};
+ghost use Rattle.wire.specs.Query.{requested_place};
 ghost use Rattle.wire.specs.Reply.{reply_of};
 
 use crate::answer::Answer;
-use form_urlencoded::{decode, raw_pairs};
+use crate::query::first_value;
 use geocode::{Gazetteer, Query, hit_lines};
 use http_reply::{MediaType, Status};
 use refusals::Refusal;
 use std::alloc::{AllocError, Allocator};
-use std::borrow::CowStr;
 use tl_segments::County;
 
 /// Returns the lines of the hits for the place in a query.
@@ -55,23 +53,4 @@ fn answer_place<A: Allocator + Copy>(
         media: MediaType::Plain,
         body: hit_lines(alloc, hits.as_slice())?,
     })
-}
-
-/// Returns the value of the first pair with this key.
-#[tactic(auto, using(crate::proofs::QueryLemmas::found_first, crate::proofs::QueryLemmas::skipped))]
-fn first_value<'q, A: Allocator + Copy>(
-    alloc: A,
-    key: &str,
-    query: &'q [u8],
-) -> Result<Option<CowStr<'q, A>>, AllocError>
-    ensures { IfOk result (λ value. option_map cow_str_bytes value ≡ first_value key.now query.now) }
-{
-    for (name, value) in raw_pairs(query) {
-        let name = decode(alloc, name)?;
-        if name.as_bytes() == key.as_bytes() {
-            let value = decode(alloc, value)?;
-            return Ok(Some(value));
-        }
-    }
-    Ok(None)
 }

@@ -1,11 +1,13 @@
 //! The requests to the table of jobs, and its replies as answers.
-ghost use Rattle.std.specs.Prelude.{◌≡◌, decimal, false};
+ghost use Rattle.std.specs.Prelude.{◌≡◌, ◌⊎◌, decimal, false};
 ghost use Rattle.http_reply.specs.Reply.{reply_text};
+ghost use Rattle.http_reply.specs.declared.status.Status.TheVariants as status;
 ghost use Rattle.http_reply.specs.declared.status.Status.TheVariants.{NotFound};
 ghost use Rattle.http_routes.specs.Target.{job_id};
 ghost use Rattle.counted_io.specs.ReaderWriter.{writer};
 ghost use Rattle.counted_io.specs.Writing.{WritesText};
-ghost use Rattle.wire.specs.Answer.{IsJobReply, IsTableReply, job_fault_reply, job_reply, status_reply};
+ghost use Rattle.jobs.specs.Listing.{listing};
+ghost use Rattle.wire.specs.Answer.{IsJobReply, IsTableReply, job_fault_reply, job_reply, memory_reply, plain, status_reply};
 ghost use Rattle.wire.specs.Reading.{WritesReply};
 ghost use Rattle.wire.specs.Turn.{IsTurn, lends_rows};
 ghost use Rattle.wire.specs.Reply.{reply_of};
@@ -13,7 +15,7 @@ ghost use Rattle.wire.specs.Reply.{reply_of};
 use crate::answer::Answer;
 use arrayvec::ArrayString;
 use counted_io::{CountedWrite, WriteFault};
-use http_reply::Status;
+use http_reply::{MediaType, Status};
 use http_routes::job_id;
 use itoa::Buffer;
 use jobs::{Event, JobFault, Jobs, Reply as JobReply};
@@ -31,6 +33,19 @@ pub(crate) fn write_job_reply<A: Allocator + Copy, W: CountedWrite>(
 {
     let reply = jobs.apply(event);
     job_answer::<A>(reply).write(out)
+}
+
+/// Returns a line for each open job.
+pub(crate) fn list<A: Allocator + Copy>(jobs: &Jobs<A>) -> Answer<'static, A>
+    ensures { (reply_of result ≡ plain status.Ok (listing jobs.now)) ⊎ (reply_of result ≡ memory_reply) }
+{
+    match jobs.listing() {
+        Ok(body) => Answer::Made {
+            media: MediaType::Plain,
+            body,
+        },
+        Err(_error) => Answer::Refused(Refusal::memory()),
+    }
 }
 
 /// Writes the progress and the rows of the job that a path names.

@@ -7,7 +7,7 @@ ghost use Rattle.tl_segments.specs.County.{CountyParts};
 ghost use Rattle.http_reply.specs.declared.status.Status.TheVariants.{NotFound};
 ghost use Rattle.jobs.specs.declared.event.Event.TheVariants.{Fetch};
 ghost use Rattle.wire.specs.Answer.{ExtractsTo, IsVerified, Replies, memory_reply, status_reply};
-ghost use Rattle.wire.specs.Decision.{DecisionParts, IsDecided};
+ghost use Rattle.wire.specs.Decision.{DecisionParts, IsDecided, SendsFilter};
 ghost use Rattle.wire.specs.Event.{Act, AreActs, AreExchanges, IsEvent, IsOwnReply, Requests};
 ghost use Rattle.wire.specs.State.{StateParts, new_state};
 ghost use Rattle.wire.specs.declared.decision.RequestRead.{RequestRead};
@@ -23,14 +23,16 @@ pub fn decisions()
 pub fn requests()
     ensures one_event { (input : List ℕ) (request_read : RequestRead) (old new : StateParts) (reply : ReplyParts) → Replies input request_read old reply new
         → (new ≡ old) ⊎ IsEvent old reply new }
-    ensures runs { (counties : List CountyParts) (acts : List Act) (state : StateParts) → AreActs (new_state counties) acts state
+    ensures runs { (codes : List (List ℕ)) (counties : List CountyParts) (acts : List Act) (state : StateParts)
+        → AreActs (new_state codes counties) acts state
         → (exchanges : List Exchange) × AreExchanges acts exchanges × IsRun (empty_table counties) exchanges state.table }
 {}
 
 /// Whatever a server did before, a request for a job returns the result of that job's own submission and its own turns, or reports that there is no
 /// such job.
 pub fn isolation()
-    ensures { (counties : List CountyParts) (acts : List Act) (state : StateParts) → AreActs (new_state counties) acts state
+    ensures { (codes : List (List ℕ)) (counties : List CountyParts) (acts : List Act) (state : StateParts)
+        → AreActs (new_state codes counties) acts state
         → (input : List ℕ) (request_read : RequestRead) (reply : ReplyParts) (new : StateParts) → Replies input request_read state reply new
         → (id : ℕ) → Requests input (Fetch id) → (reply ≡ status_reply NotFound) ⊎ IsOwnReply counties acts id reply }
 {}
@@ -44,11 +46,11 @@ pub fn verdicts()
         → ExtractsTo counties program other → reply ≢ memory_reply → other ≢ memory_reply → reply ≡ other }
 {}
 
-/// Unless an allocation fails, the same bytes have only one possible reply on every route, over the same counties and the same table of jobs, and
-/// only one state after it.
+/// Unless an allocation fails, the same bytes have only one possible reply on every route that takes no filter, over the same counties and the same
+/// table of jobs, and only one state after it.
 pub fn one_reply()
     ensures { (input : List ℕ) (request_read other_read : RequestRead) (old new again : StateParts) (reply other : ReplyParts)
-        → Replies input request_read old reply new → Replies input other_read old other again
+        → (SendsFilter input → ⊥) → Replies input request_read old reply new → Replies input other_read old other again
         → All (λ byte. byte < 256) reply.body → All (λ byte. byte < 256) other.body → reply ≢ memory_reply → other ≢ memory_reply
         → (reply ≡ other) × (new ≡ again) }
 {}

@@ -9,14 +9,16 @@ ghost use Rattle.wire.specs.Serving.{IsServed, ReturnsRequestRead};
 
 use crate::answer::Answer;
 use crate::decision::{Decision, ReadFault, RequestRead, RoutedRequest, read_decision};
+use crate::explanation::explain_program;
 use crate::fault::WireFault;
+use crate::filter::{compile_filter, select, submit_filter};
 use crate::geocoder::geocode;
-use crate::job::{fetch, remove, write_job_reply};
+use crate::job::{fetch, list, remove, write_job_reply};
 use crate::programs::{assemble, disassemble, extract, verify};
 use crate::state::State;
 use counted_io::{CountedRead, CountedWrite, WriteFault};
 use http_request::HeadBuffer;
-use http_routes::Action;
+use http_routes::{Action, index};
 use jobs::Event;
 use refusals::Refusal;
 use std::alloc::Allocator;
@@ -111,17 +113,31 @@ impl<A: Allocator + Copy> State<A> {
         ensures { WritesReply (λ reply. AnswersAction request.now.action self.old (routed_of request.now) reply self.new) result
             (writer W.contents W.counts out.old) (writer W.contents W.counts out.new) }
     {
+        let query = request.target.query;
         let body = request.body.as_slice();
         match request.action {
+            Action::Index => Answer::<A>::Text(index()).write(out),
+            Action::Health => Answer::<A>::Text("ok\n").write(out),
             Action::Verify => verify(self.alloc, body).write(out),
             Action::Assemble => assemble(self.alloc, body).write(out),
             Action::Disassemble => disassemble(self.alloc, body).write(out),
+            Action::Explain => explain_program(self.alloc, body).write(out),
             Action::Extract => extract(self.alloc, self.jobs.counties(), body).write(out),
+            Action::Select => {
+                let counties = self.jobs.counties();
+                select(self.global, self.alloc, counties, query, body).write(out)
+            }
+            Action::Compile => compile_filter(self.global, self.alloc, query, body).write(out),
             Action::Geocode => {
                 let counties = self.jobs.counties();
-                geocode(self.alloc, &self.gazetteer, counties, request.target.query).write(out)
+                geocode(self.alloc, &self.gazetteer, counties, query).write(out)
             }
+            Action::GeocodeBatch => self.geocode_batch(body).write(out),
             Action::Submit => write_job_reply(&mut self.jobs, Event::Submit(body), out),
+            Action::SubmitFilter => {
+                submit_filter(self.global, self.alloc, &mut self.jobs, query, body, out)
+            }
+            Action::List => list(&self.jobs).write(out),
             Action::Fetch => fetch(&mut self.jobs, request.target.path, out),
             Action::Drop => remove(&mut self.jobs, request.target.path, out),
         }

@@ -1,5 +1,6 @@
 //! The state of a server.
-ghost use Rattle.std.specs.Prelude.{◌≡◌, ◌≤◌, length, IfOk};
+ghost use Rattle.std.specs.Prelude.{◌≡◌, ◌≤◌, [], length, map, IfOk};
+ghost use Rattle.std.specs.String.{string_bytes};
 ghost use Rattle.jobs.specs.declared.cursor.TheConstants.{MAX_COUNTIES};
 ghost use Rattle.wire.specs.State.{new_state};
 ghost use Rattle.wire.specs.Turn.{IsTurn};
@@ -12,41 +13,63 @@ use std::alloc::{AllocError, Allocator, Global};
 use std::marker::Model;
 use tl_segments::County;
 
-/// A server's state between connections: its counties, an index of their street names, and the open jobs. Contracts see it as a
-/// record with the table.
+/// A server's state between connections: its counties with their codes, an index of their street names, and the open jobs. Contracts see it as a
+/// record with the table and the codes.
 #[derive(Drop)]
 pub struct State<A: Allocator> {
     pub(crate) alloc: A,
+    /// The allocator for filters and CSV records, which is part of their types.
+    pub(crate) global: Global,
+    pub(crate) codes: Vec<String<A>, A>,
     pub(crate) routes: Routes,
     pub(crate) gazetteer: Gazetteer<A>,
     pub(crate) jobs: Jobs<A>,
 }
 
 impl<A: Allocator> Model for State<A> {
+    ghost use Rattle.std.specs.Prelude.{map};
+    ghost use Rattle.std.specs.String.{string_bytes};
     ghost use Rattle.geocode.specs.Gazetteer.{IsGazetteerOf};
     ghost use Rattle.wire.specs.State.{StateParts};
 
     ghost Value = { StateParts };
 
-    ghost view = { λ state. record { table = state.jobs } };
+    ghost view = { λ state. record { table = state.jobs; codes = map string_bytes state.codes.items } };
 
     ghost invariant = { λ state. IsGazetteerOf state.gazetteer state.jobs.counties };
 }
 
 impl<A: Allocator + Copy> State<A> {
-    /// Returns a state with no jobs, and keeps the counties. Allocates an index of their street names in `alloc`, and the routes in `global`.
+    /// Returns a state with no jobs, and keeps the counties. Allocates an index of their street names in `alloc`, and the routes in `global`. The
+    /// counties have no codes.
     pub fn new(
         global: Global,
         alloc: A,
         counties: Vec<County<A>, A>,
     ) -> Result<State<A>, AllocError>
         requires { length counties.items ≤ MAX_COUNTIES }
-        ensures { IfOk result (λ state. state ≡ new_state counties.items) }
+        ensures { IfOk result (λ state. state ≡ new_state [] counties.items) }
+    {
+        State::with_codes(global, alloc, counties, &[])
+    }
+
+    /// Does what [`new`](Self::new) does, and keeps a copy of the counties' codes, which are in the order of the counties.
+    pub fn with_codes(
+        global: Global,
+        alloc: A,
+        counties: Vec<County<A>, A>,
+        codes: &[&str],
+    ) -> Result<State<A>, AllocError>
+        requires { length counties.items ≤ MAX_COUNTIES }
+        ensures { IfOk result (λ state. state ≡ new_state (map (λ code. code.now) codes.now) counties.items) }
     {
         let routes = Routes::new(global)?;
+        let codes = copied(alloc, codes)?;
         let gazetteer = Gazetteer::of(alloc, counties.as_slice())?;
         Ok(State {
             alloc,
+            global,
+            codes,
             routes,
             gazetteer,
             jobs: Jobs::new(alloc, counties),
@@ -55,8 +78,34 @@ impl<A: Allocator + Copy> State<A> {
 
     /// Advances the next job by a turn, and returns the reply; `None` if all jobs are finished.
     pub fn turn(&mut self) -> Option<JobReply<'static>>
-        ensures { IsTurn self.old.table result self.new.table }
+        ensures turn { IsTurn self.old.table result self.new.table }
+        ensures codes { self.new.codes ≡ self.old.codes }
     {
         next_turn(&mut self.jobs)
     }
+}
+
+/// Returns copies of texts.
+fn copied<A: Allocator + Copy>(alloc: A, texts: &[&str]) -> Result<Vec<String<A>, A>, AllocError>
+    ensures { IfOk result (λ copies. map string_bytes copies.items ≡ map (λ text. text.now) texts.now) }
+{
+    let mut copies = Vec::new(alloc);
+    for text in texts {
+        copies.push(String::from_str(alloc, text)?)?;
+    }
+    Ok(copies)
+}
+
+/// Borrows texts.
+pub(crate) fn borrowed<'t, A: Allocator + Copy>(
+    alloc: A,
+    texts: &'t [String<A>],
+) -> Result<Vec<&'t str, A>, AllocError>
+    ensures { IfOk result (λ borrowed. map (λ text. text.now) borrowed.items ≡ map string_bytes texts.now) }
+{
+    let mut borrowed = Vec::new(alloc);
+    for text in texts {
+        borrowed.push(text.as_str())?;
+    }
+    Ok(borrowed)
 }

@@ -7,7 +7,7 @@ use fixtures::Table;
 //
 // In curl's requests, the version of curl is fixed, and the Content-Type of a body, which the server ignores, is left out.
 pub const BLOCKS: Table = Table {
-    rows: 28,
+    rows: 36,
     text: r"one
 POST /verify{curl} >> {every} => =200 OK; text/plain; 9; accepted\n
 POST /verify{curl} >> {stuck} => =422 Unprocessable Entity; text/plain; 35; refused 40 place 0 ReadsNothing(0)\n
@@ -25,15 +25,27 @@ POST /extract{curl} >> {every} => =200 OK; application/octet-stream; 231; 0\t{la
 POST /extract{curl} >> {stuck} => =422 Unprocessable Entity; text/plain; 35; refused 40 place 0 ReadsNothing(0)\n
 
 one
+POST /select?score=FRADDL{curl} >> FENAME = 'Lantern' => =200 OK; application/octet-stream; 233; 201\t{lantern}\n
+POST /select{curl} >> ZIPL = '36067' => =422 Unprocessable Entity; text/plain; 99; refused 92 line 1 column 8 WrongType\nthe column isn't of this
+  type: write a number, without quotes\n
+POST /select?score=FENAME{curl} >> ZIPL = 36067 => =400 Bad Request; text/plain; 12; bad request\n
+
+one
 GET /geocode?number=251&name=lantern{curl} => =200 OK; text/plain; 31; 107000725\tL\t-86629812\t32412161\n
 GET /geocode?number=251&name=Old+Lantern&zip=36067{curl} => =200 OK; text/plain; 31; 107000725\tL\t-86629812\t32412161\n
 GET /geocode?number=251&name=lantern&zip=36068{curl} => =200 OK; text/plain; 0;
 GET /geocode?number=251{curl} => =400 Bad Request; text/plain; 12; bad request\n
 
 one
+GET /health{curl} => =200 OK; text/plain; 3; ok\n
+GET /{curl} => =200 OK; text/plain; 219; POST /assemble\nPOST /compile\nPOST /disassemble\nPOST /explain\nPOST /extract\nPOST /filter-jobs\nPOST
+  /geocode-batch\nGET /geocode\nGET /health\nPOST /jobs\nGET /open-jobs\nPOST /select\nPOST /verify\nGET /\nGET, DELETE /jobs/\x7bid\x7d\n
+
+one
 POST /jobs{curl} >> {every} => =200 OK; text/plain; 2; 1\n
 turn => 1 1
 GET /jobs/1{curl} => =200 OK; application/octet-stream; 235; 1 1\n0\t{lantern}\n
+GET /open-jobs{curl} => =200 OK; text/plain; 6; 1 1 1\n
 DELETE /jobs/1{curl} => =200 OK; text/plain; 8; dropped\n
 GET /jobs/1{curl} => =404 Not Found; text/plain; 10; not found\n
 
@@ -62,18 +74,19 @@ DELETE /jobs/1{curl} => 200 text dropped\n",
 
 // The requests that are shown byte for byte.
 pub const REQUESTS: Table = Table {
-    rows: 29,
+    rows: 30,
     text: r"{rt1}\n
 GET /geocode HTTP/2.0\r\n\r\n => 400
 GET  /geocode HTTP/1.1\r\n\r\n => 400
 GET /geocode HTTP/1.1\r\nHost : a\r\n\r\n => 400
 GET /geocode HTTP/1.1\r\nX: a\r\n b\r\n\r\n => 400
-GET / HTTP/1.1\r\n\r\n => 404
+GET /index.html HTTP/1.1\r\n\r\n => 404
 FROB /Verify HTTP/1.1\r\n\r\n => 404
 GET /jobs/ HTTP/1.1\r\n\r\n => 404
 GET /verify HTTP/1.1\r\n\r\n => 405 POST
 FROB /verify HTTP/1.1\r\n\r\n => 405 POST
 HEAD /geocode?number=251&name=lantern HTTP/1.1\r\n\r\n => 405 GET
+HEAD /health HTTP/1.1\r\n\r\n => 405 GET
 GET /jobs HTTP/1.1\r\n\r\n => 405 POST
 PUT /jobs/x HTTP/1.1\r\n\r\n => 405 GET, DELETE
 POST /verify HTTP/1.1\r\n\r\n => 411

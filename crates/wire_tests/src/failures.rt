@@ -1,4 +1,5 @@
 //! Requests that are cut short, readers and writers that fail, and allocations that fail.
+use crate::filter_routes;
 use crate::tables::wrong_in;
 use crate::trials::Trial;
 use fixtures::Table;
@@ -13,7 +14,7 @@ POST /verify HTTP/1.1\r\nContent-Length: 16\r\n\r\n{every} => =200 OK; text/plai
 
 // A script in which each request is decided only by its last byte.
 const REQUESTS: Table = Table {
-    rows: 24,
+    rows: 25,
     text: r"{rt1\n*2}
 POST /verify HTTP/1.1 >> {stuck} => 422 refused 40 place 0 ReadsNothing(0)
 POST /assemble HTTP/1.1 >> mov r0, 1\nexit\n => 200 octets {every}
@@ -28,6 +29,7 @@ GET /jobs/1{end} => 200 octets 0 2\n
 POST /jobs HTTP/1.1 >> => 422 refused 10 Empty
 turn => 2 2
 POST /jobs HTTP/1.1 >> {two} => 200 text 2\n
+GET /open-jobs{end} => 200 text 1 2 2\n2 0 2\n
 GET /jobs/1{end} => 200 octets 2 2\n{0\trt1\n*2}
 DELETE /jobs/1{end} => 200 text dropped\n
 GET /jobs/1{end} => 404
@@ -196,8 +198,10 @@ fn replies_that_stop(rt: HostRuntime) -> Result<(), Fail> {
 
 #[test]
 fn each_growth(rt: HostRuntime) {
-    assert_eq!(rt;
-        wrong_in(rt.alloc(), GROWTHS, Trial::Growths, 1, 1),
-        Ok(None)
-    );
+    for scripts in [GROWTHS, filter_routes::GROWTHS] {
+        assert_eq!(rt;
+            wrong_in(rt.alloc(), scripts, Trial::Growths, 1, 1),
+            Ok(None)
+        );
+    }
 }

@@ -7,6 +7,8 @@ mod examples;
 #[cfg(test)]
 mod failures;
 #[cfg(test)]
+mod filter_routes;
+#[cfg(test)]
 mod heads;
 #[cfg(test)]
 mod lengths;

@@ -21,9 +21,11 @@ pub struct Row<'a> {
 // The short forms of replies, with `@` for what follows, and what they stand for: the status and its phrase, the media type, the body, and the
 // methods that are allowed.
 const REPLIES: Table = Table {
-    rows: 9,
+    rows: 11,
     text: r"200 text @; 200 OK; text/plain; @;
 200 octets @; 200 OK; application/octet-stream; @;
+200 csv @; 200 OK; text/csv; @;
+200 features @; 200 OK; application/geo+json-seq; @;
 400; 400 Bad Request; text/plain; bad request\n;
 404; 404 Not Found; text/plain; not found\n;
 405 @; 405 Method Not Allowed; text/plain; method not allowed\n; @

@@ -2,7 +2,7 @@
 use crate::notation::files_of;
 use crate::rows::{Row, push_rows, rows_of};
 use crate::trials::{Server, Trial};
-use crate::{examples, heads, lengths, queries, routes, scripts};
+use crate::{examples, filter_routes, heads, lengths, queries, routes, scripts};
 use fixtures::{Files, Refusing, Table, TableFault};
 use std::alloc::Global;
 
@@ -78,7 +78,13 @@ fn heads_and_queries(rt: HostRuntime) {
 
 #[test]
 fn bodies(rt: HostRuntime) {
-    for rows in [lengths::LENGTHS, routes::PROGRAMS, examples::REQUESTS] {
+    for rows in [
+        lengths::LENGTHS,
+        routes::PROGRAMS,
+        examples::REQUESTS,
+        filter_routes::FILTERS,
+        filter_routes::LISTINGS,
+    ] {
         assert_eq!(rt;
             wrong_in(rt.alloc(), rows, Trial::cut(usize::MAX), 1, 0),
             Ok(None)
@@ -105,6 +111,7 @@ fn scripts(rt: HostRuntime) {
         (examples::TURNS, 10, 17),
         (routes::COUNTIES, 16, 5),
         (queries::COUNTIES, 16, 5),
+        (filter_routes::SCRIPTS, 16, 5),
         (scripts::SCRIPTS, 16, 5),
         (scripts::TURNS, 5, 17),
         (scripts::LONG, 3, 262_147),

@@ -1,0 +1,114 @@
+//! The answers of the routes for filters, listings and files of addresses, worked out by hand.
+use fixtures::Table;
+
+// Filters over one segment. `\x7b` and `\x7d` are braces.
+pub const FILTERS: Table = Table {
+    rows: 35,
+    text: r#"{rt1}\n
+POST /select HTTP/1.1 >> FENAME = 'Main' => 200 octets 0\t{rt1}\n
+POST /select HTTP/1.1 >> FENAME = 'Oak' => 200 octets
+POST /select?score=ZIPL HTTP/1.1 >> CFCC LIKE 'A%' => 200 octets 36067\t{rt1}\n
+POST /select?score=toaddl&score=x HTTP/1.1 >> TRUE => 200 octets 199\t{rt1}\n
+POST /select?format=rows&filter-lang=cql2-text HTTP/1.1 >> TRUE => 200 octets 0\t{rt1}\n
+POST /select?format=csv HTTP/1.1 >> TRUE => 200 csv score,RT,VERSION,TLID,SIDE1,SOURCE,FEDIRP,FENAME,FETYPE,FEDIRS,CFCC,FRADDL,TOADDL,FRADDR,TOADDR,FRIADDL,TOIADDL,FRIADDR,TOIADDR,ZIPL,ZIPR,STATEL,STATER,COUNTYL,COUNTYR,COUSUBL,COUSUBR,PLACEL,PLACER,TRACTL,TRACTR,BLOCKL,BLOCKR,FRLONG,FRLAT,TOLONG,TOLAT,WKT\n0,1,0006,123456789,,,,Main,,,A41,101,199,100,198,,,,,36067,36067,,,,,,,,,,,,,-86.500000,32.400000,-86.490000,32.410000,"LINESTRING (-86.500000 32.400000,-86.490000 32.410000)"\n
+POST /select?format=csv&score=ZIPR HTTP/1.1 >> FALSE => 200 csv score,RT,VERSION,TLID,SIDE1,SOURCE,FEDIRP,FENAME,FETYPE,FEDIRS,CFCC,FRADDL,TOADDL,FRADDR,TOADDR,FRIADDL,TOIADDL,FRIADDR,TOIADDR,ZIPL,ZIPR,STATEL,STATER,COUNTYL,COUNTYR,COUSUBL,COUSUBR,PLACEL,PLACER,TRACTL,TRACTR,BLOCKL,BLOCKR,FRLONG,FRLAT,TOLONG,TOLAT,WKT\n
+POST /select?format=geojsonseq&score=ZIPR HTTP/1.1 >> TRUE => 200 features \x7b"type":"Feature","properties":\x7b"score":36067,"RT":"1","VERSION":"0006","TLID":123456789,"SIDE1":null,"SOURCE":null,"FEDIRP":null,"FENAME":"Main","FETYPE":null,"FEDIRS":null,"CFCC":"A41","FRADDL":"101","TOADDL":"199","FRADDR":"100","TOADDR":"198","FRIADDL":null,"TOIADDL":null,"FRIADDR":null,"TOIADDR":null,"ZIPL":"36067","ZIPR":"36067","STATEL":null,"STATER":null,"COUNTYL":null,"COUNTYR":null,"COUSUBL":null,"COUSUBR":null,"PLACEL":null,"PLACER":null,"TRACTL":null,"TRACTR":null,"BLOCKL":null,"BLOCKR":null,"FRLONG":-86.500000,"FRLAT":32.400000,"TOLONG":-86.490000,"TOLAT":32.410000\x7d,"geometry":\x7b"type":"LineString","coordinates":[[-86.500000,32.400000],[-86.490000,32.410000]]\x7d\x7d\n
+POST /select?format=geojsonseq HTTP/1.1 >> FALSE => 200 features
+POST /select?filter-lang=cql2-json HTTP/1.1 >> \x7b"op":"=","args":[\x7b"property":"ZIPL"\x7d,36067]\x7d => 200 octets 0\t{rt1}\n
+POST /select?filter-lang=cql2%2Djson HTTP/1.1 >> \x7b"op":"=","args":[\x7b"property":"ZIPL"\x7d,"36067"]\x7d
+  => 422 refused 92 pointer /args/1 WrongType\nthe column isn't of this type: write a number, without quotes
+POST /select?filter-lang=cql2-json HTTP/1.1 >> TRUE => 422 refused 90 line 1 column 1 Syntax\nexpected JSON
+POST /select HTTP/1.1 >> => 422 refused 90 line 1 column 1 Syntax\nexpected a predicate, TRUE, FALSE or a parenthesis
+POST /select HTTP/1.1 >> ZIPL = 36067 AND
+  => 422 refused 90 line 1 column 17 Syntax\nexpected a predicate, TRUE, FALSE or a parenthesis
+POST /select?format=csv HTTP/1.1 >> ZIP = 36067
+  => 422 refused 91 line 1 column 1 UnknownColumn\nno column has this name, and the nearest is ZIPL
+POST /select HTTP/1.1 >> \xff => 400
+POST /select HTTP/1.1 >> FENAME = '\xc3' => 400
+POST /select?score=FENAME HTTP/1.1 >> TRUE => 400
+POST /select?score= HTTP/1.1 >> TRUE => 400
+POST /select?score=x&score=ZIPL HTTP/1.1 >> TRUE => 400
+POST /select?format=shape HTTP/1.1 >> TRUE => 400
+POST /select?format HTTP/1.1 >> TRUE => 400
+POST /select?filter-lang=sql HTTP/1.1 >> TRUE => 400
+POST /compile HTTP/1.1 >> TRUE => 200 octets {asm mov r6, r1 | mov r0, 1 | exit | mov r0, 0 | exit}
+POST /compile?filter-lang=cql2-json&format=x HTTP/1.1 >> true => 200 octets {asm mov r6, r1 | mov r0, 1 | exit | mov r0, 0 | exit}
+POST /compile HTTP/1.1 >> FRLAT > 1000 => 422 refused 93 line 1 column 9 NumberRange\na number doesn't fit
+POST /compile?filter-lang=cql2 HTTP/1.1 >> TRUE => 400
+POST /compile?score=RT HTTP/1.1 >> TRUE => 400
+POST /compile HTTP/1.1 >> TRUE\xff => 400
+GET /select{end} => 405 POST
+GET /compile{end} => 405 POST
+GET /filter-jobs{end} => 405 POST
+GET /explain{end} => 405 POST
+GET /geocode-batch{end} => 405 POST"#,
+};
+
+// Listings of programs.
+pub const LISTINGS: Table = Table {
+    rows: 6,
+    text: r"{rt1}\n
+POST /explain HTTP/1.1 >> {every} => 200 text 0: mov r0, 1                            ; r1 = record + 0, r10 = frame + 512\n1: exit                                 ; r0 = 1\naccepted\n
+POST /explain HTTP/1.1 >> {stuck} => 422 0: exit                                 ; r0 = ?, r1 = record + 0, r10 = frame + 512\nrefused: reads r0, of which nothing is known\nrefused 40 place 0 ReadsNothing(0)
+POST /explain HTTP/1.1 >> => 422 refused 10 Empty
+POST /explain HTTP/1.1 >> {unknown} => 422 refused 13 place 0 UnknownOpcode
+POST /explain HTTP/1.1 >> {backward} => 422 refused 30 place 1 BackwardJump",
+};
+
+// Files of addresses, and jobs of filters. The servers' counties have the codes 01001 and 01003.
+pub const SCRIPTS: Table = Table {
+    rows: 23,
+    text: r"one
+POST /geocode-batch HTTP/1.1 >> id,number,name\n7,251,Lantern\n8,252,Lantern\n
+  => 200 csv id,status,reason,longitude,latitude,tlid,side,fedirp,fename,fetype,fedirs,zip,county,from,to\n7,match,,-86.629812,32.412161,107000725,L,,Lantern,Ct,,36067,01001,201,299\n8,no_match,no_such_number,,,,,,,,,,,,\n
+POST /geocode-batch HTTP/1.1 >> number,name
+  => 200 csv id,status,reason,longitude,latitude,tlid,side,fedirp,fename,fetype,fedirs,zip,county,from,to\n
+POST /geocode-batch HTTP/1.1 >> => 422 refused 100 NoHeader
+POST /geocode-batch HTTP/1.1 >> id,number\n => 422 refused 101 line 1 NoColumn
+POST /geocode-batch HTTP/1.1 >> number,name\n1,\xff\n => 422 refused 102 line 2 NotUtf8
+
+{rt1 FENAME=Oak}\n | {rt1}\n
+POST /geocode-batch HTTP/1.1 >> number,name\n101,main\n
+  => 200 csv id,status,reason,longitude,latitude,tlid,side,fedirp,fename,fetype,fedirs,zip,county,from,to\n2,match,,-86.500000,32.400000,123456789,L,,Main,,,36067,01003,101,199\n
+POST /select HTTP/1.1 >> FENAME = 'Main' => 200 octets 0\t{rt1}\n
+POST /select HTTP/1.1 >> FENAME <> 'Elm' => 200 octets 0\t{rt1 FENAME=Oak}\n0\t{rt1}\n
+POST /filter-jobs?score=ZIPL HTTP/1.1 >> FENAME = 'Main' => 200 text 1\n
+POST /filter-jobs?filter-lang=cql2-json HTTP/1.1 >> true => 200 text 2\n
+turn => 2 2
+GET /jobs/1{end} => 200 octets 2 2\n36067\t{rt1}\n
+POST /filter-jobs HTTP/1.1 >> ZIP = 36067
+  => 422 refused 91 line 1 column 1 UnknownColumn\nno column has this name, and the nearest is ZIPL
+POST /filter-jobs?score=x HTTP/1.1 >> TRUE => 400
+POST /filter-jobs HTTP/1.1 >> \xff => 400
+GET /open-jobs{end} => 200 text 1 2 2\n2 0 2\n
+
+-
+POST /select?format=rows HTTP/1.1 >> TRUE => 200 octets
+jobs => 64
+POST /filter-jobs HTTP/1.1 >> TRUE => 503 refused 70 Full
+POST /filter-jobs HTTP/1.1 >> TRUE AND => 422 refused 90 line 1 column 9 Syntax\nexpected a predicate, TRUE, FALSE or a parenthesis",
+};
+
+// As `failures::GROWTHS`: rows marked `+` allocate.
+pub const GROWTHS: Table = Table {
+    rows: 16,
+    text: r"{rt1\n*2}
++ POST /select HTTP/1.1 >> FENAME = 'Main' => 200 octets {0\trt1\n*2}
++ POST /select?f%6frmat=r%6fws&sc%6fre=FR%41DDL HTTP/1.1 >> ZIPL = 1 => 200 octets
++ POST /select HTTP/1.1 >> ZIP = 36067
+  => 422 refused 91 line 1 column 1 UnknownColumn\nno column has this name, and the nearest is ZIPL
++ POST /select?format=%78 HTTP/1.1 >> TRUE => 400
++ POST /compile HTTP/1.1 >> TRUE => 200 octets {asm mov r6, r1 | mov r0, 1 | exit | mov r0, 0 | exit}
++ POST /compile HTTP/1.1 >> FRLAT > 1000 => 422 refused 93 line 1 column 9 NumberRange\na number doesn't fit
++ POST /explain HTTP/1.1 >> {every} => 200 text 0: mov r0, 1                            ; r1 = record + 0, r10 = frame + 512\n1: exit                                 ; r0 = 1\naccepted\n
++ POST /explain HTTP/1.1 >> {backward} => 422 refused 30 place 1 BackwardJump
++ POST /geocode-batch HTTP/1.1 >> number,name\n251,Elm\n
+  => 200 csv id,status,reason,longitude,latitude,tlid,side,fedirp,fename,fetype,fedirs,zip,county,from,to\n2,no_match,no_such_street,,,,,,,,,,,,\n
++ POST /geocode-batch HTTP/1.1 >> id,number\n => 422 refused 101 line 1 NoColumn
++ POST /filter-jobs HTTP/1.1 >> FENAME = 'Main' => 200 text 1\n
++ POST /filter-jobs HTTP/1.1 >> ZIP = 36067
+  => 422 refused 91 line 1 column 1 UnknownColumn\nno column has this name, and the nearest is ZIPL
++ turn => 2 2
+- GET /jobs/1{end} => 200 octets 2 2\n{0\trt1\n*2}
++ GET /open-jobs{end} => 200 text 1 2 2\n",
+};
