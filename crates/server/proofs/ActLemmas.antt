@@ -1,7 +1,6 @@
 -- The rounds of a server over the program's state are replies and turns.
-use Rattle.std.proofs.Common.{ℕ, zero, suc, List, [], ◌∷◌, Option, Some, None, ap, subst}
+use Rattle.std.proofs.Common.{◌≡◌, ℕ, zero, suc, List, [], ◌∷◌, Option, Some, None, ap, subst}
 use Rattle.std.specs.Prelude.{Result, Ok, Err}
-use Rattle.jobs.specs.Table.{Table}
 use Rattle.jobs.specs.declared.event.Reply.{Reply as JobReply}
 use Rattle.server.specs.Acceptor.{Accepts}
 use Rattle.server.specs.Repeats.{HasRepeated, Repeats}
@@ -10,6 +9,7 @@ use Rattle.server.specs.State.{HasServed, HasTurned}
 use Rattle.server.specs.Tally.{ServesTallied, Tallied, TurnsTallied}
 use Rattle.server.specs.declared.limits.Limits.{Limits}
 use Rattle.counted_io.specs.declared.writing.WriteFault.{WriteFault}
+use Rattle.wire.proofs.EventLemmas.{same_state}
 use Rattle.wire.specs.Event.{Act, AreActs, Replied, Rested, Turned}
 use Rattle.wire.specs.Serving.{Connection, IsReplied, IsServed}
 use Rattle.wire.specs.State.{StateParts}
@@ -22,10 +22,10 @@ use Rattle.wire.specs.declared.decision.RequestRead.{RequestRead}
 abbrev LeadsTo : StateParts → StateParts → Type 0
 LeadsTo old new = (acts : List Act) × AreActs old acts new
 
-after_turn : (old now new : StateParts) (reply : Option JobReply) → IsTurn old.table reply now.table → LeadsTo now new → LeadsTo old new
-after_turn old now new None turn leads =
-    (Rested ∷ leads.0, (now, (turn.0, ap (λ (table : Table). record { table = table }) turn.1), leads.1))
-after_turn old now new (Some reply) turn leads = (Turned turn.0 reply ∷ leads.0, (now, (turn.1, turn.2), leads.1))
+after_turn : (old now new : StateParts) (reply : Option JobReply) → IsTurn old.table reply now.table → now.codes ≡ old.codes → LeadsTo now new
+    → LeadsTo old new
+after_turn old now new None turn codes leads = (Rested ∷ leads.0, (now, (turn.0, same_state now old turn.1 codes), leads.1))
+after_turn old now new (Some reply) turn codes leads = (Turned turn.0 reply ∷ leads.0, (now, (turn.1, turn.2, codes), leads.1))
 
 module _ (old now : Connection) (new : StateParts) (leads : LeadsTo now.state new) where
   after_reply : (request_read : RequestRead) (written : Result (Unit {0}) WriteFault) → IsReplied request_read written old now → LeadsTo old.state new
@@ -50,7 +50,7 @@ module _ {L C : Type 0} (accepts : Accepts L C) (limits : Limits) where
       let turn = round.makes_turn.makes_turn in
       let served = round.serves_client.serves_client.serves_client in
       after_serving _ _ new.service.service
-      (after_turn round.served.service now.service.service new.service.service turn.0 turn.1 (all_are_acts count now new rounds))
+      (after_turn round.served.service now.service.service new.service.service turn.0 turn.1 turn.2 (all_are_acts count now new rounds))
       served.result served.is_served
 
   pub rounds_are_acts : (old new : Server L (Tallied StateParts)) → HasRepeated (IsRound rules) old new

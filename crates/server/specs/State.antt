@@ -28,6 +28,6 @@ pub record HasServed (old : StateParts) (streams : ClientStreams) (close : Close
   pub returns_request_read : ReturnsRequestRead result (connection old streams) (connection new new_streams)
   pub closes : close ≡ close_of result
 
--- a turn was made, or there was none to make
+-- a turn was made, or there was none to make; the codes stay
 abbrev pub HasTurned : StateParts → StateParts → Type 0
-HasTurned old new = (reply : Option JobReply) × IsTurn old.table reply new.table
+HasTurned old new = (reply : Option JobReply) × IsTurn old.table reply new.table × (new.codes ≡ old.codes)
