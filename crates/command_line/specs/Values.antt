@@ -11,8 +11,8 @@ use Rattle.decimal.specs.Numeral.{decimal_in}
 use Rattle.clap.specs.Matches.{found_of}
 use Rattle.clap.specs.Walk.{Row, Text, all_of, first_of, rows_of}
 use Rattle.clap.specs.declared.parser.matches.ArgMatches.{ArgMatches}
-use Rattle.commands.specs.declared.filter.FilterLanguage.{FilterLanguage}
-use Rattle.commands.specs.declared.filter.FilterLanguage.TheVariants as language
+use Rattle.filters.specs.declared.filter.FilterLanguage.{FilterLanguage}
+use Rattle.filters.specs.declared.filter.FilterLanguage.TheVariants as language
 use Rattle.cql2_tokens.specs.Name.{column_named}
 use Rattle.cql2.specs.declared.column.Column.{Column}
 use Rattle.cql2.specs.declared.column.Column.TheVariants.{Numeric}

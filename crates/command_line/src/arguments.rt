@@ -11,7 +11,7 @@ macro_rules! help_end {
             "  2  usage\n",
             "  3  a file or output that can't be used\n",
             "  4  out of memory\n\n",
-            "extractd 1.0.0",
+            "extractd 1.1.0",
         )
     };
 }
@@ -174,7 +174,7 @@ fn program_command<'a>(alloc: Global) -> Result<Command<'a>, AllocError>
         .about(
             "Selects TIGER/Line street segments by a filter or a BPF program, finds house numbers, verifies and converts programs, and does so over HTTP",
         )
-        .version("1.0.0")
+        .version("1.1.0")
         .after_help(help_end!(
             "Examples:
   extractd select --where \"CFCC LIKE 'A4%' AND ZIPL = 36067\" --data tiger 01001 > rows.tsv

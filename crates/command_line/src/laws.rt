@@ -2,7 +2,7 @@
 ghost use Rattle.std.specs.Prelude.{◌≡◌, [], ◌∷◌, None, codes, false, map, true};
 ghost use Rattle.command_line.specs.Request.{HasNoRequest, IsRequestOf};
 ghost use Rattle.commands.specs.declared.compile.Compile.{Compile};
-ghost use Rattle.commands.specs.declared.filter.FilterLanguage.TheVariants as language;
+ghost use Rattle.filters.specs.declared.filter.FilterLanguage.TheVariants as language;
 ghost use Rattle.commands.specs.declared.geocode_batch.GeocodeBatch.{GeocodeBatch};
 ghost use Rattle.commands.specs.declared.request.Request.TheVariants as request;
 ghost use Rattle.commands.specs.declared.run.Run.{Run};

@@ -9,10 +9,10 @@ ghost use Rattle.command_line.specs.declared.fault.ArgumentsFault.TheVariants as
 
 use crate::fault::{ArgumentsFault, CODE_LIMIT};
 use clap::{Arg, ArgAction, ArgMatches};
-use commands::{FilterLanguage, FilterOptions};
 use cql2::{Column, NumericColumn};
 use cql2_text::column_named;
 use decimal::{are_digits, decimal_value};
+use filters::{FilterLanguage, FilterOptions};
 use std::alloc::Global;
 
 /// Returns the required option `--name VALUE`.

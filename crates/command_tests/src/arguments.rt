@@ -171,7 +171,7 @@ extractd --help; extractd verify --program street.bpf
 extractd --help; extractd explain --program street.bpf
 extractd --help; extractd asm --source street.s > street.bpf
 extractd --help; extractd dis --program street.bpf
-extractd --help; extractd 1.0.0
+extractd --help; extractd 1.1.0
 extractd --help; 4  out of memory
 extractd run --help; extractd run --program street.bpf --data tiger 01001 > rows.tsv
 extractd run --help; --format csv --columns TLID,FENAME --geometry none 01001 > names.csv

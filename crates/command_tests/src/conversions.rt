@@ -28,7 +28,7 @@ extractd asm --source p.s; {asm exit}; 0;; p.s: \x3b \xc3\xa4\nexit\n
 ",
 };
 
-// The examples in docs/program-text.md; the one with a label is above. The bytes are those of LLVM's assembler if it has the instruction.
+// The examples in docs/instructions.md; the one with a label is above. The bytes are those of LLVM's assembler if it has the instruction.
 pub const DOCUMENTED: Table = Table {
     rows: 4,
     text: r"

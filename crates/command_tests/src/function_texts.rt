@@ -1,5 +1,6 @@
-//! Functions of filters as texts: between the vertices of a shape there are commas, between rings `/`, and between polygons `|`.
-use cql2::{Function, Polygons, Shape, Vertex};
+//! Functions of filters as texts: between the vertices of a shape there are commas, between rings `/`, and between polygons `|`. A bound of a box
+//! has its femtodegrees after a `+`.
+use cql2::{Bound, Bounds, Function, Polygons, Shape, Vertex};
 use std::alloc::{AllocError, Global};
 
 /// Appends bytes in Latin-1.
@@ -25,6 +26,26 @@ fn push_vertices(alloc: Global, text: &mut String, vertices: &[Vertex]) -> Resul
         push_vertex(alloc, text, *vertex)?;
     }
     Ok(())
+}
+
+/// Appends the millionths of a bound, and its further femtodegrees if there are any.
+fn push_bound(alloc: Global, text: &mut String, bound: Bound) -> Result<(), AllocError> {
+    let (millionths, rest) = (bound.millionths, bound.rest);
+    if rest == 0 {
+        return text.push_str(format!(in alloc; "{millionths}")?.as_str());
+    }
+    text.push_str(format!(in alloc; "{millionths}+{rest}")?.as_str())
+}
+
+/// Appends the southwest and the northeast corner of a box.
+fn push_bounds(alloc: Global, text: &mut String, bounds: &Bounds) -> Result<(), AllocError> {
+    push_bound(alloc, text, bounds.west)?;
+    text.push(' ')?;
+    push_bound(alloc, text, bounds.south)?;
+    text.push(',')?;
+    push_bound(alloc, text, bounds.east)?;
+    text.push(' ')?;
+    push_bound(alloc, text, bounds.north)
 }
 
 /// Appends polygons.
@@ -60,7 +81,7 @@ fn push_shape(alloc: Global, text: &mut String, shape: &Shape<Global>) -> Result
         }
         Shape::Bounds(bounds) => {
             text.push_str("box ")?;
-            push_vertices(alloc, text, &[bounds.southwest, bounds.northeast])
+            push_bounds(alloc, text, bounds)
         }
         Shape::Polygons(several) => {
             text.push_str("polygons ")?;
@@ -92,6 +113,14 @@ pub(crate) fn push_function(
         Function::StartsIn(several) => {
             text.push_str("starts ")?;
             push_polygons(alloc, text, several)
+        }
+        Function::StartsInBounds(bounds) => {
+            text.push_str("starts box ")?;
+            push_bounds(alloc, text, bounds)
+        }
+        Function::Within(bounds) => {
+            text.push_str("within ")?;
+            push_bounds(alloc, text, bounds)
         }
     }
 }

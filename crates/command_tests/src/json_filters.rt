@@ -1,5 +1,5 @@
 //! Filters in JSON and in text that are the same.
-use commands::{FilterLanguage, FilterOptions};
+use filters::{FilterLanguage, FilterOptions};
 use fixtures::{Table, TableFault, cells};
 use std::alloc::Global;
 

@@ -22,9 +22,9 @@ mod echoes;
 mod endings;
 mod files;
 #[cfg(test)]
-mod filter_texts;
+mod filter_failures;
 #[cfg(test)]
-mod filters;
+mod filter_texts;
 #[cfg(test)]
 mod formats;
 #[cfg(test)]
@@ -41,6 +41,8 @@ mod reads;
 #[cfg(test)]
 #[cfg(test)]
 mod runs;
+#[cfg(test)]
+mod selections;
 #[cfg(test)]
 mod shape_texts;
 #[cfg(test)]

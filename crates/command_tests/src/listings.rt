@@ -2,7 +2,7 @@
 use fixtures::Table;
 
 pub const LISTINGS: Table = Table {
-    rows: 13,
+    rows: 14,
     text: r"
 extractd explain --program p.bpf; 0: mov r0, 0                            \x3b r1 = record + 0, r10 = frame + 512\n1:
   exit                                 \x3b r0 = 0\naccepted\n; 0;; p.bpf: {asm mov r0, 0 | exit}
@@ -37,8 +37,14 @@ extractd explain --program p.bpf --lines l;; 1; refused 111 line 1 LineWithoutPl
   int x\n
 extractd explain --program p.bpf --lines l;; 1; refused 112 line 3 LineOutOfOrder; p.bpf: {asm mov r0, 0 | exit}; l:
   0\tx\n1\tx\n0\tx\n
-extractd explain --program p.bpf --lines l;; 1; refused 30 place 1 BackwardJump; p.bpf: {asm mov r0, 1 | ja -1 | exit};
-  l: int x\n
+extractd explain --program p.bpf --lines l; 0: b7 00 00 00 01 00 00 00  mov r0, 1\n1: 05 00 ff ff 00 00 00 00  ja -1\nrefused:
+  jumps back, to place 1\n2: 95 00 00 00 00 00 00 00  exit\n; 1; refused 30 place 1 BackwardJump; p.bpf: {asm mov r0, 1 | ja
+  -1 | exit}; l: int x\n
+extractd explain --program p.bpf --lines l; 1: 18 02 00 00 05 00 00 00  lddw r2, 0x0000000000000005\n2: 00 00 00 00 00 00
+  00 00\n3: b7 01 00 00 01 00 00 00  mov r1, 1\n4: b7 01 00 00 02 00 00 00  mov r1, 2\n\x3b return g(x)\n5: b7 03 00 00
+  05 00 00 00  mov r3, 5\n\x3b g\n6: 85 10 00 00 ff ff ff ff\nrefused: calls another function (src_reg 1), whose place
+  clang left to a linker\n7: 95 00 00 00 00 00 00 00  exit\n; 1; refused 15 place 6 UnusedNotZero; p.bpf: {asm mov r1, 0 |
+  lddw r2, 5 | mov r1, 1 | mov r1, 2 | mov r3, 5 | hex 85100000ffffffff | exit}; l: 0\tint x\n5\treturn g(x)\n6\tg\n
 extractd explain --program p.bpf --lines l;; 3; error: l: not found; p.bpf: {asm mov r0, 0 | exit}
 extractd explain --program p.bpf;; 1; refused 10 Empty; p.bpf:
 ",

@@ -10,7 +10,7 @@ use std::test::Fail;
 // Rows in the form of `Row`. After `reads` comes the number of reads of a file that isn't read to its end. Each type 1 line that `run` reads
 // yields a row.
 const REQUESTS: Table = Table {
-    rows: 50,
+    rows: 52,
     text: r#"
 extractd run --program p.bpf --data d 01001; 0\t{rt1}\n0\t{rt1}\n; 0;; p.bpf: {every}; d/TGR01001.RT1: {rt1\n*2}
 extractd run --program p.bpf --data d 01001;; 0;; p.bpf: {every}; d/TGR01001.RT1:
@@ -85,6 +85,11 @@ extractd explain --program p.bpf --lines l;
   \x3b x\n0: mov r0, 1                            \x3b r1 = record + 0, r10 = frame + 512\n1: exit                                 \x3b r0 = 1\naccepted\n; 0;; p.bpf: {every}; l: 0\tx\n
 extractd explain --program p.bpf; 0: exit                                 \x3b r0 = ?, r1 = record + 0, r10 = frame + 512\nrefused: reads r0, of which nothing is
   known\n; 1; refused 40 place 0 ReadsNothing(0); p.bpf: {stuck}
+extractd explain --program p.bpf --lines l; \x3b x\n0: 85 10 00 00 ff ff ff ff\nrefused: calls another function (src_reg 1),
+  whose place clang left to a linker\n1: 95 00 00 00 00 00 00 00  exit\n; 1; refused 15 place 0 UnusedNotZero; p.bpf: {asm hex
+  85100000ffffffff | exit}; l: 0\tx\n
+extractd explain --program p.bpf; 0: b7 00 00 00 01 00 00 00  mov r0, 1\nrefused: the last instruction isn't exit\n; 1;
+  refused 33 place 0 LastNotExit; p.bpf: {asm mov r0, 1}
 extractd explain --program p.bpf --lines l;; 3; error: l: not found; p.bpf: {every}
 extractd asm --source p.s; {asm mov r0, 1 | ja +0 | exit}; 0;; p.s: mov r0, 1\nja out\nout:\nexit\n
 extractd asm --source p.s; {asm exit *2000}; 0;; p.s: {text exit\n*2000}
@@ -110,7 +115,7 @@ extractd geocode --data d --number 151 --name '' 01001;; 2; error: --name is 1 t
 extractd serve --data d --port 8080 01001;; 2; error: serve needs a socket
 extractd run --program p.bpf 01001;; 2; error: the following required arguments were not provided:\n  --data
   <DIR>\n\nUsage: extractd run --program <FILE> --data <DIR> <CODE>\n\nFor more information, try '--help'.
-extractd --version;; 2; extractd 1.0.0
+extractd --version;; 2; extractd 1.1.0
 "#,
 };
 

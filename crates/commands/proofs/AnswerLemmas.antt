@@ -5,20 +5,22 @@ use Rattle.refusals.specs.Refusal.{RefusalParts}
 use Rattle.counted_io.specs.Counting.{CountsFault, CountsFlush}
 use Rattle.counted_io.specs.ReaderWriter.{WriteCounts, Writer}
 use Rattle.counted_io.specs.declared.writing.WriteFault.{WriteFault}
-use Rattle.commands.specs.Command.{CarriesOut, Ends, IsCarriedOut, IsFlushed, IsTextRefused, IsRefusal, IsRefusalOf, IsRefusedWith}
+use Rattle.commands.specs.Command.{CarriesOut, Ends, IsCarriedOut, IsFlushed, IsFilterRefused, AreAddressesRefused, IsRefusal, IsRefusalOf, IsRefusedWith}
 use Rattle.commands.specs.Command.{Writes, after_failed_flush, after_flush, after_write}
 use Rattle.named_files.specs.County.{file_name}
 use Rattle.commands.specs.Failure.{IsFailureBeforeFlush, Reports, refusal_status, status}
 use Rattle.named_files.specs.Files.{Disk, OpenResults}
 use Rattle.commands.specs.Command.{IsUnusable, of_county, of_county_file, of_file, of_source, of_two, of_write}
-use Rattle.commands.proofs.ClassLemmas.{address_status, filter_flaw_status, filter_status}
+use Rattle.commands.proofs.ClassLemmas.{address_status, filter_status}
 use Rattle.commands.proofs.LayerLemmas.{header_counts, header_fault_counts, headed_fault_counts, layer_fault_counts}
 use Rattle.commands.proofs.SelectLemmas.{counties_counts}
+use Rattle.filters.specs.Failure.{refusal_of}
+use Rattle.filters.specs.declared.failure.FilterFailure.{FilterFailure}
 use Rattle.layers.specs.LayerParts.{parts_of}
 use Rattle.commands.specs.declared.request.Request.{Request}
-use Rattle.commands.specs.declared.request.Request.TheVariants.{Run, Compile, GeocodeBatch, Select}
+use Rattle.commands.specs.declared.request.Request.TheVariants.{Run, Compile, GeocodeBatch, Select, Explain}
 use Rattle.commands.specs.declared.failure.Failure.{Failure}
-use Rattle.commands.specs.declared.failure.Failure.TheVariants.{Refusal, Write, File, CountyFile, NotUtf8, NoLine, Noted, Pointed, County, Output}
+use Rattle.commands.specs.declared.failure.Failure.TheVariants.{Refusal, Write, File, CountyFile, NotUtf8, NoLine, Filter, Addresses, County, Output}
 
 -- an attempted flush is counted
 pub flush_counted : (flush : Result (Unit {0}) Error) (counts counts' : WriteCounts) → CountsFlush flush counts counts'
@@ -36,15 +38,22 @@ write_counts (Select arguments) known fault out out' (program, is_program, inr (
     subst (λ (counts : WriteCounts). CountsFault fault counts out'.counts)
     (counties_counts is.written ∙ header_counts (parts_of arguments.layer) out headed header)
     (layer_fault_counts (parts_of arguments.layer) program fault is.stops.old is.stops.new is.between out' is.stops.outcome)
+write_counts (Explain arguments) known fault out out' (inl is) = is.written.1
+write_counts (Explain arguments) known fault out out' (inr is) = is.written.1
 write_counts request known fault out out' is = is.written.1
 
--- a text's refusal is never an I/O failure
-text_usable : (request : Request) (known : List ℕ → Option (List ℕ)) (refusal : RefusalParts) → IsTextRefused request known refusal
+-- a filter is never refused for a failed read or write
+filter_usable : (request : Request) (known : List ℕ → Option (List ℕ)) (failure : FilterFailure) → IsFilterRefused request known failure
+    → refusal_status (refusal_of failure) ≢ 3
+filter_usable (Compile arguments) known failure is = filter_status is.text arguments.filter_options failure is.refused
+filter_usable (Select arguments) known failure is = filter_status arguments.filter.now arguments.filter_options failure is
+filter_usable request known failure is = absurd is
+
+-- nor are addresses
+addresses_usable : (request : Request) (known : List ℕ → Option (List ℕ)) (refusal : RefusalParts) → AreAddressesRefused request known refusal
     → refusal_status refusal ≢ 3
-text_usable (Compile arguments) known refusal is = filter_status is.text arguments.filter_options refusal is.refused
-text_usable (Select arguments) known refusal is = filter_status arguments.filter.now arguments.filter_options refusal is
-text_usable (GeocodeBatch arguments) known refusal is = λ three. address_status is.fault (ap refusal_status (sym is.refused) ∙ three)
-text_usable request known refusal is = absurd is
+addresses_usable (GeocodeBatch arguments) known refusal is = λ three. address_status is.fault (ap refusal_status (sym is.refused) ∙ three)
+addresses_usable request known refusal is = absurd is
 
 flushed_as : {out unflushed out' : Writer} → unflushed ≡ out → IsFlushed unflushed out' → IsFlushed out out'
 flushed_as {out' = out'} = subst (λ (writer : Writer). IsFlushed writer out')
@@ -86,9 +95,9 @@ module _ {R : Type 0} {opens : OpenResults R} {request : Request} {disk disk' : 
   refused_flushed : (failure : Failure) → CarriesOut opens request (Err failure) disk disk' out unflushed → Reports failure errors errors'
       → status failure ≡ 1 → IsRefusal request disk.known out out' errors errors'
   refused_flushed (Refusal refusal) carried reported one = refusal_reported disk.known unflushed flush (Refusal refusal) carried.outcome.0 reported one
-  refused_flushed (Noted refusal note) carried reported one = refusal_reported disk.known unflushed flush (Noted refusal note) carried.outcome reported one
-  refused_flushed (Pointed flaw pointer note) carried reported one =
-      refusal_reported disk.known unflushed flush (Pointed flaw pointer note) carried.outcome reported one
+  refused_flushed (Filter failure) carried reported one = refusal_reported disk.known unflushed flush (Filter failure) carried.outcome reported one
+  refused_flushed (Addresses refusal note) carried reported one =
+      refusal_reported disk.known unflushed flush (Addresses refusal note) carried.outcome reported one
   refused_flushed (County code refusal) carried reported one = refusal_reported disk.known unflushed flush (County code refusal) carried.outcome.0 reported one
   refused_flushed failure carried reported one = absurd (omega (arith, one))
 
@@ -98,8 +107,9 @@ module _ {R : Type 0} {opens : OpenResults R} {request : Request} {disk disk' : 
       of_county (refusal_reported disk.known unflushed flush (Refusal refusal) carried.outcome.0 reported three) (carried.outcome.1 three)
   unusable_flushed (County code refusal) carried reported three =
       of_county (refusal_reported disk.known unflushed flush (County code refusal) carried.outcome.0 reported three) (carried.outcome.1 three)
-  unusable_flushed (Noted refusal note) carried reported three = absurd (text_usable request disk.known refusal carried.outcome.0 three)
-  unusable_flushed (Pointed flaw pointer note) carried reported three = absurd (filter_flaw_status flaw three)
+  unusable_flushed (Filter failure) carried reported three = absurd (filter_usable request disk.known failure carried.outcome.0 three)
+  unusable_flushed (Addresses refusal note) carried reported three =
+      absurd (addresses_usable request disk.known refusal carried.outcome.0 three)
   unusable_flushed (Write fault) carried reported three =
       of_write fault unflushed carried.outcome (write_counts request disk.known fault out unflushed carried.outcome) reported
       flush.unchanged (Ok tt) (flush.failed, flush.empty, flush.flushes)

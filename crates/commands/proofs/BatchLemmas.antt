@@ -314,7 +314,7 @@ module _ {R : Type 0} {opens : OpenResults R} (batch : GeocodeBatch) {disk disk'
   -- not all of the file's addresses are read
   pub addresses_failed : (fault : AddressFault) (failed : Failure) → IsAddressesFault inputs.file fault → IsOfAddresses fault failed
       → CarriesOut opens (request.GeocodeBatch batch) (Err failed) disk disk' out out
-  addresses_failed fault (failure.Noted refusal note) is_failure is = record {
+  addresses_failed fault (failure.Addresses refusal note) is_failure is = record {
     outcome = (record { inputs = inputs; fault = fault; is_fault = addresses_fault inputs.file fault is_failure is.0; refused = is.1 }, refl);
     names = tt;
     counts = λ other. counts;

@@ -1,10 +1,10 @@
 -- How `explain` is carried out.
-use Rattle.std.proofs.Common.{◌≡◌, ℕ, List, Option, Some, Result, Ok, Err, Bor, refl, ap, subst, inl, inr, arith}
+use Rattle.std.proofs.Common.{◌≡◌, ℕ, List, Option, Some, Result, Ok, Err, Bor, refl, sym, ap, ◌∙◌, subst, inl, inr, arith}
 use Rattle.std.proofs.Math.Path.{fun_ext}
 use Rattle.std.specs.Io.KnownBytes.{Keeps}
 use Rattle.bpf_explain.specs.Explanation.{IsExplained}
 use Rattle.bpf_source_lines.specs.LinesFault as lines_fault
-use Rattle.bpf_source_lines.specs.SourceLines.{SourceLine, lines_in}
+use Rattle.bpf_source_lines.specs.SourceLines.{SourceLine, lines_in, lines_or_none}
 use Rattle.bpf_source_lines.specs.declared.source_lines.LinesFault.{LinesFault}
 use Rattle.bpf_insn.specs.declared.instruction.Insn.{Insn}
 use Rattle.bpf_program.specs.ProgramFault as program_fault
@@ -17,7 +17,7 @@ use Rattle.bpf_verify.specs.declared.fault.VerifyFault.TheVariants as verify
 use Rattle.counted_io.specs.ReaderWriter.{WriteCounts, Writer}
 use Rattle.counted_io.specs.Writing.{WritesText}
 use Rattle.commands.specs.Command.{CarriesOut}
-use Rattle.commands.specs.Explain.{HoldsLines, Inputs, IsFlowFault, WritesExplained, of_lines, of_memory, of_program, of_verdict}
+use Rattle.commands.specs.Explain.{HoldsLines, Inputs, IsFlowFault, WritesExplained, WritesRefused, of_lines, of_memory, of_program, of_verdict}
 use Rattle.commands.specs.Failure.{refusal_status}
 use Rattle.named_files.specs.Files.{Disk, IsUnfailed, OpenResults}
 use Rattle.commands.specs.declared.explain.Explain.{Explain}
@@ -50,15 +50,56 @@ verdict_status place cause refusal is three = grind (arith, is, three)
 module _ {R : Type 0} {opens : OpenResults R} (explain : Explain) {disk later disk' : Disk} {out : Writer} (before : IsUnfailed disk later)
     (after : IsUnfailed later disk')
     (same : (name : List ℕ) → later.known name ≡ disk.known name) where
-  -- the program's bytes or its jumps are refused
-  pub flow_refused : (bytes : List ℕ) (fault : ProgramFault) → Keeps (disk.known explain.program.now) (Some bytes) → IsFlowFault bytes fault
-      → CarriesOut opens (request.Explain explain) (Err (failure.Refusal (program_fault.refusal fault))) disk disk' out out
-  flow_refused bytes fault holds is = record {
-    outcome = (of_program bytes holds fault is refl refl, λ three. absurd (flow_status bytes fault is three));
+  -- why the program's bytes or its jumps are refused is written, or memory runs out first
+  pub refused_carried : {written : Writer} (program file : List ℕ) (fault : ProgramFault) (result : Result (Unit {0}) Failure)
+      → Keeps (disk.known explain.program.now) (Some program) → HoldsLines later.known explain.lines file → IsFlowFault program fault
+      → WritesRefused program (lines_or_none (lines_in file)) fault result out written → CarriesOut opens (request.Explain explain) result disk disk' out written
+  refused_carried program file fault (Ok done) holds held is wrote = absurd wrote
+  refused_carried {written} program file fault (Err (failure.Write output)) holds held is wrote = record {
+    outcome = inr (record {
+      fault = fault;
+      text = wrote.0;
+      inputs = record {
+        program = program;
+        is_program = holds;
+        is_fault = is;
+        file = file;
+        is_file = holds_before explain.lines file same held;
+        lists = wrote.1;
+      };
+      output = output;
+      failed = refl;
+      written = wrote.2;
+    });
     names = tt;
     counts = λ other. unfailed_both before after;
-    unflushed = refl;
+    unflushed = fault_unflushed output out.counts written.counts wrote.2.1;
   }
+  refused_carried program file fault (Err (failure.Refusal refusal)) holds held is (inl wrote) = record {
+    outcome = (of_memory wrote.0 wrote.1, λ three. absurd (memory_status refusal wrote.0 three));
+    names = tt;
+    counts = λ other. unfailed_both before after;
+    unflushed = ap (λ (writer : Writer). writer.counts.flushes) wrote.1;
+  }
+  refused_carried program file fault (Err (failure.Refusal refusal)) holds held is (inr (text, lists, is_refusal, wrote)) = record {
+    outcome = (
+      of_program fault text
+          (record {
+            program = program;
+            is_program = holds;
+            is_fault = is;
+            file = file;
+            is_file = holds_before explain.lines file same held;
+            lists = lists;
+          })
+          is_refusal wrote,
+      λ three. absurd (flow_status program fault is (ap refusal_status (sym is_refusal) ∙ three)),
+    );
+    names = tt;
+    counts = λ other. unfailed_both before after;
+    unflushed = ap (λ (counts : WriteCounts). counts.flushes) wrote.1;
+  }
+  refused_carried program file fault (Err other) holds held is wrote = absurd wrote
 
   -- the source lines are refused
   pub lines_refused : (file : List ℕ) (fault : LinesFault) → HoldsLines later.known explain.lines file → lines_in file ≡ Err fault
@@ -74,27 +115,27 @@ module _ {R : Type 0} {opens : OpenResults R} (explain : Explain) {disk later di
   pub explained_carried : {written : Writer} (inputs : Inputs explain disk.known) (result : Result (Unit {0}) Failure)
       → WritesExplained inputs.code inputs.lines result out written → CarriesOut opens (request.Explain explain) result disk disk' out written
   explained_carried inputs (Ok done) wrote = record {
-    outcome = record {
+    outcome = inl (record {
       inputs = inputs;
       text = wrote.0;
       verdict = Ok tt;
       explained = wrote.1;
       accepted = λ whole. refl;
       written = wrote.2;
-    };
+    });
     names = tt;
     counts = unfailed_both before after;
     unflushed = ap (λ (counts : WriteCounts). counts.flushes) wrote.2.1;
   }
   explained_carried {written} inputs (Err (failure.Write fault)) wrote = record {
-    outcome = record {
+    outcome = inl (record {
       inputs = inputs;
       text = wrote.0;
       verdict = wrote.1;
       explained = wrote.2;
       accepted = λ whole. absurd (let no : ⊥ = cc in no);
       written = wrote.3;
-    };
+    });
     names = tt;
     counts = λ other. unfailed_both before after;
     unflushed = fault_unflushed fault out.counts written.counts wrote.3.1;

@@ -1,7 +1,5 @@
 mod ClassLemmas
 mod CompileLemmas
-mod JsonLemmas
-mod PointedLemmas
 mod ExplainLemmas
 mod ReadLemmas
 mod CarriedLemmas

@@ -4,41 +4,38 @@ use Rattle.std.proofs.Common.{inl, inr, refl, sym, subst, ◌∙◌}
 use Rattle.std.proofs.Math.Path.{fun_ext}
 use Rattle.std.proofs.lemmas.List.{map_more}
 use Rattle.std.specs.Io.KnownBytes.{Appends}
-use Rattle.std.specs.Prelude.{⊤, Vec}
-use Rattle.std.specs.declared.alloc.Global.{Global}
+use Rattle.std.specs.Prelude.{⊤}
 use Rattle.bpf_insn.specs.declared.instruction.Insn.{Insn}
-use Rattle.cql2.specs.declared.filter.Filter.{Filter}
+use Rattle.cql2.specs.declared.filter.Filter.{Filter as AFilter}
 use Rattle.cql2_code.proofs.Compiled.{extract_of_county}
 use Rattle.cql2_code.specs.Chosen.{Chooses}
-use Rattle.cql2_text.specs.declared.fault.FilterFaultKind.{FilterFaultKind}
 use Rattle.extract.specs.ExtractFault.{of_load}
 use Rattle.extract.specs.declared.fault.ExtractFault.{ExtractFault}
 use Rattle.extract.specs.declared.fault.ExtractFault.TheVariants as extract
+use Rattle.filters.specs.Filter.{IsCodeOfText}
+use Rattle.filters.specs.declared.failure.FilterFailure.{FilterFailure}
 use Rattle.counted_io.specs.ReaderWriter.{Writer}
 use Rattle.counted_io.specs.declared.writing.WriteFault.{WriteFault}
 use Rattle.layers.specs.Layer.{LayerParts, WritesHeader, has_shapes, layer_format}
 use Rattle.layers.specs.LayerParts.{parts_of}
 use Rattle.layers.specs.Writing.{IsLayerOutcome, LayerReaders}
-use Rattle.refusals.specs.Refusal.{RefusalParts}
 use Rattle.tl_segments.specs.Shape.{shape_parts}
 use Rattle.tl_segments.specs.declared.fault.CountyFile.{CountyFile as CountyFileType}
 use Rattle.tl_segments.specs.declared.fault.LoadFault.{LoadFault}
 use Rattle.named_files.specs.County.{IsLoaded}
 use Rattle.named_files.specs.Files.{Disk, IsUnfailed, OpenResults}
-use Rattle.commands.specs.Command.{CarriesOut, IsCarriedOut, IsJsonRefused, IsTextRefused}
+use Rattle.commands.specs.Command.{CarriesOut, IsCarriedOut, IsFilterRefused}
 use Rattle.commands.specs.Counties.{IsFileOfOne}
 use Rattle.commands.specs.Failure.{NamesFile, IsUnfailedUnlessUnusable, of_county_extract, status}
-use Rattle.commands.specs.Filter.{IsCodeOfText, IsFilterFailure, IsFilterRefusal, IsJsonRefusal}
 use Rattle.commands.specs.LayerInputs.{HoldLayer, IsFileOfLayer, IsLayerFile}
 use Rattle.commands.specs.Select.{FailsAs, IsCountyOutcome, IsCountyRefusal, IsFileOf, Selection, SelectsCounties, SelectsCounty, SelectsLayer, StopsAt}
 use Rattle.commands.specs.Select as select
 use Rattle.commands.specs.Select.{WritesAllTexts, WritesCounties, WritesCounty, WritesTexts, codes_of, more, none, selection}
-use Rattle.commands.specs.declared.filter.FilterOptions.{FilterOptions}
 use Rattle.commands.specs.declared.request.Request.{Request}
 use Rattle.commands.specs.declared.request.Request.TheVariants as request
 use Rattle.commands.specs.declared.select.Select.{Select}
 use Rattle.commands.specs.declared.failure.Failure.{Failure}
-use Rattle.commands.specs.declared.failure.Failure.TheVariants.{Memory, Write, CountyFile, Noted, Pointed, County}
+use Rattle.commands.specs.declared.failure.Failure.TheVariants.{Write, CountyFile, Filter, County}
 use Rattle.commands.proofs.CountiesLemmas.{codes_at, read_after, texts}
 use Rattle.commands.proofs.LayerLemmas.{ClosesAs}
 
@@ -64,7 +61,7 @@ counties_counts none = refl
 counties_counts {over} (more code before wrote) = county_counts over.layer over.program wrote.1.outcome ∙ counties_counts before
 
 -- what was written is the texts of the segments for which the filter is true
-module _ {A : Type 0} (filter : Filter A) (arguments : Select) (known : List ℕ → Option (List ℕ)) (program : List Insn)
+module _ {A : Type 0} (filter : AFilter A) (arguments : Select) (known : List ℕ → Option (List ℕ)) (program : List Insn)
     (chooses : Chooses program filter arguments.filter_options.score) where
   texts_written : {code : List ℕ} {out out' : Writer} (old new : LayerReaders)
       → HoldLayer (has_shapes (parts_of arguments.layer)) known arguments.«data».now code old → {count : ℕ}
@@ -139,19 +136,10 @@ fails_after opens folder (CountyFile of_folder code file error) disk later disk'
     (is.0, λ as_before. is.1 (as_before ∙ sym unfailed.opens))
 fails_after opens folder failure disk later disk' unfailed is = tt
 
--- a filter is refused
-pub filter_carried : {R : Type 0} {opens : OpenResults R} {request : Request} {disk disk' : Disk} {out : Writer} (text : List ℕ)
-    (options : FilterOptions) (failure : Failure) → IsFilterFailure text options failure
-    → ((refusal : RefusalParts) → IsFilterRefusal text options refusal → IsTextRefused request disk.known refusal)
-    → ((flaw : FilterFaultKind) (pointer : Vec ℕ Global) → IsJsonRefusal text options flaw pointer → IsJsonRefused request disk.known flaw pointer)
-    → IsUnfailed disk disk' → CarriesOut opens request (Err failure) disk disk' out out
-filter_carried text options (Noted refusal note) is each each_json counts =
-    record { outcome = (each refusal is, refl); names = tt; counts = λ other. counts; unflushed = refl }
-filter_carried text options (Pointed flaw pointer note) is each each_json counts =
-    record { outcome = (each_json flaw pointer is, refl); names = tt; counts = λ other. counts; unflushed = refl }
-filter_carried text options Memory is each each_json counts =
-    record { outcome = refl; names = tt; counts = λ other. counts; unflushed = refl }
-filter_carried text options failure is each each_json counts = absurd is
+-- a filter has no program
+pub filter_carried : {R : Type 0} {opens : OpenResults R} {request : Request} {disk disk' : Disk} {out : Writer} (failure : FilterFailure)
+    → IsFilterRefused request disk.known failure → IsUnfailed disk disk' → CarriesOut opens request (Err (Filter failure)) disk disk' out out
+filter_carried failure is counts = record { outcome = (is, refl); names = tt; counts = λ other. counts; unflushed = refl }
 
 same_write : {fault other : WriteFault} → Write fault ≡ Write other → other ≡ fault
 same_write is = cc is

@@ -1,14 +1,12 @@
 -- What a command guarantees for each exit status.
-use Rattle.std.specs.Prelude.{◌≡◌, ◌≢◌, ℕ, List, [], ◌∷◌, ◌++◌, codes, decimal, Option, Some, None, Result, Ok, Err, IfErr, IsUtf8, Vec}
+use Rattle.std.specs.Prelude.{◌≡◌, ◌≢◌, ℕ, List, [], ◌∷◌, ◌++◌, codes, decimal, Option, Some, None, Result, Ok, Err, IfErr, IsUtf8}
 use Rattle.std.specs.Io.KnownBytes.{Keeps}
-use Rattle.std.specs.declared.alloc.Global.{Global}
 use Rattle.std.specs.declared.io.Error.{Error}
 use Rattle.refusals.specs.Refusal.{RefusalParts, line}
 use Rattle.counted_io.specs.Counting.{CountsFault, CountsFlush}
 use Rattle.counted_io.specs.ReaderWriter.{Writer}
 use Rattle.counted_io.specs.Writing as write_fault
 use Rattle.counted_io.specs.declared.writing.WriteFault.{WriteFault}
-use Rattle.cql2_text.specs.declared.fault.FilterFaultKind.{FilterFaultKind}
 use Rattle.commands.specs.Assemble as assemble
 use Rattle.commands.specs.Compile as compile
 use Rattle.commands.specs.Counties.{FailsToRead, IsFileOfCounties, IsRefusedFile, IsRefusedFileOfOne}
@@ -18,7 +16,6 @@ use Rattle.commands.specs.Failure.{IsFailureBeforeFlush, NamesFile, Reports, Rep
 use Rattle.commands.specs.Failure.{status as status_of}
 use Rattle.named_files.specs.County.{file_name}
 use Rattle.named_files.specs.Files.{Disk, FailsToOpen, FailsToUse, OpenResults}
-use Rattle.commands.specs.Filter.{IsFilterRefusal, IsJsonRefusal}
 use Rattle.commands.specs.Geocode as geocode
 use Rattle.commands.specs.GeocodeBatch as geocode_batch
 use Rattle.commands.specs.Inputs.{IsInput}
@@ -29,7 +26,9 @@ use Rattle.commands.specs.Verify as verify
 use Rattle.commands.specs.declared.request.Request.{Request}
 use Rattle.commands.specs.declared.request.Request.TheVariants.{Run, Trace, Geocode, GeocodeBatch, Verify, Explain, Assemble, Disassemble, Compile, Select}
 use Rattle.commands.specs.declared.failure.Failure.{Failure}
-use Rattle.commands.specs.declared.failure.Failure.TheVariants.{Refusal, Memory, Write, File, CountyFile, NotUtf8, NoLine, Noted, Pointed, County, Output}
+use Rattle.commands.specs.declared.failure.Failure.TheVariants.{Refusal, Memory, Write, File, CountyFile, NotUtf8, NoLine, Filter, Addresses, County, Output}
+use Rattle.filters.specs.Filter.{IsFilterFailure}
+use Rattle.filters.specs.declared.failure.FilterFailure.{FilterFailure}
 
 -- the request's output was written, completely or until the output failed
 abbrev pub Writes : Request → (List ℕ → Option (List ℕ)) → Result (Unit {0}) WriteFault → Writer → Writer → Type 0
@@ -61,18 +60,16 @@ IsRefused (Assemble arguments) known refusal out out' = assemble.IsRefused argum
 IsRefused (Disassemble arguments) known refusal out out' = disassemble.IsRefused arguments known refusal out out'
 IsRefused request known refusal out out' = ⊥
 
--- the request's filter or file of addresses is refused with this refusal
-abbrev pub IsTextRefused : Request → (List ℕ → Option (List ℕ)) → RefusalParts → Type 0
-IsTextRefused (Compile arguments) known refusal = compile.IsRefused arguments known refusal
-IsTextRefused (Select arguments) known refusal = IsFilterRefusal arguments.filter.now arguments.filter_options refusal
-IsTextRefused (GeocodeBatch arguments) known refusal = geocode_batch.AreAddressesRefused arguments known refusal
-IsTextRefused request known refusal = ⊥
+-- the request's filter has no program, and this is why
+abbrev pub IsFilterRefused : Request → (List ℕ → Option (List ℕ)) → FilterFailure → Type 0
+IsFilterRefused (Compile arguments) known failure = compile.IsRefused arguments known failure
+IsFilterRefused (Select arguments) known failure = IsFilterFailure arguments.filter.now arguments.filter_options failure
+IsFilterRefused request known failure = ⊥
 
--- the request's filter, which is in JSON, is refused for this flaw of the value that the pointer leads to
-abbrev pub IsJsonRefused : Request → (List ℕ → Option (List ℕ)) → FilterFaultKind → Vec ℕ Global → Type 0
-IsJsonRefused (Compile arguments) known flaw pointer = compile.IsJsonRefused arguments known flaw pointer
-IsJsonRefused (Select arguments) known flaw pointer = IsJsonRefusal arguments.filter.now arguments.filter_options flaw pointer
-IsJsonRefused request known flaw pointer = ⊥
+-- the request's file of addresses is refused with this refusal
+abbrev pub AreAddressesRefused : Request → (List ℕ → Option (List ℕ)) → RefusalParts → Type 0
+AreAddressesRefused (GeocodeBatch arguments) known refusal = geocode_batch.AreAddressesRefused arguments known refusal
+AreAddressesRefused request known refusal = ⊥
 
 -- the county of this code, one of several, is refused with this refusal
 abbrev pub IsCountyRefused : Request → (List ℕ → Option (List ℕ)) → List ℕ → RefusalParts → Writer → Writer → Type 0
@@ -82,8 +79,8 @@ IsCountyRefused request known code refusal out out' = ⊥
 -- a library refused the request, which is reported as this failure
 abbrev pub IsRefusedWith : Request → (List ℕ → Option (List ℕ)) → Failure → Writer → Writer → Type 0
 IsRefusedWith request known (Refusal refusal) out out' = IsRefused request known refusal out out'
-IsRefusedWith request known (Noted refusal note) out out' = IsTextRefused request known refusal × (out' ≡ out)
-IsRefusedWith request known (Pointed flaw pointer note) out out' = IsJsonRefused request known flaw pointer × (out' ≡ out)
+IsRefusedWith request known (Filter failure) out out' = IsFilterRefused request known failure × (out' ≡ out)
+IsRefusedWith request known (Addresses refusal note) out out' = AreAddressesRefused request known refusal × (out' ≡ out)
 IsRefusedWith request known (County code refusal) out out' = IsCountyRefused request known code.now refusal out out'
 IsRefusedWith request known failure out out' = ⊥
 
@@ -149,9 +146,8 @@ IsCarriedOut opens request (Ok done) disk disk' out out' = Writes request disk.k
 IsCarriedOut opens request (Err (Write fault)) disk disk' out out' = Writes request disk.known (Err fault) out out'
 IsCarriedOut opens request (Err (Refusal refusal)) disk disk' out out' =
     IsRefused request disk.known refusal out out' × (refusal_status refusal ≡ 3 → FailsToReadFor request (Refusal refusal) disk disk')
-IsCarriedOut opens request (Err (Noted refusal note)) disk disk' out out' = IsTextRefused request disk.known refusal × (out' ≡ out)
-IsCarriedOut opens request (Err (Pointed flaw pointer note)) disk disk' out out' =
-    IsJsonRefused request disk.known flaw pointer × (out' ≡ out)
+IsCarriedOut opens request (Err (Filter failure)) disk disk' out out' = IsFilterRefused request disk.known failure × (out' ≡ out)
+IsCarriedOut opens request (Err (Addresses refusal note)) disk disk' out out' = AreAddressesRefused request disk.known refusal × (out' ≡ out)
 IsCarriedOut opens request (Err (County code refusal)) disk disk' out out' =
     IsCountyRefused request disk.known code.now refusal out out'
     × (refusal_status refusal ≡ 3 → FailsToReadFor request (County code refusal) disk disk')

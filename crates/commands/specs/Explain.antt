@@ -4,12 +4,15 @@ use Rattle.std.specs.Borrow.{Bor}
 use Rattle.std.specs.Io.KnownBytes.{Keeps}
 use Rattle.bpf_explain.specs.Explanation.{IsExplained}
 use Rattle.bpf_source_lines.specs.LinesFault as lines_fault
-use Rattle.bpf_source_lines.specs.SourceLines.{SourceLine, lines_in}
+use Rattle.bpf_source_lines.specs.SourceLines.{SourceLine, lines_in, lines_or_none}
+use Rattle.bpf_excerpt.specs.Listed.{ListsCodeFault, ListsFlowFault}
 use Rattle.bpf_source_lines.specs.declared.source_lines.LinesFault.{LinesFault}
 use Rattle.bpf_flow.specs.Flow as flow
 use Rattle.bpf_flow.specs.Flow.{IsForward}
 use Rattle.bpf_insn.specs.Code as code
 use Rattle.bpf_insn.specs.Code.{IsCodeOf}
+use Rattle.bpf_insn.specs.CodeFault as code_refusal
+use Rattle.bpf_insn.specs.declared.fault.CodeFault.{CodeFault}
 use Rattle.bpf_insn.specs.declared.fault.CodeFault.TheVariants as code_fault
 use Rattle.bpf_insn.specs.declared.instruction.Insn.{Insn}
 use Rattle.bpf_meaning.specs.declared.cause.Cause.{Cause}
@@ -23,7 +26,7 @@ use Rattle.refusals.specs.Refusal.{RefusalParts, memory}
 use Rattle.counted_io.specs.ReaderWriter.{Writer}
 use Rattle.counted_io.specs.Writing.{WritesText}
 use Rattle.counted_io.specs.declared.writing.WriteFault.{WriteFault}
-use Rattle.named_files.specs.Files.{Disk, FailsToUse, OpenResults}
+use Rattle.named_files.specs.Files.{Disk, FailsToUse, IsTooLong, OpenResults}
 use Rattle.commands.specs.declared.explain.Explain.{Explain}
 use Rattle.commands.specs.declared.failure.Failure.{Failure}
 use Rattle.commands.specs.declared.failure.Failure.TheVariants as failure
@@ -51,6 +54,12 @@ IsFlowFault program (Flow fault) = (code : List Insn) × IsCodeOf program code �
 IsFlowFault program (Verify fault) = ⊥
 IsFlowFault program Memory = Unit {0}
 
+-- a text shows why a program is refused before it is verified
+abbrev pub ListsFault : List ℕ → List SourceLine → ProgramFault → List ℕ → Type 0
+ListsFault program lines (Code fault) text = ListsCodeFault program lines fault text
+ListsFault program lines (Flow fault) text = ListsFlowFault program lines fault text
+ListsFault program lines fault text = ⊥
+
 -- the command reads a file of this name
 abbrev pub IsFileOf : Explain → List ℕ → Type 0
 IsFileOf explain name = (name ≡ explain.program.now) ⊎ IsLinesFile explain.lines name
@@ -67,7 +76,7 @@ pub record Inputs (explain : Explain) (known : List ℕ → Option (List ℕ)) :
   pub are_lines : lines_in file ≡ Ok lines
 
 -- The explanation of the verdict was written, completely or until the output failed. If it was written completely, the program is accepted.
-pub record Writes (explain : Explain) (known : List ℕ → Option (List ℕ)) (result : Result (Unit {0}) WriteFault)
+pub record WritesVerdict (explain : Explain) (known : List ℕ → Option (List ℕ)) (result : Result (Unit {0}) WriteFault)
     (out out' : Writer) : Type 0 where
   pub inputs : Inputs explain known
   pub text : List ℕ
@@ -76,11 +85,36 @@ pub record Writes (explain : Explain) (known : List ℕ → Option (List ℕ)) (
   pub accepted : result ≡ Ok tt → verdict ≡ Ok tt
   pub written : WritesText text result out out'
 
--- Why `explain` is refused: for the program's bytes or jumps, for the source lines, or because an allocation failed, and nothing was written; or
--- for the verdict, after its explanation was written.
+-- a program whose bytes or jumps are refused, with the text that shows why; source lines with a fault aren't shown
+pub record RefusedInputs (explain : Explain) (known : List ℕ → Option (List ℕ)) (fault : ProgramFault) (text : List ℕ) : Type 0 where
+  pub program : List ℕ
+  pub is_program : Keeps (known explain.program.now) (Some program)
+  pub is_fault : IsFlowFault program fault
+  pub file : List ℕ
+  pub is_file : HoldsLines known explain.lines file
+  pub lists : ListsFault program (lines_or_none (lines_in file)) fault text
+
+-- why a program's bytes or jumps are refused was written until the output failed
+pub record CutsListing (explain : Explain) (known : List ℕ → Option (List ℕ)) (result : Result (Unit {0}) WriteFault)
+    (out out' : Writer) : Type 0 where
+  pub fault : ProgramFault
+  pub text : List ℕ
+  pub inputs : RefusedInputs explain known fault text
+  pub output : WriteFault
+  pub failed : result ≡ Err output
+  pub written : WritesText text result out out'
+
+-- what was written, completely or until the output failed; if completely, the program is accepted
+abbrev pub Writes : Explain → (List ℕ → Option (List ℕ)) → Result (Unit {0}) WriteFault → Writer → Writer → Type 0
+Writes explain known result out out' = WritesVerdict explain known result out out' ⊎ CutsListing explain known result out out'
+
+-- Why `explain` is refused: for a program that is too long, for the source lines, or because an allocation failed, and nothing was written; for the
+-- program's bytes or jumps, after the words around the fault were written; or for the verdict, after its explanation was written.
 pub data IsRefused (explain : Explain) (known : List ℕ → Option (List ℕ)) (refusal : RefusalParts) (out out' : Writer) : Type 0 where
-  of_program : (program : List ℕ) → Keeps (known explain.program.now) (Some program) → (fault : ProgramFault) → IsFlowFault program fault
-      → refusal ≡ program_fault.refusal fault → out' ≡ out → IsRefused explain known refusal out out'
+  of_length : (fault : CodeFault) → IsTooLong (known explain.program.now) fault → refusal ≡ code_refusal.refusal fault → out' ≡ out
+      → IsRefused explain known refusal out out'
+  of_program : (fault : ProgramFault) (text : List ℕ) → RefusedInputs explain known fault text
+      → refusal ≡ program_fault.refusal fault → WritesText text (Ok tt) out out' → IsRefused explain known refusal out out'
   of_lines : (file : List ℕ) → HoldsLines known explain.lines file → (fault : LinesFault) → lines_in file ≡ Err fault
       → refusal ≡ lines_fault.refusal fault → out' ≡ out → IsRefused explain known refusal out out'
   of_verdict : (inputs : Inputs explain known) (text : List ℕ) (place : ℕ) (cause : Cause)
@@ -98,3 +132,12 @@ WritesExplained code lines (Err (failure.Refusal refusal)) out out' =
     ⊎ ((text : List ℕ) × (place : ℕ) × (cause : Cause) × IsExplained code lines text (Err (Refused place cause))
     × (refusal ≡ verify_fault.refusal (Refused place cause)) × WritesText text (Ok tt) out out')
 WritesExplained code lines (Err failure) out out' = ⊥
+
+-- how it is written why a program's bytes or jumps are refused
+abbrev pub WritesRefused : List ℕ → List SourceLine → ProgramFault → Result (Unit {0}) Failure → Writer → Writer → Type 0
+WritesRefused program lines fault (Err (failure.Write output)) out out' =
+    (text : List ℕ) × ListsFault program lines fault text × WritesText text (Err output) out out'
+WritesRefused program lines fault (Err (failure.Refusal refusal)) out out' =
+    ((refusal ≡ memory) × (out' ≡ out))
+    ⊎ ((text : List ℕ) × ListsFault program lines fault text × (refusal ≡ program_fault.refusal fault) × WritesText text (Ok tt) out out')
+WritesRefused program lines fault result out out' = ⊥

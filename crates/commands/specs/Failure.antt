@@ -2,29 +2,12 @@
 use Rattle.std.specs.Prelude.{◌≡◌, ◌≢◌, ℕ, List, [], ◌∷◌, ◌++◌, codes, decimal, ⊤, Result, Ok, Err}
 use Rattle.std.specs.Borrow.{Bor}
 use Rattle.std.specs.IoError.{error_kind}
-use Rattle.std.specs.declared.alloc.Global.{Global}
 use Rattle.std.specs.declared.io.Error.{Error}
 use Rattle.std.specs.declared.io.ErrorKind.TheVariants.{BrokenPipe, IsADirectory, NotADirectory, NotFound, PermissionDenied, StorageFull}
 use Rattle.addresses.specs.AddressFault as address_fault
 use Rattle.addresses.specs.declared.fault.AddressFault.{AddressFault}
 use Rattle.addresses.specs.declared.fault.AddressFault.TheVariants as address
 use Rattle.bpf_insn.specs.CodeFault as code_fault
-use Rattle.cql2_code.specs.CompileFault as compile_fault
-use Rattle.cql2_code.specs.declared.fault.CompileFault.{CompileFault}
-use Rattle.cql2_code.specs.declared.fault.CompileFault.TheVariants as compile
-use Rattle.cql2_json.specs.declared.fault.JsonFault.{JsonFault}
-use Rattle.cql2_json.specs.declared.fault.JsonFault.TheVariants as json
-use Rattle.cql2_json.specs.declared.fault.JsonFlaw.{JsonFlaw}
-use Rattle.cql2_json.specs.declared.fault.JsonFlaw.TheVariants as json_fault
-use Rattle.cql2_json.specs.declared.fault.ValueFlaw.{ValueFlaw}
-use Rattle.cql2_json.specs.declared.fault.ValueFlaw.TheVariants as value
-use Rattle.cql2_text.specs.FilterFault as filter_fault
-use Rattle.cql2_text.specs.FilterFaultKind as filter_flaw
-use Rattle.cql2_text.specs.declared.fault.Expected.TheVariants as expected
-use Rattle.cql2_text.specs.declared.fault.FilterFault.{FilterFault}
-use Rattle.cql2_text.specs.declared.fault.FilterFault.TheVariants as filter
-use Rattle.cql2_text.specs.declared.fault.FilterFaultKind.{FilterFaultKind}
-use Rattle.cql2_text.specs.declared.fault.FilterFaultKind.TheVariants as flaw
 use Rattle.extract.specs.ExtractFault as extract_fault
 use Rattle.bpf_assembler.specs.TextFault as text_fault
 use Rattle.bpf_text.specs.declared.fault.SourceFault.{SourceFault}
@@ -32,7 +15,8 @@ use Rattle.bpf_text.specs.declared.fault.SourceFault.TheVariants as source
 use Rattle.bpf_assembler.specs.declared.fault.TextFault.TheVariants as text
 use Rattle.extract.specs.declared.fault.ExtractFault.{ExtractFault}
 use Rattle.extract.specs.declared.fault.ExtractFault.TheVariants as extract
-use Rattle.refusals.specs.Refusal.{RefusalParts, line, memory, number_text}
+use Rattle.filters.specs.Failure.{failure_text, refusal_of}
+use Rattle.refusals.specs.Refusal.{RefusalParts, line, memory}
 use Rattle.refusals.specs.declared.refusal.Class.{Class}
 use Rattle.refusals.specs.declared.refusal.Class.TheVariants as class
 use Rattle.counted_io.specs.ReaderWriter.{Writer}
@@ -48,9 +32,9 @@ use Rattle.named_files.specs.declared.files.FileFault.TheVariants as fault
 use Rattle.named_files.specs.declared.files.ProgramInputFault.{ProgramInputFault}
 use Rattle.named_files.specs.declared.files.ProgramInputFault.TheVariants as program_input
 use Rattle.commands.specs.declared.failure.Failure.{Failure}
-use Rattle.commands.specs.declared.failure.Failure.TheVariants.{Refusal, Memory, Write, File, CountyFile, NotUtf8, NoLine, Noted, Pointed, County, Output}
+use Rattle.commands.specs.declared.failure.Failure.TheVariants.{Refusal, Memory, Write, File, CountyFile, NotUtf8, NoLine, Filter, Addresses, County, Output}
 use Rattle.commands.specs.declared.failure.Piece.{Piece}
-use Rattle.commands.specs.declared.failure.Piece.TheVariants.{Text, Bytes, Echo}
+use Rattle.commands.specs.declared.failure.Piece.TheVariants.{Text, Echo}
 
 -- the exit status for a class of refusals
 abbrev pub class_status : Class → ℕ
@@ -64,8 +48,8 @@ refusal_status refusal = class_status refusal.class
 -- a line that the file doesn't have is a usage error (2); a file or an output that can't be used is 3
 abbrev pub status : Failure → ℕ
 status (Refusal refusal) = refusal_status refusal
-status (Noted refusal note) = refusal_status refusal
-status (Pointed flaw pointer note) = refusal_status (filter_flaw.refusal flaw)
+status (Filter failure) = refusal_status (refusal_of failure)
+status (Addresses refusal note) = refusal_status refusal
 status (County code refusal) = refusal_status refusal
 status Memory = 4
 status (NoLine number) = 2
@@ -103,43 +87,9 @@ abbrev pub of_extract : ExtractFault → Failure
 of_extract (extract.Write fault) = Write fault
 of_extract fault = Refusal (extract_fault.refusal fault)
 
--- why a text is not a filter, and why a filter can't be compiled
-abbrev pub IsOfFilter : FilterFault → Failure → Type 0
-IsOfFilter fault (Noted refusal note) = (fault ≢ filter.Memory) × (refusal ≡ filter_fault.refusal fault)
-IsOfFilter fault Memory = fault ≡ filter.Memory
-IsOfFilter fault failure = ⊥
-
-abbrev pub IsOfCompile : CompileFault → Failure → Type 0
-IsOfCompile fault (Noted refusal note) = (fault ≡ compile.TooLong) × (refusal ≡ compile_fault.refusal fault)
-IsOfCompile fault Memory = fault ≡ compile.Memory
-IsOfCompile fault failure = ⊥
-
--- The flaw of a filter whose text isn't JSON, and of one whose JSON has a value without a text. Neither refusal says what is expected.
-abbrev pub json_flaw : JsonFlaw → FilterFaultKind
-json_flaw json_fault.Utf8 = flaw.Syntax expected.Utf8
-json_flaw json_fault.Syntax = flaw.Syntax expected.Predicate
-json_flaw json_fault.TooLong = flaw.TooLong
-
-abbrev pub value_flaw : ValueFlaw → FilterFaultKind
-value_flaw (value.Expected needs) = flaw.Syntax expected.Predicate
-value_flaw value.TooLong = flaw.TooLong
-
--- why JSON has no text
-abbrev pub IsOfJson : JsonFault Global → Failure → Type 0
-IsOfJson (json.Json line column of) (Noted refusal note) = refusal ≡ filter_fault.refusal (filter.At line column (json_flaw of))
-IsOfJson (json.Value pointer of) (Pointed kind to note) = (kind ≡ value_flaw of) × (to ≡ pointer)
-IsOfJson fault Memory = fault ≡ json.Memory
-IsOfJson fault failure = ⊥
-
--- why the program of a filter in JSON can't be made: the pointer is that of the whole filter
-abbrev pub IsOfJsonProgram : CompileFault → Failure → Type 0
-IsOfJsonProgram fault (Pointed kind pointer note) = (fault ≡ compile.TooLong) × (kind ≡ flaw.TooLong) × (pointer.items ≡ [])
-IsOfJsonProgram fault Memory = fault ≡ compile.Memory
-IsOfJsonProgram fault failure = ⊥
-
 -- why a file of addresses can't be read
 abbrev pub IsOfAddresses : AddressFault → Failure → Type 0
-IsOfAddresses fault (Noted refusal note) = (fault ≢ address.Memory) × (refusal ≡ address_fault.refusal fault)
+IsOfAddresses fault (Addresses refusal note) = (fault ≢ address.Memory) × (refusal ≡ address_fault.refusal fault)
 IsOfAddresses fault (Refusal refusal) = (fault ≡ address.Memory) × (refusal ≡ memory)
 IsOfAddresses fault failure = ⊥
 
@@ -164,13 +114,7 @@ ReportsLine text errors errors' = ReportsText (text ++ 10 ∷ []) errors errors'
 -- the bytes that report a piece
 abbrev pub reported : Piece → List ℕ
 reported (Text text) = text.now
-reported (Bytes bytes) = bytes.now
 reported (Echo text) = escaped text.now
-
--- the line of a refusal that has no place, with the JSON pointer to a value as its place; the pointer to the whole JSON, which is empty, is left out
-abbrev pub pointed_line : List ℕ → RefusalParts → List ℕ
-pointed_line [] refusal = line refusal
-pointed_line pointer refusal = codes "refused " ++ number_text refusal.number ++ codes "pointer " ++ pointer ++ codes " " ++ refusal.name
 
 -- the report that memory ran out was written
 abbrev pub ReportsMemory : Writer → Writer → Type 0
@@ -201,13 +145,12 @@ ReportsNotUtf8 name errors errors' = ReportsText (codes "error: " ++ escaped nam
 abbrev pub ReportsOutput : Writer → Writer → Type 0
 ReportsOutput errors errors' = (reason : List ℕ) × ReportsText (codes "error: the output can't be written: " ++ reason ++ 10 ∷ []) errors errors'
 
--- the report of a failure: for a refusal its line, followed by a note for a text or JSON or by the code for one of several counties, on a second line;
--- otherwise a line that starts with `error: `
+-- the report of a failure: for a refusal its line, followed by a note for a filter or addresses or by the code for one of several counties, on a second
+-- line; otherwise a line that starts with `error: `
 abbrev pub Reports : Failure → Writer → Writer → Type 0
 Reports (Refusal refusal) errors errors' = ReportsLine (line refusal) errors errors'
-Reports (Noted refusal note) errors errors' = ReportsText (line refusal ++ 10 ∷ note.bytes ++ 10 ∷ []) errors errors'
-Reports (Pointed flaw pointer note) errors errors' =
-    ReportsText (pointed_line pointer.items (filter_flaw.refusal flaw) ++ 10 ∷ note.bytes ++ 10 ∷ []) errors errors'
+Reports (Filter failure) errors errors' = ReportsText (failure_text failure) errors errors'
+Reports (Addresses refusal note) errors errors' = ReportsText (line refusal ++ 10 ∷ note.bytes ++ 10 ∷ []) errors errors'
 Reports (County code refusal) errors errors' = ReportsText (line refusal ++ 10 ∷ codes "county " ++ escaped code.now ++ 10 ∷ []) errors errors'
 Reports Memory errors errors' = ReportsMemory errors errors'
 Reports (Write fault) errors errors' = ReportsLine (line (write_fault.refusal fault)) errors errors'

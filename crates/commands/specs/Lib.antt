@@ -12,7 +12,6 @@ pub mod Verify
 pub mod Assemble
 pub mod Disassemble
 pub mod Explain
-pub mod Filter
 pub mod Compile
 pub mod Select
 pub mod Command

@@ -22,7 +22,7 @@ use Rattle.named_files.specs.County.{file_name}
 use Rattle.commands.specs.Failure.{refusal_status}
 use Rattle.named_files.specs.Files.{Disk, FailsToOpen, OpenResults}
 use Rattle.commands.specs.Counties.{FailsToRead, IsFileOfOne, IsRefusedFile}
-use Rattle.commands.specs.Filter.{IsCodeOfText, Spells}
+use Rattle.filters.specs.Filter.{IsCodeOfText, Spells}
 use Rattle.commands.specs.LayerInputs.{HoldLayer, IsFileOfLayer}
 use Rattle.commands.specs.declared.select.Select.{Select}
 use Rattle.commands.specs.declared.failure.Failure.{Failure}

@@ -7,9 +7,9 @@ ghost use Rattle.named_files.specs.Files.{disk};
 ghost use Rattle.commands.specs.declared.request.Request.{Request};
 
 use crate::failure::{Failure, write};
-use crate::filter::FilterOptions;
 use counted_io::CountedWrite;
 use cql2_text::MAX_TEXT_LENGTH;
+use filters::FilterOptions;
 use named_files::{Files, read_file_prefix};
 use std::alloc::Allocator;
 
@@ -43,7 +43,7 @@ impl<'a> Compile<'a> {
         };
         match self.filter_options.program(alloc, text.as_slice()) {
             Ok(program) => write(out, program.as_slice()),
-            Err(failure) => Err(failure),
+            Err(failure) => Err(Failure::Filter(failure)),
         }
     }
 }

@@ -4,12 +4,13 @@ ghost use Rattle.bpf_insn.specs.Code.{IsCodeOf};
 ghost use Rattle.bpf_source_lines.specs.SourceLines.{parts_of};
 ghost use Rattle.counted_io.specs.ReaderWriter.{writer};
 ghost use Rattle.commands.specs.Command.{CarriesOut};
-ghost use Rattle.commands.specs.Explain.{HoldsLines, IsFlowFault, IsLinesFailure, WritesExplained};
+ghost use Rattle.commands.specs.Explain.{HoldsLines, IsFlowFault, IsLinesFailure, ListsFault, WritesExplained, WritesRefused};
 ghost use Rattle.commands.specs.Failure.{IsUnfailedUnlessUnusable, status};
 ghost use Rattle.named_files.specs.Files.{disk};
 ghost use Rattle.commands.specs.declared.request.Request.{Request};
 
 use crate::failure::{Failure, write};
+use bpf_excerpt::{list_code_fault, list_flow_fault};
 use bpf_explain::{Explanation, SourceLines, explain};
 use bpf_flow::Flow;
 use bpf_insn::decode;
@@ -17,7 +18,7 @@ use bpf_program::ProgramFault;
 use counted_io::CountedWrite;
 use named_files::{Files, read_file, read_program_file};
 use refusals::{Fault, Refusal};
-use std::alloc::Allocator;
+use std::alloc::{AllocError, Allocator};
 
 /// The arguments of `explain`.
 #[derive(Clone, Copy)]
@@ -29,9 +30,8 @@ pub struct Explain<'a> {
 }
 
 impl<'a> Explain<'a> {
-    /// Reads the program and the source lines to their ends and writes the listing, up to the refused instruction if there is one.
-    ///
-    /// A program whose bytes or jumps are refused has no listing.
+    /// Reads the program and the source lines to their ends and writes the listing, up to the refused instruction if there is one. Of a program whose
+    /// bytes or jumps are refused, it writes the words around the refused one.
     pub fn carry_out<A: Allocator + Copy, F: Files, W: CountedWrite>(
         self,
         alloc: A,
@@ -51,11 +51,17 @@ impl<'a> Explain<'a> {
             Ok(file) => file,
             Err(failure) => return Err(failure),
         };
-        let flow = match flow_of(alloc, program) {
+        let bytes = program.as_slice();
+        let places = file.as_slice();
+        let flow = match flow_of(alloc, bytes) {
             Ok(flow) => flow,
-            Err(fault) => return Err(Failure::Refusal(fault.refusal())),
+            Err(fault) => {
+                let lines = SourceLines::or_none(places);
+                return write_refused(alloc, bytes, fault, lines, out);
+            }
         };
-        let lines = match SourceLines::of(file.as_slice()) {
+        drop(program);
+        let lines = match SourceLines::of(places) {
             Ok(lines) => lines,
             Err(fault) => return Err(Failure::Refusal(fault.refusal())),
         };
@@ -84,14 +90,51 @@ fn read_lines_file<'a, A: Allocator, F: Files>(
     }
 }
 
-/// Decodes a program and follows its jumps. Frees its bytes before the verifier allocates.
-fn flow_of<A: Allocator + Copy>(alloc: A, program: Vec<u8, A>) -> Result<Flow<A>, ProgramFault>
-    ensures ok { IfOk result (λ flow. IsCodeOf program.items flow.code) }
-    ensures err { IfErr result (IsFlowFault program.items) }
+/// Decodes a program and follows its jumps.
+fn flow_of<A: Allocator + Copy>(alloc: A, program: &[u8]) -> Result<Flow<A>, ProgramFault>
+    ensures ok { IfOk result (λ flow. IsCodeOf program.now flow.code) }
+    ensures err { IfErr result (IsFlowFault program.now) }
 {
-    let code = decode(alloc, program.as_slice())?;
-    drop(program);
+    let code = decode(alloc, program)?;
     Ok(Flow::of(code)?)
+}
+
+/// Writes why a program's bytes or jumps are refused, and fails with the refusal.
+fn write_refused<'a, A: Allocator + Copy, W: CountedWrite>(
+    alloc: A,
+    program: &[u8],
+    fault: ProgramFault,
+    lines: SourceLines<'_>,
+    out: &mut W,
+) -> Result<(), Failure<'a>>
+    requires { IsFlowFault program.now fault }
+    ensures { WritesRefused program.now (parts_of lines.entry) fault result
+        (writer W.contents W.counts out.old) (writer W.contents W.counts out.new) }
+{
+    let Ok(text) = refused_text(alloc, program, fault, lines) else {
+        return Err(Failure::Refusal(Refusal::memory()));
+    };
+    match write(out, text.as_slice()) {
+        Ok(()) => Err(Failure::Refusal(fault.refusal())),
+        Err(failure) => Err(failure),
+    }
+}
+
+/// Returns the words around the one that a program is refused for. If memory ran out before, it is missing here too.
+fn refused_text<A: Allocator + Copy>(
+    alloc: A,
+    program: &[u8],
+    fault: ProgramFault,
+    lines: SourceLines<'_>,
+) -> Result<Vec<u8, A>, AllocError>
+    requires { IsFlowFault program.now fault }
+    ensures { IfOk result (λ text. ListsFault program.now (parts_of lines.entry) fault text.items) }
+{
+    match fault {
+        ProgramFault::Code(fault) => list_code_fault(alloc, program, fault, lines),
+        ProgramFault::Flow(fault) => list_flow_fault(alloc, program, fault, lines),
+        ProgramFault::Verify(_) | ProgramFault::Memory => Err(AllocError),
+    }
 }
 
 /// Writes the listing. Fails with the verdict's refusal if the verifier refuses the program.

@@ -3,28 +3,25 @@ ghost use Rattle.std.specs.Prelude.{◌≡◌, ◌≤◌, [], ◌∷◌, ◌++�
 ghost use Rattle.std.specs.List.{flat_map};
 ghost use Rattle.counted_io.specs.ReaderWriter.{writer};
 ghost use Rattle.counted_io.specs.Writing.{WritesText};
-ghost use Rattle.cql2_text.specs.FilterFaultKind as filter_flaw;
 ghost use Rattle.commands.specs.Escape.{escaped};
-ghost use Rattle.commands.specs.Failure.{IsOfAddresses, IsOfCompile, IsOfFilter, IsOfJson, IsOfJsonProgram};
-ghost use Rattle.commands.specs.Failure.{IsReason, Reports, ReportsLine, ReportsText, WritesAs, class_status, json_flaw, pointed_line, value_flaw};
+ghost use Rattle.commands.specs.Failure.{IsOfAddresses, IsReason, Reports, ReportsLine, ReportsText, WritesAs, class_status};
 ghost use Rattle.commands.specs.Failure.{file_line, of_county_extract, of_county_file, of_extract, of_file, of_opening, of_program, of_source, reported};
 ghost use Rattle.commands.specs.Failure.{status};
 ghost use Rattle.commands.specs.declared.failure.Failure.TheVariants.{Memory};
+ghost use Rattle.filters.specs.Failure.{failure_text};
 
 use crate::escape::write_escaped;
-use crate::failure::Piece::{Bytes, Echo, Text};
+use crate::failure::Piece::{Echo, Text};
 use addresses::AddressFault;
 use arrayvec::ArrayString;
 use bpf_text::{SourceFault, TextFault};
 use counted_io::{CountedWrite, WriteFault, write_text};
-use cql2_code::CompileFault;
-use cql2_json::{JsonFault, JsonFlaw, ValueFlaw};
-use cql2_text::{Expected, FilterFault, FilterFaultKind};
 use extract::ExtractFault;
+use filters::FilterFailure;
 use itoa::Buffer;
 use named_files::{CountyFileFault, FileFault, ProgramInputFault, name_end};
 use refusals::{Class, Fault, Refusal};
-use std::alloc::{AllocError, AllocFailed, Global};
+use std::alloc::{AllocError, AllocFailed};
 use std::fmt::Write as WriteText;
 use std::io;
 use std::io::ErrorKind;
@@ -45,15 +42,11 @@ pub const OUT_OF_MEMORY: u8 = 4;
 pub enum Failure<'a> {
     /// A library refuses the input or runs out of memory.
     Refusal(Refusal),
-    /// A filter or a file of addresses is refused. The note gives more detail for people.
-    Noted {
+    /// A filter has no program.
+    Filter(FilterFailure),
+    /// A file of addresses is refused. The note gives more detail for people.
+    Addresses {
         refusal: Refusal,
-        note: ArrayString<128>,
-    },
-    /// A filter in JSON is refused at the value that the pointer (RFC 6901) leads to. The note gives more detail for people.
-    Pointed {
-        flaw: FilterFaultKind,
-        pointer: Vec<u8>,
         note: ArrayString<128>,
     },
     /// The county of this code, one of several, is refused.
@@ -147,73 +140,15 @@ impl<'a> Failure<'a> {
         }
     }
 
-    /// Returns the failure for a text that isn't a filter.
-    pub fn of_filter(text: &[u8], fault: FilterFault) -> Self
-        ensures { IsOfFilter fault result }
-    {
-        match fault {
-            FilterFault::Memory => Failure::Memory,
-            fault => Failure::Noted {
-                refusal: fault.refusal(),
-                note: filter_note(text, fault),
-            },
-        }
-    }
-
-    /// Returns the failure for JSON that has no text.
-    pub(crate) fn of_json(fault: JsonFault<Global>) -> Self
-        ensures { IsOfJson fault result }
-    {
-        match fault {
-            JsonFault::Json { line, column, flaw } => Failure::Noted {
-                refusal: json_flaw(flaw).refusal().at_character(line, column),
-                note: json_note(flaw),
-            },
-            JsonFault::Value { pointer, flaw } => Failure::Pointed {
-                flaw: value_flaw(flaw),
-                pointer,
-                note: value_note(flaw),
-            },
-            JsonFault::Memory => Failure::Memory,
-        }
-    }
-
-    /// Returns the failure for a filter in JSON that can't be compiled.
-    pub(crate) fn of_json_program(alloc: Global, fault: CompileFault) -> Self
-        ensures { IsOfJsonProgram fault result }
-    {
-        match fault {
-            CompileFault::Memory => Failure::Memory,
-            CompileFault::TooLong => Failure::Pointed {
-                flaw: FilterFaultKind::TooLong,
-                pointer: Vec::new(alloc),
-                note: compile_note(fault),
-            },
-        }
-    }
-
     /// Returns the failure for a file of addresses that can't be read.
     pub fn of_addresses(fault: AddressFault) -> Self
         ensures { IsOfAddresses fault result }
     {
         match fault {
             AddressFault::Memory => Failure::Refusal(Refusal::memory()),
-            fault => Failure::Noted {
+            fault => Failure::Addresses {
                 refusal: fault.refusal(),
                 note: addresses_note(fault),
-            },
-        }
-    }
-
-    /// Returns the failure for a filter that can't be compiled.
-    pub fn of_compile(fault: CompileFault) -> Self
-        ensures { IsOfCompile fault result }
-    {
-        match fault {
-            CompileFault::Memory => Failure::Memory,
-            fault => Failure::Noted {
-                refusal: fault.refusal(),
-                note: compile_note(fault),
             },
         }
     }
@@ -250,8 +185,8 @@ impl<'a> Failure<'a> {
     {
         match self {
             Failure::Refusal(refusal) => class_status(refusal.class()),
-            Failure::Noted { refusal, .. } => class_status(refusal.class()),
-            Failure::Pointed { flaw, .. } => class_status(flaw.refusal().class()),
+            Failure::Filter(failure) => class_status(failure.class()),
+            Failure::Addresses { refusal, .. } => class_status(refusal.class()),
             Failure::County { refusal, .. } => class_status(refusal.class()),
             Failure::Memory => OUT_OF_MEMORY,
             Failure::NoLine { .. } => USAGE,
@@ -265,14 +200,10 @@ impl<'a> Failure<'a> {
     {
         match self {
             Failure::Refusal(refusal) => report_line(errors, refusal.line().as_str()),
-            Failure::Noted { refusal, note } => {
+            Failure::Filter(failure) => report_filter(errors, failure),
+            Failure::Addresses { refusal, note } => {
                 report_noted(errors, refusal.line().as_str(), note.as_str());
             }
-            Failure::Pointed {
-                flaw,
-                pointer,
-                note,
-            } => report_pointed(errors, *flaw, pointer.as_slice(), note.as_str()),
             Failure::County { code, refusal } => {
                 report_county(errors, refusal.line().as_str(), code);
             }
@@ -366,8 +297,6 @@ pub fn write<'a, W: CountedWrite>(out: &mut W, text: &[u8]) -> Result<(), Failur
 enum Piece<'p> {
     /// Text that is written as it is.
     Text(&'p str),
-    /// Text in bytes that is written as it is.
-    Bytes(&'p [u8]),
     /// Text from the user, which is written with its control characters escaped.
     Echo(&'p str),
 }
@@ -391,7 +320,6 @@ fn write_piece<E: CountedWrite>(errors: &mut E, piece: &Piece<'_>) -> Result<(),
 {
     match piece {
         Text(text) => write_text(errors, text.as_bytes()),
-        Bytes(bytes) => write_text(errors, bytes),
         Echo(text) => write_escaped(errors, text),
     }
 }
@@ -403,7 +331,7 @@ fn report_line<E: CountedWrite>(errors: &mut E, line: &str)
     write_pieces(errors, &[Text(line), Text("\n")]);
 }
 
-/// Reports why a text is refused.
+/// Reports why a file of addresses is refused.
 fn report_noted<'p, E: CountedWrite>(errors: &mut E, refusal: &'p str, note: &'p str)
     ensures { ReportsText (refusal.now ++ 10 ∷ note.now ++ 10 ∷ [])
         (writer E.contents E.counts errors.old) (writer E.contents E.counts errors.new) }
@@ -411,58 +339,25 @@ fn report_noted<'p, E: CountedWrite>(errors: &mut E, refusal: &'p str, note: &'p
     write_pieces(errors, &[Text(refusal), Text("\n"), Text(note), Text("\n")]);
 }
 
-/// Where the name begins in the line of a refusal with a number of two digits, as those of filters have.
-const NAME_OFFSET: usize = 11;
-
-/// Reports why a value in JSON is refused.
-fn report_pointed<E: CountedWrite>(
-    errors: &mut E,
-    flaw: FilterFaultKind,
-    pointer: &[u8],
-    note: &str,
-)
-    ensures { ReportsText (pointed_line pointer.now (filter_flaw.refusal flaw) ++ 10 ∷ note.now ++ 10 ∷ [])
-        (writer E.contents E.counts errors.old) (writer E.contents E.counts errors.new) }
+/// Reports why a filter has no program.
+fn report_filter<E: CountedWrite>(errors: &mut E, failure: &FilterFailure)
+    ensures { ReportsText (failure_text failure.now) (writer E.contents E.counts errors.old) (writer E.contents E.counts errors.new) }
 {
-    let line = flaw.refusal().line();
-    if pointer.is_empty() {
-        report_noted(errors, line.as_str(), note);
-        return;
-    }
-    let line = line.as_bytes();
-    report_at_pointer(
-        errors,
-        &line[..NAME_OFFSET],
-        pointer,
-        &line[NAME_OFFSET..],
-        note,
-    );
+    let line = failure.line();
+    write_texts(errors, &failure.pieces(line.as_bytes()));
 }
 
-/// Reports a refusal with a pointer between the two parts of its line.
-fn report_at_pointer<'p, E: CountedWrite>(
-    errors: &mut E,
-    front: &'p [u8],
-    pointer: &'p [u8],
-    name: &'p [u8],
-    note: &'p str,
-)
-    ensures { ReportsText (front.now ++ (codes "pointer " ++ (pointer.now ++ (codes " " ++ (name.now ++ (10 ∷ note.now ++ 10 ∷ []))))))
+/// Writes the texts in order, up to the first that can't be written completely.
+fn write_texts<E: CountedWrite>(errors: &mut E, texts: &[&[u8]])
+    ensures { ReportsText (flat_map (λ text. text.now) texts.now)
         (writer E.contents E.counts errors.old) (writer E.contents E.counts errors.new) }
 {
-    write_pieces(
-        errors,
-        &[
-            Bytes(front),
-            Text("pointer "),
-            Bytes(pointer),
-            Text(" "),
-            Bytes(name),
-            Text("\n"),
-            Text(note),
-            Text("\n"),
-        ],
-    );
+    for text in texts {
+        match write_text(errors, text) {
+            Ok(()) => {}
+            Err(_) => return,
+        }
+    }
 }
 
 /// Reports why a county is refused.
@@ -518,62 +413,6 @@ fn report_county_file<'p, E: CountedWrite>(
     );
 }
 
-/// Says what is wrong with a filter's text, and what to write instead if that is likely: a hint, or the name of a column that is near.
-pub(crate) fn filter_note(text: &[u8], fault: FilterFault) -> ArrayString<128> {
-    let mut note = match fault {
-        FilterFault::At { flaw, .. } => flaw_note(flaw),
-        FilterFault::Memory => ArrayString::new(),
-    };
-    if let Some(hint) = fault.hint(text) {
-        let _ = write!(note, ": {hint}");
-    } else if let Some(name) = fault.nearest_column(text) {
-        let _ = write!(note, ", and the nearest is {name}");
-    }
-    note
-}
-
-/// Says what is wrong with a filter's text.
-pub(crate) fn flaw_note(flaw: FilterFaultKind) -> ArrayString<128> {
-    let mut note = ArrayString::new();
-    let _ = write!(note, "{flaw}");
-    note
-}
-
-/// Returns the kind of a flaw of a text that isn't JSON.
-fn json_flaw(flaw: JsonFlaw) -> FilterFaultKind
-    ensures { result ≡ json_flaw flaw }
-{
-    match flaw {
-        JsonFlaw::Utf8 => FilterFaultKind::Syntax(Expected::Utf8),
-        JsonFlaw::Syntax => FilterFaultKind::Syntax(Expected::Predicate),
-        JsonFlaw::TooLong => FilterFaultKind::TooLong,
-    }
-}
-
-/// Returns the kind of a flaw of a value that has no text.
-fn value_flaw(flaw: ValueFlaw) -> FilterFaultKind
-    ensures { result ≡ value_flaw flaw }
-{
-    match flaw {
-        ValueFlaw::Expected(_expected) => FilterFaultKind::Syntax(Expected::Predicate),
-        ValueFlaw::TooLong => FilterFaultKind::TooLong,
-    }
-}
-
-/// Says what is wrong with a text that isn't JSON.
-fn json_note(flaw: JsonFlaw) -> ArrayString<128> {
-    let mut note = ArrayString::new();
-    let _ = write!(note, "{flaw}");
-    note
-}
-
-/// Says what is expected in place of a value that has no text.
-fn value_note(flaw: ValueFlaw) -> ArrayString<128> {
-    let mut note = ArrayString::new();
-    let _ = write!(note, "{flaw}");
-    note
-}
-
 /// Says what is wrong with a file of addresses.
 fn addresses_note(fault: AddressFault) -> ArrayString<128> {
     let mut note = ArrayString::new();
@@ -581,13 +420,6 @@ fn addresses_note(fault: AddressFault) -> ArrayString<128> {
         AddressFault::At { flaw, .. } => write!(note, "{flaw}"),
         other => write!(note, "{other}"),
     };
-    note
-}
-
-/// Says why a filter can't be compiled.
-fn compile_note(fault: CompileFault) -> ArrayString<128> {
-    let mut note = ArrayString::new();
-    let _ = write!(note, "{fault}");
     note
 }
 

@@ -12,10 +12,10 @@ ghost use Rattle.layers.specs.Layer.{has_shapes};
 ghost use Rattle.layers.specs.LayerParts.{parts_of};
 
 use crate::failure::Failure;
-use crate::filter::FilterOptions;
 use crate::layer_inputs::{close_layer, open_layer};
 use bpf_verify::Verified;
 use counted_io::CountedWrite;
+use filters::FilterOptions;
 use layers::{Layer, write_county};
 use named_files::Files;
 use std::alloc::{Allocator, Global};
@@ -49,7 +49,7 @@ impl<'a> Select<'a> {
     {
         let program = match self.filter_options.verified(self.filter.as_bytes()) {
             Ok(program) => program,
-            Err(failure) => return Err(failure),
+            Err(failure) => return Err(Failure::Filter(failure)),
         };
         select_layer(
             alloc,

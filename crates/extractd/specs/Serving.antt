@@ -50,7 +50,7 @@ pub record Host (N : Type 0) : Type 0 where
 pub record ServesLoaded {N L C : Type 0} (rules : PortRules N L C StateParts) (served : Served) (port : ℕ) (fault : ListenFault)
     (old new : Outside N) : Type 0 where
   pub state : StateParts
-  pub without_jobs : state ≡ new_state (counties_of state)
+  pub without_jobs : state ≡ new_state served.codes (counties_of state)
   pub loaded : AreCountiesOf served.known served.folder served.codes (counties_of state)
   pub given_port : port ≡ served.port
   pub serves_port : ServesPort rules served.port fault old state new

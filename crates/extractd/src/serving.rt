@@ -128,7 +128,7 @@ fn load_state<'a, F: Files>(
     files: &mut F,
     options: &Serve<'a>,
 ) -> Result<State<Global>, Failure<'a>>
-    ensures ok { IfOk result (λ state. (state ≡ new_state (counties_of state)) × AreCountiesOf (F.bytes files.old)
+    ensures ok { IfOk result (λ state. (state ≡ new_state (map (λ code. code.now) options.now.codes.items) (counties_of state)) × AreCountiesOf (F.bytes files.old)
         options.now.«data».now (map (λ code. code.now) options.now.codes.items) (counties_of state)) }
     ensures err { IfErr result (IsLoadFailure F.opens
         (HaveRefusedCounty (F.bytes files.old) options.now.«data».now (map (λ code. code.now) options.now.codes.items))
@@ -137,7 +137,10 @@ fn load_state<'a, F: Files>(
     ensures usage { IfErr result (λ failure. status failure ≢ 2) }
 {
     match load_counties(alloc, files, options.data, options.codes.as_slice()) {
-        Ok(counties) => Ok(State::new(alloc, alloc, counties)?),
+        Ok(counties) => {
+            let codes = options.codes.as_slice();
+            Ok(State::with_codes(alloc, alloc, counties, codes)?)
+        }
         Err(failure) => Err(failure),
     }
 }

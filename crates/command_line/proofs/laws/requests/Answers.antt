@@ -1,7 +1,7 @@
 use Rattle.std.proofs.Common.{◌≡◌, List, Option, refl, sym, ap, Some, None}
 use Rattle.clap.specs.Walk.{Text}
 use Rattle.clap.proofs.OnLiterals.{clap_on_literals}
-use Rattle.commands.specs.declared.filter.FilterLanguage.{FilterLanguage}
+use Rattle.filters.specs.declared.filter.FilterLanguage.{FilterLanguage}
 use Rattle.cql2.specs.declared.column.NumericColumn.{NumericColumn}
 use Rattle.features.specs.Columns.{is_same}
 use Rattle.layers.specs.Layer.{LayerParts}

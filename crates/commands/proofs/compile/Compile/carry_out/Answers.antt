@@ -1,7 +1,7 @@
 use Rattle.std.proofs.Common.{ℕ, ◌<◌, List, length, subst}
 use Rattle.cql2_text.specs.declared.reader.TheConstants.{MAX_TEXT_LENGTH}
-use Rattle.commands.specs.Failure.{IsOfFilter}
-use Rattle.commands.specs.Filter.{IsFilterFailure, IsProgramOf, length_fault}
+use Rattle.filters.specs.Failure.{IsOfFilter}
+use Rattle.filters.specs.Filter.{IsFilterFailure, IsProgramOf, length_fault}
 use Rattle.commands.proofs.CarriedLemmas.{written_carried}
 use Rattle.commands.proofs.CompileLemmas.{failure_usage, whole_failure, whole_program}
 use Rattle.commands.proofs.SelectLemmas.{filter_carried}
@@ -30,13 +30,13 @@ returns-clause-carried g c =
     let read = c.in-Ok.ensures.prefix in
     let text = c.as_slice.ensures.value in
     let failure = c.in-Err-program.failure in
-    filter_carried read.whole options failure
-    (whole_failure read options failure
-    (subst (λ (text : List ℕ). MAX_TEXT_LENGTH < length text → IsOfFilter (length_fault text) failure) text c.in-Err-program.ensures.too_long)
-    (subst (λ (text : List ℕ). IsFilterFailure text options failure) text c.in-Err-program.ensures.err))
-    (λ refusal is. record { text = read.whole; is_text = read.is_whole; refused = is })
-    (λ flaw pointer is. record { text = read.whole; is_text = read.is_whole; refused = is }) c.in-Ok.ensures.uses
+    filter_carried failure (record {
+      text = read.whole;
+      is_text = read.is_whole;
+      refused = whole_failure read options failure
+          (subst (λ (text : List ℕ). MAX_TEXT_LENGTH < length text → IsOfFilter (length_fault text) failure) text c.in-Err-program.ensures.too_long)
+          (subst (λ (text : List ℕ). IsFilterFailure text options failure) text c.in-Err-program.ensures.err);
+    }) c.in-Ok.ensures.uses
 
 pub returns-clause-usage : goal.returns-clause-usage
-returns-clause-usage g c =
-    failure_usage c.as_slice.result.now c.args.self.filter_options c.in-Err-program.failure c.in-Err-program.ensures.err
+returns-clause-usage g c = failure_usage c.in-Err-program.failure

@@ -1,14 +1,17 @@
 use Rattle.std.proofs.Common.{ℕ, List, refl, subst}
-use Rattle.commands.specs.Filter.{IsFilterRefusal, IsJsonRefusal}
+use Rattle.filters.specs.Filter.{IsFilterFailure}
+use Rattle.commands.proofs.CompileLemmas.{failure_usage}
 use Rattle.commands.proofs.SelectLemmas.{filter_carried, select_lent}
 use Rattle.commands.proofs.select.Select.carry_out.Goals as goal
 
 pub returns-in-Err-clause-carried : goal.returns-in-Err-clause-carried
 returns-in-Err-clause-carried g c =
-    filter_carried c.as_bytes.result.now c.args.self.filter_options c.in-Err.failure c.in-Err.ensures.err
-    (λ refusal. subst (λ (text : List ℕ). IsFilterRefusal text c.args.self.filter_options refusal) c.as_bytes.ensures.value)
-    (λ flaw pointer. subst (λ (text : List ℕ). IsJsonRefusal text c.args.self.filter_options flaw pointer) c.as_bytes.ensures.value)
+    filter_carried c.in-Err.failure
+    (subst (λ (text : List ℕ). IsFilterFailure text c.args.self.filter_options c.in-Err.failure) c.as_bytes.ensures.value c.in-Err.ensures.err)
     (record { opens = refl; reads = λ name. refl })
+
+pub returns-in-Err-clause-usage : goal.returns-in-Err-clause-usage
+returns-in-Err-clause-usage g c = failure_usage c.in-Err.failure
 
 pub returns-clause-carried : goal.returns-clause-carried
 returns-clause-carried g c =
