@@ -1,22 +1,20 @@
 #!/usr/bin/env python3
-"""Compares compiled BPF with native code: draws loop-free programs in C, and runs each by `extractd run` and natively.
+"""Compares compiled BPF with native code: draws programs in C, and runs each by `extractd run` and natively.
 
     python3 random_programs.py [--count N] [--seed N] [--compiler clang] [--cpu v1,v2,v3] [--order both]
 
-`extractd` is the one on the search path. A program has early returns, nested conditions, switches, unrolled loops,
-gotos and calls of helper functions, and no undefined behavior. It is compiled for BPF as compile.sh does, at -O1, -O2
-and -Os and for each of the given instruction sets, and for this machine by `cc` together with native.c. Each build
-has to be accepted, and has to write the rows of the native program over the example county, byte for byte.
+`extractd` is the one on the search path. A program has early returns, nested conditions, switches, loops, gotos and
+calls of helper functions, and no undefined behavior. It is compiled for BPF as compile.sh does, at -O1, -O2 and -Os and
+for each of the given instruction sets, and for this machine by `cc` together with native.c. Each build has to be
+accepted, and has to write the rows of the native program over the example county, byte for byte.
 
-Builds that clang can't bring into the form of a program are counted apart. It may leave a loop that is to be unrolled,
-mostly at -O1, and warns then. And a jump of more than 32,767 words needs -mcpu=v4: at less, version 14 cuts its
-distance, and version 19 reports it.
+Builds with more than 65,536 words, or with a jump over more than 32,767 words, are counted apart. The jump needs
+-mcpu=v4: at less, clang 14 cuts its distance, and clang 19 reports it.
 
 Prints each build that is refused or writes other rows, with the program's source, then the numbers of builds that
-agree, that differ, and that have a loop or too long a jump. The exit status is 1 if any differs. The same seed draws
-the same programs.
+agree, that differ, and that are too long. The exit status is 1 if any differs. The same seed draws the same programs.
 """
-# Needs only Python 3.11, cc, llvm-objcopy and the compiler.
+# Needs only Python 3.11, cc and the compiler.
 
 import argparse
 import os
@@ -36,7 +34,10 @@ TOOLS = TOP / "tools" / "c"
 COUNTY = TOP / "examples"
 sys.path.insert(0, str(TOOLS))
 
-import forward  # noqa: E402
+from forward import put_in_order  # noqa: E402
+from instructions import LoopError, ProgramError  # noqa: E402
+from link import Linker, find_function  # noqa: E402
+from objects import ObjectFile  # noqa: E402
 
 CODE = "01001"
 LEVELS = ("-O1", "-O2", "-Os")
@@ -230,7 +231,8 @@ class ProgramWriter:
 
     def loop(self) -> None:
         counter, rounds = "ijk"[len(self.counters)], self.dice.randint(2, 3 if self.counters else 7)
-        self.write("UNROLL")
+        if self.chance(50):
+            self.write("UNROLL")
         with self.block(f"for (unsigned {counter} = 0; {counter} < {rounds}; {counter}++)"):
             self.counters.append((counter, rounds))
             self.statements(self.dice.randint(1, 2))
@@ -327,8 +329,8 @@ class BuildFailure(Exception):
     """A command failed. Has its name and its standard error."""
 
 
-class LoopFailure(Exception):
-    """The compiler left a loop and warned, or a jump is too long."""
+class TooLong(Exception):
+    """The program or one of its jumps is too long."""
 
 
 class Order(Enum):
@@ -367,15 +369,24 @@ class Build:
             flags = [flag for flag in flags if flag not in ORDER_FLAGS]
         if self.level == "-O1":
             flags += (TOOLS / "flags-O1").read_text().split()
-        return [*flags, f"-mcpu={self.cpu}", self.level, "-Wno-everything", "-Wpass-failed"]
+        return [*flags, f"-mcpu={self.cpu}", self.level, "-w"]
 
     def words(self, source: Path, scratch: Path) -> Path:
         """Returns the file of the program's words."""
         code, program = scratch / "program.o", scratch / "program.bpf"
-        compiled = self.compile(source, code)
-        run("llvm-objcopy", "-O", "binary", "--only-section=.text", code, program)
-        if self.order is not Order.FLAGS:
-            put_in_order(program, warned=b"loop not unrolled" in compiled.stderr)
+        self.compile(source, code)
+        file = ObjectFile(code.read_bytes())
+        linker = Linker(file, find_function(file, "choose"))
+        if self.order is Order.FLAGS:
+            program.write_bytes(linker.words)
+            return program
+        try:
+            words, _ = put_in_order(linker.with_offsets(), linker.tables())
+        except LoopError as error:
+            raise BuildFailure(str(error)) from error
+        except ProgramError as error:
+            raise TooLong from error
+        program.write_bytes(words)
         return program
 
     def compile(self, source: Path, code: Path) -> subprocess.CompletedProcess[bytes]:
@@ -383,21 +394,8 @@ class Build:
             return run(self.compiler, *self.flags(), f"-I{TOOLS}", "-c", source, "-o", code)
         except BuildFailure as failure:
             if "Branch target out of insn range" in str(failure):
-                raise LoopFailure from failure
+                raise TooLong from failure
             raise
-
-
-def put_in_order(program: Path, warned: bool) -> None:
-    """Puts a program in order. `warned` means that the compiler warned about a loop that it left."""
-    try:
-        words, _ = forward.put_in_order(program.read_bytes())
-    except forward.LoopError as error:
-        if warned:
-            raise LoopFailure from error
-        raise BuildFailure(f"forward.py: {error}") from error
-    except forward.ProgramError as error:
-        raise LoopFailure from error
-    program.write_bytes(words)
 
 
 def native_rows(source: Path, harness: Path, scratch: Path) -> bytes:
@@ -418,7 +416,7 @@ def rows_of(build: Build, source: Path, scratch: Path) -> bytes:
 class Outcome:
     source: str
     agree: int = 0
-    loops: int = 0
+    too_long: int = 0
     differences: list[str] = field(default_factory=list)
 
 
@@ -432,8 +430,8 @@ def try_program(source: str, builds: list[Build], harness: Path) -> Outcome:
         for build in builds:
             try:
                 rows = rows_of(build, path, scratch)
-            except LoopFailure:
-                outcome.loops += 1
+            except TooLong:
+                outcome.too_long += 1
                 continue
             except BuildFailure as failure:
                 outcome.differences.append(f"{build}: {failure}")
@@ -476,14 +474,14 @@ def main() -> int:
         return 0
     cpus = [None] if "gcc" in options.compiler else options.cpu.split(",")
     builds = [Build(options.compiler, level, cpu, options.order) for cpu in cpus for level in LEVELS]
-    agree = differ = loops = 0
+    agree = differ = too_long = 0
     for number, outcome in enumerate(try_programs(options.count, options.seed, builds)):
         agree += outcome.agree
         differ += len(outcome.differences)
-        loops += outcome.loops
+        too_long += outcome.too_long
         if outcome.differences:
             print(f"program {number} of seed {options.seed}", *outcome.differences, outcome.source, sep="\n")
-    print(f"{agree} builds agree, {differ} differ, {loops} have a loop or too long a jump")
+    print(f"{agree} builds agree, {differ} differ, {too_long} are too long")
     return 1 if differ else 0
 
 

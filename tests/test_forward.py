@@ -35,7 +35,7 @@ ORDERS = (
     # A block that can't follow the one before it is reached by a jump.
     (
         "jeq r1, 1, second | join: | mov r0, 2 | exit | second: | mov r2, 3 | ja join",
-        "jeq r1, 1, +1 | ja +1 | mov r2, 3 | mov r0, 2 | exit",
+        "jne r1, 1, +1 | mov r2, 3 | mov r0, 2 | exit",
     ),
     # Unreachable blocks are removed, whatever they contain. So are jumps to the next word.
     ("mov r0, 1 | exit | mov r0, 2 | ja -2 | exit", "mov r0, 1 | exit"),
@@ -46,6 +46,31 @@ ORDERS = (
         "ja start | found: | lddw r0, 4294967296 | exit | start: | jeq r1, 1, found | lddw r0, 1 | exit",
         "jeq r1, 1, +3 | lddw r0, 0x0000000000000001 | exit | lddw r0, 0x0000000100000000 | exit",
     ),
+    # The rounds of a loop are written out: by a counter, by a quotient, by a pointer, and by two counters that meet.
+    ("mov r0, 1 | top: | add r0, 1 | jne r0, 4, top | exit", "mov r0, 1 | add r0, 1 | add r0, 1 | add r0, 1 | exit"),
+    (
+        "ldxb r0, [r1+0] | top: | div r0, 10 | jne r0, 0, top | exit",
+        "ldxb r0, [r1+0] | div r0, 10 | jeq r0, 0, +3 | div r0, 10 | jeq r0, 0, +1 | div r0, 10 | exit",
+    ),
+    (
+        "mov r2, r1 | add r2, 2 | mov r0, 0 | top: | ldxb r3, [r1+0] | add r0, r3 | add r1, 1 | jne r1, r2, top | exit",
+        "mov r2, r1 | add r2, 2 | mov r0, 0 | ldxb r3, [r1+0] | add r0, r3 | add r1, 1 | ldxb r3, [r1+0] | add r0, r3"
+        " | add r1, 1 | exit",
+    ),
+    (
+        "mov r0, 0 | mov r2, 3 | top: | add r0, 1 | add r2, -1 | jslt r0, r2, top | exit",
+        "mov r0, 0 | mov r2, 3 | add r0, 1 | add r2, -1 | add r0, 1 | add r2, -1 | exit",
+    ),
+    # A counter in four bytes of the frame is a number again, and so is one that a copy bounds. The end is never reached.
+    (
+        "stw [r10-4], 0 | top: | ldxw r0, [r10-4] | add r0, 1 | stxw [r10-4], r0 | jlt r0, 2, top | exit",
+        "stw [r10-4], 0 | mov r0, 0 | add r0, 1 | stxw [r10-4], r0 | mov r0, 1 | add r0, 1 | stxw [r10-4], r0 | exit",
+    ),
+    (
+        "ldxb r2, [r1+0] | mov r3, r2 | add r3, -65 | mov r0, 0 | jgt r3, 25, +2 | add r1, r2 | ldxb r0, [r1-65] | exit",
+        "ldxb r2, [r1+0] | mov r3, r2 | add r3, -65 | mov r0, 0 | jgt r3, 25, +4 | jgt r2, 90, +4 | jlt r2, 65, +3"
+        " | add r1, r2 | ldxb r0, [r1-65] | exit | mov r0, 0 | exit",
+    ),
 )
 
 # The conditions of RFC 9669, section 4.3.
@@ -53,13 +78,16 @@ CONDITIONS = ("jeq", "jgt", "jge", "jset", "jne", "jsgt", "jsge", "jlt", "jle", 
 
 ERRORS = (
     (
-        "mov r0, 1 | top: | add r0, 1 | jne r0, 9, top | exit",
-        "there is a loop: the jump at place 2 leads back to place 1",
+        "lddw r0, 1 | top: | add r0, 1 | ja top",
+        "a loop may have more than 256 rounds: the jump at place 3 leads back to place 2",
     ),
-    ("lddw r0, 1 | top: | add r0, 1 | ja top", "there is a loop: the jump at place 3 leads back to place 2"),
+    (
+        "ldxdw r0, [r1+0] | top: | ldxdw r2, [r1+8] | xor r0, r2 | jne r0, 0, top | exit",
+        "there is a loop: the jump at place 3 leads back to place 1",
+    ),
     ("ja -1", "there is a loop: the jump at place 0 leads back to place 0"),
     ("jeq r1, 1, +0 | ja -2", "there is a loop: the jump at place 1 leads back to place 0"),
-    # The search meets the later block of the loop first; the error names the backward jump anyway.
+    # The program enters the loop at its later block; the error names the backward jump anyway.
     (
         "jeq r1, 1, two | ja two | one: | mov r0, 1 | two: | mov r0, 2 | ja one",
         "there is a loop: the jump at place 4 leads back to place 2",

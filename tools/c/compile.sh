@@ -1,25 +1,25 @@
 #!/bin/sh
 # Compiles a program in C to the words that `extractd run` takes:
 #
-#     compile.sh [--section NAME] [--lines LINES] PROGRAM.c OUTPUT [FLAG...]
+#     compile.sh [--function NAME] [--lines LINES] PROGRAM.c OUTPUT [FLAG...]
 #
-# The program is the first function of the section .text, or of the given section. With --lines the script also writes the source lines of the
-# words, as `extractd explain --lines` reads them. Each FLAG goes to the compiler after those of the file `flags`, so -Os replaces its -O2.
-# With -O1 clang also gets those of `flags-O1`.
+# The program is the function `choose`, or NAME, wherever it is in the file. With --lines the script also writes the source lines of the words, as
+# `extractd explain --lines` reads them. Each FLAG goes to the compiler after those of the file `flags`, so -Os replaces its -O2. With -O1 clang also gets
+# those of `flags-O1`.
 #
-# CC names the compiler: clang if it isn't set, or GCC's bpf-gcc. Needs llvm-objcopy and Python 3.11, and llvm-objdump for --lines.
+# CC names the compiler: clang if it isn't set, or GCC's bpf-gcc. Needs Python 3.11. Source lines, also those in errors, need llvm-objdump.
 set -eu
 
 usage() {
-    echo "usage: ${0##*/} [--section NAME] [--lines LINES] PROGRAM.c OUTPUT [FLAG...]" >&2
+    echo "usage: ${0##*/} [--function NAME] [--lines LINES] PROGRAM.c OUTPUT [FLAG...]" >&2
     exit 2
 }
 
 here=$(dirname "$0")
-section=.text lines=""
+function=choose lines=""
 while [ $# -gt 1 ]; do
     case $1 in
-    --section) section=$2 && shift 2 ;;
+    --function) function=$2 && shift 2 ;;
     --lines) lines=$2 && shift 2 ;;
     -*) usage ;;
     *) break ;;
@@ -37,16 +37,17 @@ case ${compiler##*/} in
     case " $* " in *" -O1 "*) set -- "@$here/flags-O1" "$@" ;; esac
     ;;
 esac
-[ -z "$lines" ] || set -- "$@" -g
 
 scratch=$(mktemp -d)
 trap 'rm -rf "$scratch"' EXIT
-"$compiler" "@$flags" -I"$here" "$@" -c "$source" -o "$scratch/program.o"
-llvm-objcopy -O binary --only-section="$section" "$scratch/program.o" "$scratch/program.bpf"
-[ -s "$scratch/program.bpf" ] || { echo "${0##*/}: $source: the section $section is empty" >&2; exit 1; }
-if [ -z "$lines" ]; then
-    python3 "$here/forward.py" "$scratch/program.bpf" "$output"
-else
-    "$here/lines.sh" --section "$section" "$scratch/program.o" > "$scratch/lines"
-    python3 "$here/forward.py" --lines "$scratch/lines" "$lines" "$scratch/program.bpf" "$output"
-fi
+object=$scratch/$(basename "$source" .c).o
+# compile ARGUMENT..: prints what the compiler says, unless clang says that it has no signed division. Then link.py makes it.
+compile() {
+    "$compiler" "@$flags" -I"$here" -isystem "$here/include" "$@" -c "$source" -o "$object" 2> "$scratch/said" && cat "$scratch/said" >&2 && return
+    grep -q -i 'unsupport[a-z]* signed division' "$scratch/said" || { cat "$scratch/said" >&2; return 1; }
+    "$compiler" "@$flags" -I"$here" -isystem "$here/include" "$@" -S -emit-llvm "$source" -o "$scratch/program.ll"
+    python3 "$here/divisions.py" < "$scratch/program.ll" > "$scratch/divided.ll"
+    "$compiler" "@$flags" "$@" -w -Xclang -disable-llvm-passes -c -x ir "$scratch/divided.ll" -o "$object"
+}
+compile "$@"
+python3 "$here/link.py" --function "$function" ${lines:+--lines "$lines"} "$object" "$output"

@@ -80,6 +80,9 @@ HELPER(7, uint64_t, name_is, (uint64_t name, const void *bytes, uint64_t length)
 HELPER(8, uint64_t, emit, (uint64_t score));
 HELPER(9, int64_t, coord, (uint64_t which));
 
+/* The program: a nonzero answer selects the segment. `flatten` puts all that it calls inside of it. */
+uint64_t choose(const struct record *record) __attribute__((flatten));
+
 /* Unrolls the loop after it, which must have a fixed number of iterations, up to 100. */
 #ifdef __clang__
 #define UNROLL _Pragma("unroll")
@@ -94,5 +97,50 @@ static inline __attribute__((always_inline)) uint64_t bounded(uint64_t number, u
     __asm__("" : "+r"(number));
     return number & mask;
 }
+
+/* Returns a number below the limit: the number itself, or 0 if it isn't below. */
+static inline __attribute__((always_inline)) uint64_t below(uint64_t number, uint64_t limit)
+{
+    __asm__("" : "+r"(number));
+    return number < limit ? number : 0;
+}
+
+/* The element of an array, by an index that may be too great. Then it is the first one. */
+#define at(array, index) ((array)[below(index, sizeof(array) / sizeof *(array))])
+
+/* Returns 1 if the bytes are equal, else 0. */
+static inline __attribute__((always_inline)) uint64_t same(const void *one, const void *other, uint64_t length)
+{
+    const uint8_t *a = (const uint8_t *) one, *b = (const uint8_t *) other;
+    for (uint64_t i = 0; i < length; i++)
+        if (a[i] != b[i])
+            return 0;
+    return 1;
+}
+
+/* Returns 1 if the bytes begin with the text, which is in quotes, else 0. */
+#define begins(bytes, text) same(bytes, "" text, sizeof(text) - 1)
+
+/* Copies bytes, such as those of a name, into an array. */
+static inline __attribute__((always_inline)) void copy(void *to, const void *from, uint64_t length)
+{
+    for (uint64_t i = 0; i < length; i++)
+        ((uint8_t *) to)[i] = ((const uint8_t *) from)[i];
+}
+
+#ifndef __clang__
+/* GCC calls a function of its library for these. */
+static inline __attribute__((always_inline)) int count_bits(uint64_t bits)
+{
+    int count = 0;
+    for (int i = 0; i < 64; i++)
+        count += bits >> i & 1;
+    return count;
+}
+#define __builtin_popcount(bits) count_bits((uint32_t) (bits))
+#define __builtin_popcountl(bits) count_bits(bits)
+#define __builtin_popcountll(bits) count_bits(bits)
+#define __builtin_parity(bits) (count_bits((uint32_t) (bits)) & 1)
+#endif
 
 #endif

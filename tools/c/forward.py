@@ -1,21 +1,23 @@
 #!/usr/bin/env python3
-"""Puts the blocks of a loop-free program in an order in which every jump leads forwards: forward.py PROGRAM OUTPUT
+"""Makes a program of what a compiler writes, without loops and with jumps that lead forwards: forward.py PROGRAM OUTPUT
 
-`extractd` refuses each jump to an earlier word (30 BackwardJump), but a compiler may well put a shared ending before
-a jump to it. This tool reads the words of a program, reorders its basic blocks and writes the words again. What the
-program computes stays the same. OUTPUT may be PROGRAM itself.
+`extractd` refuses each jump to an earlier word (30 BackwardJump), but a compiler leaves loops, and it may well put a
+shared ending before a jump to it. This tool reads the words of a program, writes out the rounds of its loops, reorders
+its basic blocks and writes the words again. What the program computes stays the same. OUTPUT may be PROGRAM itself.
 
+- A loop is written out if each round decides whether there is another one, as rounds.py says.
+- Jumps that are never taken are added where the verifier has to know the bounds of a number that it can't see.
 - Blocks that can't be reached are left out, and so are jumps to the next word.
-- A program whose jumps all lead forwards keeps its order.
+- A program that needs nothing of that, and whose jumps all lead forwards, keeps its order.
 - A conditional jump that ends up more than 32,767 words before its target reaches it by way of a `ja32`.
-- A program with a loop has no such order. The error names the jump that closes the loop. Places count words from 0,
-  as in `extractd verify`.
+- If the rounds of a loop have no end that can be seen, the error names the jump that closes the loop. Places count
+  words from 0, as in `extractd verify`.
 
 With --lines OLD NEW it also reads the program's source lines, as lines.sh writes them, and writes them with their new
 places.
 
-The output is verified like any other program, so nothing depends on this tool being right. Exit status 1 means that
-no program was written.
+The output is verified like any other program, so its safety doesn't depend on this tool. Exit status 1 means that no
+program was written.
 """
 # Needs only Python 3.11.
 
@@ -25,166 +27,33 @@ import struct
 import sys
 from collections import Counter
 from collections.abc import Iterator
-from dataclasses import dataclass
+from dataclasses import dataclass, replace
 from functools import cached_property
-from itertools import pairwise
 from pathlib import Path
 
-WORD = 8
-MOST_WORDS = 65_536
+from instructions import (
+    JA,
+    JA32,
+    WORD,
+    Block,
+    Instruction,
+    LoopError,
+    ProgramError,
+    check_length,
+    find_reachable,
+    read_instructions,
+    split_into_blocks,
+)
+from intervals import OPPOSITES
+from rounds import copy_rounds
+from tables import Tables, put_into_frame, with_sections
+
+__all__ = ["LoopError", "ProgramError", "move_lines", "put_in_order", "read_lines"]
+
 # The reach of a jump's offset field, in words from the word after the jump.
 FARTHEST = 32_767
 
-# Opcodes of RFC 9669.
-WIDE_LOAD, JA, JA32, EXIT = 0x18, 0x05, 0x06, 0x95
-JUMP_CLASSES = (0x05, 0x06)
-CONDITIONS = (0x1, 0x2, 0x3, 0x4, 0x5, 0x6, 0x7, 0xA, 0xB, 0xC, 0xD)
-
-
-class ProgramError(Exception):
-    """The program can't be put in order."""
-
-
-class LoopError(ProgramError):
-    """The program has a loop."""
-
-
-# ---- Instructions
-
-
-@dataclass(frozen=True)
-class Instruction:
-    place: int
-    data: bytes  # one word, or the two of a wide load
-
-    @property
-    def opcode(self) -> int:
-        return self.data[0]
-
-    @property
-    def next_place(self) -> int:
-        return self.place + len(self.data) // WORD
-
-    @property
-    def is_conditional(self) -> bool:
-        return self.opcode & 7 in JUMP_CLASSES and self.opcode >> 4 in CONDITIONS
-
-    @property
-    def is_jump(self) -> bool:
-        return self.opcode in (JA, JA32) or self.is_conditional
-
-    @property
-    def target(self) -> int:
-        """Returns the place that the jump leads to."""
-        offset: int
-        immediate: int
-        offset, immediate = struct.unpack_from("<hi", self.data, 2)
-        return self.next_place + (immediate if self.opcode == JA32 else offset)
-
-    @property
-    def fall_through(self) -> int | None:
-        """Returns the place of the next word if the program may go on there without a jump, else None."""
-        return None if self.opcode in (JA, JA32, EXIT) else self.next_place
-
-    def successors(self) -> list[int]:
-        places = [] if self.fall_through is None else [self.fall_through]
-        if self.is_jump and self.target not in places:
-            places.append(self.target)
-        return places
-
-
-def read_instructions(data: bytes) -> dict[int, Instruction]:
-    """Returns the instructions by place."""
-    if not data:
-        raise ProgramError("the program is empty")
-    if len(data) % WORD:
-        raise ProgramError(f"the program has {len(data)} bytes, which isn't a multiple of {WORD}")
-    check_length(len(data) // WORD)
-    instructions = {}
-    place, end = 0, len(data) // WORD
-    while place < end:
-        size = 2 if data[place * WORD] == WIDE_LOAD else 1
-        if place + size > end:
-            raise ProgramError(f"the wide load at place {place} lacks its second word")
-        instructions[place] = Instruction(place, data[place * WORD : (place + size) * WORD])
-        place += size
-    return instructions
-
-
-def check_length(words: int) -> None:
-    """Raises an error if a program is too long.
-
-    A compiler may truncate the distance of a jump to 16 bits. Unless the program is too long, the target of such a jump
-    is outside of the program, so it isn't mistaken for another place.
-    """
-    if words > MOST_WORDS:
-        raise ProgramError(f"the program has {words} words, and it may have {MOST_WORDS}")
-
-
-def check_successor(instruction: Instruction, target: int, instructions: dict[int, Instruction]) -> None:
-    if target in instructions:
-        return
-    if target == instruction.fall_through:
-        raise ProgramError(f"the program runs past its last word after place {instruction.place}")
-    jump = f"the jump at place {instruction.place} leads to place {target}"
-    before = instructions.get(target - 1)
-    if before is not None and before.next_place > target:
-        raise ProgramError(f"{jump}, the second word of a wide load")
-    raise ProgramError(f"{jump}, which is outside of the program")
-
-
-def find_reachable(instructions: dict[int, Instruction]) -> list[Instruction]:
-    """Returns the instructions that can be reached from place 0, in the program's order."""
-    reached, waiting = {0}, [0]
-    while waiting:
-        instruction = instructions[waiting.pop()]
-        for target in instruction.successors():
-            check_successor(instruction, target, instructions)
-            if target not in reached:
-                reached.add(target)
-                waiting.append(target)
-    return [instructions[place] for place in sorted(reached)]
-
-
 # ---- Blocks
-
-
-@dataclass(frozen=True)
-class Block:
-    """Instructions that the program enters only at the first and leaves only after the last."""
-
-    instructions: tuple[Instruction, ...]
-
-    @property
-    def start(self) -> int:
-        return self.instructions[0].place
-
-    @property
-    def last(self) -> Instruction:
-        return self.instructions[-1]
-
-    @cached_property
-    def body(self) -> bytes:
-        """Returns the words without those of a jump at the end."""
-        kept = self.instructions[:-1] if self.last.is_jump else self.instructions
-        return b"".join(instruction.data for instruction in kept)
-
-
-def split_into_blocks(reachable: list[Instruction]) -> dict[int, Block]:
-    """Returns the blocks by start, in the program's order."""
-    starts = {0}
-    for instruction in reachable:
-        if instruction.is_jump:
-            starts.update(instruction.successors())
-    blocks: dict[int, Block] = {}
-    current: list[Instruction] = []
-    for instruction in reachable:
-        if current and (instruction.place in starts or current[-1].fall_through != instruction.place):
-            blocks[current[0].place] = Block(tuple(current))
-            current = []
-        current.append(instruction)
-    blocks[current[0].place] = Block(tuple(current))
-    return blocks
 
 
 def order_blocks(blocks: dict[int, Block]) -> list[Block]:
@@ -206,36 +75,7 @@ def order_blocks(blocks: dict[int, Block]) -> list[Block]:
                     start = target
                 elif missing[target] == 0:
                     heapq.heappush(ready, target)
-    if len(order) < len(blocks):
-        jump = closing_jump(find_loop(blocks))
-        raise LoopError(f"there is a loop: the jump at place {jump.place} leads back to place {jump.target}")
     return order
-
-
-def find_loop(blocks: dict[int, Block]) -> list[Block]:
-    """Returns the blocks of a loop, which must exist. Searches depth-first from place 0."""
-    path: dict[int, None] = {0: None}
-    finished: set[int] = set()
-    following = [iter(blocks[0].last.successors())]
-    while True:
-        target = next(following[-1], None)
-        if target is None:
-            following.pop()
-            finished.add(path.popitem()[0])
-        elif target in path:
-            starts = list(path)
-            return [blocks[start] for start in starts[starts.index(target) :]]
-        elif target not in finished:
-            path[target] = None
-            following.append(iter(blocks[target].last.successors()))
-
-
-def closing_jump(loop: list[Block]) -> Instruction:
-    """Returns the jump of a loop that leads to an earlier word or to itself. Each loop has one."""
-    for block, following in pairwise([*loop, loop[0]]):
-        if following.start <= block.last.place:
-            return block.last
-    raise AssertionError("a loop without a jump backwards")
 
 
 # ---- Words
@@ -257,12 +97,23 @@ class Branch:
         return struct.pack("<BBhi", JA32, 0, 0, distance)
 
 
+def opposite(jump: Instruction) -> Instruction:
+    """Returns the jump with the opposite condition."""
+    opcode = OPPOSITES[jump.opcode >> 4] << 4 | jump.opcode & 15
+    return replace(jump, data=bytes((opcode,)) + jump.data[1:])
+
+
 @dataclass
 class Layout:
     """Blocks in order, and the starts of those whose conditional jump is too far from its target."""
 
     order: list[Block]
     far: set[int]
+
+    @cached_property
+    def is_short(self) -> bool:
+        """Whether any jump may take the place of another, as all targets are near."""
+        return sum(len(block.body) // WORD + 2 for block in self.order) < FARTHEST
 
     @cached_property
     def branches(self) -> list[list[Branch]]:
@@ -273,10 +124,12 @@ class Layout:
     def branches_of(self, block: Block, follower: int | None) -> list[Branch]:
         last = block.last
         if last.is_conditional:
-            conditional, rest = [Branch(last.target, last)], last.next_place
+            rest, taken = last.successors()[0], last.successors()[-1]
             if block.start in self.far:
-                return [*conditional, Branch(rest), Branch(last.target)]
-            return conditional if rest == follower else [*conditional, Branch(rest)]
+                return [Branch(taken, last), Branch(rest), Branch(taken)]
+            if self.is_short and taken == follower != rest and last.opcode >> 4 in OPPOSITES:
+                return [Branch(rest, opposite(last))]
+            return [Branch(taken, last)] if rest == follower else [Branch(taken, last), Branch(rest)]
         successors = last.successors()
         return [Branch(target) for target in successors if target != follower]
 
@@ -313,14 +166,31 @@ class Layout:
                 yield instruction, self.places[block.start] + instruction.place - block.start
 
 
-def put_in_order(data: bytes) -> tuple[bytes, Layout]:
-    order = order_blocks(split_into_blocks(find_reachable(read_instructions(data))))
-    far: set[int] = set()
+def lay_out(blocks: dict[int, Block]) -> tuple[bytes, Layout]:
+    order, far = order_blocks(blocks), set[int]()
     while True:
         layout = Layout(order, far)
         words = layout.encode()
         if words is not None:
             return words, layout
+
+
+def put_in_order(data: bytes, tables: Tables | None = None) -> tuple[bytes, Layout]:
+    """Returns the words in order, with the rounds of loops written out and tables in the frame."""
+    tables = tables or Tables()
+    instructions = with_sections(read_instructions(data), tables)
+    blocks = split_into_blocks(find_reachable(instructions))
+    is_plain = not tables.loads and len(order_blocks(blocks)) == len(blocks)
+    try:
+        copies = copy_rounds(blocks, tables)
+    except LoopError:
+        if is_plain:
+            return lay_out(blocks)
+        raise
+    if is_plain and not (copies.changed or copies.unwritten):
+        return lay_out(blocks)
+    placed = put_into_frame(copies.instructions(), tables.contents, copies.lowest, copies.unwritten)
+    return lay_out(split_into_blocks(placed))
 
 
 # ---- Source lines
@@ -346,12 +216,12 @@ def move_lines(lines: dict[int, list[str]], layout: Layout) -> str:
     """
     moved, following = [], None
     for instruction, place in layout.moved():
-        sources = lines.get(instruction.place, [])
-        if not sources and instruction.place != following:
-            before = max((known for known in lines if known < instruction.place), default=None)
+        sources = lines.get(instruction.origin, [])
+        if not sources and instruction.origin != following:
+            before = max((known for known in lines if known < instruction.origin), default=None)
             sources = [] if before is None else lines[before][-1:]
         moved += [f"{place}\t{source}\n" for source in sources]
-        following = instruction.next_place
+        following = instruction.origin + len(instruction.data) // WORD
     return "".join(moved)
 
 

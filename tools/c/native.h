@@ -3,7 +3,9 @@
 #ifndef EXTRACTD_H
 #define EXTRACTD_H
 
+#include <stddef.h>
 #include <stdint.h>
+#include <string.h>
 
 /* Record type 1. The columns are those of docs/records.md: the field's first place, then its last. */
 #define BYTES(name, first, last) uint8_t name[last - first + 1];
@@ -47,6 +49,13 @@ static inline __attribute__((always_inline)) uint64_t bounded(uint64_t number, u
     __asm__("" : "+r"(number));
     return number & mask;
 }
+
+/* The others of extractd.h, by the C library. */
+#define below(number, limit) ((uint64_t) (number) < (limit) ? (uint64_t) (number) : 0)
+#define at(array, index) ((array)[below(index, sizeof(array) / sizeof *(array))])
+#define same(one, other, length) (memcmp(one, other, length) == 0)
+#define begins(bytes, text) same(bytes, text, strlen(text))
+#define copy(to, from, length) memcpy(to, from, length)
 
 /* The program. */
 uint64_t choose(const struct record *record);

@@ -3,7 +3,7 @@
 #
 #     verdict.sh PROGRAM.c...
 #
-# If a program can't be compiled, the verdict is the last line of what the compiler or forward.py says. Runs the `extractd` on the search path, and
+# If a program can't be compiled, the verdict is the last line of what the compiler or link.py says. Runs the `extractd` on the search path, and
 # needs what compile.sh needs.
 set -u
 
@@ -13,7 +13,7 @@ for source; do
     if said=$("$(dirname "$0")/compile.sh" "$source" "$scratch/program.bpf" 2>&1); then
         said=$(extractd verify --program "$scratch/program.bpf" 2>&1 | cut -d ' ' -f 1,2,5)
     else
-        said=$(printf '%s\n' "$said" | tail -n 1 | sed 's/: the jump at place .*//')
+        said=$(printf '%s\n' "$said" | tail -n 1 | sed 's/^link.py: [^:]*: //; s/: the jump at place [^(]*/ /')
     fi
     name=${source##*/}
     printf '%-14s%s\n' "${name%.c}" "$said"

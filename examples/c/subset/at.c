@@ -1,0 +1,6 @@
+#include "extractd.h"
+
+uint64_t choose(const struct record *record)
+{
+    return at(record->fename, field(FRADDL)) == 'e';
+}
