@@ -70,11 +70,11 @@ def free_port() -> int:
 
 
 @contextmanager
-def serving(folder: Path) -> Iterator[Server]:
-    """Starts a server over the county in the folder, and ends it."""
+def serving(folder: Path, *codes: str) -> Iterator[Server]:
+    """Starts a server over the county in the folder, or over those of these codes, and ends it."""
     for _ in range(20):
         port = free_port()
-        command = ["extractd", "serve", "--data", str(folder), "--port", str(port), "01001"]
+        command = ["extractd", "serve", "--data", str(folder), "--port", str(port), *(codes or ("01001",))]
         with subprocess.Popen(command, stdout=subprocess.PIPE, stderr=subprocess.DEVNULL, text=True) as process:
             try:
                 assert process.stdout is not None

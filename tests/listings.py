@@ -4,7 +4,7 @@
     python3 listings.py [--count COUNT] [--seed SEED]     many programs
     python3 listings.py --program TEXT [--lines FILE]     prints the listing of one program, `|` between its lines
 
-`extractd` is the one on the search path; the second form doesn't run it. The rules are those of docs/verifier.md, read a
+`extractd` is the one on the search path; the second form runs it only for a program whose jumps are refused. The rules are those of docs/verifier.md, read a
 second time in `verifier`. The built program supplies nothing but the words of a text, by `asm`.
 
 The first form takes the programs of tests/verdicts, those of the documents, and COUNT that it draws. For each,
@@ -32,7 +32,7 @@ from pathlib import Path
 from typing import NamedTuple
 
 from verifier.drawn import Case, drawn_lines, drawn_programs
-from verifier.listing import listing, source_lines
+from verifier.listing import excerpt, listing, source_lines
 from verifier.program_text import read_instructions
 from verifier.search import Draw
 from verifier.walk import Walk, is_least, verified
@@ -79,7 +79,12 @@ LENT = r"r2 = frame \+ .*, r3 = \S+"
 # What has to occur in the listings, so that no text goes untried.
 FORMS = {
     "40": r"refused: reads r\d+, of which nothing is known$",
-    "41": r"refused: a pointer is only copied, or moved by a number from -32768 to 32767: r",
+    "30": r"refused: jumps back, to place -?\d+$",
+    "31": r"refused: jumps past the last word, to place \d+$",
+    "32": r"refused: jumps to the second word of a wide load, to place \d+$",
+    "33": r"refused: the last instruction isn't exit$",
+    "41, an operation": r"refused: \w+ of a pointer, which is only copied by mov, or moved by add or sub of a number: r",
+    "41, a number": r"refused: (add|sub) moves a pointer only by a number from -32768 to 32767: r",
     "42": r"refused: moves a pointer to an offset outside -32768\.\.32767: r",
     "43": r"refused: the base is no pointer: r\d+ = ",
     "44, a load from the record": rf"refused: reads {OF_RECORD}: r\d+ = record \+ .*, offset -?\d+$",
@@ -94,6 +99,7 @@ FORMS = {
     "48": r"refused: compares a pointer: r",
     "49": r"refused: there is no helper function \d+$",
     "50, a pointer": r"refused: argument [23] must be a pointer into the frame: r[23] = ",
+    "50, any number": r"refused: argument [1-3] must be any number: r[1-3] = ",
     "50, a number": r"refused: argument [1-3] must be a number from \d+ to \d+: r[1-3] = ",
     "51": r"refused: exits with a pointer: r0 = ",
     "an instruction without a note": r"^\d+: \S[^;]*[^; ]$",
@@ -107,14 +113,58 @@ FORMS = {
     "a slot of which some bytes are written": r"\[r10-\d+\] = (m+\?|\?+m)[m?]*",
     "source lines": r"^; ",
 }
-# Bytes that are no program, which `explain` refuses as `verify` does: none, one, unknown opcodes, half a wide load, r10
-# and r11 as destinations, and the start of an object file.
-BAD_BYTES = tuple(
-    bytes.fromhex(words)
-    for words in (
-        "", "95", "00 00 00 00 00 00 00 00", "ff 00 00 00 00 00 00 00", "18 00 00 00 00 00 00 00",
-        "b7 0a 00 00 00 00 00 00", "b7 0b 00 00 00 00 00 00", "7f 45 4c 46 02 01 01 00 00 00 00 00 00 00 00 00",
-    )
+
+
+class Refused(NamedTuple):
+    """Bytes that are no program, with the place of the refused word, the reason, and the words that are instructions."""
+
+    content: str
+    place: int = 0
+    reason: str = ""
+    texts: dict[int, str] = {}
+
+    def words(self) -> bytes:
+        return bytes.fromhex(self.content)
+
+    def listing(self) -> str:
+        return excerpt(self.words(), self.texts, self.place, self.reason) if self.reason else ""
+
+
+# No bytes, one byte, unknown opcodes, half a wide load, r10 and r11 as destinations, the start of an object file; calls and a wide load as
+# clang leaves them to a linker.
+REFUSED_BYTES = (
+    Refused(""),
+    Refused("95"),
+    Refused("00 00 00 00 00 00 00 00", 0, "no instruction has this opcode"),
+    Refused("95 00 00 00 00 00 00 00 ff 00 00 00 00 00 00 00", 1, "no instruction has this opcode", {0: "exit"}),
+    Refused("18 00 00 00 00 00 00 00", 0, "the second word of the wide load is missing"),
+    Refused("b7 0a 00 00 00 00 00 00", 0, "writes r10, which is read-only"),
+    Refused("b7 0b 00 00 00 00 00 00", 0, "there is no register above r10"),
+    Refused("d4 00 00 00 08 00 00 00", 0, "the instruction has no such width"),
+    Refused(
+        "7f 45 4c 46 02 01 01 00 00 00 00 00 00 00 00 00", 0, "a field that the instruction doesn't use isn't zero"
+    ),
+    Refused(
+        "b7 03 00 00 05 00 00 00 85 10 00 00 ff ff ff ff 95 00 00 00 00 00 00 00",
+        1,
+        "calls another function (src_reg 1), whose place clang left to a linker",
+        {0: "mov r3, 5", 2: "exit"},
+    ),
+    Refused("85 10 00 00 01 00 00 00 95 00 00 00 00 00 00 00", 0, "calls another function (src_reg 1)", {1: "exit"}),
+    Refused("85 20 00 00 01 00 00 00", 0, "calls a function of the kernel (src_reg 2)"),
+    Refused("85 01 00 00 01 00 00 00", 0, "a field that the instruction doesn't use isn't zero"),
+    Refused(
+        "18 11 00 00 01 00 00 00 00 00 00 00 00 00 00 00 95 00 00 00 00 00 00 00",
+        0,
+        "loads the address of a map or a variable (src_reg isn't 0)",
+        {2: "exit"},
+    ),
+    Refused(
+        "18 01 00 00 01 00 00 00 00 00 00 00 00 00 00 00 18 01 00 00 01 00 00 00 05 00 00 00 00 00 00 00",
+        2,
+        "a field that the instruction doesn't use isn't zero",
+        {0: "lddw r1, 0x0000000000000001", 3: "ja +0"},
+    ),
 )
 
 
@@ -171,16 +221,24 @@ def explain_pairs(name: str, expected: str, verify: Said, explain: Said) -> Iter
     yield f"the output of {name}", expected.encode(), explain.output
 
 
+def assembled_words(text: str) -> bytes:
+    with tempfile.TemporaryDirectory() as folder:
+        source = Path(folder, "program.s")
+        source.write_text(text.replace("|", "\n") + "\n", "utf-8")
+        return said("asm", "--source", source).output
+
+
 def compare(case: Case, folder: Path) -> Compared:
     """Compares what is expected of a program with what the built program writes."""
     program = read_instructions(case.text)
     found, lines = verified(program), drawn_lines(Draw(len(case.text)), program)
-    plain, with_lines = listing(program, found), listing(program, found, source_lines(lines))
     source, words, places = (folder / name for name in ("program.s", "program.bpf", "places"))
     source.write_text(case.text.replace("|", "\n") + "\n", "utf-8")
     places.write_text(lines, "utf-8", newline="")
     assembled = said("asm", "--source", source)
     words.write_bytes(assembled.output)
+    plain = listing(program, found, (), assembled.output)
+    with_lines = listing(program, found, source_lines(lines), assembled.output)
     verify = said("verify", "--program", words)
     pairs = [
         ("the verdict of this script", case.verdict or found.verdict(), found.verdict()),
@@ -193,11 +251,11 @@ def compare(case: Case, folder: Path) -> Compared:
     return Compared(case, first_difference(pairs), plain + with_lines)
 
 
-def compare_bytes(content: bytes, folder: Path) -> Compared:
-    words = folder / "program.bpf"
-    words.write_bytes(content)
-    pairs = explain_pairs("explain", "", said("verify", "--program", words), said("explain", "--program", words))
-    return Compared(Case("bytes", content.hex(" ")), first_difference(pairs), "")
+def compare_bytes(refused: Refused, folder: Path) -> Compared:
+    words, expected = folder / "program.bpf", refused.listing()
+    words.write_bytes(refused.words())
+    pairs = explain_pairs("explain", expected, said("verify", "--program", words), said("explain", "--program", words))
+    return Compared(Case("bytes", refused.content), first_difference(pairs), expected)
 
 
 def in_folder(compare_one: Callable[[object, Path], Compared]) -> Callable[[object], Compared]:
@@ -224,7 +282,7 @@ def compare_all(count: int, seed: int) -> bool:
     """Prints what differs, and returns whether nothing does."""
     cases = all_cases(count, seed)
     with ThreadPoolExecutor(os.cpu_count()) as pool:
-        compared = [*pool.map(in_folder(compare), cases), *pool.map(in_folder(compare_bytes), BAD_BYTES)]
+        compared = [*pool.map(in_folder(compare), cases), *pool.map(in_folder(compare_bytes), REFUSED_BYTES)]
     differing = [one for one in compared if one.difference]
     for one in differing:
         print(f"{one.case.name}: {one.case.text[:1000]}\n{one.difference}\n")
@@ -247,7 +305,8 @@ def main() -> None:
     program = read_instructions(arguments.program)
     found = verified(program)
     source = source_lines(arguments.lines.read_text("utf-8")) if arguments.lines else []
-    print(listing(program, found, source), end="")
+    words = b"" if found.states else assembled_words(arguments.program)
+    print(listing(program, found, source, words), end="")
     if found.refusal:
         sys.exit(str(found.refusal))
 

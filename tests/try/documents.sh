@@ -17,10 +17,18 @@
 # - A row of a table with bytes in its first cell and a refusal in its second is a program that `verify` and `run` refuse that way. One with a
 #   place, an instruction and its bytes is a program of one instruction, tested as above.
 #
+# With PAGES in the environment, the folder of installed documents, its pages are tested in a copy of it, as their readers do. `tigerline` is installed then,
+# and its blocks are tested here. One for `tigerline-serve` is next to `tigerline serve --data examples --port 8080`.
+#
 # shellcheck disable=SC2154 # unit.sh sets `top`.
 
-# Makes a folder that looks like a clone after a build, and goes there.
+# Makes a folder that looks like a clone after a build, or a copy of the installed documents, and goes there.
 enter_clone() {
+    if [ -n "${PAGES-}" ]; then
+        cp -R "$PAGES" clone
+        cd clone || exit 1
+        return
+    fi
     mkdir -p clone/crates/extractd/out clone/.ci
     printf '#!/bin/sh\n' > clone/.ci/run
     chmod 755 clone/.ci/run
@@ -50,6 +58,20 @@ try_console() {
     wrote=$(timeout 300 bash -c "$(script_of "$2")" 2>&1 < /dev/null)
     [ -z "${3-}" ] || wrote=${wrote//"$3"/}
     if [ "$wrote" = "$2" ]; then pass; else fail "$1 shows" "$2" "and it is" "$wrote"; fi
+}
+
+# try_service NAME TEXT: runs its commands next to a service, which is at a free port here.
+try_service() {
+    local port=$((10000 + RANDOM % 20000)) waited
+    : > "$scratch/service"
+    tigerline serve --data examples --port $port > "$scratch/service" 2>&1 < /dev/null &
+    started+=("$!")
+    for ((waited = 0; waited < 600; waited++)); do
+        ! grep -q '^listening ' "$scratch/service" || break
+        sleep 0.1
+    done
+    try_console "$1" "${2//127.0.0.1:8080/127.0.0.1:$port}"
+    end
 }
 
 # try_quiet NAME COMMANDS: they succeed and print nothing.
@@ -113,10 +135,11 @@ try_row() {
 
 # is_ours NAME COMMAND..: whether this script tests a block that needs these commands, and they are here. python/try.sh tests those with the package.
 is_ours() {
-    case " ${*:2}" in
-    *' tigerline'*) printf '%s is tested by python/try.sh\n' "$1"; return 1 ;;
-    *) needs "$@" ;;
-    esac
+    if [ -z "${PAGES-}" ] && [[ " ${*:2}" == *' tigerline'* ]]; then
+        printf '%s is tested by python/try.sh\n' "$1"
+        return 1
+    fi
+    needs "${@/#tigerline-serve/tigerline}"
 }
 
 # try_block NAME KIND WORDS TEXT: the words are the rest of the block's first line.
@@ -125,7 +148,13 @@ try_block() {
     read -r -a words <<< "$3"
     case $2 in
     bash) is_ours "$1" "${words[@]}" && try_quiet "$1" "$4" ;;
-    console) is_ours "$1" "${words[@]}" && try_console "$1" "$4" ;;
+    console)
+        is_ours "$1" "${words[@]}" || return
+        case " ${words[*]} " in
+        *' tigerline-serve '*) try_service "$1" "$4" ;;
+        *) try_console "$1" "$4" ;;
+        esac
+        ;;
     http) show_replies "$4"; is_ours "$1" curl "${words[@]:1}" && try_http "$1" "${words[0]}" "$4" ;;
     asm) asm=$4 ;;
     hex) try_conversion "$1" "$asm" "$4" ;;
@@ -153,8 +182,8 @@ try_page() {
         else
             try_row "$1, line $number" "$line"
         fi
-    done < "$top/$1"
+    done < "${PAGES:-$top}/$1"
     [ -z "$kind" ] || fail "$1 ends within the block of line $begin"
     stop_server
-    [ "$1" != docs/http.md ] || try_example_rows "$1"
+    [ "$1" != docs/http.md ] || [ -n "${PAGES-}" ] || try_example_rows "$1"
 }

@@ -21,7 +21,7 @@ try_http() {
 # show_replies TEXT: adds each request by curl with a reply whose head the text shows. A body that curl writes to a file has the file's name.
 show_replies() {
     local line asked="" head="" body="" allow="" record tab=$'\t' escape='\t'
-    record=$(tr -d '\r' < "$top/examples/one/TGR01001.RT1")
+    record=$(tr -d '\r' < examples/one/TGR01001.RT1)
     add_reply() {
         body=${body//"$record"/"{lantern}"}
         [ -n "$head" ] && shown+="$asked => =$head$body$allow"$'\n'
@@ -50,7 +50,8 @@ asked_of() {
     printf '%s\n' "${method%% *} ${target%%[\' ]*}{curl}"
 }
 
-# tested_examples: prints the rows of the tests' tables of examples. The rows of a table are the lines of a string, r"..", so they have no quotes.
+# tested_examples: prints the rows of the tests' tables of examples. The rows of a table are the lines of a string, r"..", so they have no quotes. A line
+# that begins with two blanks continues the one above, and braces are escaped.
 tested_examples() {
     local line asked
     while IFS= read -r line; do
@@ -60,7 +61,7 @@ tested_examples() {
         'turn => '*) ;;
         *' => ='* | *' => '[45]*) asked=${line%% => *}; printf '%s\n' "${asked%% >>*} => ${line#* => }" ;;
         esac
-    done < "$top/crates/wire_tests/src/examples.rt"
+    done < <(sed -z 's/\n  / /g; s/\\x7b/{/g; s/\\x7d/}/g' "$top/crates/wire_tests/src/examples.rt")
 }
 
 # try_example_rows PAGE: the tests must begin with exactly the requests that the page shows, in its order, before those that are described in words.

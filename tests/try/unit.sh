@@ -38,6 +38,7 @@ check() {
     tests/annotations.py) said=$(python3 -B "$top/$unit" | diff - "$top/tests/verdicts/generated.txt") ;;
     # Those that the gate doesn't try must at least fit the sources.
     tools/mutants.py) said=$(python3 -B "$top/$unit" --applies) ;;
+    tools/pages.py | tools/version.py) said=$(python3 -B "$top/$unit" --check) ;;
     tools/make_town.py) said=$(python3 -B "$top/$unit" town && diff -r town "$top/examples/town") ;;
     *) said=$(python3 -B "$top/$unit" 2>&1) ;;
     esac || { fail "$unit" "$(head -n 30 <<< "$said")"; return; }
@@ -51,9 +52,10 @@ try_script() {
     case $unit in
     tests/rows/*) compare tests/rows.py "$(command -v extractd)" "$top/$unit" ;;
     tests/filters.py | tests/filter_shapes.py | tests/filter_geometry.py) compare "$unit" 300 ;;
-    tests/addresses.py) compare "$unit" 1000 ;;
+    tests/addresses.py | tests/server_filters.py) compare "$unit" 1000 ;;
     tests/layers.py) compare "$unit" 2000 ;;
     tests/annex_a.py | tests/listings.py | tests/clients.py | tests/costs.py) compare "$unit" ;;
+    tests/c_programs.py) compare "$unit" --compilers clang,bpf-gcc --levels=-O2 --jobs 1 ;;
     tests/random_programs.py) compare "$unit" --count 40 --cpu v2 ;;
     *) check ;;
     esac

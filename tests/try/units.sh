@@ -29,12 +29,12 @@ units_of() {
     documents) printf '%s\n' docs/*.md README.md examples/README.md ;;
     verdicts) printf '%s\n' tests/verdicts/*.txt ;;
     rows) printf '%s\n' tests/rows/*.txt ;;
-    filters) printf '%s\n' tests/filters.py tests/filter_shapes.py tests/annex_a.py tests/filter_geometry.py ;;
+    filters) printf '%s\n' tests/filters.py tests/filter_shapes.py tests/annex_a.py tests/filter_geometry.py tests/server_filters.py ;;
     addresses | layers | listings | clients | costs) echo "tests/$1.py" ;;
-    c) printf '%s\n' tests/random_programs.py tests/test_forward.py ;;
+    c) printf '%s\n' tests/c_programs.py tests/random_programs.py tests/test_link.py tests/test_forward.py ;;
     commands) printf '%s\n' tests/try/commands/*.sh ;;
     exhaustion) printf '%s\n' tests/exhaustion/{memory,server,files}.sh ;;
-    sources) printf '%s\n' tests/annotations.py tools/make_town.py tests/calls.py tools/links.py tools/edges.py tools/contract_names.py tools/mutants.py ;;
+    sources) printf '%s\n' tests/annotations.py tools/make_town.py tests/calls.py tools/links.py tools/edges.py tools/contract_names.py tools/mutants.py tools/pages.py tools/version.py ;;
     esac
 }
 
@@ -44,13 +44,15 @@ commands_of() {
     case $1 in
     *.md) sed -n -E '/tigerline/d; s/^```(console|bash) //p; s/^```http [^ ]+/curl/p' "$1" ;;
     tests/verdicts/* | tests/try/commands/long_program.sh) echo curl ;;
-    tests/try/commands/batches.sh) echo python3 ;;
-    tests/rows/* | tests/annotations.py | tests/calls.py | tools/links.py | tools/edges.py | tools/contract_names.py | tools/mutants.py) echo python3 ;;
+    tests/try/commands/batches.sh | tests/try/commands/installs.sh) echo python3 ;;
+    tests/rows/* | tests/annotations.py | tests/calls.py | tools/links.py | tools/edges.py | tools/contract_names.py | tools/mutants.py | tools/pages.py | tools/version.py) echo python3 ;;
     tests/exhaustion/*) echo curl python3 ;;
     tests/costs.py) echo python3.11 valgrind ;;
-    tests/filter*.py | tests/annex_a.py) echo python3.11 python3-shapely ;;
+    tests/filter*.py | tests/annex_a.py | tests/server_filters.py) echo python3.11 python3-shapely ;;
     tests/layers.py) echo python3.11 ogr2ogr ;;
-    tests/random_programs.py) echo python3.11 clang llvm-objcopy cc ;;
+    tests/random_programs.py) echo python3.11 clang cc ;;
+    tests/c_programs.py) echo python3.11 clang bpf-gcc cc ;;
+    tests/test_link.py) echo python3.11 clang bpf-gcc llvm-objcopy llvm-objdump ;;
     *.py) echo python3.11 ;;
     esac
 }

@@ -2,16 +2,26 @@
 # Needs Python 3.11 or later, and nothing else.
 
 import re
-from collections.abc import Callable, Iterable
+from collections.abc import Callable, Iterable, Mapping
 from dataclasses import dataclass
 from typing import NamedTuple
 
 from verifier.helpers import HELPERS, NAME_COPY, NAME_IS
 from verifier.kinds import (
-    ENTRY, FRAME_BYTES, NOTHING, RECORD_BYTES, SLOT_BYTES, UNREACHED, WORD, Kind, State, index, own_bytes,
+    ENTRY,
+    FRAME_BYTES,
+    NOTHING,
+    RECORD_BYTES,
+    SLOT_BYTES,
+    UNREACHED,
+    WORD,
+    Kind,
+    State,
+    index,
+    own_bytes,
 )
 from verifier.program_text import SIZES, Instruction
-from verifier.walk import Program, Walk
+from verifier.walk import Program, Refusal, Walk
 
 # ---- The text of an instruction, as `dis` writes it
 
@@ -171,8 +181,23 @@ def reads_nothing(failure: Failure) -> str:
     return f"reads r{failure.argument()}, of which nothing is known"
 
 
+def is_pointer(failure: Failure, operand: str | int) -> bool:
+    return isinstance(operand, str) and kind_of(failure.state, operand).pointer()
+
+
+def moves_pointer(failure: Failure) -> bool:
+    """Returns whether the instruction adds a number to a pointer, or subtracts one from it, with 64 bits."""
+    mnemonic, operands = failure.instruction.mnemonic, failure.instruction.operands
+    pointers = [is_pointer(failure, operand) for operand in operands]
+    return (mnemonic == "add" and not all(pointers)) or (mnemonic == "sub" and not pointers[1])
+
+
 def pointer_arithmetic(failure: Failure) -> str:
-    return f"a pointer is only copied, or moved by a number from -32768 to 32767: {failure.registers()}"
+    if moves_pointer(failure):
+        fact = "moves a pointer only by a number from -32768 to 32767"
+    else:
+        fact = "of a pointer, which is only copied by mov, or moved by add or sub of a number"
+    return f"{failure.instruction.mnemonic} {fact}: {failure.registers()}"
 
 
 def leaves_area(failure: Failure) -> str:
@@ -213,10 +238,14 @@ def unknown_helper(failure: Failure) -> str:
     return f"there is no helper function {failure.instruction.operands[0] % (1 << 32)}"
 
 
+def numbers_text(low: int, high: int) -> str:
+    return "any number" if (low, high) == (0, WORD - 1) else f"a number from {low} to {high}"
+
+
 def bad_argument(failure: Failure) -> str:
     number = failure.argument()
     bounds = HELPERS[failure.instruction.operands[0]][0][number - 1]
-    wanted = "a pointer into the frame" if bounds is None else "a number from %d to %d" % bounds
+    wanted = "a pointer into the frame" if bounds is None else numbers_text(*bounds)
     return f"argument {number} must be {wanted}: {facts(failure.texts(), (f'r{number}',))}"
 
 
@@ -265,10 +294,11 @@ def instruction_line(place: int, instruction: Instruction, shown: str) -> str:
     return f"{prefix:{NOTE_COLUMN}}; {shown}" if shown else prefix
 
 
-def listing(program: Program, found: Walk, source: Iterable[SourceLine] = ()) -> str:
-    """Returns the text that `explain` writes on standard output; none if the jumps have a fault."""
+def listing(program: Program, found: Walk, source: Iterable[SourceLine] = (), words: bytes = b"") -> str:
+    """Returns the text that `explain` writes on standard output. The program's words are needed if its jumps have a fault."""
     if not found.states:
-        return ""
+        texts = {place: spelled(instruction) for place, instruction in program.items()}
+        return excerpt(words, texts, found.refusal.place, jump_reason(program, found.refusal), source)
     lines: list[str] = []
     left = list(source)
     last = NOTHING_KNOWN
@@ -289,3 +319,28 @@ def refused_line(program: Program, found: Walk) -> str:
     refusal = found.refusal
     failure = Failure(program[refusal.place], found.states[refusal.place], refusal.name)
     return f"refused: {FAILURE_TEXTS[refusal.number](failure)}"
+
+
+# ---- The words around a refused one
+
+WORDS_AROUND = 5
+JUMP_REASONS = {30: "jumps back", 31: "jumps past the last word", 32: "jumps to the second word of a wide load"}
+
+
+def jump_reason(program: Program, refusal: Refusal) -> str:
+    if refusal.number not in JUMP_REASONS:
+        return "the last instruction isn't exit"
+    jump = program[refusal.place]
+    return f"{JUMP_REASONS[refusal.number]}, to place {jump.after + jump.operands[-1]}"
+
+
+def excerpt(
+    words: bytes, texts: Mapping[int, str], refused: int, reason: str, source: Iterable[SourceLine] = ()
+) -> str:
+    """Returns the words around a refused one, each with the text of the instruction that begins with it."""
+    lines: list[str] = []
+    for place in range(max(refused - WORDS_AROUND, 0), min(refused + WORDS_AROUND + 1, len(words) // 8)):
+        lines += [f"; {line.text}" for line in source if line.place == place]
+        lines.append(f"{place}: {words[8 * place : 8 * place + 8].hex(' ')}  {texts.get(place, '')}".rstrip())
+        lines += [f"refused: {reason}"] if place == refused else []
+    return "".join(f"{line}\n" for line in lines)

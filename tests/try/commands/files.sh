@@ -1,7 +1,9 @@
 # shellcheck shell=bash
 # The command line, and files that can't be used.
 # shellcheck disable=SC2016 # try_case expands them.
-# shellcheck disable=SC2154 # ../cases.sh sets `county`, `all` and `rows`.
+# shellcheck disable=SC2154 # ../cases.sh sets `county`, `all` and `rows`, and ../unit.sh `top`.
+
+version="extractd $(cat "$top/VERSION")"
 
 # all.bpf writes each line as a row, byte for byte.
 try_rows() {
@@ -43,15 +45,16 @@ run --program p --data d 01001 01001|error: unexpected argument '01001' found|Us
 run --help=1|error: unexpected value '1' for '--help' found; no more were expected|Usage: extractd run
 run --program p --data d 1001|error: CODE is five digits, and "1001" isn't|
 dis --program $'\377'|error: an argument isn't UTF-8|
---version|extractd 1.0.0|
 END
+    try_case 2 0 "$version*" 'extractd --version'
+    try_shown "$version"
 }
 
 try_help() {
     local command
-    try_case 2 0 "*Usage: extractd <COMMAND>*Examples:*Exit status:*extractd 1.0.0" 'extractd --help'
+    try_case 2 0 "*Usage: extractd <COMMAND>*Examples:*Exit status:*$version" 'extractd --help'
     for command in select compile run trace geocode geocode-batch verify explain asm dis serve; do
-        try_case 2 0 "*Usage: extractd $command *Example*:*extractd $command *Exit status:*extractd 1.0.0" "extractd $command --help"
+        try_case 2 0 "*Usage: extractd $command *Example*:*extractd $command *Exit status:*$version" "extractd $command --help"
     done
 }
 

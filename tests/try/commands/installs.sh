@@ -27,7 +27,16 @@ try_modes() {
         try_equal "the manual's mode after umask $mask" 644 "$(stat -c %a "$mask/share/man/man1/extractd.1")"
     done
     try_equal 'the program' '' "$(cmp built 022/bin/extractd 2>&1)"
-    try_equal 'the path in the unit' "$PWD/022/bin/extractd" "$(sed -n 's/^ExecStart=\([^ ]*\) .*/\1/p' 022/lib/systemd/system/extractd.service)"
+    try_equal 'the path in the units' "$PWD/022/bin/extractd" "$(sed -n 's/^ExecStart=\([^ ]*\) .*/\1/p' 022/lib/systemd/system/extractd*.service | uniq)"
+}
+
+# A link to a file that isn't installed becomes its text, and what needs a clone is left out.
+try_pages() {
+    local page=022/share/doc/extractd/docs/PROOFS.md
+    if needs 'links of installed pages' python3; then try_case 0 '*' '' 'python3 "$top/tools/links.py" 022/share/doc/extractd'; fi
+    try_equal 'links to sources' '' "$(grep -o '](\.\./tests[^)]*)' $page)"
+    try_equal 'parts for a clone' '' "$(grep -r -l '<!-- .*clone -->' 022/share/doc/extractd)"
+    try_equal 'where to try commands' 1 "$(grep -c "the top of a copy of \`$PWD/022/share/doc/extractd\`" 022/share/doc/extractd/docs/cookbook.md)"
 }
 
 # Files of others, and folders that were there before, are left alone. Files of a version before are removed.
@@ -69,5 +78,6 @@ try_prefixes() {
 }
 
 try_modes
+try_pages
 try_uninstalling
 try_prefixes
