@@ -9,10 +9,11 @@ usage() {
 usage: install.sh [--program FILE] PREFIX
        install.sh --uninstall PREFIX
 
-Installs the program, its manual pages, completions for bash and zsh, the header
-for programs in C, a systemd unit, documents and examples below PREFIX, such as
-/usr/local or ~/.local. A version that is installed there is replaced.
---uninstall removes these files, and the folders that were made for them.
+Installs the program, the Python package with its command tigerline, manual pages,
+completions for bash and zsh, the header for programs in C, systemd units, documents
+and examples below PREFIX, such as /usr/local or ~/.local. A version that is installed
+there is replaced. --uninstall removes these files, and the folders that were made for
+them.
 
   --program FILE  the built program; without it, the one that `rt ci` and `rt run`
                   leave at crates/extractd/out/extractd
@@ -70,29 +71,32 @@ list=$root/share/extractd/installed
 # Prints what to install: the mode, the source, and the path below PREFIX, separated by tabs.
 files() {
     row 755 "$program" bin/extractd
+    row 755 "$here/deploy/packaging/tigerline" bin/tigerline
+    below python tigerline lib/python3/dist-packages
     for page in "$here"/deploy/packaging/man/*.1; do
         row 644 "$page" "share/man/man1/${page##*/}"
     done
     row 644 "$here/deploy/packaging/completions/extractd.bash" share/bash-completion/completions/extractd
     row 644 "$here/deploy/packaging/completions/_extractd" share/zsh/site-functions/_extractd
     row 644 "$here/tools/c/extractd.h" include/extractd.h
-    row 644 "$here/deploy/server/extractd.service" lib/systemd/system/extractd.service
-    documents | while IFS= read -r file; do
-        mode=644
-        [ ! -x "$here/$file" ] || mode=755
-        row $mode "$here/$file" "share/doc/extractd/$file"
+    for unit in "$here"/deploy/server/*.service; do
+        row 644 "$unit" "lib/systemd/system/${unit##*/}"
     done
+    # What the pages use. Those for contributors stay in the sources.
+    for path in README.md CHANGELOG.md SECURITY.md LICENSE docs examples tools/c tools/make_county.py tools/make_town.py deploy/server deploy/cluster; do
+        below . "$path" share/doc/extractd
+    done | grep -v -E '/docs/(ARCHITECTURE|CHANGING|DECISIONS|contracts)\.md$'
 }
 
 row() { printf '%s\t%s\t%s\n' "$@"; }
 
-# Prints the documents, the examples, what compiles programs in C, and the server's configuration.
-documents() {
-    (
-        cd "$here"
-        printf '%s\n' README.md CHANGELOG.md CONTRIBUTING.md SECURITY.md LICENSE
-        find docs examples tools/c deploy/server -name __pycache__ -prune -o -type f -print
-    )
+# below FOLDER PATH TARGET: prints the files of PATH, which is in FOLDER, with the same names below TARGET.
+below() {
+    (cd "$here/$1" && find "$2" -name __pycache__ -prune -o -type f -print | LC_ALL=C sort) | while IFS= read -r file; do
+        mode=644
+        [ ! -x "$here/$1/$file" ] || mode=755
+        row $mode "$here/$1/$file" "$3/$file"
+    done
 }
 
 # Makes the missing folders of a path, and records them.
@@ -104,11 +108,16 @@ make_folders() {
 "; }
 }
 
-# put MODE SOURCE TARGET: installs a file; a unit gets the path of the program.
+# put MODE SOURCE PATH: installs a file. A unit gets the paths below PREFIX, and a page links only to what is installed.
 put() {
     case $3 in
-    *.service) sed "s|/usr/local/bin/extractd|$prefix/bin/extractd|" "$2" > "$3" && chmod "$1" "$3" ;;
-    *) install -m "$1" "$2" "$3" ;;
+    *.service) sed "s|/usr/local/|$prefix/|g" "$2" > "$root/$3" && chmod "$1" "$root/$3" ;;
+    share/doc/extractd/*.md)
+        sed -n 's|^share/doc/extractd/||p' "$list" |
+            awk -v page="${3#share/doc/extractd/}" -v folder="$prefix/share/doc/extractd" -f "$here/deploy/packaging/page.awk" - "$2" > "$root/$3" &&
+            chmod "$1" "$root/$3"
+        ;;
+    *) install -m "$1" "$2" "$root/$3" ;;
     esac
 }
 
@@ -127,7 +136,7 @@ install_all() {
     } > "$list"
     files | while IFS="$(printf '\t')" read -r mode source target; do
         made=''
-        make_folders "${target%/*}" && printf '%s' "$made" >> "$list" && put "$mode" "$source" "$root/$target" || exit
+        make_folders "${target%/*}" && printf '%s' "$made" >> "$list" && put "$mode" "$source" "$target" || exit
     done || fail 'not everything is installed; --uninstall removes what is'
 }
 
@@ -135,6 +144,10 @@ uninstall() {
     [ -f "$list" ] || fail "$list: not found, so nothing is installed there"
     grep -v '/$' "$list" | while IFS= read -r file; do
         rm -f "$root/$file"
+        case $file in
+        # Python keeps compiled modules next to it.
+        *.py) remove_compiled "$root/${file%/*}/__pycache__" "$(basename "$file" .py)" ;;
+        esac
     done
     folders=$(grep '/$' "$list" | LC_ALL=C sort -r)
     rm -f "$list"
@@ -142,6 +155,13 @@ uninstall() {
     echo "$folders" | while IFS= read -r folder; do
         [ -z "$folder" ] || rmdir "$root/$folder" 2> /dev/null || :
     done
+}
+
+# remove_compiled FOLDER MODULE
+remove_compiled() {
+    [ -d "$1" ] || return 0
+    rm -f "$1/$2".*.pyc
+    rmdir "$1" 2> /dev/null || :
 }
 
 $action

@@ -10,7 +10,7 @@ Python changes them. Nothing in the files describes a real street, stream or
 boundary.
 """
 
-import sys
+import argparse
 from pathlib import Path
 
 TOP = Path(__file__).resolve().parent.parent
@@ -353,7 +353,10 @@ def one_of_them(segments, type_4, type_5, type_6):
 
 
 def main():
-    folder = Path(sys.argv[1]) if len(sys.argv) > 1 else TOP / "examples"
+    parser = argparse.ArgumentParser(description=__doc__, formatter_class=argparse.RawDescriptionHelpFormatter)
+    parser.add_argument("folder", nargs="?", type=Path, default=TOP / "examples",
+                        help="where the files go (default: examples)")
+    folder = parser.parse_args().folder
     chains = county(Dice(SEED))
     segments = [segment for chain_segments in chains for segment in chain_segments]
     files = (segments, *joined(Dice(JOINED_SEED), chains))

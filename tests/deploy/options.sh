@@ -4,7 +4,7 @@
 # Each command and each option of its --help must be in its manual page and in both completions, and no other may be there. Each page must render
 # without a warning and name the program's version. Each offered column must be accepted, and docs/filters.md must have all columns.
 #
-# Needs bash and coreutils, and for some tests zsh and groff. Without these the tests are left out. With REQUIRE_ALL set, as .ci/run sets it, they are
+# Needs bash and coreutils, and for some tests zsh, groff and Python 3.11. Without these the tests are left out. With REQUIRE_ALL set, as .ci/run sets it, they are
 # installed, as root on Debian 12, and anything left out is a failure.
 # Prints what failed, then the counts. Exit status 0 means that nothing failed.
 
@@ -22,7 +22,7 @@ if [ $# -ne 1 ] || ! is_program "$1"; then
 fi
 program=$(realpath "$1")
 make_scratch
-install_missing groff zsh
+install_missing groff python3.11 zsh
 
 # same NAME EXPECTED ACTUAL: checks that two lists of words are equal, in any order.
 same() {
@@ -73,8 +73,12 @@ for command in $commands; do
 done
 same 'the options in the page of extractd' "$(long_options)" "$(page_options "$packaging/man/extractd.1")"
 # shellcheck disable=SC2086 # They are words.
-same 'the pages' "$(printf 'extractd-%s.1 ' $commands) extractd.1" "$(ls "$packaging/man")"
+same 'the pages' "$(printf 'extractd-%s.1 ' $commands) extractd.1 tigerline.1" "$(ls "$packaging/man")"
 same 'the commands in the page of extractd' "$commands" "$(sed -n 's/^\.It Xr extractd-\([a-z-]*\) 1/\1/p' "$packaging/man/extractd.1")"
+if needs 'the page of tigerline' python3.11; then
+    same 'the commands in the page of tigerline' "$(PYTHONPATH=$top/python python3 -B -m tigerline --help | sed -n 's/^    \([a-z]\+\) .*/\1/p')" \
+        "$(sed -n 's/^\.It Cm //p' "$packaging/man/tigerline.1")"
+fi
 offers 'counties' 01001 extractd run --data . ''
 same 'bash: counties after --data=' 01001 "$(bash_offers extractd select --data = . 0)"
 [ -z "$zsh" ] || same 'zsh: counties after --data=' 01001 "$(zsh_offers 'extractd select --data=. 0')"
@@ -105,11 +109,11 @@ groff=
 if needs 'how the pages render' groff; then groff=yes; fi
 for page in "$packaging"/man/*.1; do
     same "the version in ${page##*/}" "$version" "$(sed -n 's/^\.Os "\(.*\)"$/\1/p' "$page")"
-    [ "${page##*/}" != extractd.1 ] || continue
+    [ -z "$groff" ] || same "the warnings of ${page##*/}" '' "$(groff -mdoc -Tutf8 -ww -z "$page" 2>&1)"
     command=$(basename "$page" .1)
+    case $command in extractd | tigerline) continue ;; esac
     same "the synopsis of ${page##*/}" "$(long_options "${command#extractd-}" | grep -v -x -e --help)" \
         "$(sed -n '/^\.Sh SYNOPSIS/,/^\.Sh DESCRIPTION/s/^\.\(Op \)\?Fl Fl \([a-z-]*\)\( .*\)\?$/--\2/p' "$page")"
-    [ -z "$groff" ] || same "the warnings of ${page##*/}" '' "$(groff -mdoc -Tutf8 -ww -z "$page" 2>&1)"
 done
 
 finish

@@ -10,11 +10,12 @@
 #
 # It serves the example county at a free port and requests each route, directly and through nginx, comparing status and body. The server must listen at
 # 127.0.0.1 only. A client whose request is refused early may go on sending for a while, and still gets its reply.
-# Then it tests nginx's part: a chunked body, many header lines, a slow client, several clients at once, users, and two clients of which one is hostile.
-# The hostile client has an address of its own, 127.0.0.2.
+# Then it tests nginx's part: a chunked body, many header lines, a slow client, several clients at once, users, two clients of which one is hostile, and
+# servers that take over from each other. The hostile client has an address of its own, 127.0.0.2. REQUESTS in the environment is how many requests the
+# servers that take over get in all, by default 300.
 # It stops what it started and removes its folder of temporary files.
 #
-# Prints the failures, then the counts. Exit status 0 means that nothing failed, else it is 1. It takes about a minute.
+# Prints the failures, then the counts. Exit status 0 means that nothing failed, else it is 1. It takes about four minutes.
 
 set -u
 export LC_ALL=C
@@ -93,6 +94,7 @@ try_routes() {
     ask "$1: geocode by ZIP Code" 200 hits.zip "$url/geocode?number=751&name=ma%69n&zip=36067"
     ask "$1: geocode finds nothing" 200 /dev/null "$url/geocode?number=751&name=Maine"
     says "$1: geocode without a name" 400 'bad request' "$url/geocode?number=751"
+    says "$1: health" 200 ok "$url/health"
     says "$1: no route" 404 'not found' "$url/%76erify"
     says "$1: another method" 405 'method not allowed' "$url/verify"
     if curl -k -s -m 60 -D - -o /dev/null -X PUT "$url/jobs/x" | tr -d '\r' | grep -q -i '^allow: GET, DELETE$'; then pass; else
@@ -242,6 +244,7 @@ try_left_extracts() {
     { printf 'another extract is under way\n503'; cat large.rows; printf 200; } > wanted.other
     if cmp -s wanted both || cmp -s wanted.other both; then pass; else fail 'two extracts at once' "$(cat first.status) $(cat second.status)"; fi
     says 'an extract of more words than nginx lets through' 413 'too large' --data-binary @wordy "$url/extract"
+    says 'a job of more words than nginx lets through' 413 'too large' --data-binary @wordy "$url/jobs"
     ask 'an extract when the others are done' 200 large.rows --data-binary @all.bpf "$url/extract"
 }
 
@@ -292,12 +295,87 @@ try_users() {
     says 'a user' 200 accepted -u 'alice:a secret' --data-binary @all.bpf "$url/verify"
 }
 
+# try_ready: the command by which the unit waits ends when the server answers, and fails if the server ends first.
+try_ready() {
+    local command server
+    # systemd joins the lines, and reads two backslashes as one.
+    command=$(grep -A 1 '^ExecStartPost=' "$top/deploy/server/extractd.service" | sed 's/^ExecStartPost=[^ ]* -c //; s/\\$//' | tr -d '\n')
+    command=${command//\\\\/\\}
+    if ! start "$examples"; then fail "no server for the unit: $(cat said.err)"; return; fi
+    server=${started[-1]}
+    if PORT=$port MAINPID=$server timeout 60 bash -c "${command:1:-1}" > unit/said 2>&1 && [ ! -s unit/said ]; then pass; else fail 'a server that answers' "$(cat unit/said)"; fi
+    end
+    if ! PORT=$port MAINPID=$server timeout 60 bash -c "${command:1:-1}" > unit/said 2>&1 && [ ! -s unit/said ]; then pass; else fail 'a server that has ended' "$(cat unit/said)"; fi
+}
+
 # try_down: nginx's reply without a server. Nothing listens at port 1.
 try_down() {
     local port=1
     start_nginx
     says 'no server' 502 'no server' "$url/jobs/0"
     says 'no server for an extract' 502 'no server' --data-binary @all.bpf "$url/extract"
+}
+
+# send NAME CURL-ARGUMENT..: sends requests to nginx, each over a connection of its own, until the file `swapped` is there. Writes a line for each one
+# that failed, and their number once it is a third of REQUESTS.
+send() {
+    local name=$1 count=0
+    shift
+    until [ -e swapped ]; do
+        curl -k -s -f -m 60 -o /dev/null "$@" || echo "$name fails: $?"
+        count=$((count + 1))
+        [ $count -lt $((${REQUESTS:-300} / 3)) ] || echo $count > "sent.$name"
+    done > "failed.$name"
+}
+
+# swap: runs swap.sh for this nginx.
+swap() {
+    NGINX=${NGINX-nginx -e stderr -p $PWD/proxy -c nginx.conf} SITE=proxy/site.conf PID_FILE=proxy/nginx.pid \
+        "$top/deploy/server/swap.sh" "$@" > swap.said 2>&1
+}
+
+# take_over FOLDER: starts a server over the county in a folder, lets nginx use it in place of the one at the port `from`, and stops that one.
+take_over() {
+    local number
+    start "$1" || { fail "no server over $1" "$(cat said.err)"; return; }
+    swap "$from" "$port" || fail "swap.sh $from $port" "$(cat swap.said)"
+    for number in "${!started[@]}"; do
+        [ "${started[number]}" != "$server" ] || unset "started[number]"
+    done
+    kill "$server"
+    wait "$server" 2> /dev/null
+    from=$port server=${started[-1]}
+    "$program" run --program all.bpf --data "$1" 01001 > rows.now
+    ask 'rows of the server that took over' 200 rows.now --data-binary @all.bpf "$url/extract"
+}
+
+# try_swap: while three clients send requests, servers with other data take over from each other, twice or more.
+try_swap() {
+    local from=$port server=${started[-1]} senders=()
+    start_nginx
+    send health "$url/health" & senders+=($!)
+    send geocode "$url/geocode?number=1785&name=persimmon" & senders+=($!)
+    send verify --data-binary @all.bpf "$url/verify" & senders+=($!)
+    started+=("${senders[@]}")
+    until [ -e sent.health ] && [ -e sent.geocode ] && [ -e sent.verify ]; do
+        take_over "$examples/one"
+        take_over "$examples"
+    done
+    touch swapped
+    wait "${senders[@]}"
+    if cat failed.* | cmp -s - /dev/null; then pass; else fail "of $(cat sent.* | paste -s -d +) requests some failed" "$(cat failed.*)"; fi
+    # The port in a comment isn't that of an upstream.
+    swap 8081 "$from"
+    if [ "$? $(cat swap.said)" = "1 swap.sh: proxy/site.conf: no upstream has port 8081" ]; then pass; else fail 'a port without an upstream' "$(cat swap.said)"; fi
+    NGINX=false swap "$from" "$from"
+    if [ "$? $(cat swap.said)" = "1 swap.sh: nginx doesn't accept the changed site: " ]; then pass; else fail 'a refused site' "$(cat swap.said)"; fi
+}
+
+# try_waits: through nginx, no client keeps another one waiting for long.
+try_waits() {
+    local said
+    needs 'waits.py' python3.11 || return
+    if said=$(python3 -B "$top/tests/waits.py" --small 2>&1); then pass; else fail 'waits.py' "$said"; fi
 }
 
 # start_nginx [EDIT]: runs site.conf, changed by a further sed command, in front of the server at `port`, and sets `url`.
@@ -398,7 +476,10 @@ if needs 'nginx.conf' nginx openssl; then
     end
     try_users
     end
+    if start "$examples"; then try_swap; else fail "no server for the swap: $(cat said.err)"; fi
     try_down
+    end
+    try_waits
 fi
 
 if needs 'extractd.service' systemd-analyze; then
@@ -406,12 +487,19 @@ if needs 'extractd.service' systemd-analyze; then
     # A unit's command line can't name a program with a blank in its path, so this is a link.
     ln -s "$program" unit/extractd
     sed "s|^ExecStart=/usr/local/bin/extractd |ExecStart=$PWD/unit/extractd |" "$top/deploy/server/extractd.service" > unit/extractd.service
-    # An unknown line only causes a message, not a failure.
-    if systemd-analyze verify --man=no "$PWD/unit/extractd.service" > unit/said 2>&1 && [ ! -s unit/said ]; then pass; else
-        fail "systemd-analyze verify: $(cat unit/said)"
-    fi
+    sed "s|^ExecStart=/usr/local/bin/extractd |ExecStart=$PWD/unit/extractd |" "$top/deploy/server/extractd@.service" > unit/extractd@.service
+    for unit in extractd.service extractd@8081.service; do
+        # An unknown line only causes a message, not a failure.
+        if systemd-analyze verify --man=no "$PWD/unit/$unit" > unit/said 2>&1 && [ ! -s unit/said ]; then pass; else
+            fail "systemd-analyze verify $unit: $(cat unit/said)"
+        fi
+    done
     if systemd-analyze security --offline=true --threshold=20 --no-pager "$PWD/unit/extractd.service" > unit/said 2>&1; then pass; else
         fail "systemd-analyze security: $(tail -n 1 unit/said)"
     fi
+    # But for the port and the file of settings, both units are the same.
+    if diff <(grep -v '^#' unit/extractd.service | sed 's|PORT=8080|PORT=%i|; s|/default/extractd$|&-%i|; s|^Description=.*|&, at port %i|') \
+        <(grep -v '^#' unit/extractd@.service) > unit/said; then pass; else fail 'the units differ' "$(cat unit/said)"; fi
+    try_ready
 fi
 finish
