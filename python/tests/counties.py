@@ -8,6 +8,8 @@ import zipfile
 from collections.abc import Callable
 from pathlib import Path
 
+from tigerline.program import VERSION
+
 TOP = Path(__file__).parents[2]
 EXAMPLES = TOP / "examples"
 TOOLS = TOP / "tools"
@@ -66,7 +68,7 @@ def points_of(wkt: str) -> list[tuple[float, float]]:
     return [(float(pair.split()[0]), float(pair.split()[1])) for pair in pairs]
 
 
-def program_of(path: Path, script: str, version: str = "extractd 1.0.0") -> str:
+def program_of(path: Path, script: str, version: str = f"extractd {VERSION}") -> str:
     """Writes a shell script that replaces `extractd`."""
     path.write_text(f'#!/bin/sh\n[ "$1" = --version ] && {{ echo "{version}" >&2; exit 2; }}\n{script}\n')
     os.chmod(path, 0o755)

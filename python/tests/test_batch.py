@@ -1,4 +1,4 @@
-"""Counties in several processes give the bytes of one process, even after a killed worker or an interrupted run."""
+"""Counties in several processes give the bytes of one process, even after an interrupted run."""
 
 import os
 import random
@@ -14,8 +14,6 @@ import pytest
 from batches import (
     CODES,
     FIRST_IS_LAST,
-    KILL_ALWAYS,
-    KILL_ONCE,
     ROAD_COUNT,
     ROADS,
     SEGMENTS,
@@ -53,7 +51,7 @@ def out(tmp_path: Path) -> Iterator[Path]:
     folder.mkdir()
     yield folder
     assert not [path.name for path in folder.iterdir() if path.name.startswith(".")]
-    # The program of a killed worker ends when it writes.
+    # The program of a killed process ends when it writes.
     wait_for(lambda: not processes_with(str(tmp_path)))
 
 
@@ -99,7 +97,7 @@ def test_same_map(data: Path, out: Path, name: str, options: tuple[str, ...]) ->
     selection = ("--where", "FENAME LIKE 'C%' OR CFCC = 'A21'", *options)
     expected = plain(data, out / "a.csv", *selection, "--map", out / name)
     drawn = (out / name).read_bytes()
-    assert (b">Not selected<" in drawn) == ("--no-background" not in options)
+    assert (b"Not selected (" in drawn or b'"around": [[' in drawn) == ("--no-background" not in options)
     options = (*selection, "--workers", "2", "--map", out / name, "--overwrite")
     assert plain(data, out / "a.csv", *options) == expected and (out / name).read_bytes() == drawn
 
@@ -168,6 +166,8 @@ class TestResume:
         os.kill(process.pid, number)
         process.communicate(timeout=30)
         assert process.returncode == -number
+        if number == signal.SIGKILL:
+            (out.parent / "stop.state/go").touch()
         wait_for(lambda: not processes_with(str(out.parent)))
         assert [path.name for path in out.iterdir() if path.name[0] != "."] == ["a.csv.parts"]
         (out.parent / "stop.state/go").touch()
@@ -194,21 +194,6 @@ class TestResume:
         (out / "b.csv.parts").touch()
         status, _, said = run(data, out / "b.csv", "--where", "TRUE", "--resume")
         assert status == 3 and said == f"error: {out}/b.csv.parts isn't a folder: remove it, or write to another file\n"
-
-
-def test_worker_killed(data: Path, out: Path) -> None:
-    program = disturbed(out.parent / "killing", os.environ["EXTRACTD"], KILL_ONCE)
-    options = ("--where", ROADS, "--extractd", program, "--workers", "2")
-    assert run(data, out / "a.csv", *options) == (0, f"{out}/a.csv: {ROAD_COUNT} segments\n", "")
-    assert counties_run(program).count("01005") == 2
-    assert (out / "a.csv").read_bytes() == plain(data, out / "b.csv", "--where", ROADS)
-
-
-def test_worker_killed_each_time(data: Path, out: Path) -> None:
-    program = disturbed(out.parent / "killing", os.environ["EXTRACTD"], KILL_ALWAYS)
-    status, output, said = run(data, out / "a.csv", "--where", ROADS, "--extractd", program, "--workers", "2")
-    assert (status, output) == (3, "") and said == "error: county 01005: 3 processes that ran it were killed\n"
-    assert not list(out.iterdir())
 
 
 class TestFaults:
@@ -268,13 +253,14 @@ class TestTasks:
         form: Form = FORM,
     ) -> batch.PartTask:
         with Interrupts() as interrupts:
-            source = batch.county_tasks(request, data, "01001", form.outputs, interrupts)[0]
+            request = replace(request, data=data, counties="01001")
+            source = batch.county_tasks(request, form.outputs, interrupts)[0]
         store.mkdir(exist_ok=True)
-        return batch.part_task(source, form, store)
+        return batch.part_task(source, store)
 
     def refused(self, task: batch.PartTask, text: str) -> None:
         with pytest.raises(OSError, match=text):
-            batch.run_part(task)
+            batch.run_task(task)
 
     def test_part_of_another_selection(self, data: Path, tmp_path: Path, extractd: str) -> None:
         """A part has another name if anything that it depends on differs."""
@@ -293,8 +279,6 @@ class TestTasks:
                     replace(FORM, names=("CFCC",)),
                     replace(FORM, geometry="line"),
                     replace(FORM, geometry="shape"),
-                    replace(FORM, signed=True),
-                    replace(FORM, largest_score=99),
                     replace(FORM, has_map=True),
                     replace(FORM, has_map=True, has_background=True),
                 )
@@ -312,18 +296,18 @@ class TestTasks:
     def test_spoilt_parts(self, data: Path, tmp_path: Path) -> None:
         """A part without its end, or with a changed byte anywhere, doesn't count as complete."""
         task = self.task(data, tmp_path)
-        batch.run_part(task)
+        batch.run_task(task)
         content = task.path.read_bytes()
-        assert batch.is_whole(task.path)
+        assert batch.read_part(task.path) == batch.run_task(task.source)
         for place in range(0, len(content), 7):
-            task.path.write_bytes(content[:place])
-            assert not batch.is_whole(task.path)
-            task.path.write_bytes(content[:place] + bytes([content[place] ^ 4]) + content[place + 1 :])
-            assert not batch.is_whole(task.path)
+            for spoilt in (content[:place], content[:place] + bytes([content[place] ^ 4]) + content[place + 1 :]):
+                task.path.write_bytes(spoilt)
+                with pytest.raises(OSError, match="isn't complete"):
+                    batch.read_part(task.path)
 
     def test_other_files(self, data: Path, tmp_path: Path) -> None:
         task = self.task(data, tmp_path / "store")
-        assert batch.run_part(task) == batch.host() and batch.is_whole(task.path)
+        assert batch.run_task(task) == batch.host() and batch.read_part(task.path).county == "01001"
         os.utime(data / "TGR01001.RT4", (0, 0))
         self.refused(task, "county 01001: .*/TGR01001.RT4 isn't the same file on .*: its size or time differs")
         (data / "TGR01001.RT1").unlink()

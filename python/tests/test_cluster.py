@@ -30,9 +30,10 @@ from batches import (
     wait_for,
     write_counties,
 )
-from counties import TOP
+from counties import TOP, program_of
 from test_interrupts import processes_with
 from tigerline import commands
+from tigerline.cluster import scheduler
 
 pytest.importorskip("distributed", reason="no distributed")
 pytestmark = pytest.mark.usefixtures("extractd", "scratch")
@@ -61,7 +62,7 @@ def running_cluster(folder: Path, workers: int, *options: object) -> Iterator[Cl
     finally:
         for each in reversed(processes):
             os.killpg(each.pid, signal.SIGKILL)
-            each.wait()
+            each.wait(timeout=30)
         log.close()
 
 
@@ -169,6 +170,14 @@ def test_worker_killed_each_time(data: Path, out: Path, address: str) -> None:
     assert said.count("\n") == 1 and not list(out.iterdir())
 
 
+def test_default_client(address: str) -> None:
+    """A client of the package isn't that of the process, whose own work would go to its scheduler."""
+    from distributed import default_client
+
+    with scheduler.connected(address, lambda: None), pytest.raises(ValueError, match="No clients found"):
+        default_client()
+
+
 class TestScheduler:
     """A missing scheduler is a clear error."""
 
@@ -235,7 +244,7 @@ class TestScripts:
 
     def script(self, name: str, *arguments: object) -> int:
         return subprocess.run(
-            [TOP / "deploy/cluster" / name, *map(str, arguments)], cwd=TOP, stdout=sys.stderr
+            [TOP / "deploy/cluster" / name, *map(str, arguments)], cwd=TOP, stdout=sys.stderr, timeout=300
         ).returncode
 
     def rows(self, data: Path) -> bytes:
@@ -265,7 +274,14 @@ class TestScripts:
         assert b"".join(path.read_bytes() for path in sorted(out.iterdir())) == self.rows(data)
 
     def test_dask(self, data: Path, out: Path) -> None:
+        """A scheduler may take longer than usual to start, and one that ends is an error."""
+        assert self.script("dask.sh") == 2
+        tools = out.parent / "bin"
+        dask = shutil.which("dask-scheduler")
+        program_of(tools / "dask-scheduler", f'sleep 11; exec {dask} "$@"')
         assert self.script("dask.sh", data, out / "a.csv", ROADS, 1) == 0
         assert run(data, out / "b.csv", "--where", ROADS)[0] == 0
         assert (out / "a.csv").read_bytes() == (out / "b.csv").read_bytes()
+        program_of(tools / "dask-scheduler", "exit 1")
+        assert self.script("dask.sh", data, out / "c.csv", ROADS, 1) == 1
         assert not processes_with(str(out.parent / "scratch"))

@@ -74,7 +74,7 @@ def test_example_of_help(clone: Path, name: str, extractd: str) -> None:
 
 
 def test_pages_have_blocks() -> None:
-    assert {"docs/filters.md", "docs/python.md"} <= {block.page for block in CONSOLES}
+    assert {"README.md", "docs/python.md"} <= {block.page for block in CONSOLES}
 
 
 def sh_quoted(text: str) -> str:
@@ -93,4 +93,4 @@ def test_python(clone: Path, capsys: pytest.CaptureFixture[str]) -> None:
 
 
 def test_page_is_short() -> None:
-    assert (TOP / "docs/python.md").read_text().count("\n") < 200
+    assert (TOP / "docs/python.md").read_text().count("\n") <= 400

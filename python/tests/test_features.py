@@ -23,7 +23,7 @@ from counties import (
     write_shapes,
     zip_folder,
 )
-from test_features_command import HANGING
+from test_features_command import HANGING, wait_until
 from test_interrupts import processes_with
 from tigerline.layout import FIELDS, Field, Kind
 from tigerline.service.application import Limits, Service, application
@@ -44,8 +44,8 @@ class Answer(NamedTuple):
     document: Any
 
 
-def ask(service: Service, target: str, method: str = "GET", **environ: Any) -> Answer:
-    """Requests a path with its query through WSGI, which is validated."""
+def ask(service: Service, target: str, method: str = "GET", is_raw: bool = False, **environ: Any) -> Answer:
+    """Requests a path with its query through WSGI, which is validated. The document is JSON, or bytes as they are."""
     path, _, query = target.removeprefix(BASE).partition("?")
     environ |= {"REQUEST_METHOD": method, "SCRIPT_NAME": "", "PATH_INFO": path, "QUERY_STRING": query}
     setup_testing_defaults(environ)
@@ -61,7 +61,7 @@ def ask(service: Service, target: str, method: str = "GET", **environ: Any) -> A
     headers = dict(started[1])
     if method != "HEAD":
         assert headers["Content-Length"] == str(len(body))
-    return Answer(int(started[0][:3]), headers, json.loads(body) if body else None)
+    return Answer(int(started[0][:3]), headers, body if is_raw else json.loads(body) if body else None)
 
 
 def query(**parameters: object) -> str:
@@ -78,6 +78,14 @@ def pages(service: Service, target: str, relation: str = "next") -> Iterator[dic
 
 def tlids(document: dict[str, Any]) -> list[int]:
     return [feature["properties"]["TLID"] for feature in document["features"]]
+
+
+def resolved(document: dict[str, Any], item: dict[str, Any]) -> dict[str, Any]:
+    """Returns a part of a document that may be a reference to another part."""
+    found: dict[str, Any] = item
+    for name in item.get("$ref", "#").split("/")[1:]:
+        found = (document if found is item else found)[name]
+    return found
 
 
 def ids(document: dict[str, Any]) -> list[int]:
@@ -128,32 +136,41 @@ class TestDocuments:
         while todo:
             target, media_type = todo.pop()
             seen.add(target)
-            answer = ask(service, target)
-            assert (answer.status, answer.headers["Content-Type"]) == (200, media_type), target
+            answer = ask(service, target, is_raw=media_type == "text/html")
+            assert (answer.status, answer.headers["Content-Type"].removesuffix("; charset=utf-8")) == (
+                200,
+                media_type,
+            ), target
+            if media_type == "text/html":
+                continue
             documents = [answer.document, *answer.document.get("collections", [])]
             links = [link for document in documents for link in document.get("links", [])]
             todo += [(link["href"], link["type"]) for link in links if link["href"] not in seen]
         paths = {urlsplit(target).path for target in seen}
         assert {"/", "/api", "/conformance", "/collections", ITEMS, "/collections/01003/queryables"} <= paths
 
-    def test_one_county_is_as_in_the_list(self, service: Service) -> None:
+    def test_each_collection_is_as_in_the_list(self, service: Service) -> None:
         listed = ask(service, "/collections").document["collections"]
-        assert listed == [ask(service, f"/collections/{CODE}").document] and listed[0]["id"] == CODE
+        assert [collection["id"] for collection in listed] == [CODE, "al", "us"]
+        assert listed == [ask(service, f"/collections/{collection['id']}").document for collection in listed]
         lines = [record.decode() for record in records(EXAMPLES / "TGR01001.RT1")]
         ends = [(int(line[at : at + 10]), int(line[at + 10 : at + 19])) for line in lines for at in (190, 209)]
         bounds = [choose(values) / 1e6 for choose in (min, max) for values in zip(*ends)]
-        assert listed[0]["extent"]["spatial"]["bbox"] == [bounds]
+        assert [collection["extent"]["spatial"]["bbox"] for collection in listed] == [[bounds]] * 3
         assert listed[0]["storageCrs"].endswith("CRS83") and listed[0]["crs"][0].endswith("CRS84")
 
     def test_definition_has_the_parameters(self, service: Service) -> None:
         """Each parameter of the definition works, and GDAL finds `cql-text` in it."""
-        paths = ask(service, "/api").document["paths"]
-        given = {item["name"]: item for item in paths["/collections/{collectionId}/items"]["get"]["parameters"]}
+        document = ask(service, "/api").document
+        parameters = document["paths"]["/collections/{collectionId}/items"]["get"]["parameters"]
+        given = {item["name"]: item for item in (resolved(document, parameter) for parameter in parameters)}
         assert given["filter-lang"]["schema"]["enum"] == ["cql2-text", "cql2-json", "cql-text"]
         assert given["limit"]["schema"]["maximum"] == 10_000
         values = {"bbox": "-87,32,-86,33", "datetime": "2006-01-01T00:00:00Z", "filter": "TRUE", "f": "json"}
+        values |= {"properties": "CFCC", "sortby": "-CFCC"}
+        assert values.keys() < given.keys() and len(given) == 37
         for name, item in given.items():
-            default = item["schema"].get("default", "1")
+            default = resolved(document, item["schema"]).get("default", "1")
             if item["in"] == "query":
                 assert ask(service, query(**{name: values.get(name, default)})).status == 200, name
 
@@ -309,7 +326,12 @@ class TestShapes:
             answer = ask(service, target)
             assert answer.status == 500 and answer.document["type"].endswith("#refused-county")
             assert answer.document["refusal"] == number and text in answer.document["detail"]
-        assert ["extent" in item for item in ask(service, "/collections").document["collections"]] == [False, True]
+        assert ["extent" in item for item in ask(service, "/collections").document["collections"]] == [
+            False,
+            True,
+            False,
+            False,
+        ]
 
 
 class TestIds:
@@ -414,7 +436,15 @@ class TestBadInput:
             ("bbox=1,2,3,1_0", "bad-parameter", "bbox"),
             ("bbox=-87,33,-86,32", "bad-parameter", "bbox"),
             ("bbox=-87,32,5,-86,33,4", "bad-parameter", "bbox"),
-            ("bbox-crs=http://www.opengis.net/def/crs/EPSG/0/4326", "bad-parameter", "bbox-crs"),
+            ("bbox-crs=http://www.opengis.net/def/crs/EPSG/0/3857", "bad-parameter", "bbox-crs"),
+            ("properties=", "bad-parameter", "properties"),
+            ("properties=CFCC,cfcc", "bad-parameter", "properties"),
+            ("properties=geometry", "bad-parameter", "properties"),
+            ("sortby=", "bad-parameter", "sortby"),
+            ("sortby=CFCC,", "bad-parameter", "sortby"),
+            ("sortby=*CFCC", "bad-parameter", "sortby"),
+            ("sortby=CFCC,-CFCC", "bad-parameter", "sortby"),
+            ("sortby=FRADDL_TEXT", "bad-parameter", "sortby"),
             ("crs=EPSG:4326", "bad-parameter", "crs"),
             ("filter=TRUE&filter-crs=x", "bad-parameter", "filter-crs"),
             ("filter=TRUE&filter-lang=cql2", "bad-parameter", "filter-lang"),
@@ -424,7 +454,7 @@ class TestBadInput:
             ("filter=%FF", "bad-parameter", None),
             ("datetime=yesterday", "bad-parameter", "datetime"),
             ("datetime=2006-01-01/2006-02-01/2006-03-01", "bad-parameter", "datetime"),
-            ("f=html", "bad-parameter", "f"),
+            ("f=xml", "bad-parameter", "f"),
             ("CFCC=A410", "bad-parameter", "CFCC"),
             ("CFCC=", "bad-parameter", "CFCC"),
             ("CFCC=%C5%81", "bad-parameter", "CFCC"),
@@ -474,10 +504,10 @@ class TestBadInput:
     def test_paths(self, service: Service, target: str, status: int) -> None:
         assert ask(service, target).status == status
 
-    @pytest.mark.parametrize("method", ["POST", "PUT", "DELETE", "OPTIONS"])
-    def test_methods(self, service: Service, method: str) -> None:
+    @pytest.mark.parametrize(("method", "status"), [("POST", 405), ("PUT", 405), ("DELETE", 405), ("OPTIONS", 200)])
+    def test_methods(self, service: Service, method: str, status: int) -> None:
         answer = ask(service, ITEMS, method)
-        assert answer.status == 405 and answer.headers["Allow"] == "GET, HEAD"
+        assert answer.status == status and answer.headers["Allow"] == "GET, HEAD, OPTIONS"
 
     @pytest.mark.parametrize("host", ["a b", 'a"', "", "a/b"])
     def test_hosts(self, service: Service, host: str) -> None:
@@ -491,7 +521,12 @@ class TestBadInput:
         assert answer.status == 500 and answer.document["type"].endswith("#refused-county")
         assert answer.document["refusal"] == 1 and "rt1 line 401 WrongLength" in answer.document["detail"]
         assert ask(service, "/collections/01003/items").status == 200
-        assert ["extent" in item for item in ask(service, "/collections").document["collections"]] == [False, True]
+        assert ["extent" in item for item in ask(service, "/collections").document["collections"]] == [
+            False,
+            True,
+            False,
+            False,
+        ]
 
     def test_missing_file(self, make: Make, extractd: str, tmp_path: Path, capfd: pytest.CaptureFixture[str]) -> None:
         """Only the operator sees names of files."""
@@ -663,7 +698,7 @@ class TestRuns:
         for thread in threads:
             thread.start()
         for thread in threads:
-            thread.join()
+            thread.join(60)
         assert found == [200] * 8 and program.calls() == ["select"]
 
     def test_time_limit(self, make: Make, tmp_path: Path) -> None:
@@ -689,7 +724,7 @@ class TestRuns:
         time.sleep(0.5)
         assert found == ["busy"] * 3
         for thread in threads:
-            thread.join()
+            thread.join(60)
         assert found[3:] == ["time-limit", "busy"] or set(found[3:]) <= {"time-limit", "busy"}
         assert not processes_with(program)
 
@@ -697,7 +732,7 @@ class TestRuns:
         program = program_of(tmp_path / "hanging", f"{HANGING}; true")
         started = time.monotonic()
         left = started + 0.3
-        environ = {"tigerline.client_is_there": lambda: time.monotonic() < left}
+        environ = {"waitress.client_disconnected": lambda: time.monotonic() > left}
         assert ask(make(extractd=program), ITEMS, **environ).status == 503
         assert time.monotonic() - started < 10 and not processes_with(program)
 
@@ -706,8 +741,7 @@ class TestRuns:
         service = make(extractd=program)
         thread = threading.Thread(target=lambda: ask(service, ITEMS))
         thread.start()
-        while not processes_with(program):
-            time.sleep(0.02)
+        wait_until(lambda: processes_with(program))
         service.close()
         thread.join(10)
         assert not thread.is_alive() and not processes_with(program)

@@ -64,7 +64,7 @@ def oapif(service: Running, code: str, *options: str) -> tuple[list[dict[str, st
     """Returns the segments as GDAL's OAPIF driver reads them, with their lines in the column WKT, and its requests."""
     command = ["ogr2ogr", "-f", "CSV", "/vsistdout/", f"OAPIF:{service.url}", code, "-lco", "GEOMETRY=AS_WKT"]
     environment = {**os.environ, "CPL_DEBUG": "HTTP,OAPIF"}
-    done = subprocess.run([*command, *options], capture_output=True, env=environment)
+    done = subprocess.run([*command, *options], capture_output=True, env=environment, timeout=300)
     said = done.stderr.decode()
     assert done.returncode == 0 and "ERROR" not in said, said
     return list(csv.DictReader(io.StringIO(done.stdout.decode()))), said
@@ -92,12 +92,31 @@ class TestGdal:
                 lines[int(row["TLID"])][n] for n in ("FENAME", "CFCC")
             }
 
+    def test_collection_of_counties(self, service: Running, data: Path) -> None:
+        """The pages of a state go from county to county."""
+        found, _ = oapif(service, "al", "-oo", "PAGE_SIZE=300")
+        expected = [row for code in ALL for row in gdal_rows(data / f"TGR{code}.RT1")]
+        assert sorted_lines(found) == sorted_lines(expected)
+        box = ("-spat", "-87.2", "32.4", "-86.6", "33")
+        found, _ = oapif(service, "us", "-oo", "PAGE_SIZE=300", *box)
+        expected = [row for code in ALL for row in oapif(service, code, "-oo", "PAGE_SIZE=10000", *box)[0]]
+        assert sorted_lines(found) == sorted_lines(expected) and len(found) > 100
+
     def test_layers(self, service: Running) -> None:
+        """No layer is mirrored, and each has its features and columns."""
         done = subprocess.run(
-            ["ogrinfo", "-so", "-al", f"OAPIF:{service.url}"], stdout=subprocess.PIPE, text=True, check=True
+            ["ogrinfo", "-so", "-al", f"OAPIF:{service.url}"],
+            stdout=subprocess.PIPE,
+            text=True,
+            check=True,
+            timeout=300,
         )
-        assert re.findall(r"Layer name: (\w+)", done.stdout) == list(ALL)
-        assert [int(count) for count in re.findall(r"Feature Count: (\d+)", done.stdout)] == list(ALL.values())
+        assert re.findall(r"Layer name: (\w+)", done.stdout) == [*ALL, "al", "us"]
+        total = sum(ALL.values())
+        found = [int(count) for count in re.findall(r"Feature Count: (\d+)", done.stdout)]
+        assert found == [*ALL.values(), total, total]
+        corners = re.findall(r"Extent: \((-?[0-9.]+), (-?[0-9.]+)\)", done.stdout)
+        assert len(corners) == len(ALL) + 2 and all(float(x) < -86 and float(y) > 32 for x, y in corners)
         assert "TLID: Integer" in done.stdout and "ZIPL: String" in done.stdout and "FRLONG: Real" in done.stdout
 
     @pytest.fixture(scope="class")
@@ -117,7 +136,7 @@ class TestGdal:
             LARGE,
         ]
         environment = {**os.environ, "PYTHONPATH": str(TOP / "python")}
-        subprocess.run(command, env=environment, check=True, stdout=subprocess.DEVNULL)
+        subprocess.run(command, env=environment, check=True, stdout=subprocess.DEVNULL, timeout=300)
         return path
 
     @pytest.mark.parametrize(
@@ -168,14 +187,14 @@ class TestGdal:
 
     def compare(self, service: Running, package: Path, *options: str) -> None:
         command = ["ogr2ogr", "-f", "CSV", "/vsistdout/", str(package), "-lco", "GEOMETRY=AS_WKT", *options]
-        written = subprocess.run(command, stdout=subprocess.PIPE, check=True, text=True).stdout
+        written = subprocess.run(command, stdout=subprocess.PIPE, check=True, text=True, timeout=300).stdout
         found, _ = oapif(service, LARGE, "-oo", "PAGE_SIZE=10000", *options)
         assert sorted_lines(found) == sorted_lines(list(csv.DictReader(io.StringIO(written))))
 
     def test_error(self, service: Running) -> None:
         """GDAL shows the service's message for a refused filter."""
         command = ["ogrinfo", f"OAPIF:{service.url}", CODE, "-where", "CFCC = 'A410'"]
-        done = subprocess.run(command, capture_output=True, text=True)
+        done = subprocess.run(command, capture_output=True, text=True, timeout=300)
         assert "refused 94 line 1 column" in done.stdout + done.stderr
 
     def test_tlid_that_is_there_twice(self, start: Callable[..., Running], tmp_path: Path) -> None:  # noqa: F811
@@ -199,9 +218,15 @@ class TestOwslib:
         return features.Features(f"{service.url}/")
 
     def test_documents(self, client: object) -> None:
-        assert client.feature_collections() == list(ALL)
+        assert client.feature_collections() == [*ALL, "al", "us"]
         conformance = client.conformance()["conformsTo"]
-        for name in ("1/1.0/conf/core", "1/1.0/conf/geojson", "1/1.0/conf/oas30", "3/1.0/conf/filter"):
+        for name in (
+            "1/1.0/conf/core",
+            "1/1.0/conf/geojson",
+            "1/1.0/conf/oas30",
+            "2/1.0/conf/crs",
+            "3/1.0/conf/filter",
+        ):
             assert f"http://www.opengis.net/spec/ogcapi-features-{name}" in conformance
         assert client.api()["openapi"].startswith("3.0.")
         assert client.collection(TOWN)["id"] == TOWN

@@ -15,7 +15,7 @@ from tigerline.commands.command_line import parsers
 from tigerline.service.documents import CONFORMS_TO
 
 PAGE = (TOP / "docs/features.md").read_text()
-CONFORMANCE = (TOP / "docs/conformance.md").read_text()
+CONFORMANCE = (TOP / "docs/filters.md").read_text()
 ADDRESS = "http://127.0.0.1:8080"
 
 pytestmark = pytest.mark.usefixtures("scratch")
@@ -39,7 +39,8 @@ def test_console(service: Running) -> None:
         text = text.replace(ADDRESS, service.url)
         commands = re.findall(r"^\$ (.*)$", text, re.MULTILINE)
         script = "".join(f"printf '%s\\n' {sh_quoted('$ ' + command)}\n{command}\n" for command in commands)
-        done = subprocess.run(["bash", "-c", script], stdout=subprocess.PIPE, stderr=subprocess.STDOUT, text=True)
+        command = ["bash", "-c", script]
+        done = subprocess.run(command, stdout=subprocess.PIPE, stderr=subprocess.STDOUT, text=True, timeout=300)
         assert done.stdout == text
 
 

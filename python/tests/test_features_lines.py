@@ -6,7 +6,7 @@ from collections.abc import Iterator
 from itertools import product
 
 import pytest
-from tigerline.service.geojson import NotFeaturesError, tlids
+from tigerline.service.geojson import NotFeaturesError, split
 from tigerline.service.lines import Lines
 from tigerline.service.problems import ClientLeftError
 from tigerline.service.query import box
@@ -34,6 +34,12 @@ def stored(text: bytes) -> Lines:
         return Lines(file)
 
 
+def read(lines: Lines, first: int, last: int) -> bytes:
+    """Returns the lines from one to before another, in small parts."""
+    found = lines.slice(first, last)
+    return b"".join(found.read(place, 3) for place in range(0, found.length, 3))
+
+
 @pytest.mark.parametrize("chunk", [1, CHUNK, 1 << 20])
 def test_pages(monkeypatch: pytest.MonkeyPatch, chunk: int) -> None:
     monkeypatch.setattr("tigerline.service.lines.CHUNK", chunk)
@@ -43,8 +49,7 @@ def test_pages(monkeypatch: pytest.MonkeyPatch, chunk: int) -> None:
         assert b"".join(lines.parts()) == b"".join(expected)
         for offset, limit in product(range(len(expected) + 2), (0, 1, 2, 5, 100)):
             page = expected[offset : offset + limit]
-            assert lines.page(offset, limit) == (b"".join(page), len(page))
-            assert b"".join(lines.parts(offset)) == b"".join(expected[:offset])
+            assert read(lines, offset, offset + limit) == b"".join(page)
 
 
 def feature(number: int) -> bytes:
@@ -59,16 +64,16 @@ def test_box_of_a_client_that_leaves(monkeypatch: pytest.MonkeyPatch) -> None:
     """It ends at each check, and the next client gets all that it requests."""
     monkeypatch.setattr("tigerline.service.lines.CHUNK", 1000)
     area = box("0,0,0.00001,0.00001")
-    expected = b"".join(feature(number) for number in range(40) if number % 3), 26
+    expected = b"".join(feature(number) for number in range(40) if number % 3)
     for checks in range(100):
         lines = stored(b"".join(map(feature, range(40))))
         left = [ClientLeftError()] + [None] * checks
         try:
             found = lines.in_box(area, lambda: raise_error(left.pop()))
         except ClientLeftError:
-            assert lines.in_box(area, lambda: None).page(0, 100) == expected
+            assert read(lines.in_box(area, lambda: None), 0, 100) == expected
         else:
-            assert found.page(0, 100) == expected and checks == 2 * (lines.size // 1000 + 1)
+            assert read(found, 0, 100) == expected and checks == 2 * (lines.size // 1000 + 1)
             return
     raise AssertionError("it doesn't end")
 
@@ -82,4 +87,4 @@ def raise_error(error: Exception | None) -> None:
 def test_other_output(text: str) -> None:
     """Lines that aren't features and a line without an end are refused."""
     with pytest.raises(NotFeaturesError):
-        tlids(stored(text.encode()).page(0, 1)[0])
+        split(read(stored(text.encode()), 0, 1))

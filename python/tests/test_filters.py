@@ -8,15 +8,19 @@ from typing import Any
 
 import pytest
 import tigerline
-from counties import CODE, EXAMPLES, program_of
+from counties import CODE, EXAMPLES, gdal_rows, points_of, program_of
 from tigerline.commands import main
 from tigerline.filters import conditions_of, conjunction
 
+from_text = pytest.importorskip("shapely.wkt", reason="no shapely").loads
+from_geojson = pytest.importorskip("shapely.geometry", reason="no shapely").shape
 SQUARE = [[-86.7, 32.4], [-86.6, 32.4], [-86.6, 32.5], [-86.7, 32.4]]
 HOLE = [[-86.65, 32.41], [-86.64, 32.41], [-86.64, 32.42], [-86.65, 32.41]]
 SQUARE_TEXT = "(-86.7 32.4, -86.6 32.4, -86.6 32.5, -86.7 32.4)"
 HOLE_TEXT = "(-86.65 32.41, -86.64 32.41, -86.64 32.42, -86.65 32.41)"
 POLYGON = {"type": "Polygon", "coordinates": [SQUARE, HOLE]}
+CIRCLE = [[math.cos(at * math.tau / 1001), math.sin(at * math.tau / 1001)] for at in range(1001)]
+ROUND = {"type": "Polygon", "coordinates": [[*CIRCLE, CIRCLE[0]]]}
 BOX = "S_INTERSECTS(geometry, BBOX(-86.7, 32.4, -86.6, 32.5))"
 
 
@@ -30,7 +34,8 @@ def shape(**members: Any) -> SimpleNamespace:
     [
         ((-86.7, 32.4, -86.6, 32.5), "-86.7, 32.4, -86.6, 32.5"),
         (("-86.70", "32", "1e1", "40"), "-86.7, 32, 10, 40"),
-        ((-86.70000000000003, 32.4, 0.0000004, 33), "-86.7, 32.4, 0, 33"),
+        ((-86.70000000000003, 32.4, 0.0000004, 33), "-86.70000000000003, 32.4, 0.0000004, 33"),
+        ((-86.700000000000003, -0.0, 1e-16, 33.5), "-86.7, 0, 0, 33.5"),
         (shape(bounds=(1, 2, 3, 4)), "1, 2, 3, 4"),
         (shape(total_bounds=[1, 2, 3, 4], bounds="of each"), "1, 2, 3, 4"),
     ],
@@ -114,13 +119,56 @@ class TestSelections:
         with pytest.raises(tigerline.RefusedError, match="line 1 column 5"):
             tigerline.select("A) OR (B", EXAMPLES, CODE, bbox=(1, 2, 3, 4), geometry=False, extractd=program)
 
-    def test_command(self, tmp_path: Path, program: str, capsys: pytest.CaptureFixture[str]) -> None:
+    def test_command(self, tmp_path: Path, program: str, capsys: pytest.CaptureFixture[str], frames: None) -> None:
         (tmp_path / "mask.geojson").write_text(json.dumps(POLYGON))
         words = ["select", str(EXAMPLES), str(tmp_path / "a.csv"), "--geometry", "none", "--extractd", program]
         words += ["--bbox", "-86.7,32.4,-86.6,32.5", "--mask", str(tmp_path / "mask.geojson"), "--counties", CODE]
         assert main(words) == 3 and "isn't a table" in capsys.readouterr().err
-        mask = f"S_INTERSECTS(geometry, POLYGON({SQUARE_TEXT}, {HOLE_TEXT}))"
-        assert (tmp_path / "filters").read_text() == f"--where={BOX} AND {mask}\n"
+        before, text = (tmp_path / "filters").read_text().split(" AND S_INTERSECTS(geometry, ")
+        assert before == f"--where={BOX}" and from_text(text[:-2]).equals(from_geojson(POLYGON))
+
+    @pytest.mark.usefixtures("extractd", "frames", "gdal")
+    @pytest.mark.parametrize(
+        ("name", "crs"), [("a.geojson", 4326), ("a.gpkg", 26916), ("a.shp", 4269), ("a.shp", 5070), ("a.fgb", 4269)]
+    )
+    def test_masks_of_files(self, tmp_path: Path, name: str, crs: int) -> None:
+        """Polygons that overlap, in several formats and systems, select what shapely selects of GDAL's segments."""
+        polygons = [
+            from_text(f"POLYGON(({ring}))")
+            for ring in (
+                "-87.14 32.94, -87.11 32.94, -87.12 32.97, -87.14 32.94",
+                "-87.13 32.95, -87.1 32.95, -87.1 32.98, -87.13 32.95",
+            )
+        ]
+        geopandas = pytest.importorskip("geopandas")
+        geopandas.GeoDataFrame(geometry=polygons, crs=4269).to_crs(crs).to_file(tmp_path / name)
+        town, out = EXAMPLES / "town", tmp_path / "a.csv"
+        words = ["--mask", str(tmp_path / name), "--columns", "TLID", "--geometry", "none"]
+        assert main(["select", str(town), str(out), *words]) == 0
+        expected = []
+        for row in gdal_rows(town / "TGR01007.RT1"):
+            start, *_, end = points_of(row["WKT"])
+            text = f"LINESTRING ({start[0]} {start[1]}, {end[0]} {end[1]})"
+            line = from_text(text if start != end else f"POINT ({start[0]} {start[1]})")
+            if any(polygon.intersects(line) for polygon in polygons):
+                expected.append(row["TLID"])
+        assert [line.split(",")[2] for line in out.read_text().splitlines()[1:]] == expected and len(expected) > 200
+
+    @pytest.mark.usefixtures("frames")
+    @pytest.mark.parametrize(
+        ("name", "content", "status", "text"),
+        [
+            ("a.txt", "no polygon", 3, "can't be read by GDAL"),
+            ("a.geojson", json.dumps({"type": "Point", "coordinates": [1, 2]}), 2, "a mask has polygons, and 'Point'"),
+            ("a.geojson", json.dumps(ROUND), 2, "the mask has 1,001 vertices, and a filter 1,000 at most: ogr2ogr"),
+        ],
+    )
+    def test_no_masks_of_files(
+        self, tmp_path: Path, name: str, content: str, status: int, text: str, capsys: pytest.CaptureFixture[str]
+    ) -> None:
+        (tmp_path / name).write_text(content)
+        assert main(["select", str(EXAMPLES), str(tmp_path / "a.csv"), "--mask", str(tmp_path / name)]) == status
+        assert text in capsys.readouterr().err
 
     @pytest.mark.parametrize(
         ("options", "status", "text"),

@@ -19,6 +19,7 @@ FILES = [
     ("1\t8 Oak St\tMilford\tAL\t35042\r\n", "utf-16", "", STREET),
     ("\ufeff1\t8 Oak St\tMilford\tAL\t35042\r\n", "utf-16-be", "", STREET),
     ("\ufeff1;8 Oak St;Milford;AL;35042", "utf-8", "", STREET),
+    ("\ufeff1;8 Oak St;Milford;AL;35042", "utf-8", "encoding=UTF8", STREET),
     (
         "1;8 Oak St, Apt 4, rear, a, b;Milford;AL;35042",
         "utf-8",
@@ -55,9 +56,9 @@ def address_file(path: Path, text: str, encoding: str, options: str) -> AddressF
     path.write_bytes(text.encode(encoding))
     words = dict(word.partition("=")[::2] for word in options.split())
     flags = ("header" in words, "one-line" in words)
-    delimiter = words.pop("delimiter", None)
+    delimiter, given = words.pop("delimiter", None), words.pop("encoding", None)
     named = {name: value for name, value in words.items() if value}
-    return AddressFile(TableFile(path, "IN", None, delimiter and delimiter_of(delimiter)), *flags, named)
+    return AddressFile(TableFile(path, "IN", given, delimiter and delimiter_of(delimiter)), *flags, named)
 
 
 @pytest.mark.parametrize(("text", "encoding", "options", "expected"), FILES)

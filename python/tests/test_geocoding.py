@@ -171,7 +171,7 @@ class TestOutput:
     def test_message_and_overwriting(self, out: Path, source: Path) -> None:
         done = geocode(source, out / "a.csv")
         assert done.stdout == (
-            f"{out}/a.csv: 3000 addresses: 3000 matched, 3000 of them exactly; 0 tied, 0 not matched\n"
+            f"{out}/a.csv: 3,000 addresses: 3,000 matched, 3,000 of them exactly; 0 tied, 0 not matched\n"
         )
         written = (out / "a.csv").read_bytes()
         (out / "a.csv").write_text("kept")
@@ -302,7 +302,7 @@ class TestInterrupts:
     def test_at_any_moment(self, scratch: Path, out: Path, tmp_path: Path) -> None:
         (tmp_path / "in.csv").write_text("".join(f"1,{number} Main St,,,\n" for number in range(150)))
         started = time.monotonic()
-        assert self.start(tmp_path / "in.csv", out / "a.csv").wait() == 0
+        assert self.start(tmp_path / "in.csv", out / "a.csv").wait(timeout=120) == 0
         duration = 1.1 * (time.monotonic() - started)
         whole = (out / "a.csv").read_bytes()
         (out / "a.csv").unlink()
@@ -397,6 +397,8 @@ E Cedar Rd -                   | 1-99    | 36067
 W Cedar Rd -                   | 1-99    | 36067
 - 12th St -                    | 1-99    | 36067
 - Elk Rd -                     | 1-99    | 36067
+N Poplar St E                  | 1-99    | 36067
+S Poplar St E                  | 1-99    | 36067
 """.strip().splitlines()
 
 # An address and its ZIP Code, the segment that matches or none, and the reasons.
@@ -441,6 +443,9 @@ CHOICES = """
 5 Magnolia Ave         | 36067 | 18 | type
 5 Hickory Ct           | 36067 |    | other_type
 5 N Cedar Rd           | 36067 |    | other_direction
+5 Cedar Rd N           | 36067 |    | other_direction
+5 N Poplar St E        | 36067 | 26 |
+5 N Poplar St W        | 36067 |    | other_direction
 5 11th St              | 36067 |    | no_such_street
 5 Twelfth St           | 36067 | 24 |
 5 Ekl Rd               | 36067 |    | no_such_street

@@ -91,7 +91,7 @@ def test_command_at_any_moment(scratch: Path, tmp_path: Path, large: Path) -> No
     out = tmp_path / "out"
     out.mkdir()
     started = time.monotonic()
-    assert start(large, out).wait() == 0
+    assert start(large, out).wait(timeout=120) == 0
     duration = 0.9 * (time.monotonic() - started)
     check_output(out)
     randoms = random.Random(SEED)
@@ -138,7 +138,7 @@ def test_kill(scratch: Path, tmp_path: Path, large: Path) -> None:
         process = start(large, out)
         time.sleep(delay)
         process.kill()
-        process.wait()
+        process.wait(timeout=30)
         check_output(out)
         deadline = time.monotonic() + 20
         while processes_with(str(scratch)) or processes_with(str(out)):
@@ -168,7 +168,7 @@ def test_package_at_any_moment(scratch: Path, large: Path) -> None:
 
 def test_hanging_program(scratch: Path, tmp_path: Path) -> None:
     """A program that never ends is killed at once with its children, even if it ignores Ctrl-C."""
-    sleep = f"sleep 98765.{os.getpid()}"  # used by no other run of the tests
+    sleep = f"sleep 30.{os.getpid()}"  # used by no other run of the tests
     program = program_of(tmp_path / "program", f'trap "" INT; {sleep}; true')
     timer = threading.Timer(0.5, os.kill, (os.getpid(), signal.SIGINT))
     timer.start()
@@ -213,7 +213,7 @@ def test_other_threads(tmp_path: Path) -> None:
         target=lambda: found.append(list(tigerline.rows("TRUE", EXAMPLES, CODE, extractd=program)))
     )
     thread.start()
-    thread.join()
+    thread.join(timeout=60)
     assert found == [[]]
 
 

@@ -30,7 +30,11 @@ def run_command(
     environment = {**os.environ, "PYTHONPATH": str(TOP / "python"), **options.pop("environment", {})}
     command = [*(before or []), *COMMAND, *map(str, arguments)]
     return subprocess.run(
-        command, env=environment, stderr=subprocess.PIPE, text=True, **{"stdout": subprocess.PIPE, **options}
+        command,
+        env=environment,
+        stderr=subprocess.PIPE,
+        text=True,
+        **{"stdout": subprocess.PIPE, "timeout": 300, **options},
     )
 
 
@@ -110,7 +114,11 @@ class TestFormats:
         if done.returncode == 0:
             assert len(layer(out / "a.parquet")) == 240
         else:
-            assert done.returncode == 3 and "Unable to find driver `Parquet'" in done.stderr and not list(out.iterdir())
+            assert (
+                done.returncode == 3
+                and "this GDAL has no Parquet: write .gpkg" in done.stderr
+                and not list(out.iterdir())
+            )
 
     def test_safe_cells(self, out: Path, tmp_path: Path) -> None:
         lines = records(EXAMPLES / "TGR01001.RT1")[:2]
@@ -169,6 +177,36 @@ class TestFormats:
         assert run(EXAMPLES, out / "a.csv", *options).returncode == 0
         assert [int(row["score"]) - 2**64 for row in layer(out / "a.csv")] == expected
 
+    @pytest.mark.parametrize(
+        ("suffix", "score", "options", "expected"),
+        [
+            ("gpkg", 2**63 - 1, (), 2**63 - 1),
+            ("gpkg", 2**63, (), None),
+            ("gpkg", 2**63, ("--signed",), -(2**63)),
+            ("shp", 10**18 - 1, (), 10**18 - 1),
+            ("shp", 10**18, (), None),
+            ("csv", 2**64 - 1, (), 2**64 - 1),
+        ],
+    )
+    def test_largest_scores(
+        self,
+        out: Path,
+        extractd: str,
+        tmp_path: Path,
+        suffix: str,
+        score: int,
+        options: tuple[str, ...],
+        expected: int | None,
+    ) -> None:
+        """A program sets the score by helper function 8."""
+        (tmp_path / "source").write_text(f"lddw r1, {score}\ncall 8\nmov r0, 1\nexit\n")
+        with open(tmp_path / "program", "wb") as words:
+            subprocess.run([extractd, "asm", "--source", tmp_path / "source"], stdout=words, check=True)
+        done = run(EXAMPLES / "one", out / f"a.{suffix}", "--program", tmp_path / "program", *STRAIGHT, *options)
+        assert done.returncode == (0 if expected is not None else 2)
+        scores = [int(row["score"]) for row in layer(out / f"a.{suffix}")] if expected is not None else [expected]
+        assert scores == [expected]
+
     def test_odd_bytes_and_no_coordinates(self, out: Path, tmp_path: Path) -> None:
         lines = records(EXAMPLES / "TGR01001.RT1")[:4]
         lines[0] = lines[0][:19] + b'"a,b;\t\\\xe9\xa0  NULL'.ljust(30) + lines[0][49:]
@@ -193,13 +231,27 @@ class TestFormats:
 class TestMaps:
     """A map in addition to the file."""
 
-    @pytest.mark.parametrize(("suffix", "by"), [("svg", "class"), ("html", "class"), ("svg", "score")])
-    def test_map(self, out: Path, suffix: str, by: str) -> None:
-        options = ("--where", ROADS, "--counties", CODE, "--score", "FRADDL", "--map-by", by)
+    @pytest.mark.parametrize(
+        ("suffix", "by", "title"),
+        [
+            ("svg", "class", "class"),
+            ("html", "class", "class"),
+            ("svg", "score", "FRADDL"),
+            ("html", "score", "FRADDL"),
+        ],
+    )
+    def test_map(self, out: Path, suffix: str, by: str, title: str) -> None:
+        options = ("--where", ROADS, "--counties", CODE, "--score", "fraddl", "--map-by", by)
         done = run(EXAMPLES, out / "a.csv", *options, "--map", out / f"map.{suffix}")
         assert done.returncode == 0
         page = (out / f"map.{suffix}").read_text()
-        assert f"CFCC LIKE &#x27;A%&#x27;: 240 segments</text>" in page and ">Not selected<" in page
+        assert "CFCC LIKE " in page and f"240 segments by {title}" in page and "Not selected" in page
+
+    @pytest.mark.parametrize(("suffix", "start"), [("png", b"\x89PNG\r\n"), ("pdf", b"%PDF-")])
+    def test_picture(self, out: Path, suffix: str, start: bytes) -> None:
+        options = ("--where", ROADS, "--counties", CODE, *STRAIGHT, "--map", out / f"map.{suffix}")
+        assert run(EXAMPLES, out / "a.csv", *options).returncode == 0
+        assert (out / f"map.{suffix}").read_bytes().startswith(start)
 
     def test_background_is_around_the_selection(self, out: Path, tmp_path: Path) -> None:
         """The town, its copy far in the east, and a county without selected segments."""
@@ -216,7 +268,7 @@ class TestMaps:
             options = (*STRAIGHT, "--map", out / "a.svg", "--overwrite", *options)
             done = run(tmp_path / "data", out / "a.csv", "--where", where, *options)
             assert done.returncode == 0 and done.stderr.count("\n") == 1, done.stderr
-            counts = re.findall(r">(Local road|Not selected)</text><text[^>]*>([0-9,]+)<", (out / "a.svg").read_text())
+            counts = re.findall(r">(Local road|Not selected) \(([0-9,]+)\)<", (out / "a.svg").read_text())
             assert dict(counts)["Local road"] == str(len(roads))
             rest = len(records(town / "TGR01007.RT1")) - len(roads)
             assert (
@@ -247,7 +299,7 @@ class TestMaps:
     def test_nothing_selected(self, out: Path) -> None:
         options = ("--where", "FALSE", "--counties", CODE, *STRAIGHT)
         done = run(EXAMPLES, out / "a.csv", *options, "--map", out / "a.svg")
-        assert (done.returncode, done.stderr) == (0, "") and "FALSE: 0 segments" in (out / "a.svg").read_text()
+        assert (done.returncode, done.stderr) == (0, "") and "0 segments by class" in (out / "a.svg").read_text()
 
     def test_neither_file_without_the_other(self, out: Path) -> None:
         (out / "map.svg").write_text("old")
@@ -297,7 +349,7 @@ class TestTasks:
         assert run(EXAMPLES / "town", out / "a.gpkg", *options).returncode == 0
         expected = gdal_rows(EXAMPLES / "town/TGR01007.RT1", "-where", where)
         assert [row["TLID"] for row in layer(out / "a.gpkg")] == [row["TLID"] for row in expected]
-        assert re.search(rf">Local road</text><text[^>]*>{len(expected)}<", (out / "a.svg").read_text())
+        assert re.search(rf">Local road \({len(expected)}\)<", (out / "a.svg").read_text())
 
 
 @pytest.mark.usefixtures("extractd")
@@ -350,7 +402,7 @@ class TestFaults:
             (EXAMPLES, out / "a", "--where", "TRUE"),
             (EXAMPLES, out / "a.csv"),
             (EXAMPLES, out / "a.csv", "--where", "TRUE", "--program", "p"),
-            (EXAMPLES, out / "a.csv", "--where", "TRUE", "--map", out / "a.png"),
+            (EXAMPLES, out / "a.csv", "--where", "TRUE", "--map", out / "a.gif"),
             (EXAMPLES, out / "a.csv", "--program", "p", "--score", "TLID"),
         ):
             self.refused(out, 2, "error: ", *arguments)

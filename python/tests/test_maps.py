@@ -8,22 +8,25 @@ import subprocess
 import sys
 import time
 from collections.abc import Iterator
-from html import unescape
+from math import cos, radians, sin
 from pathlib import Path
 from xml.etree import ElementTree
 
 import pytest
+from browsers import ActionChains, Chrome, browser
 from tigerline.interrupts import Interrupts
-from tigerline.maps.content import box_around, map_segments
-from tigerline.maps.view import Box
-from tigerline.program import find_program
-from tigerline.maps import draw_html, draw_svg
+from tigerline.maps.content import MapContent, map_segments
+from tigerline.maps.drawing import Drawing
+from tigerline.maps.layers import by_class, by_score
 from tigerline.maps.rows import table_of
-from tigerline.maps.view import MapSegment
+from tigerline.maps.view import MapSegment, view_of
+from tigerline.program import find_program
 
+pytest.importorskip("matplotlib", reason="no matplotlib")
 SVG = "{http://www.w3.org/2000/svg}"
 TOWN = Path(__file__).parents[2] / "examples" / "town"
 PACKAGES = Path(__file__).parents[1]
+MARGIN = 9  # from the edge of a picture to its map
 
 
 def line(cfcc: str, *points: tuple[float, float], name: str = "", score: int = 0) -> MapSegment:
@@ -35,57 +38,62 @@ RIVER = line("H11", (-87.1, 32.96), (-87.095, 32.955), (-87.09, 32.95), name="Mi
 RAILROAD = line("B11", (-87.1, 32.955), (-87.09, 32.955), name="Central Valley Rlwy")
 INTERSTATE = line("A11", (-87.095, 32.95), (-87.095, 32.96), name="I-65")
 SOME = [STREET, RIVER, STREET, INTERSTATE, RAILROAD]
+DOT = line("A41", (-87.1, 32.9), (-87.1, 32.9))
+
+
+def drawn(
+    segments: list[MapSegment], caption: str = "", background: list[MapSegment] = [], score: str | None = None
+) -> Drawing:
+    groups = by_class(segments) if score is None else by_score(segments)
+    return Drawing(view_of(segments), groups, by_class(background), caption, f"{len(segments):,} segments", score)
+
+
+def svg(*arguments: object, **options: object) -> str:
+    return drawn(*arguments, **options).file(".svg").decode()
 
 
 def tree_of(text: str) -> ElementTree.Element:
     return ElementTree.fromstring(text)
 
 
-def map_of(text: str) -> ElementTree.Element:
-    return next(element for element in tree_of(text).iter(SVG + "svg") if element.get("id") == "map")
+def texts_of(text: str) -> list[str]:
+    return [found.text or "" for found in tree_of(text).iter(SVG + "text")]
 
 
-def texts_of(element: ElementTree.Element) -> list[str]:
-    return [found.text or "" for found in element.iter(SVG + "text")]
+def names_of(text: str) -> list[str]:
+    """Returns the names of streets on a map."""
+    groups = (group for group in tree_of(text).iter(SVG + "g") if group.get("id", "").startswith("name"))
+    return [group[0].text or "" for group in groups]
 
 
 def legend_of(text: str) -> dict[str, str]:
-    """Returns the rows of the legend: each label with the text after it."""
-    texts = texts_of(tree_of(text))
-    start = next(place for place, found in enumerate(texts) if re.fullmatch(r"[0-9,]+ segments?", found))
-    rows = [found for found in texts[start + 1 :] if not re.search(" (km|mi)$", found)]
-    return dict(zip(rows[::2], rows[1::2]))
+    """Returns the rows of the legend: each label with its count."""
+    return dict(
+        found.groups() for found in (re.fullmatch(r"(.+) \(([0-9,]+)\)", row) for row in texts_of(text)) if found
+    )
 
 
-def lines_of(element: ElementTree.Element) -> Iterator[list[tuple[float, float]]]:
-    """Yields the lines of all paths in pixels."""
-    for path in element.iter(SVG + "path"):
-        data = path.get("d", "")
-        assert re.fullmatch(r"(?:[ML]-?[0-9.]+ -?[0-9.]+|Z)*", data)
-        for part in re.findall("M[^M]*", data):
-            yield [(float(x), float(y)) for x, y in re.findall("([0-9.-]+) ([0-9.-]+)", part)]
+def lines_of(text: str) -> Iterator[tuple[str, list[list[tuple[float, float]]]]]:
+    """Yields the color and the lines of each path that is clipped by the frame, in points."""
+    for path in tree_of(text).iter(SVG + "path"):
+        color = re.search("stroke: (#[0-9a-f]{6})", path.get("style", ""))
+        if color and path.get("clip-path"):
+            parts = re.findall("M[^M]*", path.get("d", ""))
+            yield color[1], [
+                [(float(x), float(y)) for x, y in re.findall("([0-9.-]+) ([0-9.-]+)", one)] for one in parts
+            ]
 
 
-def assert_in_view_box(text: str) -> None:
-    element = map_of(text)
-    x, y, width, height = map(float, element.get("viewBox", "").split())
-    assert (width, height) == (float(element.get("width", "")), float(element.get("height", "")))
-    for points in lines_of(element):
-        for across, down in points:
-            assert x <= across <= x + width and y <= down <= y + height
-
-
-def test_picture_is_xml_with_caption_and_title() -> None:
-    root = tree_of(draw_svg(SOME, caption="CFCC LIKE 'A%'"))
-    assert root.tag == SVG + "svg"
-    assert root.find(SVG + "title").text == "CFCC LIKE 'A%'"
-    assert root.find(SVG + "desc").text == "5 segments"
-    assert texts_of(root)[0] == "CFCC LIKE 'A%'"
+def test_picture_has_caption_and_source() -> None:
+    root = tree_of(svg(SOME, "CFCC LIKE 'A%' AND $x$"))
+    assert root.tag == SVG + "svg" and "width" not in root.attrib  # so it fills the screen
+    assert root.find(SVG + "title").text == "CFCC LIKE 'A%' AND $x$"
+    texts = texts_of(svg(SOME, "CFCC LIKE 'A%' AND $x$"))
+    assert {"CFCC LIKE 'A%' AND $x$", "U.S. Census Bureau, TIGER/Line 2006, NAD83"} <= {*texts}
 
 
 def test_legend_counts_segments_by_class() -> None:
-    rest = [RAILROAD] * 1234
-    picture = draw_svg(SOME, caption="", background=rest)
+    picture = svg(SOME, background=[RAILROAD] * 1234)
     expected = {"Interstate": "1", "Local road": "2", "Railroad": "1", "Water": "1", "Not selected": "1,234"}
     assert legend_of(picture) == expected
     assert list(legend_of(picture)) == list(expected)
@@ -116,44 +124,52 @@ def test_legend_counts_segments_by_class() -> None:
     ],
 )
 def test_class_has_row(cfcc: str, label: str) -> None:
-    assert legend_of(draw_svg([line(cfcc, (1, 1), (2, 2))], caption="")) == {label: "1"}
+    assert [group.layer.label for group in by_class([line(cfcc, (1, 1), (2, 2))])] == [label]
 
 
-def test_water_is_below_railroads_below_roads() -> None:
-    strokes = [element.get("stroke") for element in map_of(draw_svg(SOME, caption="")).iter() if element.get("stroke")]
-    water, railroad, street, interstate = "#5b9fc9", "#fdfcf8", "#ffffff", "#34528f"
+def test_order_and_strength() -> None:
+    """Water is below railroads below roads, a selection above and darker than what is around it, and all is clipped."""
+    around = [line(segment.cfcc, (-88, 32.9), (-86, 33)) for segment in SOME]
+    strokes = [color for color, _ in lines_of(svg(SOME, background=around))]
+    water, railroad, street, interstate = "#3f86b5", "#fdfcf8", "#57524a", "#34528f"
     places = [strokes.index(color) for color in (water, railroad, street, interstate)]
-    assert places == sorted(places)
-
-
-def test_positions_are_in_view_box() -> None:
-    assert_in_view_box(draw_svg(SOME, caption="a" * 500, background=[line("F10", (-87.3, 32.9), (-87.0, 33.0))]))
+    assert places == sorted(places) and places[0] >= 4
+    brightness = [sum(int(color[at : at + 2], 16) for at in (1, 3, 5)) for color in strokes]
+    assert min(brightness[:4]) > max(brightness[place] for place in (places[0], *places[2:]))
 
 
 def test_north_is_up_and_west_is_left() -> None:
-    ((start, end),) = lines_of(map_of(draw_svg([STREET], caption="")).find(f"{SVG}g/{SVG}defs"))
+    ((_, ((start, end),)),) = lines_of(svg([STREET]))
     assert start[0] < end[0] and start[1] > end[1]
 
 
 def test_aspect_is_that_of_the_latitude() -> None:
     square = [(10.0, 59.9), (10.2, 59.9), (10.2, 60.1), (10.0, 60.1), (10.0, 59.9)]
-    (points,) = lines_of(map_of(draw_svg([line("F10", *square)], caption="")))
+    ((_, (points,)),) = lines_of(svg([line("F10", *square)]))
     width = max(x for x, _ in points) - min(x for x, _ in points)
     height = max(y for _, y in points) - min(y for _, y in points)
     assert width / height == pytest.approx(0.5, rel=0.001)  # the cosine of 60 degrees
 
 
+def test_map_across_the_180th_meridian() -> None:
+    """The Aleutians are drawn as the same islands elsewhere are."""
+    points = [(172.5, 52.0), (179.9, 51.5), (-179.8, 51.4), (-176.6, 51.9)]
+    crossing, elsewhere = ([line("A41", *((x if x > 0 else x + shift, y) for x, y in points))] for shift in (0, 360))
+    moved = [line("A41", *((x - 100, y) for x, y in elsewhere[0].points))]
+    assert [*lines_of(svg(crossing))] == [*lines_of(svg(elsewhere))] == [*lines_of(svg(moved))]
+
+
 def test_scale_bars_are_as_long_as_they_say() -> None:
-    meridian = line("F10", (10.0, 50.0), (10.0, 50.5))
-    root = tree_of(draw_svg([meridian], caption=""))
-    (points,) = lines_of(map_of(draw_svg([meridian], caption="")))
-    pixels_per_kilometer = (points[0][1] - points[1][1]) / (0.5 * 40030.2 / 360)  # the Earth's circumference
-    bars = next(element for element in root.iter(SVG + "g") if element.get("id") == "scale")
-    for path, text, unit in zip(bars.iter(SVG + "path"), texts_of(bars), (1, 1.609344)):
-        width = float(re.search("h([0-9.]+)", path.get("d", ""))[1])
-        assert 40 < width <= 130
-        assert width / pixels_per_kilometer == pytest.approx(float(text.split()[0]) * unit, rel=0.005)
-    assert [text.split()[1] for text in texts_of(bars)] == ["km", "mi"]
+    picture = svg([line("F10", (10.0, 50.0), (10.0, 50.5))])
+    ((_, (points,)),) = lines_of(picture)
+    per_kilometer = (points[0][1] - points[1][1]) / (0.5 * 40030.2 / 360)  # the Earth's circumference
+    bars = re.findall(r'id="line2d_[12]">\s*<path d="M ([0-9.]+) [0-9.]+ \s*L ([0-9.]+) ', picture)
+    labels = [found for found in texts_of(picture) if re.fullmatch("[0-9.,]+ (km|mi)", found)]
+    for (start, end), text, unit in zip(bars, labels, (1, 1.609344), strict=True):
+        width = float(end) - float(start)
+        assert 20 < width <= 60
+        assert width / per_kilometer == pytest.approx(float(text.split()[0]) * unit, rel=0.005)
+    assert [text.split()[1] for text in labels] == ["km", "mi"]
 
 
 @pytest.mark.parametrize(
@@ -163,42 +179,43 @@ def test_scale_bars_are_as_long_as_they_say() -> None:
         [STREET],
         [line("A41", (-87.1, 32.9), (-87.1, 33.0))],
         [line("A41", (-87.1, 32.9), (-87.0, 32.9))],
-        [line("A41", (-87.1, 32.9), (-87.1, 32.9))],
+        [DOT._replace(name="Dot")],
         [line("A41")],
         [line("A41", (-87.1, 32.9))],
         [line("A41", (179.9, -89.9), (179.9, 89.9))],
-        [line("H31", (0, 0), (1, 1), (1, 0), (0, 0))],
+        [line("H31", (0, 0), (1, 1), (1, 0), (0, 0), name="A pond")],
     ],
     ids=["none", "one", "vertical", "horizontal", "dot", "no points", "one point", "pole to pole", "area"],
 )
-@pytest.mark.parametrize("by", ["class", "score"])
-def test_small_selections(segments: list[MapSegment], by: str) -> None:
-    picture = draw_svg(segments, caption="few", by=by)
-    assert_in_view_box(picture)
-    assert texts_of(tree_of(picture))[0] == "few"
+@pytest.mark.parametrize("score", [None, "FRADDL"])
+def test_small_selections(segments: list[MapSegment], score: str | None) -> None:
+    picture = svg(segments, "few", score=score)
+    assert "few" in texts_of(picture)
     assert sum(map(int, legend_of(picture).values())) == len(segments)
     assert "nan" not in picture and "inf" not in picture
-    assert len(page_data(draw_html(segments, caption="few", by=by))["segments"]) == len(segments)
+    for _, found in lines_of(picture):
+        assert all(MARGIN <= x <= 400 + MARGIN for points in found for x, _ in points)
 
 
-@pytest.mark.parametrize("draw", [draw_svg, draw_html])
-def test_texts_are_escaped(draw) -> None:
-    evil = "</title></svg><script>alert(1)</script>&\"'\x00\x1b\ud800"
-    text = draw([STREET._replace(name=evil, cfcc="<&>"), INTERSTATE._replace(name=evil)], caption=evil)
-    assert "<script>alert" not in text and "\x00" not in text and "\x1b" not in text
-    text.encode("utf-8")
-    if draw is draw_svg:
-        shown = "</title></svg><script>alert(1)</script>&\"'\ufffd\ufffd\ufffd"
-        assert tree_of(text).find(SVG + "title").text == shown
+@pytest.mark.parametrize("kind", [".svg", ".png", ".pdf", ".html"])
+def test_texts_are_escaped(kind: str) -> None:
+    evil = "</title></svg><script>alert(1)</script><img onerror=alert(2)>&\"'$\x00\x1b\ud800"
+    wide = [STREET._replace(name=evil, cfcc="<&>"), INTERSTATE._replace(points=((-87.1, 32.9), (-86, 32.9)), name=evil)]
+    file = drawn(wide, evil).file(kind)
+    if kind == ".svg":
+        shown = "</title></svg><script>alert(1)</script><img onerror=alert(2)>&\"'$\ufffd\ufffd\ufffd"
+        assert tree_of(file.decode()).find(SVG + "title").text == shown
+    if kind in (".svg", ".html"):
+        assert b"<script>alert" not in file and b"onerror=alert(2)>" not in file and b"\x1b" not in file
 
 
 @pytest.mark.parametrize(
     "caption", ["word " * 5000, "x" * 1_000_000, "word\n\t" * 20], ids=["words", "letters", "lines"]
 )
 def test_long_caption_is_wrapped_and_cut(caption: str) -> None:
-    texts = texts_of(tree_of(draw_svg([], caption=caption)))
-    lines = texts[: texts.index("0 segments")]
-    assert all(0 < len(line) < 120 for line in lines)
+    texts = texts_of(svg([], caption))
+    lines = texts[: texts.index("U.S. Census Bureau, TIGER/Line 2006, NAD83")]
+    assert all(0 < len(line) < 80 for line in lines)
     shown = "".join(lines).replace(" ", "")
     assert shown == re.sub("\\s", "", caption) or shown.endswith("\N{HORIZONTAL ELLIPSIS}") and len(lines) == 6
 
@@ -209,80 +226,131 @@ def test_lines_in_any_order_take_little_time() -> None:
     steps = [(number / 100_000, 0) for number in range(20_001)]
     river = [line("H11", b, a, name="River") for a, b in zip(steps[::-1], steps[-2::-1])]
     start = time.process_time()
-    draw_svg(star + river, caption="")
-    assert time.process_time() - start < 3
+    svg(star + river)
+    assert time.process_time() - start < 6
 
 
 def test_few_scores_are_a_class_each() -> None:
     segments = [STREET._replace(score=score) for score in (7, 7, 9, 1000, 2**64 - 1)]
-    assert legend_of(draw_svg(segments, caption="", by="score")) == {
-        "Score 18,446,744,073,709,551,615": "1",
-        "Score 1,000": "1",
-        "Score 9": "1",
-        "Score 7": "2",
+    assert legend_of(svg(segments, score="FRADDL")) == {
+        "18,446,744,073,709,551,615": "1",
+        "1,000": "1",
+        "9": "1",
+        "7": "2",
     }
 
 
 def test_many_scores_are_five_classes() -> None:
     segments = [STREET._replace(score=score) for score in range(100)]
-    assert legend_of(draw_svg(segments, caption="", by="score")) == {
-        "Score 80 to 99": "20",
-        "Score 60 to 79": "20",
-        "Score 40 to 59": "20",
-        "Score 20 to 39": "20",
-        "Score 0 to 19": "20",
+    assert legend_of(svg(segments, score="FRADDL")) == {
+        "80 to 99": "20",
+        "60 to 79": "20",
+        "40 to 59": "20",
+        "20 to 39": "20",
+        "0 to 19": "20",
     }
 
 
 def test_most_common_score_is_one_class() -> None:
     segments = [STREET._replace(score=score) for score in [0] * 90 + list(range(-5, 0)) + list(range(1, 6))]
-    legend = legend_of(draw_svg(segments, caption="", by="score"))
+    legend = legend_of(svg(segments, score="FRADDL"))
     assert sum(map(int, legend.values())) == 100 and len(legend) == 2
 
 
+def filled_area(text: str, color: str) -> float:
+    """Returns the area that is filled with a color in square points, by the shoelace formula."""
+    area = 0.0
+    for path in tree_of(text).iter(SVG + "path"):
+        if f"fill: {color}" in path.get("style", ""):
+            for part in re.findall("M[^M]*", path.get("d", "")):
+                ring = [(float(x), float(y)) for x, y in re.findall("([0-9.-]+) ([0-9.-]+)", part)]
+                area += sum(a[0] * b[1] - b[0] * a[1] for a, b in zip(ring, [*ring[1:], ring[0]])) / 2
+    return abs(area)
+
+
 def test_closed_outlines_of_lakes_are_filled() -> None:
+    """A lake of three lines, and an island in it. Open outlines and circles of roads aren't filled."""
+    water = "#b5d9ec"
     shore = [line("H31", (0, 0), (1, 0), name="Lake"), line("H31", (0, 1), (0, 0)), line("H31", (0, 1), (1, 0))]
-    filled = [path for path in map_of(draw_svg(shore, caption="")).iter(SVG + "path") if path.get("fill-rule")]
-    assert len(filled) == 1 and filled[0].get("d", "").endswith("Z")
-    assert not re.search("fill-rule", draw_svg(shore[:2], caption=""))
-    assert not re.search("fill-rule", draw_svg([STREET, RIVER], caption=""))
+    island = line("H31", (0.2, 0.2), (0.4, 0.2), (0.2, 0.4), (0.2, 0.2))
+    lake, whole = filled_area(svg([*shore, island]), water), filled_area(svg(shore), water)
+    assert whole > 1000 and lake == pytest.approx(whole * (0.5 - 0.02) / 0.5, rel=0.01)
+    assert filled_area(svg(shore[:2]), water) == 0 == filled_area(svg([island._replace(cfcc="A41")]), water)
 
 
-def test_box_is_what_the_map_shows() -> None:
-    """A box extends beyond the drawn lines in the west, and the lines extend beyond the box in the east."""
-    picture = draw_svg([line("A41", (10, 0), (11, 0)), line("A41", (10, 1), (14, 1))], caption="", box=Box(8, 0, 12, 1))
-    across = [x for points in lines_of(map_of(picture)) for x, _ in points]
-    width = float(map_of(picture).get("width", ""))
-    assert min(across) == pytest.approx(14, abs=0.1)  # the margin
-    assert across.count(max(across)) == 1 and max(across) == pytest.approx(14 + 2 * (width - 28), rel=0.001)
+def test_map_shows_the_selection_and_what_is_around() -> None:
+    """Of the segments of a county, those far from the selection aren't drawn."""
+    header, rows = (
+        "score,TLID,FEDIRP,FENAME,FETYPE,FEDIRS,CFCC,WKT\n",
+        '{0},{0},,Oak,St,,A41,"LINESTRING ({1} 33,{2} 33.01)"\n',
+    )
+    near, beside, far = (rows.format(*row) for row in ((1, -87, -86.99), (2, -86.99, -86.9), (3, -80, -79)))
+    content = MapContent()
+    content.add_county((header + near).encode(), (header + near + beside + far).encode())
+    with Interrupts() as interrupts:
+        drawing = content.drawing("", None, interrupts)
+        nothing = MapContent()
+        nothing.add_county(header.encode(), (header + far).encode())
+        assert nothing.drawing("", None, interrupts).rest == 1
+    assert (drawing.rest, drawing.title) == (1, "1 segment by class")
+    assert [segment.points[0] for segment in drawing.background[0].segments] == [(-86.99, 33)]
 
 
-@pytest.mark.parametrize(
-    ("segments", "box"),
-    [
-        ([], None),
-        ([line("A41")], None),
-        ([line("A41", (10, 50), (12, 50)), line("A41", (10, 51), (11, 50))], (9.7, 49.7, 12.3, 51.3)),
-        ([line("A41", (10, 50), (10, 50))], (9.9997, 49.9997, 10.0003, 50.0003)),
-    ],
-)
-def test_box_around_a_selection(segments: list[MapSegment], box: tuple[float, ...] | None) -> None:
-    assert box_around(segments) == (pytest.approx(box) if box else None)
+def town(extent: float) -> list[MapSegment]:
+    """Returns the streets of a grid that lie within an extent from its middle."""
+    places = (at / 1000 for at in range(-60, 61) if abs(at) <= 1000 * extent)
+    streets = [line("A41", (-extent, at), (extent, at), name=f"{at * 1000:.0f} Street") for at in places]
+    return streets + [
+        segment._replace(name=f"{segment.name.split()[0]} Avenue", points=tuple((y, x) for x, y in segment.points))
+        for segment in streets
+    ]
 
 
-def test_names_of_main_roads_are_on_the_map() -> None:
-    assert texts_of(map_of(draw_svg(SOME, caption=""))).count("I-65") == 1
-    assert "N Oak Ave" not in texts_of(map_of(draw_svg(SOME, caption="")))
+def test_more_names_with_zoom() -> None:
+    """Local roads have names if there is room: most of them in a small extent, and some in a large one."""
+    few, most = svg(town(0.06)), svg(town(0.004))
+    assert len({*names_of(most)}) == len(names_of(most)) > 15 and len(town(0.004)) == 18
+    assert 20 < len(names_of(few)) < len(town(0.06)) / 2 and len({*names_of(few)}) == len(names_of(few))
+    assert names_of(svg(SOME)).count("I-65") == 1 and "N Oak Ave" in names_of(svg(SOME))
 
 
-def test_hundred_thousand_segments_take_less_than_three_seconds() -> None:
+def placed_names(text: str) -> Iterator[tuple[str, object]]:
+    """Yields the names on a map with the lines that they are surely on: letters are at least 0.4 as wide as high."""
+    line_string = pytest.importorskip("shapely.geometry", reason="no shapely").LineString
+    for group in tree_of(text).iter(SVG + "g"):
+        if group.get("id", "").startswith("name"):
+            found = group[0]
+            angle, x, y = map(
+                float, re.search(r"rotate\(([^ ]+) ([^ ]+) ([^ ]+)\)", found.get("transform", "")).groups()
+            )
+            half = len(found.text) * 6 * 0.4 / 2
+            along = half * cos(radians(angle)), half * sin(radians(angle))
+            yield found.text, line_string([(x - along[0], y - along[1]), (x + along[0], y + along[1])])
+
+
+@pytest.mark.parametrize("extent", [0.004, 0.01, 0.02])
+def test_names_do_not_overlap(extent: float) -> None:
+    placed = [*placed_names(svg(town(extent), background=town(0.02)))]
+    assert len(placed) > 10
+    for at, (_, one) in enumerate(placed):
+        assert all(one.distance(other) > 3 for _, other in placed[at + 1 :])
+
+
+def test_names_are_along_their_lines() -> None:
+    streets = {"North": (-87, 33.01), "East": (-86.99, 33), "Between": (-86.995, 33.005)}
+    picture = svg([line("A41", (-87, 33), end, name=name) for name, end in streets.items()])
+    angles = dict(re.findall(r'rotate\((-?[0-9.]+) [^"]*">(North|East|Between)<', picture))
+    assert {name: round(float(angle)) for angle, name in angles.items()} == {"North": -90, "East": 0, "Between": -50}
+
+
+def test_hundred_thousand_segments_take_little_time() -> None:
     segments = []
     for number in range(100_000):
         x, y = -87 + number % 400 / 1000, 32 + number // 400 / 1000
         segments.append(line(("A41", "A31", "H11", "B11")[number % 4], (x, y), (x + 0.001, y), name=f"{number} St"))
     start = time.process_time()
-    picture = draw_svg(segments, caption="many")
-    assert time.process_time() - start < 3
+    picture = svg(segments, "many")
+    assert time.process_time() - start < 6
     assert len(picture) < 6_000_000
 
 
@@ -307,17 +375,21 @@ def test_command_draws_rows_over_their_county() -> None:
     picture = drawn_by_command("--county", str(TOWN / "TGR01007.RT1"), "--caption", "North")
     legend = legend_of(picture)
     selected = select_by_hand().count(b"\n")
-    assert int(legend.pop("Not selected")) == (TOWN / "TGR01007.RT1").read_bytes().count(b"\n") - selected
+    others = (TOWN / "TGR01007.RT1").read_bytes().count(b"\n") - selected
+    assert others > int(legend.pop("Not selected")) > others / 2
     assert sum(map(int, legend.values())) == selected > 300
-    assert_in_view_box(picture)
     shapes = (TOWN / "TGR01007.RT2").read_bytes().count(b"\n")
-    assert sum(map(len, lines_of(map_of(picture)))) > 2 * selected + shapes
+    assert sum(len(points) for _, found in lines_of(picture) for points in found) > 2 * selected + shapes
 
 
-def test_picture_of_the_readme_is_what_the_command_draws() -> None:
-    caption = "CFCC LIKE 'A%' AND (ZIPL = 35042 OR ZIPR = 35042)"
-    picture = drawn_by_command("--county", str(TOWN / "TGR01007.RT1"), "--caption", caption)
+def test_picture_of_the_readme_is_what_the_command_draws(tmp_path: Path) -> None:
+    where = "CFCC LIKE 'A%' AND (ZIPL = 35042 OR ZIPR = 35042)"
+    words = ["select", TOWN, tmp_path / "a.csv", "--where", where, "--map", tmp_path / "a.svg"]
+    command, environment = [sys.executable, "-m", "tigerline", *words], {**os.environ, "PYTHONPATH": str(PACKAGES)}
+    subprocess.run(command, env=environment, check=True, timeout=300)
+    picture = (tmp_path / "a.svg").read_text()
     assert picture == (TOWN.parents[1] / "docs" / "images" / "town.svg").read_text()
+    assert picture == drawn_by_command("--county", str(TOWN / "TGR01007.RT1"), "--caption", where)
     assert len(picture) < 300_000
 
 
@@ -397,102 +469,87 @@ def test_gdal_finds_the_same_points_in_a_selection(tmp_path: Path) -> None:
 # Pages
 
 
-def page_data(page: str) -> dict:
-    (data,) = re.findall('<script type="application/json" id="segments">(.*?)</script>', page, re.DOTALL)
+def page_data(page: bytes) -> dict:
+    (data,) = re.findall('<script type="application/json" id="data">(.*?)</script>', page.decode(), re.DOTALL)
     return json.loads(data)
 
 
+def shown_by(chromium: Chrome, selector: str) -> list[str]:
+    """Returns the texts of elements."""
+    return [found.text for found in chromium.find_elements("css selector", selector)]
+
+
+def point_at(chromium: Chrome, across: int, down: int) -> ActionChains:
+    """Moves the pointer to a place, counted from the middle of the map."""
+    chains = ActionChains(chromium).move_to_element_with_offset(chromium.find_element("id", "map"), across, down)
+    chains.perform()
+    return chains
+
+
+def open_page(chromium: Chrome, page: bytes, folder: Path) -> None:
+    (folder / "page.html").write_bytes(page)
+    chromium.get((folder / "page.html").as_uri())
+
+
 def test_page_has_all_segments_and_no_address() -> None:
-    page = draw_html(SOME, caption="roads", background=[RAILROAD._replace(name="Spur")])
+    page = drawn(SOME, "roads", [RAILROAD._replace(name="Spur")]).file(".html")
     data = page_data(page)
-    shown = [(cfcc, data["names"][name], score) for cfcc, name, score, _ in data["segments"]]
-    assert shown[0] == ("B11", "Spur", None)
-    assert shown[1:] == [(segment.cfcc, segment.name, str(segment.score)) for segment in SOME]
-    assert re.findall("https?://[^\"' )]*", page) == ["http://www.w3.org/2000/svg"]
-    assert not re.search("<(link|img|iframe|object|embed)|src=|@import|url\\(", page)
+    assert [row[1:4] for row in data["around"]] == [["B11", "Spur", None]]
+    expected = [[segment.cfcc, segment.name, str(segment.score) if segment.score else None] for segment in SOME]
+    assert sorted(map(repr, (row[1:4] for row in data["selected"]))) == sorted(map(repr, expected))
+    elements = re.sub(rb"(<(script|style)[^>]*>).*?(</\2>)", rb"\1\3", page, flags=re.DOTALL)
+    assert not re.search(rb"<(link|img|iframe|object|embed)|src=|https?:|unsafe-", elements)
 
 
-def test_page_and_picture_have_the_same_legend() -> None:
-    page = draw_html(SOME, caption="roads", background=[RIVER])
-    picture = draw_svg(SOME, caption="roads", background=[RIVER])
-    assert legend_of(picture) == legend_of(page[page.index("<svg") : page.rindex("</svg>") + 6])
+def test_page_and_picture_have_the_same_legend(tmp_path: Path) -> None:
+    drawing = drawn(SOME, "roads", [RIVER])
+    with browser(tmp_path) as chromium:
+        open_page(chromium, drawing.file(".html"), tmp_path)
+        title, *rows = shown_by(chromium, "#legend li")
+        assert (title, chromium.title) == ("5 segments", "roads")
+        assert dict(row.rsplit("\n", 1) for row in rows) == legend_of(drawing.file(".svg").decode())
 
 
-PROBE = """
-<script>
-const faults = [], said = [];
-addEventListener("error", event => faults.push(event.message));
-addEventListener("securitypolicyviolation", event => faults.push(event.violatedDirective));
-addEventListener("load", () => {
-    if (sheet.segments.length) probe();
-    document.documentElement.dataset.probe = JSON.stringify({ said, faults });
-});
-function probe() {
-    const box = map.getBoundingClientRect();
-    const send = (kind, type, x, y, more) => map.dispatchEvent(new kind(type, { bubbles: true, cancelable: true,
-        clientX: box.left + x / width * box.width, clientY: box.top + y / height * box.height, ...more }));
-    const [x, y, toX, toY] = sheet.segments[0][3].map(value => value / 10);
-    send(PointerEvent, "pointermove", (x + toX) / 2, (y + toY) / 2);
-    said.push(tip.hidden, tip.textContent, found.getAttribute("d") !== "");
-    send(PointerEvent, "pointermove", 2, 2);
-    said.push(tip.hidden, found.getAttribute("d"));
-    const bar = scale.querySelector("text").textContent;
-    send(WheelEvent, "wheel", 0, 0, { deltaY: -1000 });
-    said.push(view.zoom > 4, view.x === 0, view.y === 0, scale.querySelector("text").textContent !== bar);
-    send(PointerEvent, "pointerdown", 100, 100);
-    send(PointerEvent, "pointermove", 60, 80);
-    send(PointerEvent, "pointerup", 60, 80);
-    said.push(view.x > 0, view.y > 0);
-    document.querySelector("button[value='0']").click();
-    said.push(map.getAttribute("viewBox") === `0 0 ${width} ${height}`);
-    send(PointerEvent, "pointerdown", (x + toX) / 2, (y + toY) / 2);
-    send(PointerEvent, "pointerup", (x + toX) / 2, (y + toY) / 2);
-    send(PointerEvent, "pointermove", 2, 2);
-    said.push(pinned, tip.hidden);
-    dispatchEvent(new KeyboardEvent("keydown", { key: "Escape" }));
-    said.push(pinned, tip.hidden);
-}
-</script>
-"""
+def test_page_shows_the_segment_at_the_pointer(tmp_path: Path) -> None:
+    """A name isn't markup, the largest score isn't rounded, and a click keeps what is shown."""
+    evil = "</script><b>&amp;<img src=x onerror=alert(1)>"
+    street = STREET._replace(name=evil, score=2**64 - 1)
+    with browser(tmp_path) as chromium:
+        for score, last in (("FRADDL", "FRADDL\n18,446,744,073,709,551,615"), (None, "Class\nA41, local road")):
+            segment = street if score else street._replace(score=0)
+            open_page(chromium, drawn([segment], evil, score=score).file(".html"), tmp_path)
+            assert shown_by(chromium, "h1") == [evil]
+            point_at(chromium, 3, 0)
+            (tip,) = shown_by(chromium, ".leaflet-tooltip")
+            assert tip.startswith(evil) and tip.endswith(last)
+            point_at(chromium, -300, 200)
+            assert shown_by(chromium, ".leaflet-tooltip") == []
+            point_at(chromium, 3, 0).click().perform()
+            point_at(chromium, -300, 200)
+            (kept,) = shown_by(chromium, ".leaflet-popup-content")
+            assert kept == tip
 
 
-def probed(page: str, folder: Path) -> dict:
-    """Returns what the probe reports about a page in a headless browser."""
-    (folder / "page.html").write_text(page.replace("<style>", PROBE + "<style>", 1), encoding="utf-8")
-    options = ["--headless", "--disable-gpu", "--no-sandbox", "--window-size=1200,900", "--virtual-time-budget=5000"]
-    command = [
-        needed("chromium"),
-        *options,
-        f"--user-data-dir={folder / 'profile'}",
-        "--dump-dom",
-        (folder / "page.html").as_uri(),
-    ]
-    ended = subprocess.run(command, stdout=subprocess.PIPE, stderr=subprocess.DEVNULL, timeout=120, check=True)
-    return json.loads(unescape(re.search('<html[^>]* data-probe="([^"]*)"', ended.stdout.decode())[1]))
+def test_page_runs_no_other_script(tmp_path: Path) -> None:
+    """A script that gets into the page runs only if the page has no policy."""
+    page = drawn(SOME, "roads").file(".html")
+    script = b"<script>document.title = 'evil'</script><p onclick='document.title = 2'>here</p></body>"
+    with browser(tmp_path) as chromium:
+        for policy, title in ((True, "roads"), (False, "evil")):
+            shown = page if policy else re.sub(rb'<meta http-equiv="Content-Security-Policy".*', b"", page)
+            open_page(chromium, shown.replace(b"</body>", script), tmp_path)
+            assert chromium.title == title and len(shown_by(chromium, "#legend li")) == 5
+            said = " ".join(entry["message"] for entry in chromium.get_log("browser"))
+            assert ("Content Security Policy" in said) == policy
 
 
-def test_browser_runs_the_page(tmp_path: Path) -> None:
-    evil = "</script><b>&amp;"
-    creek = line("H11", (-87.1, 32.96), (-87.099, 32.959))
-    page = draw_html([STREET._replace(name=evil, score=2**64 - 1), creek], caption=evil)
-    hover = [False, f"{evil}\nclass A41, score {2**64 - 1}", True, True, ""]
-    zoom, drag, whole, click, escape = [True, True, True, True], [True, True], [True], [True, False], [False, True]
-    assert probed(page, tmp_path) == {"said": [*hover, *zoom, *drag, *whole, *click, *escape], "faults": []}
-
-
-def test_browser_shows_lines_that_leave_the_map(tmp_path: Path) -> None:
+@pytest.mark.parametrize("segments", [[], [STREET._replace(points=((-87, 33), (-86.9999, 33.0001)))]])
+def test_page_of_few_meters_or_nothing(tmp_path: Path, segments: list[MapSegment]) -> None:
     """A selection of a few meters, surrounded by lines of hundreds of kilometers."""
     around = [line("A11", (-90 + number / 1000, 30), (-84 + number / 1000, 36)) for number in range(100)]
-    page = draw_html(
-        [STREET._replace(points=((-87, 33), (-86.9999, 33.0001)))],
-        caption="",
-        background=around,
-        box=Box(-87.01, 32.99, -86.99, 33.01),
-    )
-    started = time.monotonic()
-    assert probed(page, tmp_path)["faults"] == []
-    assert time.monotonic() - started < 20
-
-
-def test_browser_shows_an_empty_map(tmp_path: Path) -> None:
-    assert probed(draw_html([], caption="nothing"), tmp_path) == {"said": [], "faults": []}
+    with browser(tmp_path, width=360, height=640) as chromium:
+        started = time.monotonic()
+        open_page(chromium, drawn(segments, background=around if segments else []).file(".html"), tmp_path)
+        assert shown_by(chromium, "#legend li")[0] == f"{len(segments)} segments"
+        assert chromium.execute_script("return document.documentElement.scrollWidth <= innerWidth")
+        assert time.monotonic() - started < 20

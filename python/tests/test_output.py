@@ -3,11 +3,13 @@
 import contextlib
 import errno
 import os
+import stat
 from pathlib import Path
 
 import pytest
 from tigerline.interrupts import Interrupts
 from tigerline.output import pending_file
+from tigerline.scratch import scratch_folder
 
 
 def no_links(source: Path, target: Path) -> None:
@@ -62,6 +64,31 @@ def test_link_stays_a_link(tmp_path: Path) -> None:
         file.path.write_text("new")
         file.publish(Interrupts())
     assert (tmp_path / "a.csv").is_symlink() and (tmp_path / "real.csv").read_text() == "new"
+
+
+def test_disk_that_fails(tmp_path: Path, monkeypatch: pytest.MonkeyPatch) -> None:
+    """The system may report a failed write only when it stores the file, so this comes before it is published."""
+
+    def fail(descriptor: int) -> None:
+        raise OSError(errno.EIO, os.strerror(errno.EIO))
+
+    monkeypatch.setattr(os, "fsync", fail)
+    with pytest.raises(OSError, match="Input/output error: .*/a.csv"), pending_file(tmp_path / "a.csv", False) as file:
+        file.path.write_text("new")
+        file.publish(Interrupts())
+    assert not list(tmp_path.iterdir())
+
+
+def test_temporary_folders(tmp_path: Path) -> None:
+    """Others can neither open them nor guess their names, as a counter or the number of the process would let them."""
+    previous = os.umask(0)
+    try:
+        with scratch_folder(tmp_path) as first, scratch_folder(tmp_path) as second:
+            assert [stat.S_IMODE(folder.stat().st_mode) for folder in (first, second)] == [0o700, 0o700]
+            assert sum(one != other for one, other in zip(first.name, second.name, strict=True)) > 3
+    finally:
+        os.umask(previous)
+    assert not list(tmp_path.iterdir())
 
 
 def test_error_in_the_block(tmp_path: Path) -> None:

@@ -2,6 +2,7 @@
 
 import os
 import pickle
+import re
 import subprocess
 import sys
 from pathlib import Path
@@ -11,6 +12,7 @@ import tigerline
 from counties import CODE, EXAMPLES, SEGMENTS, TOP, copy_county, program_of, records
 from tigerline import RefusedError
 from tigerline.layout import NAMES
+from tigerline.program import VERSION
 
 HEADER = ",".join(("score", *NAMES)) + "\\n"
 ROW = "0" + "," * len(NAMES) + "\\n"
@@ -104,9 +106,9 @@ class TestFinding:
         with pytest.raises(FileNotFoundError, match="there is no program extractd"):
             outcome(None)
 
-    @pytest.mark.parametrize("version", ["extractd 1.0.1", "", "extractd 1.0.0\nmore", "cat (GNU coreutils) 9.1"])
+    @pytest.mark.parametrize("version", ["extractd 0.9.9", "", f"extractd {VERSION}\nmore", "cat (GNU coreutils) 9.1"])
     def test_other_versions(self, tmp_path: Path, version: str) -> None:
-        with pytest.raises(OSError, match=r"isn't extractd 1\.0\.0"):
+        with pytest.raises(OSError, match=re.escape(f"isn't extractd {VERSION}")):
             outcome(program_of(tmp_path / "program", "exit 0", version))
 
     def test_not_a_program(self, tmp_path: Path) -> None:

@@ -1,6 +1,7 @@
 """Files that aren't regular, names that control a terminal, and what is missing."""
 
 import os
+import re
 import signal
 import stat
 import subprocess
@@ -13,7 +14,7 @@ from counties import CODE, EXAMPLES, TOP, copy_county, program_of
 from tigerline.commands import main
 from tigerline.interrupts import Interrupts
 from tigerline.output import pending_file
-from tigerline.program import find_program
+from tigerline.program import VERSION, find_program
 from tigerline.terminal import visible
 
 pytestmark = pytest.mark.usefixtures("scratch")
@@ -126,6 +127,9 @@ class TestNames:
         assert len(warnings) == 2 and warnings[1].startswith(f"warning: {shown} has no TGR01001.RT4")
 
 
+DRAW = "from tigerline.commands import main; main(['select', '.', '/nowhere/a.csv', '--where', 'TRUE'"
+
+
 class TestMissing:
     """Each message says what to do."""
 
@@ -143,6 +147,12 @@ class TestMissing:
                 "list(tigerline.reverse([(1, 2)], '.'))",
                 "there is no module shapely: apt install python3-shapely",
             ),
+            (
+                "matplotlib",
+                f"{DRAW}, '--map', 'a.svg'])",
+                "there is no module matplotlib: apt install python3-matplotlib",
+            ),
+            ("jinja2", f"{DRAW}, '--map', 'a.html'])", "there is no module jinja2: apt install python3-jinja2"),
         ],
     )
     def test_modules(self, tmp_path: Path, module: str, code: str, text: str) -> None:
@@ -155,7 +165,7 @@ class TestMissing:
             capture_output=True,
             text=True,
         )
-        assert f"ModuleNotFoundError: {text}" in done.stderr.splitlines()[-1]
+        assert re.match(f"(ModuleNotFoundError|error): {text}", done.stderr.splitlines()[-1])
 
     def test_program(self, tmp_path: Path, monkeypatch: pytest.MonkeyPatch, capsys: pytest.CaptureFixture[str]) -> None:
         monkeypatch.setenv("PATH", str(tmp_path))
@@ -178,7 +188,7 @@ def test_version_is_asked_once(tmp_path: Path) -> None:
     """Unless the program changes."""
     path = tmp_path / "program"
     for count in (1, 2):
-        path.write_text(f'#!/bin/sh\necho x >> "{tmp_path}/asked"; echo "extractd 1.0.0" >&2 # {"x" * count}\n')
+        path.write_text(f'#!/bin/sh\necho x >> "{tmp_path}/asked"; echo "extractd {VERSION}" >&2 # {"x" * count}\n')
         path.chmod(0o755)
         for _ in range(3):
             with Interrupts() as interrupts:

@@ -1,6 +1,7 @@
 """Counties as they are shipped: folders, zip files, names in any case; and invalid files."""
 
 import os
+import resource
 import struct
 import warnings
 import zipfile
@@ -11,7 +12,6 @@ from pathlib import Path
 import pytest
 import tigerline
 from counties import CODE, EXAMPLES, SEGMENTS, copy_county, program_of, records, write_shapes, zip_folder
-from tigerline import sources
 
 EXPECTED = [int(record[5:15]) for record in records(EXAMPLES / f"TGR{CODE}.RT1")]
 
@@ -84,6 +84,11 @@ def state_less(checked: int | None = None) -> Callable[[Path], None]:
     return change
 
 
+def state_more(archive: Path) -> None:
+    """Makes the header of the first member state a byte more than a gibibyte."""
+    flip(archive, archive.read_bytes().index(b"PK\x01\x02") + 24, struct.pack("<I", 2**30 + 1))
+
+
 def cut(archive: Path) -> None:
     archive.write_bytes(archive.read_bytes()[:-5000])
 
@@ -149,6 +154,7 @@ class TestBadSources:
             (state_less(), "isn't a whole zip file"),
             (state_less(1000), "isn't a whole zip file"),
             (state_less(1001), "'TGR01001.RT1' has more than the stated 1000 bytes"),
+            (state_more, "unpacks to more than 1,073,741,824 bytes"),
             (encrypt, "can't be unpacked"),
             (misname, "isn't a whole zip file"),
             (packed_by_bzip2, "can't be unpacked: 'TGR01001.RT1' isn't compressed by deflate"),
@@ -172,11 +178,19 @@ class TestBadSources:
             assert text in str(caught.value) and "\n" not in str(caught.value)
         assert not (tmp_path / "TGR01001.RT4").exists()
 
-    def test_more_than_the_limit(self, tmp_path: Path, never: str, monkeypatch: pytest.MonkeyPatch) -> None:
-        monkeypatch.setattr(sources, "UNPACKED_LIMIT", 100_000)
-        archive = zip_folder(copy_county(tmp_path / "plain"), tmp_path / "TGR01001.ZIP")
-        with pytest.raises(OSError, match="unpacks to more than 100,000 bytes"):
-            segments(archive, CODE, never)
+    def test_member_longer_than_stated(self, tmp_path: Path, never: str) -> None:
+        """It is refused soon after the stated size. Of a longer file the system would write the first 16 MiB."""
+        archive = tmp_path / "TGR01001.ZIP"
+        with zipfile.ZipFile(archive, "w", zipfile.ZIP_DEFLATED) as file:
+            file.writestr("TGR01001.RT1", bytes(2**26))
+        state_less()(archive)
+        limits = resource.getrlimit(resource.RLIMIT_FSIZE)
+        resource.setrlimit(resource.RLIMIT_FSIZE, (2**24, limits[1]))
+        try:
+            with pytest.raises(OSError, match="isn't a whole zip file: Bad CRC-32"):
+                segments(archive, CODE, never)
+        finally:
+            resource.setrlimit(resource.RLIMIT_FSIZE, limits)
 
     def test_zip_without_the_county(self, tmp_path: Path, never: str) -> None:
         archive = zip_folder(copy_county(tmp_path / "plain", code="01003"), tmp_path / "TGR01001.ZIP")

@@ -33,7 +33,8 @@ def test_package(tmp_path: Path) -> None:
         'Revealed type is "Union[builtins.str, None]"',
         '"Row" has no attribute "fename"  [attr-defined]',
     ]
-    assert "No overload variant" in shown[3] and shown[-1].startswith("Found 2 errors in 1 file ")
+    assert 'Argument "geometry" to "select" has incompatible type' in shown[3]
+    assert shown[-1].startswith("Found 2 errors in 1 file ")
 
 
 def test_format() -> None:

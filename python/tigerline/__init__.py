@@ -14,8 +14,9 @@ TYPE_CHECKING = False  # True for type checkers. Importing the module typing tak
 if TYPE_CHECKING:
     from .frames import read_county, select
     from .geocoding import Address, Candidate, Match, Nearest, Reason, Status, geocode, reverse
+    from .layout import Row
     from .program import RefusedError
-    from .tuples import Row, rows
+    from .tuples import rows
 
 __all__ = [
     "Address", "Candidate", "Match", "Nearest", "Reason", "RefusedError", "Row", "Status", "geocode", "read_county",
@@ -23,7 +24,7 @@ __all__ = [
 ]  # fmt: skip
 
 _OTHER_MODULES = {
-    "RefusedError": "program", "Row": "tuples", "read_county": "frames", "rows": "tuples", "select": "frames"
+    "RefusedError": "program", "Row": "layout", "read_county": "frames", "rows": "tuples", "select": "frames"
 }  # fmt: skip
 
 

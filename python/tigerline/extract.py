@@ -10,10 +10,10 @@ from typing import Literal
 
 from .filters import conjunction
 from .interrupts import Interrupts
-from .program import PathLike, compile_filter, find_program, run, score_option
+from .program import PathLike, find_program, run
 from .progress import with_progress
 from .scratch import scratch_folder
-from .sources import County, counties_in, has_shapes, missing_names, opened_county
+from .sources import County, counties_in, county_files, has_shapes, missing_names
 
 # The system's limit on an argument is 131,072 bytes.
 LONGEST_ARGUMENT = 100_000
@@ -24,9 +24,11 @@ Geometry = Literal["auto", "shape", "line", "none"]
 
 @dataclass(frozen=True)
 class Request:
-    """The request for segments: a filter and further conditions, or a program as a file or as its words."""
+    """The request for segments of some counties: a filter and further conditions, or a program as a file or its words."""
 
     where: str | None = None
+    data: PathLike = "."
+    counties: str | Iterable[str] | None = None
     program: PathLike | bytes | None = None
     score: str | None = None
     extractd: PathLike | None = None
@@ -94,13 +96,7 @@ class CountyTexts:
 
 
 def extract(
-    request: Request,
-    data: PathLike,
-    counties: str | Iterable[str] | None,
-    outputs: Sequence[Output],
-    *,
-    progress: bool = False,
-    interrupts: Interrupts | None = None,
+    request: Request, outputs: Sequence[Output], *, progress: bool = False, interrupts: Interrupts | None = None
 ) -> Iterator[CountyTexts]:
     """Yields the texts of each county after `extractd` has ended for it with status 0.
 
@@ -108,12 +104,19 @@ def extract(
     """
     with active_interrupts(interrupts) as active:
         program = request.found_program(active)
-        chosen = counties_in(data, counties)
+        chosen = counties_in(request.data, request.counties)
         wanted = outputs_of(chosen, outputs)
     for county in with_progress(chosen, len(chosen), "county", progress):
         with active_interrupts(interrupts) as active:
             texts = county_texts(program, request, county, wanted[county.code], active)
-        yield texts
+        yield reported(texts)
+
+
+def reported(found: CountyTexts) -> CountyTexts:
+    """Warns of missing files of a county, and returns its texts."""
+    if found.warning is not None:
+        warnings.warn(found.warning, stacklevel=3)
+    return found
 
 
 def active_interrupts(interrupts: Interrupts | None) -> AbstractContextManager[Interrupts]:
@@ -149,26 +152,22 @@ def county_texts(
     program: str, request: Request, county: County, outputs: Sequence[Output], interrupts: Interrupts
 ) -> CountyTexts:
     """Has `extractd` write one county. An output of all segments is empty if none is selected."""
-    with opened_county(county, record_types(outputs), interrupts) as files, scratch_folder() as scratch:
+    with county_files(county, record_types(outputs), interrupts) as files, scratch_folder() as scratch:
         folder = files["1"].parent
         try:
             selected = _selection(program, request, scratch, interrupts)
             texts: list[bytes] = []
             for output in outputs:
-                words = [program, "select", "--where=TRUE"] if output.of_all else selected
-                if output.of_all and not _has_segments(outputs[0], texts[0]):
+                # No segment is selected if there is no row, or a header alone.
+                if output.of_all and len(texts[0]) <= (texts[0].find(b"\n") + 1 if outputs[0].names else 0):
                     texts.append(b"")
                     continue
+                words = [program, "select", "--where=TRUE"] if output.of_all else selected
                 command = [*words, "--data", str(folder), *output.options, county.code]
                 texts.append(run(command, interrupts, county=county.code))
         except OSError as error:
             raise with_own_paths(error, county, files) from None
         return CountyTexts(county.code, tuple(texts), missing_names(county, files))
-
-
-def _has_segments(output: Output, text: bytes) -> bool:
-    """Returns whether a text has more than a header."""
-    return len(text) > text.find(b"\n") + 1 if output.names else bool(text)
 
 
 def _selection(program: str, request: Request, scratch: Path, interrupts: Interrupts) -> list[str]:
@@ -178,9 +177,11 @@ def _selection(program: str, request: Request, scratch: Path, interrupts: Interr
     """
     words = scratch / "program.bpf"
     if request.program is None:
-        if len(request.filter.encode()) <= LONGEST_ARGUMENT:
-            return [program, "select", f"--where={request.filter}", *score_option(request.score)]
-        compile_filter(program, request.filter, request.score, words, interrupts)
+        where, score = request.filter.encode(), [] if request.score is None else ["--score", request.score]
+        if len(where) <= LONGEST_ARGUMENT:
+            return [program, "select", f"--where={request.filter}", *score]
+        command = [program, "compile", "--filter", "-", *score]
+        words.write_bytes(run(command, interrupts, standard_input=where))
     elif isinstance(request.program, bytes):
         words.write_bytes(request.program)
     else:

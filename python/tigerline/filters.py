@@ -2,11 +2,16 @@
 
 import math
 from collections.abc import Iterable, Mapping, Sequence
+from decimal import Decimal
 from typing import Any
+
+from .optional import required
 
 CRS = "EPSG:4269"  # NAD 83
 GEOMETRY = "geometry"  # the property that stands for a segment's line
 DECIMALS = 6
+BOX_DECIMALS = 15
+MOST_VERTICES = 1000  # of a shape, as extractd has it
 
 Position = Sequence[float]
 Polygon = Sequence[Sequence[Position]]  # its outer ring, and those of its holes
@@ -20,15 +25,22 @@ def spatial_predicate(shape: str) -> str:
 def box_text(bbox: Sequence[float]) -> str:
     """Returns a box as a filter has it. Raises ValueError unless it is west, south, east and north."""
     if len(bbox) != 4 or not all(map(math.isfinite, bbox)) or bbox[0] > bbox[2] or bbox[1] > bbox[3]:
-        raise ValueError(f"a box is west, south, east and north in degrees, and {_listed(bbox)} isn't")
-    return f"BBOX({', '.join(map(_degrees, bbox))})"
+        raise ValueError(
+            f"a box is west, south, east and north in degrees, and {','.join(f'{number:g}' for number in bbox)} isn't"
+        )
+    return f"BBOX({', '.join(map(_exact_degrees, bbox))})"
 
 
 def mask_text(mask: Mapping[str, Any]) -> str:
     """Returns the polygons of a GeoJSON object as a filter has them. Raises ValueError if it has other shapes."""
-    texts = [_polygon_text(polygon) for polygon in _polygons(mask)]
-    if not texts:
+    polygons = _polygons(mask)
+    if not polygons:
         raise ValueError("a mask has at least one polygon")
+    vertices = sum(len(ring) - 1 for polygon in polygons for ring in polygon)
+    if vertices > MOST_VERTICES:
+        simplified = "ogr2ogr -simplify TOLERANCE simple.gpkg FILE has fewer"
+        raise ValueError(f"the mask has {vertices:,} vertices, and a filter {MOST_VERTICES:,} at most: {simplified}")
+    texts = [*map(_polygon_text, polygons)]
     return f"POLYGON{texts[0]}" if len(texts) == 1 else f"MULTIPOLYGON({', '.join(texts)})"
 
 
@@ -43,7 +55,7 @@ def conditions_of(bbox: Any, mask: Any) -> tuple[str, ...]:
         bounds = getattr(bounds, "total_bounds", getattr(bounds, "bounds", bounds))
         shapes.append(box_text([float(number) for number in bounds]))
     if mask is not None:
-        shapes.append(mask_text(mask if isinstance(mask, Mapping) else _in_degrees(mask).__geo_interface__))
+        shapes.append(mask_text(mask if isinstance(mask, Mapping) else _united(mask).__geo_interface__))
     return tuple(map(spatial_predicate, shapes))
 
 
@@ -59,6 +71,15 @@ def _in_degrees(shapes: Any) -> Any:
     return shapes.to_crs(CRS) if getattr(shapes, "crs", None) else shapes
 
 
+def _united(shapes: Any) -> Any:
+    """Returns the polygons of a GeoDataFrame as one valid shape, since those of a filter don't overlap."""
+    found = _in_degrees(shapes)
+    if not hasattr(found, "total_bounds"):
+        return found
+    make_valid = required("shapely.validation").make_valid
+    return required("shapely.ops").unary_union([make_valid(shape) for shape in found.geometry if shape is not None])
+
+
 def _polygons(shape: Any) -> list[Polygon]:
     match shape:
         case {"type": "Polygon", "coordinates": rings}:
@@ -70,7 +91,7 @@ def _polygons(shape: Any) -> list[Polygon]:
         case {"type": "FeatureCollection", "features": shapes} | {"type": "GeometryCollection", "geometries": shapes}:
             return [polygon for part in shapes for polygon in _polygons(part)]
     kind = shape.get("type") if isinstance(shape, Mapping) else shape
-    raise ValueError(f"a mask is a Polygon or a MultiPolygon of GeoJSON, and {kind!r} isn't")
+    raise ValueError(f"a mask has polygons, and {kind!r} isn't one")
 
 
 def _polygon_text(rings: Polygon) -> str:
@@ -81,10 +102,12 @@ def _ring_text(ring: Iterable[Position]) -> str:
     return ", ".join(f"{_degrees(place[0])} {_degrees(place[1])}" for place in ring)
 
 
+def _exact_degrees(number: float) -> str:
+    """Returns the decimals that stand for a number, as written by whoever gave it."""
+    exact = round(Decimal(repr(float(number))), BOX_DECIMALS) + 0  # -0 is 0.
+    return format(exact.normalize(), "f")
+
+
 def _degrees(number: float) -> str:
     """Returns a coordinate to the millionth of a degree, as the files have them."""
     return f"{number:.{DECIMALS}f}".rstrip("0").rstrip(".")
-
-
-def _listed(numbers: Iterable[float]) -> str:
-    return ",".join(f"{number:g}" for number in numbers)

@@ -1,17 +1,17 @@
 """Selected segments as data frames."""
 
 from collections.abc import Iterable, Sequence
-from typing import TYPE_CHECKING, Any, Literal, overload
+from typing import TYPE_CHECKING, Any, Literal
 
 import numpy as np
 import pandas as pd
 
 from .cluster import scheduler
-from .cluster.batch import CountyTask, run_county
+from .cluster.batch import CountyTask, run_task
 from .columns import columns_of, split
 from .extract import ROWS, CountyTexts, Output, Request, extract
 from .filters import CRS, conditions_of
-from .layout import TLID, chosen_names
+from .layout import chosen_names
 from .optional import present, required
 from .program import PathLike
 from .tuples import LINE_COLUMN, SCORE, read_lines
@@ -21,70 +21,7 @@ if TYPE_CHECKING:
     import geopandas
 
 Geometry = Literal["auto", "shape", "line", False]
-LINES = (TLID.name,)  # the columns beside the lines
-
-
-@overload
-def select(
-    where: str | None = None,
-    data: PathLike = ".",
-    counties: str | Iterable[str] | None = None,
-    *,
-    bbox: Any = None,
-    mask: Any = None,
-    program: PathLike | bytes | None = None,
-    columns: Iterable[str] | None = None,
-    geometry: Literal["auto", "shape", "line"] = "auto",
-    score: str | None = None,
-    signed: bool = False,
-    progress: bool = False,
-    client: None = None,
-    compute: bool = False,
-    extractd: PathLike | None = None,
-) -> "geopandas.GeoDataFrame":
-    ...
-
-
-@overload
-def select(
-    where: str | None = None,
-    data: PathLike = ".",
-    counties: str | Iterable[str] | None = None,
-    *,
-    bbox: Any = None,
-    mask: Any = None,
-    program: PathLike | bytes | None = None,
-    columns: Iterable[str] | None = None,
-    geometry: Literal[False],
-    score: str | None = None,
-    signed: bool = False,
-    progress: bool = False,
-    client: None = None,
-    compute: bool = False,
-    extractd: PathLike | None = None,
-) -> pd.DataFrame:
-    ...
-
-
-@overload
-def select(
-    where: str | None = None,
-    data: PathLike = ".",
-    counties: str | Iterable[str] | None = None,
-    *,
-    bbox: Any = None,
-    mask: Any = None,
-    program: PathLike | bytes | None = None,
-    columns: Iterable[str] | None = None,
-    geometry: Geometry = "auto",
-    score: str | None = None,
-    signed: bool = False,
-    progress: bool = False,
-    client: "distributed.Client",
-    compute: bool = False,
-    extractd: PathLike | None = None,
-) -> Any:
-    ...
+LINES = ("TLID",)  # the columns beside the lines
 
 
 def select(
@@ -103,7 +40,7 @@ def select(
     client: "distributed.Client | None" = None,
     compute: bool = False,
     extractd: PathLike | None = None,
-) -> Any:
+) -> "geopandas.GeoDataFrame":
     """Returns the segments that a filter or a program selects, by county and in the order of the files.
 
     `where` is a filter (docs/filters.md), and `program` the path of a program or its bytes. `data` is a folder, which is
@@ -128,37 +65,16 @@ def select(
     Raises RefusedError if `extractd` refuses the filter, the program or a county's file, ValueError for arguments that
     can't be used, OSError for files, and MemoryError. Then no row is returned.
     """
-    request = Request(where, program, score, extractd, conditions_of(bbox, mask))
-    names, outputs = _names_and_outputs(columns, geometry)
+    request = Request(where, data, counties, program, score, extractd, conditions_of(bbox, mask))
+    if geometry not in ("auto", "shape", "line") and geometry is not False:
+        raise ValueError(f'geometry is "auto", "shape", "line" or False, and {geometry!r} isn\'t')
+    names = chosen_names(None if columns is None else list(columns))
+    outputs = [ROWS] if geometry is False else [ROWS, Output(LINES, geometry)]
     if client is None:
-        return _joined(extract(request, data, counties, outputs, progress=progress), names, signed)
+        return _joined(extract(request, outputs, progress=progress), names, signed)
     if compute:
-        return _joined(scheduler.extract(client, request, data, counties, outputs, progress), names, signed)
-    return _partitions(client, request, data, counties, outputs, names, signed)
-
-
-@overload
-def read_county(
-    data: PathLike,
-    county: str,
-    *,
-    columns: Iterable[str] | None = None,
-    geometry: Literal["auto", "shape", "line"] = "auto",
-    extractd: PathLike | None = None,
-) -> "geopandas.GeoDataFrame":
-    ...
-
-
-@overload
-def read_county(
-    data: PathLike,
-    county: str,
-    *,
-    columns: Iterable[str] | None = None,
-    geometry: Literal[False],
-    extractd: PathLike | None = None,
-) -> pd.DataFrame:
-    ...
+        return _joined(scheduler.extract(client, request, outputs, progress), names, signed)
+    return _partitions(client, request, outputs, names, signed)
 
 
 def read_county(
@@ -168,18 +84,9 @@ def read_county(
     columns: Iterable[str] | None = None,
     geometry: Geometry = "auto",
     extractd: PathLike | None = None,
-) -> Any:
+) -> "geopandas.GeoDataFrame":
     """Returns all segments of a county: those that the filter TRUE selects. The arguments are those of `select`."""
-    names, outputs = _names_and_outputs(columns, geometry)
-    return _joined(extract(Request("TRUE", extractd=extractd), data, [county], outputs), names)
-
-
-def _names_and_outputs(columns: Iterable[str] | None, geometry: Geometry) -> tuple[tuple[str, ...], list[Output]]:
-    """Returns the names of the columns, and what is needed of each county."""
-    if geometry not in ("auto", "shape", "line") and geometry is not False:
-        raise ValueError(f'geometry is "auto", "shape", "line" or False, and {geometry!r} isn\'t')
-    names = chosen_names(None if columns is None else list(columns))
-    return names, [ROWS] if geometry is False else [ROWS, Output(LINES, geometry)]
+    return select("TRUE", data, [county], columns=columns, geometry=geometry, extractd=extractd)
 
 
 def _joined(counties: Iterable[CountyTexts], names: tuple[str, ...], signed: bool = False) -> Any:
@@ -187,17 +94,9 @@ def _joined(counties: Iterable[CountyTexts], names: tuple[str, ...], signed: boo
     return frames[0] if len(frames) == 1 else pd.concat(frames, ignore_index=True)
 
 
-def _partitions(
-    client: Any,
-    request: Request,
-    data: PathLike,
-    counties: str | Iterable[str] | None,
-    outputs: Sequence[Output],
-    names: tuple[str, ...],
-    signed: bool,
-) -> Any:
+def _partitions(client: Any, request: Request, outputs: Sequence[Output], names: tuple[str, ...], signed: bool) -> Any:
     """Returns a frame of dask with a partition for each county, or a list of them if dask has no such frames."""
-    tasks = scheduler.tasks_of(client, request, data, counties, outputs)
+    tasks = scheduler.tasks_of(client, request, outputs)
     delayed = required("dask").delayed(_partition)
     parts = [delayed(task, names, signed) for task in tasks]
     has_lines = len(outputs) > 1
@@ -210,33 +109,21 @@ def _partitions(
 
 def _partition(task: CountyTask, names: tuple[str, ...], signed: bool) -> Any:
     """Returns the frame of a county, in a process that this package didn't start."""
-    return _frame(run_county(task), names, signed)
+    return _frame(run_task(task), names, signed)
 
 
 def _frame(county: CountyTexts, names: tuple[str, ...], signed: bool) -> Any:
     rows, *lines = county.texts
     scores, records = split(rows)
-    codes = pd.arrays.StringArray(np.full(len(records), county.county, object))
-    table = {
-        "county": codes,
-        "score": scores.view(np.int64) if signed else scores,
-        **columns_of(records, names),
-    }
-    frame = pd.DataFrame(table)
+    codes = pd.array([county.county] * len(scores), "string")
+    scores = scores.view(np.int64) if signed else scores
+    frame = pd.DataFrame({"county": codes, "score": scores, **columns_of(records, names)})
     if not lines:
         return frame
     geopandas: Any = required("geopandas")
-    found = geopandas.array.GeometryArray(_lines(lines[0], len(records)), crs=CRS)
-    return geopandas.GeoDataFrame(frame, geometry=found)
-
-
-def _lines(table: bytes, count: int) -> Any:
-    """Returns the lines of a table, or None for segments without coordinates. GEOS takes longer to read texts."""
-    line_string: Any = required("shapely.geometry").LineString
-    found = [line for _, _, line in read_lines(table, LINES)]
-    if len(found) != count:
+    line_string: Any = required("shapely.geometry").LineString  # GEOS takes longer to read texts.
+    found = [line and line_string(line) for _, _, line in read_lines(lines[0], LINES)]
+    if len(found) != len(frame):
         raise OSError("a file of the county has changed while it was read")
-    lines = np.empty(count, object)
-    for index, line in enumerate(found):
-        lines[index] = None if line is None else line_string(line)
-    return lines
+    shapes = np.fromiter(found, object, len(found))  # An array of a list would be one of coordinates.
+    return geopandas.GeoDataFrame(frame, geometry=geopandas.array.GeometryArray(shapes, crs=CRS))

@@ -20,6 +20,7 @@ DRIVERS = {
 }
 OPTIONS = {".shp": ["-lco", "ENCODING=UTF-8"], DATABASE: ["-ds_transaction", "-lco", "GEOMETRY_NAME=geom"]}
 NAMED_AS_THE_FILE = (".shp", ".parquet")  # formats whose layer has the name of the file
+NO_DRIVER = "Unable to find driver"
 GEOJSON_END = b"]\n}\n"
 
 
@@ -50,12 +51,16 @@ def write_layer(
     command = [ogr2ogr, "-f", DRIVERS[file.kind], *OPTIONS.get(file.kind, []), file.target, str(source), *options]
     if file.kind == DATABASE and file.overwrite:
         command.append("-overwrite")
-    elif file.kind == DATABASE and _has_layer(ogrinfo, file.target, layer, interrupts):
+    elif file.kind == DATABASE and run_process([ogrinfo, "-ro", "-q", "-so", file.target, layer], interrupts)[0] == 0:
         raise OSError(f"{file.final} has a table {layer}: --overwrite replaces it")
     status, has_taken_all, said = feed_process(command, chunks, interrupts)
     error = re.search(r"^ERROR [0-9]+: (.*)", said, re.MULTILINE)
     if status != 0 or error or not has_taken_all:
         reason = error[1][:200] if error else f"it ended early with status {status}"
+        if NO_DRIVER in reason:
+            raise OSError(
+                f"{file.final}: this GDAL has no {DRIVERS[file.kind]}: write .gpkg, or install a GDAL that has it"
+            )
         raise OSError(f"{file.final}: ogr2ogr can't write it: {reason}")
     written = _features_of_geojson(file.path) if file.kind == ".geojson" else None
     if written != expected():
@@ -63,11 +68,6 @@ def write_layer(
         written = _count_features(ogrinfo, file.target, name, column, interrupts)
     if written != expected():
         raise OSError(f"{file.final}: ogr2ogr wrote {written or 'none'} of {expected()} {layer}; the disk may be full")
-
-
-def _has_layer(ogrinfo: str, target: str, layer: str, interrupts: Interrupts) -> bool:
-    """Returns whether a database has a table, to which ogr2ogr would add rows."""
-    return run_process([ogrinfo, "-ro", "-q", "-so", target, layer], interrupts)[0] == 0
 
 
 def _features_of_geojson(path: Path) -> int | None:

@@ -4,8 +4,9 @@ import os
 import signal
 import subprocess
 import threading
-from contextlib import suppress
-from types import FrameType, TracebackType
+from collections.abc import Iterator
+from contextlib import contextmanager, suppress
+from types import FrameType
 from typing import Any, Self
 
 STOPPING = (signal.SIGINT, signal.SIGTERM, signal.SIGHUP)
@@ -22,7 +23,7 @@ class Interrupts:
         self._signals = signals or (signal.SIGINT,)
         self._previous: dict[signal.Signals, Any] = {}
         self._arrived: int | None = None
-        self._process: subprocess.Popen[bytes] | None = None
+        self._processes: set[subprocess.Popen[bytes]] = set()
 
     def __enter__(self) -> Self:
         if threading.current_thread() is threading.main_thread():
@@ -33,9 +34,7 @@ class Interrupts:
                     signal.signal(number, self._note)
         return self
 
-    def __exit__(
-        self, kind: type[BaseException] | None, error: BaseException | None, trace: TracebackType | None
-    ) -> None:
+    def __exit__(self, *_: object) -> None:
         for number, previous in self._previous.items():
             signal.signal(number, previous)
         if self._arrived is not None:
@@ -43,19 +42,29 @@ class Interrupts:
 
     def _note(self, number: int, frame: FrameType | None) -> None:
         self._arrived = number
-        if self._process is not None:
-            kill_group(self._process)
+        for process in tuple(self._processes):
+            kill_group(process)
 
     def check(self) -> None:
         """Raises KeyboardInterrupt if a signal has arrived."""
         if self._arrived is not None:
             raise KeyboardInterrupt
 
-    def watch(self, process: subprocess.Popen[bytes] | None) -> None:
-        """Has a process and its group killed when a signal arrives, so that nothing waits for it any longer."""
-        self._process = process
-        if process is not None and self._arrived is not None:
-            kill_group(process)
+    @contextmanager
+    def watching(self, process: subprocess.Popen[bytes]) -> Iterator[None]:
+        """Kills a process and its group when a signal arrives, or if the block ends before the process.
+
+        Several threads may watch processes of their own.
+        """
+        self._processes.add(process)
+        try:
+            if self._arrived is not None:
+                kill_group(process)
+            yield
+        finally:
+            self._processes.discard(process)
+            if process.returncode is None:
+                kill_group(process)
 
 
 def kill_group(process: subprocess.Popen[bytes]) -> None:

@@ -1,8 +1,8 @@
-"""The fields of record type 1 (docs/records.md), and the numbers and coordinates in fields."""
+"""The fields of record type 1 (docs/records.md) and a row of them, and the numbers and coordinates in fields."""
 
 import re
 from enum import Enum
-from typing import NamedTuple
+from typing import Annotated, NamedTuple, get_args
 
 RECORD_LENGTH = 228
 
@@ -30,53 +30,60 @@ class Field(NamedTuple):
         return slice(self.first - 1, self.last)
 
 
-FIELDS = (
-    Field("RT", 1, 1, Kind.TEXT),
-    Field("VERSION", 2, 5, Kind.TEXT),
-    Field("TLID", 6, 15, Kind.NUMBER),
-    Field("SIDE1", 16, 16, Kind.TEXT),
-    Field("SOURCE", 17, 17, Kind.TEXT),
-    Field("FEDIRP", 18, 19, Kind.TEXT),
-    Field("FENAME", 20, 49, Kind.TEXT),
-    Field("FETYPE", 50, 53, Kind.TEXT),
-    Field("FEDIRS", 54, 55, Kind.TEXT),
-    Field("CFCC", 56, 58, Kind.TEXT),
-    Field("FRADDL", 59, 69, Kind.CODE),
-    Field("TOADDL", 70, 80, Kind.CODE),
-    Field("FRADDR", 81, 91, Kind.CODE),
-    Field("TOADDR", 92, 102, Kind.CODE),
-    Field("FRIADDL", 103, 103, Kind.TEXT),
-    Field("TOIADDL", 104, 104, Kind.TEXT),
-    Field("FRIADDR", 105, 105, Kind.TEXT),
-    Field("TOIADDR", 106, 106, Kind.TEXT),
-    Field("ZIPL", 107, 111, Kind.CODE),
-    Field("ZIPR", 112, 116, Kind.CODE),
-    Field("STATEL", 131, 132, Kind.CODE),
-    Field("STATER", 133, 134, Kind.CODE),
-    Field("COUNTYL", 135, 137, Kind.CODE),
-    Field("COUNTYR", 138, 140, Kind.CODE),
-    Field("COUSUBL", 141, 145, Kind.TEXT),
-    Field("COUSUBR", 146, 150, Kind.TEXT),
-    Field("PLACEL", 161, 165, Kind.CODE),
-    Field("PLACER", 166, 170, Kind.CODE),
-    Field("TRACTL", 171, 176, Kind.CODE),
-    Field("TRACTR", 177, 182, Kind.CODE),
-    Field("BLOCKL", 183, 186, Kind.CODE),
-    Field("BLOCKR", 187, 190, Kind.CODE),
-    Field("FRLONG", 191, 200, Kind.COORDINATE),
-    Field("FRLAT", 201, 209, Kind.COORDINATE),
-    Field("TOLONG", 210, 219, Kind.COORDINATE),
-    Field("TOLAT", 220, 228, Kind.COORDINATE),
-)
+class Row(NamedTuple):
+    """A selected segment: its county, its score, and the fields of record type 1 by their TIGER names.
+
+    Codes and house numbers are strings, since they may have leading zeros or hyphens. Coordinates are in degrees, in
+    NAD 83. None is a missing value. Each field has its first and last place and how it is read.
+    """
+
+    county: str
+    score: int
+    RT: Annotated[str | None, 1, 1, Kind.TEXT]
+    VERSION: Annotated[str | None, 2, 5, Kind.TEXT]
+    TLID: Annotated[int | None, 6, 15, Kind.NUMBER]
+    SIDE1: Annotated[str | None, 16, 16, Kind.TEXT]
+    SOURCE: Annotated[str | None, 17, 17, Kind.TEXT]
+    FEDIRP: Annotated[str | None, 18, 19, Kind.TEXT]
+    FENAME: Annotated[str | None, 20, 49, Kind.TEXT]
+    FETYPE: Annotated[str | None, 50, 53, Kind.TEXT]
+    FEDIRS: Annotated[str | None, 54, 55, Kind.TEXT]
+    CFCC: Annotated[str | None, 56, 58, Kind.TEXT]
+    FRADDL: Annotated[str | None, 59, 69, Kind.CODE]
+    TOADDL: Annotated[str | None, 70, 80, Kind.CODE]
+    FRADDR: Annotated[str | None, 81, 91, Kind.CODE]
+    TOADDR: Annotated[str | None, 92, 102, Kind.CODE]
+    FRIADDL: Annotated[str | None, 103, 103, Kind.TEXT]
+    TOIADDL: Annotated[str | None, 104, 104, Kind.TEXT]
+    FRIADDR: Annotated[str | None, 105, 105, Kind.TEXT]
+    TOIADDR: Annotated[str | None, 106, 106, Kind.TEXT]
+    ZIPL: Annotated[str | None, 107, 111, Kind.CODE]
+    ZIPR: Annotated[str | None, 112, 116, Kind.CODE]
+    STATEL: Annotated[str | None, 131, 132, Kind.CODE]
+    STATER: Annotated[str | None, 133, 134, Kind.CODE]
+    COUNTYL: Annotated[str | None, 135, 137, Kind.CODE]
+    COUNTYR: Annotated[str | None, 138, 140, Kind.CODE]
+    COUSUBL: Annotated[str | None, 141, 145, Kind.TEXT]
+    COUSUBR: Annotated[str | None, 146, 150, Kind.TEXT]
+    PLACEL: Annotated[str | None, 161, 165, Kind.CODE]
+    PLACER: Annotated[str | None, 166, 170, Kind.CODE]
+    TRACTL: Annotated[str | None, 171, 176, Kind.CODE]
+    TRACTR: Annotated[str | None, 177, 182, Kind.CODE]
+    BLOCKL: Annotated[str | None, 183, 186, Kind.CODE]
+    BLOCKR: Annotated[str | None, 187, 190, Kind.CODE]
+    FRLONG: Annotated[float | None, 191, 200, Kind.COORDINATE]
+    FRLAT: Annotated[float | None, 201, 209, Kind.COORDINATE]
+    TOLONG: Annotated[float | None, 210, 219, Kind.COORDINATE]
+    TOLAT: Annotated[float | None, 220, 228, Kind.COORDINATE]
+
+
+FIELDS = tuple(Field(name, *hint.__metadata__) for name, hint in Row.__annotations__.items() if get_args(hint))
 # The house numbers as texts, which only filters name.
-HOUSE_NUMBER_TEXTS = (
-    Field("FRADDL_TEXT", 59, 69, Kind.TEXT),
-    Field("TOADDL_TEXT", 70, 80, Kind.TEXT),
-    Field("FRADDR_TEXT", 81, 91, Kind.TEXT),
-    Field("TOADDR_TEXT", 92, 102, Kind.TEXT),
+HOUSE_NUMBER_TEXTS = tuple(
+    field._replace(name=f"{field.name}_TEXT", kind=Kind.TEXT) for field in FIELDS if field.name[2:5] == "ADD"
 )
 NAMES = tuple(field.name for field in FIELDS)
-TLID = next(field for field in FIELDS if field.name == "TLID")
+PLACES = {field.name: field.bytes for field in FIELDS}
 
 _NUMBER = re.compile(r" *([0-9]{1,11}) *")
 _COORDINATE = re.compile(r" *([+-]?[0-9]{1,9}) *")

@@ -3,15 +3,8 @@
 from importlib import import_module
 from types import ModuleType
 
-# The packages of Debian, which say what to install.
-PACKAGES = {
-    "dask": "python3-dask",
-    "distributed": "python3-distributed",
-    "geopandas": "python3-geopandas",
-    "numpy": "python3-numpy",
-    "pandas": "python3-pandas",
-    "shapely": "python3-shapely",
-}
+# Debian's package of each has the name with `python3-` in front.
+PACKAGES = ("dask", "distributed", "geopandas", "jinja2", "matplotlib", "numpy", "pandas", "shapely", "waitress")
 
 
 def required(name: str) -> ModuleType:
@@ -20,9 +13,10 @@ def required(name: str) -> ModuleType:
         return import_module(name)
     except ModuleNotFoundError as error:
         missing = (error.name or name).partition(".")[0]
-        package = PACKAGES.get(missing)
-        advice = f"apt install {package}, or pip install {missing}" if package else f"pip install {missing}"
-        raise ModuleNotFoundError(f"there is no module {missing}: {advice}", name=missing) from None
+        debian = f"apt install python3-{missing}, or " if missing in PACKAGES else ""
+        raise ModuleNotFoundError(
+            f"there is no module {missing}: {debian}pip install {missing}", name=missing
+        ) from None
 
 
 def present(name: str) -> ModuleType | None:

@@ -19,65 +19,47 @@ POLL = 0.1  # seconds
 
 @dataclass(frozen=True)
 class PendingFile:
-    """A file that is being written at `path`, in a folder next to its final place."""
+    """A file that is being written at `path`, in a folder next to its final place.
+
+    Standard output has no other final place, and gets a copy. The table of a database has a connection, which messages
+    don't show, as it may be secret. GDAL writes it in one transaction.
+    """
 
     path: Path
     final: Path
     overwrite: bool = False
+    connection: str = ""
 
     @property
     def kind(self) -> str:
         """The suffix of the file, which says its format."""
-        return self.path.suffix
+        return DATABASE if self.connection else self.path.suffix
 
     @property
     def target(self) -> str:
         """What GDAL opens."""
-        return str(self.path)
+        return self.connection or str(self.path)
 
     def publish(self, interrupts: Interrupts) -> None:
-        """Moves the file to its final place. Without `overwrite`, keeps a file that has appeared there meanwhile.
-
-        The other files of a shapefile are moved before it.
-        """
+        """Moves the file to its final place. Without `overwrite`, keeps a file that has appeared there meanwhile."""
         interrupts.check()
+        if self.final == self.path:
+            _copy_to_output(self.path, interrupts)
+        elif not self.connection:
+            self._move()
+
+    def _move(self) -> None:
+        """Moves the file, after the other ones of a shapefile."""
         beside = (path for path in sorted(self.path.parent.glob(f"{self.path.stem}.*")) if path != self.path)
         for path in (*beside, self.path):
             final = self.final.with_suffix(path.suffix) if path != self.path else self.final
-            with rename_errors_to(final):
-                _store(path)
+            with rename_errors_to(final), open(path, "rb") as file:
+                os.fsync(file.fileno())  # The system may report only here that it can't write the file.
                 _refuse(final, self.overwrite)
                 if self.overwrite:
                     os.replace(path, final)
                 else:
                     _move_without_replacing(path, final)
-
-
-@dataclass(frozen=True)
-class PendingStream(PendingFile):
-    """A table that is copied to standard output when it is complete."""
-
-    def publish(self, interrupts: Interrupts) -> None:
-        interrupts.check()
-        _copy_to_output(self.path, interrupts)
-
-
-@dataclass(frozen=True)
-class PendingTable(PendingFile):
-    """A table of a database, which GDAL writes in one transaction. Messages don't have the connection: it may be secret."""
-
-    connection: str = ""
-
-    @property
-    def kind(self) -> str:
-        return DATABASE
-
-    @property
-    def target(self) -> str:
-        return self.connection
-
-    def publish(self, interrupts: Interrupts) -> None:
-        interrupts.check()
 
 
 def is_file(out: str | Path) -> bool:
@@ -94,9 +76,9 @@ def pending_output(out: str | Path, overwrite: bool) -> Iterator[PendingFile]:
         return
     with scratch_folder() as folder:
         if out == STANDARD_OUTPUT:
-            yield PendingStream(folder / "table.csv", folder / "table.csv")
+            yield PendingFile(folder / "table.csv", folder / "table.csv")
         else:
-            yield PendingTable(folder / "table", Path("the database"), overwrite, str(out))
+            yield PendingFile(folder / "table", Path("the database"), overwrite, str(out))
 
 
 @contextmanager
@@ -118,12 +100,6 @@ def _refuse(final: Path, overwrite: bool) -> None:
         raise OSError(f"{final} is a device or a pipe, which a file can't replace: - is standard output")
     if final.exists() and not overwrite:
         raise FileExistsError(errno.EEXIST, os.strerror(errno.EEXIST), str(final))
-
-
-def _store(path: Path) -> None:
-    """Flushes the system's buffers, which may fail."""
-    with open(path, "rb") as file:
-        os.fsync(file.fileno())
 
 
 def _move_without_replacing(path: Path, final: Path) -> None:

@@ -5,15 +5,17 @@ import re
 import shutil
 import subprocess
 import tempfile
-from collections.abc import Iterable, Sequence
+from collections.abc import Iterable, Iterator, Sequence
+from contextlib import contextmanager
 from dataclasses import dataclass
-from pathlib import Path
-from typing import Self
+from typing import Any, Self
 
-from .interrupts import Interrupts, kill_group
+from .interrupts import Interrupts
+from .version import __version__
 
-VERSION = "1.0.0"
+VERSION = __version__
 _REFUSAL = re.compile(r"refused ([0-9]+)(?: ([a-z0-9/ ]+))? ([A-Z][A-Za-z0-9]*(?:\([0-9]+\))?)")
+_ERRORS: dict[int, type[Exception]] = {2: ValueError, 3: OSError, 4: MemoryError}
 
 PathLike = str | os.PathLike[str]
 
@@ -36,21 +38,20 @@ class Stamp:
 _checked: set[Stamp] = set()
 
 
+@dataclass(eq=False)
 class RefusedError(Exception):
     """A filter, a program or a file of a county was refused (docs/refusals.md).
 
     `number` and `name` are those of the refusal. `place` is where the fault is, such as `line 1 column 5`,
-    `pointer /args/1` or `rt1 line 2`. `text` is what `extractd` wrote. `county` is the county that has the fault, or None if it is in the
-    filter or the program.
+    `pointer /args/1` or `rt1 line 2`. `text` is what `extractd` wrote. `county` is the county that has the fault, or
+    None if it is in the filter or the program.
     """
 
-    def __init__(self, number: int, name: str, place: str, text: str, county: str | None = None) -> None:
-        super().__init__(number, name, place, text, county)
-        self.number = number
-        self.name = name
-        self.place = place
-        self.text = text
-        self.county = county
+    number: int
+    name: str
+    place: str
+    text: str
+    county: str | None = None
 
     def __str__(self) -> str:
         return self.text
@@ -98,49 +99,44 @@ def run(
 def run_process(command: Sequence[str], interrupts: Interrupts, standard_input: bytes = b"") -> tuple[int, bytes, str]:
     """Runs a process to its end, and returns its status, its output and what it wrote to standard error.
 
-    It has a process group of its own, so that Ctrl-C reaches it only through `interrupts`. SIGPIPE and SIGXFSZ stay
-    ignored as they are in Python, so that it reports a closed pipe or a file size limit as an error.
+    Both are small enough for the memory.
     """
-    with tempfile.TemporaryFile() as given, tempfile.TemporaryFile() as errors:
-        given.write(standard_input)
-        given.seek(0)
-        with subprocess.Popen(
-            command, stdin=given, stdout=subprocess.PIPE, stderr=errors, process_group=0, restore_signals=False
-        ) as process:
-            interrupts.watch(process)
-            try:
-                assert process.stdout is not None
-                output = process.stdout.read()
-                status = process.wait()
-            finally:
-                interrupts.watch(None)
-                if process.returncode is None:
-                    kill_group(process)
-        interrupts.check()
-        errors.seek(0)
-        return status, output, errors.read().decode("utf-8", "replace").strip()
+    with _started(command, interrupts, stdout=subprocess.PIPE, stderr=subprocess.PIPE) as process:
+        output, said = process.communicate(standard_input)
+    interrupts.check()
+    return process.returncode, output, _text(said)
 
 
 def feed_process(command: Sequence[str], chunks: Iterable[bytes], interrupts: Interrupts) -> tuple[int, bool, str]:
     """Runs a process that reads chunks from a pipe.
 
-    Returns its status, whether it has taken all chunks, and what it wrote to standard error. It is killed if the chunks
-    raise an exception. Chunks are small, since a signal waits until one is written.
+    Returns its status, whether it has taken all chunks, and what it wrote. It is killed if the chunks raise an
+    exception. Chunks are small, since a signal waits until one is written.
     """
-    with tempfile.TemporaryFile() as errors:
-        with subprocess.Popen(
-            command, stdin=subprocess.PIPE, stdout=errors, stderr=errors, process_group=0, restore_signals=False
-        ) as process:
-            try:
-                has_taken_all = _feed(process, chunks, interrupts)
-                status = process.wait()
-            finally:
-                interrupts.watch(None)
-                if process.returncode is None:
-                    kill_group(process)
+    with tempfile.TemporaryFile() as said:
+        with _started(command, interrupts, stdout=said, stderr=said) as process:
+            has_taken_all = _feed(process, chunks, interrupts)
+            process.wait()
         interrupts.check()
-        errors.seek(0)
-        return status, has_taken_all, errors.read().decode("utf-8", "replace").strip()
+        said.seek(0)
+        return process.returncode, has_taken_all, _text(said.read())
+
+
+@contextmanager
+def _started(command: Sequence[str], interrupts: Interrupts, **outputs: Any) -> Iterator[subprocess.Popen[bytes]]:
+    """Starts a process, which doesn't outlive the block.
+
+    It has a process group of its own, so that Ctrl-C reaches it only through `interrupts`. SIGPIPE and SIGXFSZ stay
+    ignored as they are in Python, so that it reports a closed pipe or a file size limit as an error.
+    """
+    pipe = subprocess.PIPE
+    with subprocess.Popen(command, stdin=pipe, process_group=0, restore_signals=False, **outputs) as process:
+        with interrupts.watching(process):
+            yield process
+
+
+def _text(said: bytes) -> str:
+    return said.decode("utf-8", "replace").strip()
 
 
 def _feed(process: subprocess.Popen[bytes], chunks: Iterable[bytes], interrupts: Interrupts) -> bool:
@@ -150,29 +146,22 @@ def _feed(process: subprocess.Popen[bytes], chunks: Iterable[bytes], interrupts:
         with process.stdin as pipe:
             for chunk in chunks:
                 interrupts.check()
-                interrupts.watch(process)  # While a chunk was made, another process was watched.
                 pipe.write(chunk)
         return True
     except BrokenPipeError:
         return False
-    finally:
-        interrupts.watch(process)
 
 
 def failure(program: str, status: int, said: str, county: str | None) -> Exception:
+    """Returns the exception that a status of `extractd` other than 0 stands for."""
     found = _REFUSAL.match(said)
     said = said.removeprefix("error: ")
     if status == 1 and found:
         return _refused(found, said, county)
-    if status == 2:
-        return ValueError(said)
-    if status == 4:
-        return MemoryError(said)
-    if status == 3 and said:
-        return OSError(said)
-    if status < 0:
-        return OSError(f"{program} was ended by signal {-status}")
-    return OSError(f"{program} ended with status {status}: {said[:200]}")
+    end = f"{program} was ended by signal {-status}" if status < 0 else f"{program} ended with status {status}"
+    if status in _ERRORS and (said or status == 4):
+        return _ERRORS[status](said)
+    return OSError(f"{end}: {said[:200]}" if said else end)
 
 
 def _refused(found: re.Match[str], said: str, county: str | None) -> RefusedError:
@@ -182,14 +171,3 @@ def _refused(found: re.Match[str], said: str, county: str | None) -> RefusedErro
     if county is not None and "county" not in said:
         said = f"{said}\ncounty {county}"
     return RefusedError(int(found[1]), found[3], place, said, county)
-
-
-def compile_filter(program: str, where: str, score: str | None, path: Path, interrupts: Interrupts) -> None:
-    """Writes the words of a filter to a file, for filters that are too long for an argument of `extractd select`."""
-    command = [program, "compile", "--filter", "-", *score_option(score)]
-    path.write_bytes(run(command, interrupts, standard_input=where.encode()))
-
-
-def score_option(score: str | None) -> list[str]:
-    """Returns the option that makes a column the score."""
-    return [] if score is None else ["--score", score]

@@ -25,10 +25,6 @@ def rename_errors_to(path: Path) -> Iterator[None]:
     try:
         yield
     except OSError as error:
-        if error.errno is None or not _is_to_rename(error.filename):
+        if error.errno is None or BESIDE not in (error.filename or BESIDE):
             raise
         raise OSError(error.errno, error.strerror, str(path)) from None
-
-
-def _is_to_rename(name: str | None) -> bool:
-    return name is None or BESIDE in name

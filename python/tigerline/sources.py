@@ -16,16 +16,25 @@ from typing import BinaryIO
 from .interrupts import Interrupts
 from .scratch import rename_errors_to, scratch_folder
 
-# The FIPS codes of the states, the District of Columbia, and the territories in TIGER/Line.
-STATES = {
-    "AL": "01", "AK": "02", "AZ": "04", "AR": "05", "CA": "06", "CO": "08", "CT": "09", "DE": "10", "DC": "11",
-    "FL": "12", "GA": "13", "HI": "15", "ID": "16", "IL": "17", "IN": "18", "IA": "19", "KS": "20", "KY": "21",
-    "LA": "22", "ME": "23", "MD": "24", "MA": "25", "MI": "26", "MN": "27", "MS": "28", "MO": "29", "MT": "30",
-    "NE": "31", "NV": "32", "NH": "33", "NJ": "34", "NM": "35", "NY": "36", "NC": "37", "ND": "38", "OH": "39",
-    "OK": "40", "OR": "41", "PA": "42", "RI": "44", "SC": "45", "SD": "46", "TN": "47", "TX": "48", "UT": "49",
-    "VT": "50", "VA": "51", "WA": "53", "WV": "54", "WI": "55", "WY": "56", "AS": "60", "GU": "66", "MP": "69",
-    "PR": "72", "UM": "74", "VI": "78",
-}  # fmt: skip
+# The states, the District of Columbia, and the territories in TIGER/Line: postal abbreviations, FIPS codes and names.
+_STATES = """
+    AL 01 Alabama Ala | AK 02 Alaska | AZ 04 Arizona Ariz | AR 05 Arkansas Ark | CA 06 California Calif Cal
+    CO 08 Colorado Colo | CT 09 Connecticut Conn | DE 10 Delaware Del | DC 11 District_of_Columbia Washington_DC
+    FL 12 Florida Fla | GA 13 Georgia | HI 15 Hawaii | ID 16 Idaho | IL 17 Illinois Ill | IN 18 Indiana Ind
+    IA 19 Iowa | KS 20 Kansas Kans Kan | KY 21 Kentucky | LA 22 Louisiana | ME 23 Maine | MD 24 Maryland
+    MA 25 Massachusetts Mass | MI 26 Michigan Mich | MN 27 Minnesota Minn | MS 28 Mississippi Miss | MO 29 Missouri
+    MT 30 Montana Mont | NE 31 Nebraska Nebr Neb | NV 32 Nevada Nev | NH 33 New_Hampshire | NJ 34 New_Jersey
+    NM 35 New_Mexico | NY 36 New_York | NC 37 North_Carolina | ND 38 North_Dakota | OH 39 Ohio | OK 40 Oklahoma Okla
+    OR 41 Oregon Ore | PA 42 Pennsylvania Penn Penna | RI 44 Rhode_Island | SC 45 South_Carolina
+    SD 46 South_Dakota | TN 47 Tennessee Tenn | TX 48 Texas Tex | UT 49 Utah | VT 50 Vermont | VA 51 Virginia
+    WA 53 Washington Wash | WV 54 West_Virginia | WI 55 Wisconsin Wis Wisc | WY 56 Wyoming Wyo
+    AS 60 American_Samoa | GU 66 Guam | MP 69 Northern_Mariana_Islands | PR 72 Puerto_Rico
+    UM 74 US_Minor_Outlying_Islands | VI 78 Virgin_Islands US_Virgin_Islands
+"""
+_ENTRIES = [entry.split() for entry in re.split(r"[|\n]", _STATES.strip())]
+STATES = {postal: code for postal, code, *_ in _ENTRIES}
+# What may be written for a state, in capitals and without dots, and its postal abbreviation.
+STATE_NAMES = {name.replace("_", " ").upper(): postal for postal, _, *names in _ENTRIES for name in (postal, *names)}
 UNPACKED_LIMIT = 1 << 30
 CHUNK = 1 << 20
 _FILE = re.compile(r"TGR([0-9]{5})\.(?:RT([12456C])|(ZIP))", re.IGNORECASE)
@@ -66,23 +75,18 @@ def _report_folder(error: OSError) -> None:
 
 def _counties_of_folder(folder: Path, names: list[str]) -> Iterator[County]:
     files: dict[str, dict[str, Path]] = {}
-    archives: dict[str, Path] = {}
     for name in names:
-        found = _FILE.fullmatch(name)
-        if not found:
-            continue
-        code, record_type, archive = found.groups()
-        place = archives if archive else files.setdefault(code, {})
-        key = code if archive else record_type.upper()
-        if key in place:
-            raise OSError(f"{folder} has {place[key].name} and {name}, which are the same file of a county")
-        place[key] = folder / name
+        if found := _FILE.fullmatch(name):
+            types, kind = files.setdefault(found[1], {}), (found[2] or found[3]).upper()
+            if kind in types:
+                raise OSError(f"{folder} has {types[kind].name} and {name}, which are the same file of a county")
+            types[kind] = folder / name
     for code, types in files.items():
+        archive = types.pop("ZIP", None)
         if "1" in types:
             yield County(code, folder, types)
-    for code, path in archives.items():
-        if "1" not in files.get(code, {}):
-            yield County(code, folder, {}, path)
+        elif archive is not None:
+            yield County(code, folder, {}, archive)
 
 
 def _counties_of_archive(path: Path) -> list[County]:
@@ -96,16 +100,12 @@ def _counties_of_archive(path: Path) -> list[County]:
 
 
 def counties_in(data: str | os.PathLike[str], counties: str | Iterable[str] | None) -> list[County]:
-    """Returns the requested counties of a folder and the folders in it, or of a zip file."""
-    folder = Path(data)
-    return choose_counties(find_counties(folder), counties, folder)
-
-
-def choose_counties(found: list[County], counties: str | Iterable[str] | None, data: Path) -> list[County]:
-    """Returns the requested counties, each once, in the order requested.
+    """Returns the requested counties of a folder and the folders in it, or of a zip file: each once, in that order.
 
     "01001" is a county, "01" or "AL" means all counties of a state, and None all counties that are there.
     """
+    data = Path(data)
+    found = find_counties(data)
     wanted = sorted({county.code for county in found}) if counties is None else []
     for name in [counties] if isinstance(counties, str) else counties or []:
         wanted += _codes(name, found, data)
@@ -127,14 +127,12 @@ def _codes(name: str, found: list[County], data: Path) -> list[str]:
 
 def _only(code: str, found: list[County], data: Path) -> County:
     """Returns the county that is the fewest folders away from `data`. Raises OSError if two are equally far."""
-    candidates = sorted((county for county in found if county.code == code), key=_depth)
-    if len(candidates) > 1 and _depth(candidates[0]) == _depth(candidates[1]):
-        raise OSError(f"{data} has county {code} twice: {candidates[0].place} and {candidates[1].place}")
-    return candidates[0]
-
-
-def _depth(county: County) -> int:
-    return len(county.folder.parts)
+    candidates = [county for county in found if county.code == code]
+    least = min(len(county.folder.parts) for county in candidates)
+    nearest = [county for county in candidates if len(county.folder.parts) == least]
+    if len(nearest) > 1:
+        raise OSError(f"{data} has county {code} twice: {nearest[0].place} and {nearest[1].place}")
+    return nearest[0]
 
 
 def has_shapes(county: County) -> bool:
@@ -147,36 +145,34 @@ def has_shapes(county: County) -> bool:
 
 @contextmanager
 def opened_county(county: County, types: str, interrupts: Interrupts) -> Iterator[dict[str, Path]]:
+    """Yields the files of a county by record type, and warns if one of type 4, 5 or 6 is missing."""
+    with county_files(county, types, interrupts) as files:
+        if missing := missing_names(county, files):
+            warnings.warn(missing, stacklevel=2)
+        yield files
+
+
+@contextmanager
+def county_files(county: County, types: str, interrupts: Interrupts) -> Iterator[dict[str, Path]]:
     """Makes a temporary folder with the files of a county, named in capitals, and yields their paths by record type.
 
-    They are links to files or unpacked from a zip file. Warns if a file of type 4, 5 or 6 is missing.
+    They are links to files or unpacked from a zip file.
     """
     with scratch_folder() as folder:
         if county.archive is None:
-            _link(county, types, folder)
+            for record_type in county.files.keys() & set(types):
+                _require_regular(county.files[record_type])
+                link = folder / f"TGR{county.code}.RT{record_type}"
+                link.symlink_to(county.files[record_type].absolute())
         else:
             _unpack(county.archive, county.code, types, folder, interrupts)
         interrupts.check()
         paths = {record_type: folder / f"TGR{county.code}.RT{record_type}" for record_type in types}
         present = {record_type: path for record_type, path in paths.items() if path.exists()}
-        _require(county, types, present)
+        for record_type in "12":
+            if record_type in types and record_type not in present:
+                raise FileNotFoundError(f"{county.archive or county.folder} has no TGR{county.code}.RT{record_type}")
         yield present
-
-
-def _link(county: County, types: str, folder: Path) -> None:
-    for record_type, path in county.files.items():
-        if record_type in types:
-            _require_regular(path)
-            (folder / f"TGR{county.code}.RT{record_type}").symlink_to(path.absolute())
-
-
-def _require(county: County, types: str, present: dict[str, Path]) -> None:
-    for record_type in "12":
-        if record_type in types and record_type not in present:
-            raise FileNotFoundError(f"{county.archive or county.folder} has no TGR{county.code}.RT{record_type}")
-    missing = missing_names(county, present)
-    if missing is not None:
-        warnings.warn(missing, stacklevel=2)
 
 
 def missing_names(county: County, present: Container[str]) -> str | None:
@@ -260,8 +256,6 @@ def _unpack_member(
         while chunk := content.read(CHUNK):
             interrupts.check()
             file.write(chunk)
-            if file.tell() > stated:
-                break
     if file.tell() != stated:
         more_or_less = "more" if file.tell() > stated else "less"
         raise OSError(

@@ -4,7 +4,6 @@ import re
 from collections.abc import Iterable, Iterator
 from dataclasses import dataclass
 from functools import partial
-from itertools import chain
 
 from .cells import safe_table
 from .extract import CountyTexts, Geometry, Output
@@ -38,7 +37,6 @@ class Form:
     names: tuple[str, ...]
     geometry: Geometry
     signed: bool = False
-    largest_score: int = LARGEST_SCORE
     safe_cells: bool = False
     has_map: bool = False
     has_background: bool = False
@@ -49,11 +47,6 @@ class Form:
         return self.geometry != "none"
 
     @property
-    def columns(self) -> tuple[str, ...]:
-        """The names of all columns except that of the lines."""
-        return (COUNTY, SCORE, *self.names)
-
-    @property
     def outputs(self) -> tuple[Output, ...]:
         """What is needed of each county: the table, the segments of the map, and those around them."""
         drawn = self.geometry if self.has_lines else "line"
@@ -61,88 +54,75 @@ class Form:
         return (Output(self.names, self.geometry), *of_map[: self.has_map + self.has_background])
 
 
-@dataclass(frozen=True)
-class TablePart:
-    """The lines of a county's table in chunks, and the header, which is the same for all counties."""
-
-    header: bytes
-    chunks: Iterable[bytes]
-    segments: int
-    without_line: int
-
-
-def table_part(found: CountyTexts, form: Form) -> TablePart:
-    """Returns the part of a county: the table of `extractd` with the county's code in front of each line."""
-    header, _, lines = found.texts[0].translate(READABLE).partition(b"\n")
-    names = (SCORE, *form.names, LINE_COLUMN) if form.has_lines else (SCORE, *form.names)
-    if header != ",".join(names).encode() or (lines and not lines.endswith(b"\n")):
-        raise no_table(header.decode(errors="replace"))
-    if form.signed or form.largest_score < LARGEST_SCORE:
-        lines = _LARGE_SCORE.sub(partial(_fitting_score, form), lines)
-    if form.safe_cells:
-        lines = safe_table(lines)
-    code = f"{found.county},".encode()
-    marked = (code + lines.replace(b"\n", b"\n" + code))[: -len(code)]
-    without_line = lines.count(b",\n") if form.has_lines else 0
-    return TablePart(f"{COUNTY},".encode() + header + b"\n", _chunks(marked), lines.count(b"\n"), without_line)
-
-
-def _fitting_score(form: Form, found: re.Match[bytes]) -> bytes:
-    score = score_of(int(found[0]), form.signed)
-    if not -form.largest_score - 1 <= score <= form.largest_score:
-        signed = "" if form.signed else "--signed, or "
-        raise ValueError(f"the score {score} is too large for this format: use {signed}.csv")
-    return str(score).encode()
-
-
-def _chunks(text: bytes) -> Iterator[bytes]:
-    for place in range(0, len(text), CHUNK):
-        yield text[place : place + CHUNK]
-
-
-def write_table(file: PendingFile, parts: Iterable[TablePart], form: Form, interrupts: Interrupts) -> int:
-    """Writes the parts in the format of the file, and returns the number of segments."""
+def write_table(file: PendingFile, counties: Iterable[CountyTexts], form: Form, interrupts: Interrupts) -> int:
+    """Writes the tables of counties in the format of the file, and returns the number of segments."""
     counts: list[int] = []
-    if file.kind in DRIVERS:
-        _write_by_gdal(file, parts, form, counts, interrupts)
-    else:
-        with rename_errors_to(file.final), open(file.path, "wb") as output:
-            for chunk in _chunks_of(parts, None, counts):
+    with rename_errors_to(file.final):
+        if file.kind in DRIVERS:
+            _write_by_gdal(file, counties, form, counts, interrupts)
+            return sum(counts)
+        with open(file.path, "wb") as output:
+            for chunk in _chunks_of(counties, form, file.kind, counts):
                 interrupts.check()
                 output.write(chunk)
     return sum(counts)
 
 
 def _write_by_gdal(
-    file: PendingFile, parts: Iterable[TablePart], form: Form, counts: list[int], interrupts: Interrupts
+    file: PendingFile, counties: Iterable[CountyTexts], form: Form, counts: list[int], interrupts: Interrupts
 ) -> None:
-    needs_lines = NEEDS_LINES.get(file.kind)
-    if needs_lines and not form.has_lines:
-        raise ValueError(f"{needs_lines} has no segments without geometry: use .gpkg, .geojson or .csv")
+    if file.kind in NEEDS_LINES and not form.has_lines:
+        raise ValueError(f"{NEEDS_LINES[file.kind]} has no segments without geometry: use .gpkg, .geojson or .csv")
     with scratch_folder() as scratch:
         source = scratch / f"{LAYER}.vrt"
         with rename_errors_to(source):
             source.write_text(_source(form))
-        chunks = _chunks_of(parts, needs_lines, counts)
+        chunks = _chunks_of(counties, form, file.kind, counts)
         write_layer(file, source, LAYER, SCORE, (), interrupts, chunks, lambda: sum(counts))
 
 
-def _chunks_of(parts: Iterable[TablePart], needs_lines: str | None, counts: list[int]) -> Iterator[bytes]:
-    """Yields the chunks of a table, and adds the number of segments of each part to the counts."""
-    for part in parts:
-        if needs_lines and part.without_line:
+def _chunks_of(counties: Iterable[CountyTexts], form: Form, kind: str, counts: list[int]) -> Iterator[bytes]:
+    """Yields the chunks of a table, and adds the number of segments of each county to the counts."""
+    for county in counties:
+        header, lines = _header_and_lines(county, form, kind)
+        without_line = lines.count(b",\n") if kind in NEEDS_LINES else 0
+        if without_line:
             raise ValueError(
-                f"{needs_lines} has no segments without geometry, and {part.without_line} have no coordinates: "
+                f"{NEEDS_LINES[kind]} has no segments without geometry, and {without_line} have no coordinates: "
                 "use .gpkg, .geojson or .csv"
             )
-        yield from part.chunks if counts else chain([part.header], part.chunks)
-        counts.append(part.segments)
+        text = lines if counts else header + lines
+        yield from (text[place : place + CHUNK] for place in range(0, len(text), CHUNK))
+        counts.append(lines.count(b"\n"))
+
+
+def _header_and_lines(county: CountyTexts, form: Form, kind: str) -> tuple[bytes, bytes]:
+    """Returns the table of `extractd` with the county's code in front of each line."""
+    header, _, lines = county.texts[0].translate(READABLE).partition(b"\n")
+    names = (SCORE, *form.names, LINE_COLUMN) if form.has_lines else (SCORE, *form.names)
+    if header != ",".join(names).encode() or (lines and not lines.endswith(b"\n")):
+        raise no_table(header.decode(errors="replace"))
+    largest = LARGEST_SCORES.get(kind, LARGEST_INTEGER)
+    if form.signed or largest < LARGEST_SCORE:
+        lines = _LARGE_SCORE.sub(partial(_fitting_score, largest, form.signed), lines)
+    if form.safe_cells and kind not in DRIVERS:
+        lines = safe_table(lines)
+    code = f"{county.county},".encode()
+    return f"{COUNTY},".encode() + header + b"\n", (code + lines.replace(b"\n", b"\n" + code))[: -len(code)]
+
+
+def _fitting_score(largest: int, signed: bool, found: re.Match[bytes]) -> bytes:
+    score = score_of(int(found[0]), signed)
+    if not -largest - 1 <= score <= largest:
+        advice = "" if signed else "--signed, or "
+        raise ValueError(f"the score {score} is too large for this format: use {advice}.csv")
+    return str(score).encode()
 
 
 def _source(form: Form) -> str:
     """Returns the description of a table on standard input, for GDAL (a virtual format)."""
     types = {field.name: _TYPES.get(field.kind, "String") for field in FIELDS} | {SCORE: "Integer64", COUNTY: "String"}
-    fields = "".join(f'<Field name="{name}" type="{types[name]}"/>' for name in form.columns)
+    fields = "".join(f'<Field name="{name}" type="{types[name]}"/>' for name in (COUNTY, SCORE, *form.names))
     geometry = "<GeometryType>wkbNone</GeometryType>"
     if form.has_lines:
         geometry = (

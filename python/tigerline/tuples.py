@@ -2,10 +2,10 @@
 
 import csv
 from collections.abc import Callable, Iterable, Iterator
-from typing import Any, NamedTuple
+from typing import Any
 
 from .extract import Output, Request, extract
-from .layout import FIELDS, NAMES, Kind
+from .layout import FIELDS, NAMES, Kind, Row
 from .program import PathLike
 
 Point = tuple[float, float]
@@ -13,58 +13,10 @@ Line = tuple[Point, ...] | None
 
 SCORE = "score"
 LINE_COLUMN = "WKT"
-LINE_START, LINE_END = ',"LINESTRING (', ')"'
 
 _READ: dict[Kind, Callable[[str], object]] = {Kind.NUMBER: int, Kind.COORDINATE: float}
 # The places of the numbers among the cells of all columns.
 _NUMBERS = tuple((place, _READ[field.kind]) for place, field in enumerate(FIELDS) if field.kind in _READ)
-
-
-class Row(NamedTuple):
-    """A selected segment: its county, its score, and the fields of record type 1 by their TIGER names.
-
-    Codes and house numbers are strings, since they may have leading zeros or hyphens. Coordinates are in degrees, in
-    NAD 83. None is a missing value.
-    """
-
-    county: str
-    score: int
-    RT: str | None
-    VERSION: str | None
-    TLID: int | None
-    SIDE1: str | None
-    SOURCE: str | None
-    FEDIRP: str | None
-    FENAME: str | None
-    FETYPE: str | None
-    FEDIRS: str | None
-    CFCC: str | None
-    FRADDL: str | None
-    TOADDL: str | None
-    FRADDR: str | None
-    TOADDR: str | None
-    FRIADDL: str | None
-    TOIADDL: str | None
-    FRIADDR: str | None
-    TOIADDR: str | None
-    ZIPL: str | None
-    ZIPR: str | None
-    STATEL: str | None
-    STATER: str | None
-    COUNTYL: str | None
-    COUNTYR: str | None
-    COUSUBL: str | None
-    COUSUBR: str | None
-    PLACEL: str | None
-    PLACER: str | None
-    TRACTL: str | None
-    TRACTR: str | None
-    BLOCKL: str | None
-    BLOCKR: str | None
-    FRLONG: float | None
-    FRLAT: float | None
-    TOLONG: float | None
-    TOLAT: float | None
 
 
 def rows(
@@ -83,24 +35,19 @@ def rows(
     The arguments are those of `select`. The rows of a county follow after `extractd` has ended for it with status 0, so
     a failure raises its exception before the first of them.
     """
-    request = Request(where, program, score, extractd)
-    found = extract(request, data, counties, [Output(NAMES)], progress=progress)
+    request = Request(where, data, counties, program, score, extractd)
+    found = extract(request, [Output(NAMES)], progress=progress)
     return (row for county in found for row in read_rows(county.county, county.texts[0], signed))
 
 
 def read_rows(county: str, table: bytes, signed: bool) -> Iterator[Row]:
     """Reads a table of all columns without geometry. Raises OSError if the text isn't one."""
-    for score, cells in read_cells(table, NAMES):
+    for score, cells in _read_cells(_lines_of(table, NAMES), len(NAMES)):
         fields: list[Any] = [cell or None for cell in cells]
         for place, read in _NUMBERS:
             if cells[place]:
                 fields[place] = read(cells[place])
         yield Row._make((county, score_of(score, signed), *fields))
-
-
-def read_cells(table: bytes, names: tuple[str, ...]) -> Iterator[tuple[int, list[str]]]:
-    """Reads the score and the cells of each segment of a table without geometry."""
-    return _read_cells(_lines_of(table, names), len(names))
 
 
 def read_lines(table: bytes, names: tuple[str, ...]) -> Iterator[tuple[int, list[str], Line]]:
@@ -136,9 +83,9 @@ def _read_cells(lines: Iterable[str], count: int) -> Iterator[tuple[int, list[st
 
 def _halves(text: str) -> tuple[str, str]:
     """Splits a line before its geometry, which may be longer than a cell that the module csv reads."""
-    cells, found, points = text.rpartition(LINE_START)
-    if found and points.endswith(LINE_END):
-        return cells, points[: -len(LINE_END)]
+    cells, found, points = text.rpartition(',"LINESTRING (')
+    if found and points.endswith(')"'):
+        return cells, points[:-2]
     if found or not text.endswith(","):
         raise no_table(text)
     return text[:-1], ""

@@ -1,1 +1,1 @@
-"""Selections on several processors and machines: worker processes here, or the workers of a dask.distributed scheduler."""
+"""Selections of several counties at once: here, or on the workers of a dask.distributed scheduler."""

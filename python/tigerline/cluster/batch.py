@@ -1,41 +1,36 @@
-"""Splits a selection into one task per county, and joins the tasks' results in the order of the counties.
+"""Splits a selection into one task per county, and returns the tasks' results in the order of the counties.
 
-A task can run anywhere and any number of times: its result depends only on its fields. It writes a part, which is the
-county's lines of the table and of the map. The part appears under its name when it is complete, and its name contains a
-digest of everything it depends on. So an interrupted run can continue with the parts that exist.
+A task can run anywhere and any number of times: its result depends only on its fields. It writes a part, which is what
+`extractd` wrote about the county. The part appears under its name when it is complete, and its name contains a digest
+of everything it depends on. So an interrupted run can continue with the parts that exist.
 """
 
 import fcntl
 import hashlib
+import io
 import json
 import os
 import re
 import socket
 import tempfile
 import time
-import warnings
 import zlib
-from collections.abc import Callable, Generator, Iterable, Iterator, Sequence
+from collections.abc import Callable, Generator, Iterator, Sequence
 from contextlib import ExitStack, closing, contextmanager, suppress
-from dataclasses import asdict, astuple, dataclass, replace
+from dataclasses import astuple, dataclass, replace
 from functools import cache, partial
-from itertools import chain
 from pathlib import Path
-from typing import BinaryIO
+from queue import Empty, SimpleQueue
+from typing import Any, TypeVar
 
-from ..extract import CountyTexts, Output, Request, county_texts, outputs_of, record_types
+from ..extract import CountyTexts, Output, Request, county_texts, outputs_of, record_types, reported
 from ..interrupts import Interrupts
-from ..maps.content import MapContent
-from ..maps.view import MapSegment
 from ..program import VERSION, PathLike, Stamp, find_program
 from ..progress import with_progress
 from ..scratch import rename_errors_to, scratch_folder
 from ..sources import County, counties_in
-from ..tables import Form, TablePart, table_part
-from ..version import __version__
 
-CHUNK = 1 << 20
-LONGEST_END = 1 << 16
+LOOK_SECONDS = 0.1
 VISIBLE_SECONDS = 5.0
 _PART = re.compile(r"[0-9]{5}-[0-9a-f]{32}\.part(\.[a-z0-9_]+)?")
 
@@ -50,7 +45,12 @@ class CountyTask:
     program: Stamp
     outputs: tuple[Output, ...]
 
-    def texts(self, interrupts: Interrupts) -> CountyTexts:
+    @property
+    def code(self) -> str:
+        """The county's code."""
+        return self.county.code
+
+    def run(self, interrupts: Interrupts) -> CountyTexts:
         """Returns the county's texts. Raises OSError if a file has changed since the task was made."""
         self._check("isn't the same file on")
         self._visible(self.program.path, "extractd")
@@ -62,18 +62,17 @@ class CountyTask:
     def _check(self, fault: str) -> None:
         for stamp in self.files:
             if self._visible(stamp.path, "DATA") != stamp:
-                raise OSError(f"county {self.county.code}: {stamp.path} {fault} {host()}: its size or time differs")
+                raise OSError(f"county {self.code}: {stamp.path} {fault} {host()}: its size or time differs")
 
     def _visible(self, path: str, what: str) -> Stamp:
         try:
             return Stamp.of(path)
         except OSError as error:
-            raise OSError(not_visible(self.county.code, path, what, error)) from None
+            raise _not_visible(self.code, path, what, error) from None
 
 
-def not_visible(code: str, path: PathLike, what: str, error: OSError) -> str:
-    """Returns the message that a worker doesn't see a file."""
-    return (
+def _not_visible(code: str, path: PathLike, what: str, error: OSError) -> OSError:
+    return OSError(
         f"county {code}: {path}: {error.strerror} on {host()}: {what} has to be in a file system that all workers "
         "share, under the same path"
     )
@@ -86,45 +85,28 @@ def host() -> str:
 
 
 @dataclass(frozen=True)
-class Summary:
-    """The summary of a part.
-
-    Has the sizes in bytes of its table and of its map's selected and other segments, and then what they contain.
-    """
-
-    table: int
-    selected: int
-    others: int
-    segments: int
-    without_line: int
-    others_count: int
-    warning: str | None
-
-
-@dataclass(frozen=True)
 class PartTask:
     """The part of one county and the file to write it to."""
 
     source: CountyTask
-    form: Form
     path: Path
 
     @property
     def code(self) -> str:
         """The county's code."""
-        return self.source.county.code
+        return self.source.code
 
     def run(self, interrupts: Interrupts) -> str:
         """Writes the part, and returns the name of the machine that did."""
-        found = self.source.texts(interrupts)
+        found = self.source.run(interrupts)
         try:
             number, name = tempfile.mkstemp(prefix=f"{self.path.name}.", dir=self.path.parent)
         except FileNotFoundError as error:
-            raise OSError(not_visible(self.code, self.path.parent, "OUT", error)) from None
-        os.close(number)
+            raise _not_visible(self.code, self.path.parent, "OUT", error) from None
         try:
-            _write_part(Path(name), found, self.form, interrupts)
-            with rename_errors_to(self.path):
+            with rename_errors_to(self.path), open(number, "wb") as file:
+                file.write(_packed(found))
+                file.flush()
                 os.replace(name, self.path)
         finally:
             with suppress(FileNotFoundError):
@@ -132,99 +114,43 @@ class PartTask:
         return host()
 
 
-def run_part(task: PartTask) -> str:
-    """Writes a part in a process that this package didn't start."""
+AnyTask = TypeVar("AnyTask", CountyTask, PartTask)
+
+
+def run_task(task: CountyTask | PartTask) -> Any:
+    """Runs a task in a process that this package didn't start, and returns its result."""
     with Interrupts() as interrupts:
         return task.run(interrupts)
 
 
-def run_county(task: CountyTask) -> CountyTexts:
-    """Returns the texts of a county in a process that this package didn't start."""
-    with Interrupts() as interrupts:
-        return task.texts(interrupts)
+def _packed(found: CountyTexts) -> bytes:
+    """Returns the content of a part: its checksum, a line of JSON, and the texts."""
+    head = json.dumps([found.county, [len(text) for text in found.texts], found.warning]).encode()
+    content = b"\n".join((head, b"".join(found.texts)))
+    return b"%08x\n" % zlib.crc32(content) + content
 
 
-def _write_part(path: Path, found: CountyTexts, form: Form, interrupts: Interrupts) -> None:
-    part = table_part(found, form)
-    content = MapContent(form.signed)
-    content.add_county(*found.texts[1:])
-    with rename_errors_to(path), open(path, "wb") as file:
-        for chunk in chain([part.header], part.chunks):
-            interrupts.check()
-            file.write(chunk)
-        table = file.tell()
-        selected = _write_map(file, content.selected)
-        others = _write_map(file, content.others(interrupts))
-        counts = part.segments, part.without_line, content.others_count
-        summary = Summary(table, selected, others, *counts, found.warning)
-        file.write(json.dumps(asdict(summary)).encode() + b"\n")
-        file.flush()
-        file.write(_checksum(path, file.tell()))
-
-
-def _write_map(file: BinaryIO, segments: Iterable[MapSegment]) -> int:
-    """Writes a line for each segment, and returns the number of bytes."""
-    return sum(file.write(json.dumps(segment).encode() + b"\n") for segment in segments)
-
-
-def _read_map(path: Path, start: int, size: int) -> Iterator[MapSegment]:
-    """Reads the segments in a part of a file."""
-    with open(path, "rb") as file:
-        file.seek(start)
-        while file.tell() < start + size:
-            cfcc, name, score, points = json.loads(file.readline())
-            yield MapSegment(cfcc, name, score, tuple((x, y) for x, y in points))
-
-
-def _checksum(path: Path, size: int) -> bytes:
-    checksum = 0
-    with open(path, "rb") as file:
-        for chunk in _chunks(file, size):
-            checksum = zlib.crc32(chunk, checksum)
-    return b"%08x\n" % checksum
-
-
-def _chunks(file: BinaryIO, size: int) -> Iterator[bytes]:
-    while size > 0 and (chunk := file.read(min(CHUNK, size))):
-        size -= len(chunk)
-        yield chunk
-
-
-def _end_of(path: Path) -> tuple[bytes, bytes]:
-    """Returns the last two lines of a part, which are its summary and its checksum."""
-    with open(path, "rb") as file:
-        file.seek(-min(LONGEST_END, file.seek(0, os.SEEK_END)), os.SEEK_END)
-        *_, summary, checksum = b"", b"", *file.read().splitlines(keepends=True)
-    return summary, checksum
-
-
-def summary_of(path: Path) -> Summary:
-    """Reads the summary of a complete part."""
-    return Summary(**json.loads(_end_of(path)[0]))
-
-
-def is_whole(path: Path) -> bool:
-    """Returns whether a part is complete, by its checksum."""
-    checksum = _end_of(path)[1]
-    return checksum == _checksum(path, path.stat().st_size - len(checksum))
+def read_part(path: Path) -> CountyTexts:
+    """Reads a part. Raises OSError if it isn't complete."""
+    checksum, _, content = path.read_bytes().partition(b"\n")
+    if checksum != b"%08x" % zlib.crc32(content):
+        raise OSError(f"{path} isn't complete")
+    head, _, texts = content.partition(b"\n")
+    county, sizes, warning = json.loads(head)
+    remaining = io.BytesIO(texts)
+    return CountyTexts(county, tuple(remaining.read(size) for size in sizes), warning)
 
 
 # Tasks
 
 
-def county_tasks(
-    request: Request,
-    data: PathLike,
-    counties: str | Iterable[str] | None,
-    outputs: Sequence[Output],
-    interrupts: Interrupts,
-) -> list[CountyTask]:
+def county_tasks(request: Request, outputs: Sequence[Output], interrupts: Interrupts) -> list[CountyTask]:
     """Returns one task per county. All paths in it are absolute, and a program is included as its words."""
     program = Stamp.of(os.path.abspath(request.found_program(interrupts)))
-    chosen = counties_in(os.path.abspath(data), counties)
+    chosen = counties_in(os.path.abspath(request.data), request.counties)
     if request.program is not None and not isinstance(request.program, bytes):
         request = replace(request, program=Path(request.program).read_bytes())
-    request = replace(request, extractd=None)
+    request = replace(request, data="", counties=None, extractd=None)
     wanted = outputs_of(chosen, outputs)
     return [
         CountyTask(county, _stamps(county, wanted[county.code]), request, program, wanted[county.code])
@@ -238,17 +164,16 @@ def _stamps(county: County, outputs: Sequence[Output]) -> tuple[Stamp, ...]:
     return tuple(Stamp.of(path) for path in files)
 
 
-def part_task(source: CountyTask, form: Form, store: Path) -> PartTask:
+def part_task(source: CountyTask, store: Path) -> PartTask:
     """Returns the task that writes a county's part into the folder `store`."""
     request = source.request
     depends_on = (
-        (__version__, VERSION, astuple(source.program), [astuple(stamp) for stamp in source.files]),
+        (VERSION, astuple(source.program), [astuple(stamp) for stamp in source.files]),
         [astuple(output) for output in source.outputs],
         (request.filter if request.program is None else None, repr(request.program), request.score),
-        astuple(form),
     )
     digest = hashlib.sha256(json.dumps(depends_on).encode()).hexdigest()[:32]
-    return PartTask(source, form, store / f"{source.county.code}-{digest}.part")
+    return PartTask(source, store / f"{source.code}-{digest}.part")
 
 
 # The folder of the parts
@@ -307,29 +232,41 @@ def _leave(store: Path, kind: type[BaseException] | None, *_: object) -> None:
 
 # Yields each task when it is done, with the name of the machine that ran it.
 Engine = Callable[[Sequence[PartTask], Interrupts], Generator[tuple[PartTask, str], None, None]]
-Parts = Sequence[tuple[Path, Summary]]
+Texts = Generator[CountyTexts, None, None]
 
 
-def run_tasks(tasks: Sequence[PartTask], store: Path, engine: Engine, progress: bool, interrupts: Interrupts) -> Parts:
-    """Has an engine run the tasks whose parts aren't in the store yet. Returns all parts in order."""
-    waiting = _unfinished(tasks, store, interrupts)
-    with closing(engine(waiting, interrupts)) as ran:
-        for _ in with_progress(waiting, len(waiting), "county", progress):
-            _require_visible(*next(ran), interrupts)
-    parts = [(task.path, summary_of(task.path)) for task in tasks]
-    for _, summary in parts:
-        if summary.warning is not None:
-            warnings.warn(summary.warning, stacklevel=2)
-    return parts
+def completed(
+    submit: Callable[[AnyTask], Any], tasks: Sequence[AnyTask], check: Callable[[], None]
+) -> Iterator[tuple[AnyTask, Any]]:
+    """Submits all tasks, and yields each with its future when it is done. Meanwhile calls `check` again and again."""
+    done: SimpleQueue[tuple[AnyTask, Any]] = SimpleQueue()
+
+    def note(task: AnyTask, future: Any) -> None:
+        done.put((task, future))
+
+    for task in tasks:
+        check()
+        submit(task).add_done_callback(partial(note, task))
+    remaining = len(tasks)
+    while remaining:
+        check()
+        with suppress(Empty):
+            yield done.get(timeout=LOOK_SECONDS)
+            remaining -= 1
 
 
-def table_parts(parts: Parts) -> Iterator[TablePart]:
-    """Yields the tables of the parts."""
-    for path, summary in parts:
-        with open(path, "rb") as part:
-            header = part.readline()
-            chunks = _chunks(part, summary.table - len(header))
-            yield TablePart(header, chunks, summary.segments, summary.without_line)
+def run_tasks(tasks: Sequence[PartTask], store: Path, engine: Engine, progress: bool, interrupts: Interrupts) -> Texts:
+    """Yields the texts of all counties in order. An engine runs the tasks whose parts aren't in the store yet."""
+    waiting = {task.code: task for task in _unfinished(tasks, store, interrupts)}
+    with closing(engine(list(waiting.values()), interrupts)) as ran:
+        shown = iter(with_progress(ran, len(waiting), "county", progress))
+        for task in tasks:
+            while task.code in waiting:
+                done, where = next(shown)
+                _require_visible(done, where, interrupts)
+                del waiting[done.code]
+            yield reported(read_part(task.path))
+        next(shown, None)  # Ends the display of progress.
 
 
 def _unfinished(tasks: Sequence[PartTask], store: Path, interrupts: Interrupts) -> list[PartTask]:
@@ -338,8 +275,10 @@ def _unfinished(tasks: Sequence[PartTask], store: Path, interrupts: Interrupts) 
     waiting = []
     for task in tasks:
         interrupts.check()
-        if task.path.name not in present or not is_whole(task.path):
-            waiting.append(task)
+        with suppress(OSError):
+            if task.path.name in present and read_part(task.path):
+                continue
+        waiting.append(task)
     return waiting
 
 
@@ -354,14 +293,4 @@ def _require_visible(task: PartTask, where: str, interrupts: Interrupts) -> None
                 f"county {task.code}: {where} wrote {task.path}, which isn't there on {host()}: OUT has to be in a "
                 "file system that all workers share"
             )
-        time.sleep(0.1)
-
-
-def collect_map(parts: Parts, content: MapContent, interrupts: Interrupts) -> None:
-    """Adds the segments of the parts to a map."""
-    for path, summary in parts:
-        for segment in _read_map(path, summary.table, summary.selected):
-            interrupts.check()
-            content.selected.append(segment)
-        others = partial(_read_map, path, summary.table + summary.selected, summary.others)
-        content.add_others(summary.others_count, others)
+        time.sleep(LOOK_SECONDS)

@@ -6,34 +6,27 @@ The scheduler runs a task again if its worker dies. This module connects, waits 
 import logging
 import time
 import warnings
-from collections.abc import Callable, Generator, Iterable, Iterator, Sequence
+from collections.abc import Callable, Generator, Iterator, Sequence
 from contextlib import closing, contextmanager, suppress
-from queue import Empty, SimpleQueue
-from typing import Any, TypeVar
+from typing import Any
 
-from ..extract import CountyTexts, Output, Request
+from ..extract import CountyTexts, Output, Request, reported
 from ..interrupts import Interrupts
 from ..optional import required
-from ..program import PathLike
 from ..progress import with_progress
-from .batch import CountyTask, PartTask, county_tasks, run_county, run_part
+from .batch import LOOK_SECONDS, AnyTask, CountyTask, PartTask, completed, county_tasks, run_task
 
 CONNECT_SECONDS = 3
 WORKER_SECONDS = 3
 CLOSE_SECONDS = 2
-LOOK_SECONDS = 0.1
-
-Task = TypeVar("Task", CountyTask, PartTask)
 
 
 def run_there(
     address: str, tasks: Sequence[PartTask], interrupts: Interrupts
 ) -> Generator[tuple[PartTask, str], None, None]:
     """Yields the tasks as they finish, with the worker's machine. Raises the exception of the first that fails."""
-    with connected(address, interrupts.check) as client, closing(
-        completed(client, run_part, tasks, interrupts.check)
-    ) as done:
-        yield from done
+    with connected(address, interrupts.check) as client:
+        yield from results(client, tasks, interrupts.check)
 
 
 @contextmanager
@@ -59,94 +52,59 @@ def connected(address: str, check: Callable[[], None]) -> Iterator[Any]:
             client.close(CLOSE_SECONDS)
 
 
-def completed(
-    client: Any, run: Callable[[Task], Any], tasks: Sequence[Task], check: Callable[[], None]
-) -> Generator[tuple[Task, Any], None, None]:
+def results(
+    client: Any, tasks: Sequence[AnyTask], check: Callable[[], None]
+) -> Generator[tuple[AnyTask, Any], None, None]:
     """Yields the tasks with their results as they finish, and cancels the others if one fails."""
-    done: SimpleQueue[Any] = SimpleQueue()
-    futures: dict[str, tuple[Any, Task]] = {}
+
+    def check_all() -> None:
+        check()
+        if client.status != "running":
+            raise OSError("the scheduler has gone away")
+
+    futures = {}
+
+    def submit(task: AnyTask) -> Any:
+        futures[task.code] = client.submit(run_task, task, pure=False)
+        return futures[task.code]
+
     try:
-        for task in tasks:
-            check()
-            future = _submitted(client, run, task)
-            futures[future.key] = future, task
-            future.add_done_callback(done.put)
-        while futures:
-            future, task = futures.pop(_next(done, check).key)
-            yield task, _result(client, future, _code(task))
-            future.release()
+        for task, future in completed(submit, tasks, check_all):
+            with _failures(task.code):
+                result = future.result()
+            del futures[task.code]
+            yield task, result
     finally:
         with suppress(Exception):
-            client.cancel([future for future, _ in futures.values()], force=True)
+            client.cancel(list(futures.values()), force=True)
 
 
-def _submitted(client: Any, run: Callable[[Task], Any], task: Task) -> Any:
-    try:
-        return client.submit(run, task, pure=False)
-    except Exception:
-        if client.status == "running":
-            raise
-        raise OSError("the scheduler has gone away") from None
-
-
-def _code(task: CountyTask | PartTask) -> str:
-    return task.source.county.code if isinstance(task, PartTask) else task.county.code
-
-
-def _next(done: "SimpleQueue[Any]", check: Callable[[], None]) -> Any:
-    while True:
-        check()
-        with suppress(Empty):
-            return done.get(timeout=LOOK_SECONDS)
-
-
-def _result(client: Any, future: Any, code: str) -> Any:
-    """Returns the result of a finished task, or raises its exception, even if its worker or scheduler died."""
+@contextmanager
+def _failures(code: str) -> Iterator[None]:
+    """Makes failures of workers and of the scheduler those of a county."""
     distributed: Any = required("distributed")
     try:
-        return future.result(timeout=CLOSE_SECONDS if client.status != "running" else None)
+        yield
     except distributed.KilledWorker as error:
         # The scheduler also blames the counties that were waiting at these workers.
         raise OSError(f"county {code}: each worker that had it died, the last at {error.last_worker.address}") from None
-    except (distributed.CancelledError, distributed.comm.CommClosedError, distributed.TimeoutError):
-        if future.status == "error":
-            raise
+    except (distributed.CancelledError, distributed.comm.CommClosedError):
         raise OSError(f"the scheduler has gone away, or has canceled county {code}") from None
     except ModuleNotFoundError as error:
         raise OSError(f"a worker has no module {error.name}: all workers need the package tigerline") from None
 
 
-def tasks_of(
-    client: Any,
-    request: Request,
-    data: PathLike,
-    counties: str | Iterable[str] | None,
-    outputs: Sequence[Output],
-) -> list[CountyTask]:
+def tasks_of(client: Any, request: Request, outputs: Sequence[Output]) -> list[CountyTask]:
     """Returns one task per county for the workers of a client."""
     if not isinstance(client, required("distributed").Client) or client.asynchronous:
         raise ValueError("client= is a dask.distributed.Client that isn't asynchronous")
     with Interrupts() as interrupts:
-        return county_tasks(request, data, counties, outputs, interrupts)
+        return county_tasks(request, outputs, interrupts)
 
 
-def extract(
-    client: Any,
-    request: Request,
-    data: PathLike,
-    counties: str | Iterable[str] | None,
-    outputs: Sequence[Output],
-    progress: bool,
-) -> Iterator[CountyTexts]:
-    """Yields the texts of each county in order. The workers of a client write them."""
-    tasks = tasks_of(client, request, data, counties, outputs)
-    early: dict[str, CountyTexts] = {}
-    with closing(completed(client, run_county, tasks, lambda: None)) as done:
-        for task in with_progress(tasks, len(tasks), "county", progress):
-            while task.county.code not in early:
-                other, texts = next(done)
-                early[other.county.code] = texts
-            found = early.pop(task.county.code)
-            if found.warning is not None:
-                warnings.warn(found.warning, stacklevel=2)
-            yield found
+def extract(client: Any, request: Request, outputs: Sequence[Output], progress: bool) -> list[CountyTexts]:
+    """Returns the texts of each county in order. The workers of a client write them."""
+    tasks = tasks_of(client, request, outputs)
+    with closing(results(client, tasks, lambda: None)) as ran:
+        found = {task.code: texts for task, texts in with_progress(ran, len(tasks), "county", progress)}
+    return [reported(found[task.code]) for task in tasks]

@@ -2,8 +2,8 @@
 
 import argparse
 import gc
-from collections.abc import Iterable, Iterator, Mapping
-from contextlib import ExitStack, contextmanager
+from collections.abc import Iterable
+from contextlib import ExitStack
 from pathlib import Path
 
 from ..geocoding.address_input import COLUMNS, USUAL_NAMES, USUAL_ONE_LINE_NAMES, AddressFile
@@ -13,77 +13,50 @@ from ..geocoding.match import Match
 from ..geocoding.picture import Dots
 from ..geocoding.table_input import STANDARD_INPUT, TableFile, named_columns, opened_input
 from ..interrupts import STOPPING, Interrupts
+from ..maps import PICTURES, writer_of
 from ..output import PendingFile, pending_file, pending_output
 from ..progress import with_progress
 from ..scratch import rename_errors_to
-from .subcommand import (
-    Subcommand,
-    add_counties,
-    add_data,
-    add_input_options,
-    add_output_options,
-    add_table_out,
-    picture_out,
-    written,
-)
+from .subcommand import Subcommand, add_tables, picture_out, written
 
 
 def add_options(parser: argparse.ArgumentParser) -> None:
     """Adds the options of the subcommand."""
     add = parser.add_argument
     add("addresses", metavar="IN", help=f"a CSV file of {', '.join(COLUMNS)} without a head line; - is standard input")
-    add_table_out(parser, ".csv", ".txt", "", is_optional=True)
-    add_data(parser)
+    add_tables(parser, "addresses", 'street="Street Address",zip=Postcode')
     add("--reasons", action="store_true", help="add the reason for no match, or for one that isn't exact, and a hint")
     add("--candidates", action="store_true", help="add a line for each place of a tie, and for each in another town")
     add("--header", action="store_true", help="IN has a head line, which names the columns; write one, too")
     add("--one-line", action="store_true", help="an address is one cell, or without --header and --delimiter a line")
-    add("--map", metavar="FILE", type=picture_out, help="also draw the places on a map: .svg or .html")
-    add_input_options(parser, 'street="Street Address",zip=Postcode')
-    add_counties(parser)
-    add_output_options(parser, "addresses")
+    add("--map", metavar="FILE", type=picture_out, help=f"also draw the places on a map: {', '.join(PICTURES)}")
 
 
 def run(options: argparse.Namespace) -> bytes:
     """Writes the matches, and returns a message if they are in a file and not on standard output."""
-    named = named_columns(options.columns, USUAL_ONE_LINE_NAMES if options.one_line else USUAL_NAMES)
-    options.header = options.header or bool(named)
+    options.named = named_columns(options.columns, USUAL_ONE_LINE_NAMES if options.one_line else USUAL_NAMES)
+    options.header = options.header or bool(options.named)
+    if options.map:
+        writer_of(options.map.suffix.lower())  # A missing package is an error before the search.
     with Interrupts(*STOPPING) as interrupts, ExitStack() as files:
-        files.enter_context(_without_collector())
+        gc.disable()  # The search for cycles takes a fifth of the time and finds none.
+        files.callback(gc.enable)
         picture = files.enter_context(pending_file(options.map, options.overwrite)) if options.map else None
         table = files.enter_context(pending_output(options.out, options.overwrite))
         with rename_errors_to(table.final):
-            summary = _write(table, picture, options, named, interrupts)
+            summary = _write(table, picture, options, interrupts)
         for file in filter(None, (table, picture)):
             file.publish(interrupts)
     return written(options.out, summary)
 
 
-@contextmanager
-def _without_collector() -> Iterator[None]:
-    """Pauses the search for cycles, which takes a fifth of the time and finds none."""
-    was_enabled = gc.isenabled()
-    gc.disable()
-    try:
-        yield
-    finally:
-        if was_enabled:
-            gc.enable()
-
-
-def _write(
-    file: PendingFile,
-    picture: PendingFile | None,
-    options: argparse.Namespace,
-    named: Mapping[str, str],
-    interrupts: Interrupts,
-) -> str:
+def _write(file: PendingFile, picture: PendingFile | None, options: argparse.Namespace, interrupts: Interrupts) -> str:
     """Writes the matches to a file, and their map to another one, and returns a summary."""
     name = "standard input" if options.addresses == STANDARD_INPUT else options.addresses
     dots = Dots(options.candidates) if picture else None
     with opened_input(options.addresses, interrupts) as source:
         table = TableFile(source, name, options.encoding, options.delimiter)
-        addresses = AddressFile(table, options.header, options.one_line, named)
+        addresses = AddressFile(table, options.header, options.one_line, options.named)
         count = sum(1 for _ in addresses.addresses(interrupts))  # Finds a faulty line before the first look-up.
         matches = matches_of(
             addresses.addresses(interrupts), options.data, options.counties, options.extractd, interrupts
@@ -94,8 +67,9 @@ def _write(
     if picture and dots:
         caption = f"{Path(name).name}: {summary}"
         with rename_errors_to(picture.final):
-            drawn = dots.draw(options.data, options.extractd, caption, picture.kind != ".svg", interrupts)
-            picture.path.write_text(drawn, encoding="utf-8")
+            picture.path.write_bytes(
+                dots.drawing(caption, options.data, options.extractd, interrupts).file(picture.kind)
+            )
     return summary
 
 

@@ -5,27 +5,18 @@ from collections import Counter
 from functools import partial
 
 from ..geocoding.point_input import POINT_COLUMNS, GivenPoint, PointFile
-from ..geocoding.point_output import Column, Point, write_points
+from ..geocoding.point_output import Point, write_points
 from ..geocoding.reversing import DISTANCE, Nearest, check_distance, streets_of
 from ..geocoding.table_input import STANDARD_INPUT, TableFile, named_columns, opened_input
 from ..interrupts import STOPPING, Interrupts
 from ..optional import required
 from ..output import PendingFile, pending_output
 from ..scratch import rename_errors_to
-from .subcommand import (
-    Subcommand,
-    add_counties,
-    add_data,
-    add_input_options,
-    add_output_options,
-    add_table_out,
-    written,
-)
+from .subcommand import Subcommand, add_tables, counted, written
 
 OUTPUT_COLUMNS = (
-    Column("id"), Column("longitude", "Real"), Column("latitude", "Real"), Column("address"),
-    Column("number", "Integer64"), Column("street"), Column("city"), Column("state"), Column("zip"), Column("county"),
-    Column("tlid", "Integer64"), Column("side"), Column("distance", "Real"),
+    "id", "longitude", "latitude", "address", "number", "street", "city", "state", "zip", "county", "tlid", "side",
+    "distance",
 )  # fmt: skip
 
 
@@ -33,13 +24,9 @@ def add_options(parser: argparse.ArgumentParser) -> None:
     """Adds the options of the subcommand."""
     add = parser.add_argument
     add("points", metavar="POINTS", help="a CSV file with the columns longitude and latitude; - is standard input")
-    add_table_out(parser, ".csv", ".txt", "", is_optional=True)
-    add_data(parser)
+    add_tables(parser, "counties", "longitude=East,latitude=North,id=No")
     distance = "how far a street may be (default: %(default)g)"
     add("--distance", metavar="METERS", type=float, default=DISTANCE, help=distance)
-    add_input_options(parser, "longitude=East,latitude=North,id=No")
-    add_counties(parser)
-    add_output_options(parser, "counties")
 
 
 def run(options: argparse.Namespace) -> bytes:
@@ -67,20 +54,18 @@ def _write(file: PendingFile, options: argparse.Namespace, named: dict[str, str]
         found: Counter[bool] = Counter()
         rows = map(partial(_row, found=found), given.points(interrupts), streets)
         write_points(file, OUTPUT_COLUMNS, rows, "longitude", interrupts, options.safe_cells)
-    points = f"{count} point{'' if count == 1 else 's'}"
-    return f"{points}: {found[True]} with a street within {options.distance:g} m"
+    return f"{counted(count, 'point')}: {found[True]:,} with a street within {options.distance:g} m"
 
 
 def _row(point: GivenPoint, street: Nearest | None, found: Counter[bool]) -> Point:
     """Returns the row of a point, and counts whether it has a street."""
     found[street is not None] += 1
     longitude, latitude = point.place
-    row: list[object] = [point.id, f"{longitude:.6f}", f"{latitude:.6f}"]
+    place = point.id, f"{longitude:.6f}", f"{latitude:.6f}"
     if street is None:
-        return Point([*row, *[""] * (len(OUTPUT_COLUMNS) - len(row))], point.place)
-    number = "" if street.number is None else street.number
-    row += [street.address, number, street.street, street.city, street.state, street.zip, street.county]
-    return Point([*row, street.tlid, street.side, f"{street.distance:.1f}"], point.place)
+        return Point([*place, *[""] * (len(OUTPUT_COLUMNS) - len(place))], point.place)
+    found_there = [getattr(street, name) for name in OUTPUT_COLUMNS[len(place) : -1]]
+    return Point([*place, *found_there, f"{street.distance:.1f}"], point.place)
 
 
 REVERSE = Subcommand(

@@ -1,36 +1,25 @@
 """`tigerline select` writes selected segments to a file for a GIS or to a database, and draws a map of them."""
 
 import argparse
-import json
 import os
-from collections.abc import Iterator
-from contextlib import ExitStack
+from collections.abc import Iterable, Iterator, Sequence
+from contextlib import ExitStack, closing
 from dataclasses import replace
 from functools import partial
 from pathlib import Path
 from typing import Any
 
 from ..cluster import batch, scheduler, workers
-from ..extract import Request, extract
+from ..extract import CountyTexts, Output, Request, extract
 from ..filters import conditions_of
-from ..gdal import DRIVERS
 from ..interrupts import STOPPING, Interrupts
 from ..layout import chosen_names
-from ..maps.content import MapContent, box_around
-from ..maps.drawing import draw_html, draw_svg
+from ..maps import PICTURES, MapContent, writer_of
+from ..optional import required
 from ..output import PendingFile, is_file, pending_file, pending_output
 from ..scratch import rename_errors_to
-from ..tables import LARGEST_INTEGER, LARGEST_SCORES, Form, TablePart, table_part, write_table
-from .subcommand import (
-    DATA,
-    Subcommand,
-    add_counties,
-    add_output_options,
-    add_table_out,
-    number_between,
-    picture_out,
-    written,
-)
+from ..tables import Form, write_table
+from .subcommand import DATA, Subcommand, add_counties, add_output, counted, number_between, picture_out, written
 
 MOST_WORKERS = 10_000
 
@@ -39,19 +28,24 @@ def add_options(parser: argparse.ArgumentParser) -> None:
     """Adds the options of the subcommand."""
     add = parser.add_argument
     add("data", metavar="DATA", help=DATA)
-    add_table_out(parser, ".csv")
+    add_output(parser, "counties", ".csv")
     which = parser.add_mutually_exclusive_group()
     which.add_argument("--where", metavar="TEXT", help="a filter, such as \"CFCC LIKE 'A%%'\"")
     which.add_argument("--program", metavar="FILE", help="a program, as extractd asm or compile writes it")
     box = "only segments that have a point in a box of degrees"
     add("--bbox", metavar="WEST,SOUTH,EAST,NORTH", type=_box, help=box)
-    add("--mask", metavar="FILE", type=Path, help="only segments that have a point in the polygons of a GeoJSON file")
+    add(
+        "--mask",
+        metavar="FILE",
+        type=Path,
+        help="only segments that have a point in the polygons of a vector file that GDAL reads",
+    )
     add("--columns", metavar="NAME", nargs="+", help="fields of record type 1 by their TIGER names (default: all)")
     lines = "shape: with the points of type 2; line: the two ends (default: shape, or line without type 2)"
     add("--geometry", choices=("shape", "line", "none"), default="auto", help=lines)
     add("--score", metavar="COLUMN", help="the column that becomes the score of a filter")
     add("--signed", action="store_true", help="write scores as signed numbers")
-    add("--map", metavar="FILE", type=picture_out, help="also draw a map: .svg or .html")
+    add("--map", metavar="FILE", type=picture_out, help=f"also draw a map: {', '.join(PICTURES)}")
     add("--map-by", choices=("class", "score"), default="class", help="what the map shows (default: class)")
     add("--no-background", action="store_true", help="leave other segments out of the map")
     engines = parser.add_mutually_exclusive_group()
@@ -62,7 +56,6 @@ def add_options(parser: argparse.ArgumentParser) -> None:
     resume = "keep finished counties in OUT.parts until OUT is written, and start with those that are there"
     add("--resume", action="store_true", help=resume)
     add_counties(parser)
-    add_output_options(parser, "counties")
 
 
 def _box(text: str) -> list[float]:
@@ -77,105 +70,82 @@ def run(options: argparse.Namespace) -> bytes:
     request = _request(options)
     if options.map is not None and os.path.realpath(options.map) == os.path.realpath(options.out):
         raise ValueError("OUT and the map are the same file")
+    if options.map is not None:
+        writer_of(options.map.suffix.lower())  # A missing package is an error before the selection.
     if (options.scheduler is not None or options.resume) and not is_file(options.out):
         raise ValueError("--scheduler and --resume need a file as OUT: its folder has the finished counties")
     with Interrupts(*STOPPING) as interrupts, ExitStack() as files:
         table = files.enter_context(pending_output(options.out, options.overwrite))
         picture = files.enter_context(pending_file(options.map, options.overwrite)) if options.map else None
-        form = _form(options, table)
+        maps = picture is not None, picture is not None and not options.no_background
+        form = Form(chosen_names(options.columns), options.geometry, options.signed, options.safe_cells, *maps)
         content = MapContent(options.signed)
-        if options.workers or options.scheduler is not None or options.resume:
-            parts = _parts_of_workers(table, request, form, content, options, interrupts, files)
-        else:
-            parts = _parts(request, form, content, options, interrupts)
-        count = write_table(table, parts, form, interrupts)
+        found = _counties(table, request, form.outputs, options, interrupts, files)
+        count = write_table(table, _added(found, content), form, interrupts)
         if picture:
             _draw(picture, content, options, interrupts)
         for file in filter(None, (table, picture)):
             file.publish(interrupts)
-    return written(options.out, _counted(count))
+    return written(options.out, counted(count, "segment"))
 
 
 def _request(options: argparse.Namespace) -> Request:
-    conditions = conditions_of(options.bbox, None if options.mask is None else _geojson(options.mask))
+    conditions = conditions_of(options.bbox, None if options.mask is None else _mask(options.mask))
     if options.where is None and options.program is None and not conditions:
         raise ValueError("say which segments by --where, --program, --bbox or --mask; --where TRUE selects all")
-    request = Request(options.where, options.program, options.score, options.extractd, conditions)
+    where, data, counties, score = options.where, options.data, options.counties, options.score
+    request = Request(where, data, counties, options.program, score, options.extractd, conditions)
     if options.program is None:
         return request
     # It may be a pipe of a shell, which can be read only once. Here, Ctrl-C ends the wait for it.
     return replace(request, program=Path(options.program).read_bytes())
 
 
-def _geojson(path: Path) -> Any:
+def _mask(path: Path) -> Any:
+    """Reads a vector file by GDAL. A missing file or one of another kind is an error of files."""
+    path.stat()
     try:
-        return json.loads(path.read_bytes())
+        return required("geopandas").read_file(path)
     except ValueError as error:
-        raise OSError(f"{path} isn't GeoJSON: {error}") from None
+        raise OSError(f"{path} can't be read by GDAL: {error}") from None
 
 
-def _form(options: argparse.Namespace, table: PendingFile) -> Form:
-    has_map = options.map is not None
-    return Form(
-        chosen_names(options.columns),
-        options.geometry,
-        options.signed,
-        LARGEST_SCORES.get(table.kind, LARGEST_INTEGER),
-        safe_cells=options.safe_cells and table.kind not in DRIVERS,
-        has_map=has_map,
-        has_background=has_map and not options.no_background,
-    )
-
-
-def _parts(
-    request: Request, form: Form, content: MapContent, options: argparse.Namespace, interrupts: Interrupts
-) -> Iterator[TablePart]:
-    """Yields the table of each county, and adds its segments to the map."""
-    for found in extract(
-        request, options.data, options.counties, form.outputs, progress=options.progress, interrupts=interrupts
-    ):
-        content.add_county(*found.texts[1:])
-        yield table_part(found, form)
-
-
-def _parts_of_workers(
+def _counties(
     table: PendingFile,
     request: Request,
-    form: Form,
-    content: MapContent,
+    outputs: Sequence[Output],
     options: argparse.Namespace,
     interrupts: Interrupts,
     files: ExitStack,
-) -> Iterator[TablePart]:
-    """Has worker processes or a scheduler write the counties. Keeps the parts until all files are published."""
+) -> Iterator[CountyTexts]:
+    """Yields what `extractd` writes about each county, here or on the workers.
+
+    What workers write is kept until all files are published.
+    """
+    if not (options.workers or options.scheduler is not None or options.resume):
+        return extract(request, outputs, progress=options.progress, interrupts=interrupts)
     engine: batch.Engine = partial(workers.run_here, options.workers or 1)
     if options.scheduler is not None:
         engine = partial(scheduler.run_there, options.scheduler)
-    sources = batch.county_tasks(request, options.data, options.counties, form.outputs, interrupts)
+    sources = batch.county_tasks(request, outputs, interrupts)
     store = files.enter_context(batch.part_store(table.final, options.resume))
-    tasks = [batch.part_task(source, form, store) for source in sources]
-    with rename_errors_to(table.final):
-        parts = batch.run_tasks(tasks, store, engine, options.progress, interrupts)
-    batch.collect_map(parts, content, interrupts)
-    return batch.table_parts(parts)
+    tasks = [batch.part_task(source, store) for source in sources]
+    return files.enter_context(closing(batch.run_tasks(tasks, store, engine, options.progress, interrupts)))
+
+
+def _added(counties: Iterable[CountyTexts], content: MapContent) -> Iterator[CountyTexts]:
+    """Yields the counties, and adds their segments to the map."""
+    for county in counties:
+        content.add_county(*county.texts[1:])
+        yield county
 
 
 def _draw(file: PendingFile, content: MapContent, options: argparse.Namespace, interrupts: Interrupts) -> None:
-    selected_by = options.where or os.path.basename(options.program or "") or "TRUE"
-    box = box_around(content.selected)
-    picture = (draw_svg if file.kind == ".svg" else draw_html)(
-        content.selected,
-        caption=f"{selected_by}: {_counted(len(content.selected))}",
-        by=options.map_by,
-        background=content.background(box, interrupts),
-        box=box,
-    )
+    caption = options.where or os.path.basename(options.program or "") or "TRUE"
+    score = (options.score or "score").upper() if options.map_by == "score" else None
+    drawn = content.drawing(caption, score, interrupts).file(file.kind)
     with rename_errors_to(file.final):
-        file.path.write_text(picture, encoding="utf-8")
-
-
-def _counted(segments: int) -> str:
-    return f"{segments} segment{'' if segments == 1 else 's'}"
+        file.path.write_bytes(drawn)
 
 
 SELECT = Subcommand(

@@ -1,13 +1,12 @@
-"""`tigerline serve` serves street segments as OGC API - Features, a collection for each county."""
+"""`tigerline serve` serves street segments as OGC API - Features."""
 
 import argparse
-import asyncio
 from dataclasses import replace
 from functools import partial
 
+from ..optional import required
 from ..service.application import application
 from ..service.selections import Limits
-from ..service.server import serve
 from .subcommand import Subcommand, add_counties, add_data, number_between
 
 LARGEST = 10**6
@@ -35,6 +34,7 @@ def add_options(parser: argparse.ArgumentParser) -> None:
 
 def run(options: argparse.Namespace) -> bytes:
     """Serves until Ctrl-C or SIGTERM."""
+    server = required("tigerline.service.server")  # This needs waitress.
     limits = replace(
         Limits(),
         processes=options.processes,
@@ -44,14 +44,14 @@ def run(options: argparse.Namespace) -> bytes:
         connections=options.connections,
     )
     service = application(options.data, options.counties, url=options.url, extractd=options.extractd, limits=limits)
-    asyncio.run(serve(service, options.host, options.port, limits, partial(print, flush=True)))
+    server.serve(service, options.host, options.port, limits, partial(print, flush=True))
     return b""
 
 
 SERVE = Subcommand(
     "serve",
     "serve segments over HTTP",
-    "Serves street segments as OGC API - Features, a collection for each county, until Ctrl-C or SIGTERM.",
+    "Serves street segments as OGC API - Features, by county, by state and all together, until Ctrl-C or SIGTERM.",
     "tigerline serve --data examples --port 8080",
     add_options,
     run,

@@ -7,11 +7,11 @@ from pathlib import Path
 
 from ..gdal import DRIVERS
 from ..geocoding.table_input import DELIMITERS, delimiter_of
+from ..maps import PICTURES
 from ..output import DATABASE, STANDARD_OUTPUT, is_file
 from ..terminal import visible
 
 DATA = "a folder with counties, searched with its subfolders, or a zip file"
-PICTURES = (".svg", ".html")
 
 
 @dataclass(frozen=True)
@@ -47,16 +47,32 @@ def add_extractd(parser: argparse.ArgumentParser) -> None:
     parser.add_argument("--extractd", metavar="FILE", help=extractd)
 
 
-def add_output_options(parser: argparse.ArgumentParser, units: str) -> None:
-    """Adds the options of a table that is written."""
-    parser.add_argument("--overwrite", action="store_true", help="replace the files if they exist")
-    parser.add_argument("--progress", action="store_true", help=f"show on standard error how many {units} are done")
+def add_output(parser: argparse.ArgumentParser, units: str, *suffixes: str, is_optional: bool = False) -> None:
+    """Adds OUT and its options. OUT is a file that GDAL writes or one with these suffixes, a database, or standard output."""
+    named = ", ".join(suffix for suffix in (*DRIVERS, *suffixes) if suffix.startswith("."))
+    forms = f"{named}, {DATABASE}.. for PostgreSQL, or - for CSV on standard output"
+
+    def table(text: str) -> str:
+        if is_file(text) and Path(text).suffix.lower() not in (*DRIVERS, *suffixes):
+            raise argparse.ArgumentTypeError(f"{text!r} is none of {forms}")
+        return text
+
+    add = parser.add_argument
+    if is_optional:
+        add("out", metavar="OUT", nargs="?", default=STANDARD_OUTPUT, type=table, help=f"{forms} (default)")
+    else:
+        add("out", metavar="OUT", type=table, help=forms)
+    add("--overwrite", action="store_true", help="replace the files if they exist")
+    add("--progress", action="store_true", help=f"show on standard error how many {units} are done")
     safe = "in CSV, write an apostrophe before texts that a spreadsheet takes for formulas, such as =1+1"
-    parser.add_argument("--safe-cells", action="store_true", help=safe)
+    add("--safe-cells", action="store_true", help=safe)
 
 
-def add_input_options(parser: argparse.ArgumentParser, example: str) -> None:
-    """Adds the options that say how a table is written that is read. `example` names columns."""
+def add_tables(parser: argparse.ArgumentParser, units: str, example: str) -> None:
+    """Adds the data, OUT, and the options of the table that is read. `example` names columns."""
+    add_output(parser, units, ".csv", ".txt", "", is_optional=True)
+    add_data(parser)
+    add_counties(parser)
     columns = f"the names of columns in the head line, if they aren't usual ones: {example}"
     parser.add_argument("--columns", metavar="COLUMN=NAME", action="append", default=[], help=columns)
     delimiter = f"the character between cells, or {', '.join(DELIMITERS)} (default: found by the first line)"
@@ -72,28 +88,10 @@ def _delimiter(text: str) -> str:
         raise argparse.ArgumentTypeError(str(error)) from None
 
 
-def add_table_out(parser: argparse.ArgumentParser, *suffixes: str, is_optional: bool = False) -> None:
-    """Adds OUT: a file that GDAL writes or one with these suffixes, a database, or standard output."""
-    named = ", ".join(suffix for suffix in (*DRIVERS, *suffixes) if suffix.startswith("."))
-    forms = f"{named}, {DATABASE}.. for PostgreSQL, or - for CSV on standard output"
-
-    def table(text: str) -> str:
-        if is_file(text) and Path(text).suffix.lower() not in (*DRIVERS, *suffixes):
-            raise argparse.ArgumentTypeError(f"{text!r} is none of {forms}")
-        return text
-
-    if is_optional:
-        parser.add_argument(
-            "out", metavar="OUT", nargs="?", default=STANDARD_OUTPUT, type=table, help=f"{forms} (default)"
-        )
-    else:
-        parser.add_argument("out", metavar="OUT", type=table, help=forms)
-
-
 def picture_out(text: str) -> Path:
     """Returns the path of a map."""
     if Path(text).suffix.lower() not in PICTURES:
-        raise argparse.ArgumentTypeError(f"{text!r} doesn't end with {' or '.join(PICTURES)}")
+        raise argparse.ArgumentTypeError(f"{text!r} doesn't end with {', '.join(PICTURES)}")
     return Path(text)
 
 
@@ -106,6 +104,11 @@ def number_between(low: int, high: int) -> Callable[[str], int]:
         return int(text)
 
     return number
+
+
+def counted(count: int, unit: str) -> str:
+    """Returns a count with its unit."""
+    return f"{count:,} {unit}{'' if count == 1 else 's'}"
 
 
 def written(out: str, summary: str) -> bytes:

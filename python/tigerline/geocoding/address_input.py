@@ -1,13 +1,13 @@
 """Reads addresses from CSV files: as the Census Bureau's batch geocoder takes them, with a head line, or as lines."""
 
 import warnings
-from collections.abc import Callable, Iterator, Mapping, Sequence
+from collections.abc import Iterator, Mapping, Sequence
 from dataclasses import dataclass, field, replace
 from typing import NamedTuple
 
 from ..interrupts import Interrupts
 from .one_line import parts_of
-from .table_input import TableFile, columns_by_name, key_of
+from .table_input import TableFile, key_of
 
 WHOLE_LINE = "\x1f"  # a delimiter that no file has
 
@@ -61,11 +61,10 @@ class AddressFile:
     def addresses(self, interrupts: Interrupts) -> Iterator[Address]:
         """Yields the addresses. Raises OSError with the line's number if a line isn't an address."""
         columns = self._columns()
-        count = len(columns)
-        address = self._reader({name: at for at, name in enumerate(columns)})
+        count, places = len(columns), {name: at for at, name in enumerate(columns)}
         for at, (line, row) in enumerate(self._table(count).rows(interrupts)):
             if at == 0 and self.has_head:
-                count, address = len(row), self._reader(self._places(row, line))
+                count, places = len(row), self._places(row, line)
                 continue
             while len(row) > count and not row[-1].strip():
                 row.pop()
@@ -77,7 +76,7 @@ class AddressFile:
                     f"{self.table.name}: line {line} was taken for an address; is it a head line (--header)?",
                     stacklevel=2,
                 )
-            yield address(row, line)
+            yield self._address(row, line, places)
 
     def _columns(self) -> tuple[str, ...]:
         """Returns the columns of a file without a head line."""
@@ -94,10 +93,7 @@ class AddressFile:
     def _places(self, head: list[str], line: int) -> dict[str, int]:
         """Returns the places of the columns of an address in the rows."""
         usual, required = (USUAL_ONE_LINE_NAMES, "address") if self.is_one_line else (USUAL_NAMES, "street")
-        try:
-            places = columns_by_name(head, usual, self.named)
-        except ValueError as error:
-            raise OSError(f"{self.table.name}: line {line}, the head line: {error}") from None
+        places = self.table.places(head, line, usual, self.named)
         if required not in places:
             raise OSError(
                 f"{self.table.name}: line {line}, the head line, has no column {required}, but {', '.join(head)}: "
@@ -120,19 +116,13 @@ class AddressFile:
             return f"{expected}; a cell with the delimiter in it needs quotation marks"
         return expected
 
-    def _reader(self, places: Mapping[str, int]) -> Callable[[list[str], int], Address]:
-        """Returns a function that returns the address of a row. Without an id, the line's number is the id."""
-        identifier, address = places.get("id", -1), places.get("address", -1)
-        others = [places.get(name, -1) for name in COLUMNS[1:]]
-
-        def of_columns(row: list[str], line: int) -> Address:
-            cells = [row[at] if at >= 0 else "" for at in others]
-            return Address(row[identifier] if identifier >= 0 else str(line), *cells)
-
-        def of_one_line(row: list[str], line: int) -> Address:
-            return Address(row[identifier] if identifier >= 0 else str(line), *parts_of(row[address]))
-
-        return of_one_line if self.is_one_line else of_columns
+    def _address(self, row: list[str], line: int, places: Mapping[str, int]) -> Address:
+        """Returns the address of a row. Without an id, the line's number is the id."""
+        cells = {name: row[at] for name, at in places.items()}
+        identifier = cells.get("id", str(line))
+        if self.is_one_line:
+            return Address(identifier, *parts_of(cells["address"]))
+        return Address(identifier, *(cells.get(name, "") for name in COLUMNS[1:]))
 
 
 def _looks_like_head(row: Sequence[str]) -> bool:

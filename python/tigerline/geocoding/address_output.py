@@ -9,18 +9,12 @@ from ..gdal import DRIVERS
 from ..interrupts import Interrupts
 from ..output import PendingFile
 from .match import Candidate, Match
-from .point_output import Column, Point, write_points
+from .point_output import Point, write_points
 
-CANDIDATE = "Candidate"
 # The columns of the Census Bureau's batch geocoder.
 CENSUS_COLUMNS = ("id", "address", "match", "exact", "matched_address", "coordinates", "tlid", "side")
 REASON_COLUMNS = ("reason", "hint")
 PLACE_COLUMNS = ("longitude", "latitude")
-POINT_COLUMNS = (
-    Column("id"), Column("address"), Column("match"), Column("exact"), Column("matched_address"),
-    Column("longitude", "Real"), Column("latitude", "Real"), Column("tlid", "Integer64"), Column("side"),
-    Column("county"), Column("reason"), Column("hint"),
-)  # fmt: skip
 
 
 class Form(NamedTuple):
@@ -38,15 +32,20 @@ class Line(NamedTuple):
     id: str
     address: str
     match: str
-    reason: str
     exact: str = ""
-    matched: str = ""
+    matched_address: str = ""
     longitude: str = ""
     latitude: str = ""
     tlid: str = ""
     side: str = ""
     county: str = ""
+    reason: str = ""
     hint: str = ""
+
+    @property
+    def point(self) -> Point:
+        """The line as a point."""
+        return Point(self, (float(self.longitude), float(self.latitude)) if self.longitude else None)
 
 
 def write_matches(file: PendingFile, matches: Iterable[Match], form: Form, interrupts: Interrupts) -> str:
@@ -57,7 +56,7 @@ def write_matches(file: PendingFile, matches: Iterable[Match], form: Form, inter
         rows = _census_rows(lines, form)
         write_csv(file.path, rows, interrupts, safe_cells=form.safe_cells, quotes_all=True)
         return _summary(counts)
-    left_out = write_points(file, POINT_COLUMNS, map(_point, lines), "match", interrupts)
+    left_out = write_points(file, Line._fields, (line.point for line in lines), "match", interrupts)
     return _summary(counts) + (
         f"; FlatGeobuf has no features without a place, so {left_out} left out" if left_out else ""
     )
@@ -66,12 +65,12 @@ def write_matches(file: PendingFile, matches: Iterable[Match], form: Form, inter
 def lines_of(match: Match, has_candidates: bool) -> Iterator[Line]:
     """Yields the line of a match, and those of its candidates."""
     address = ", ".join(cell.strip() for cell in match.address[1:])
-    line = Line(match.address.id, address, match.status.value, " ".join(match.reasons))
+    line = Line(match.address.id, address, match.status.value, reason=" ".join(match.reasons))
     yield _with_place(line._replace(hint=match.hint or ""), match, match.is_exact)
     if has_candidates:
         for candidate in match.candidates:
             reason = " ".join(candidate.reasons)
-            yield _with_place(line._replace(match=CANDIDATE, reason=reason), candidate, not candidate.reasons)
+            yield _with_place(line._replace(match="Candidate", reason=reason), candidate, not candidate.reasons)
 
 
 def _with_place(line: Line, found: Match | Candidate, is_exact: bool) -> Line:
@@ -79,7 +78,7 @@ def _with_place(line: Line, found: Match | Candidate, is_exact: bool) -> Line:
         return line
     return line._replace(
         exact="Exact" if is_exact else "Non_Exact",
-        matched=found.matched or "",
+        matched_address=found.matched or "",
         longitude=f"{found.longitude:.6f}",
         latitude=f"{found.latitude:.6f}",
         tlid="" if found.tlid is None else str(found.tlid),
@@ -101,7 +100,7 @@ def census_row(line: Line, form: Form) -> list[str]:
     """
     row = [line.id, line.address, line.match]
     if line.longitude:
-        row += [line.exact, line.matched, f"{line.longitude},{line.latitude}", line.tlid, line.side]
+        row += [line.exact, line.matched_address, f"{line.longitude},{line.latitude}", line.tlid, line.side]
     elif form.has_head or form.has_reasons:
         row += [""] * (len(CENSUS_COLUMNS) - len(row))
     if form.has_reasons:
@@ -109,13 +108,6 @@ def census_row(line: Line, form: Form) -> list[str]:
     if form.has_head:
         row += [line.longitude, line.latitude]
     return row
-
-
-def _point(line: Line) -> Point:
-    place = (float(line.longitude), float(line.latitude)) if line.longitude else None
-    row = (line.id, line.address, line.match, line.exact, line.matched)
-    further = (line.longitude, line.latitude, line.tlid, line.side, line.county, line.reason, line.hint)
-    return Point((*row, *further), place)
 
 
 def _counted(matches: Iterable[Match], counts: Counter[str]) -> Iterator[Match]:
@@ -128,8 +120,8 @@ def _counted(matches: Iterable[Match], counts: Counter[str]) -> Iterator[Match]:
 def _summary(counts: Counter[str]) -> str:
     """Returns how many addresses have each kind of match."""
     matched = counts["exact"] + counts["Match"]
-    addresses = f"{counts.total()} address{'' if counts.total() == 1 else 'es'}"
+    addresses = f"{counts.total():,} address{'' if counts.total() == 1 else 'es'}"
     return (
-        f"{addresses}: {matched} matched, {counts['exact']} of them exactly; "
-        f"{counts['Tie']} tied, {counts['No_Match']} not matched"
+        f"{addresses}: {matched:,} matched, {counts['exact']:,} of them exactly; "
+        f"{counts['Tie']:,} tied, {counts['No_Match']:,} not matched"
     )

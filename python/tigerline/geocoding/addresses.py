@@ -9,7 +9,7 @@ from typing import NamedTuple
 
 from .clean import cleaned, without_town
 from .hyphens import is_range, plain_number
-from .words import DIRECTIONS, PARTS_OF_HOUSES, TYPES, UNITS, other_spellings, route_names
+from .words import DIRECTIONS, PARTS_OF_HOUSES, TYPES, UNITS, other_spellings, route_names, word_key, word_keys
 
 LONGEST_NAME = 30  # characters of the field FENAME
 LONGEST_NUMBER = 11  # digits
@@ -133,7 +133,7 @@ def parse_street(text: str, state: str = "", town: tuple[str, ...] = ()) -> Stre
     """
     clean = cleaned(unicodedata.normalize("NFC", text))
     given = re.sub(r"#\s+", "#", re.sub(r"(?<=\w)#", " #", clean.text)) if "#" in clean.text else clean.text
-    pairs = [(word, key) for word in given.replace(",", ", ").split() if (key := _key(word))]
+    pairs = [(word, key) for word in given.replace(",", ", ").split() if (key := word_key(word))]
     words, keys = [word for word, _ in pairs], [key for _, key in pairs]
     if _BOX.fullmatch(" ".join(keys)):
         return Reason.PO_BOX_OR_RURAL_ROUTE
@@ -181,7 +181,7 @@ def _streets(words: list[str], town: tuple[str, ...]) -> Iterator[tuple[list[str
     alone = without_town(words, town)
     if len(alone) < len(words):
         yield from ((way, (Reason.EXTRA_WORDS,)) for way in _ways(alone))
-    if len(words) > 1 and re.fullmatch(r"[A-Z](?<![NSEW])", _key(words[0])):
+    if len(words) > 1 and re.fullmatch(r"[A-Z](?<![NSEW])", word_key(words[0])):
         yield from ((way, (Reason.NUMBER_SUFFIX,)) for way in _ways(words[1:]))
 
 
@@ -192,11 +192,6 @@ def _crossing(text: str, state: str) -> Crossing | None:
         return None
     first, second = (_readings(tuple(part), state) for part in parts)
     return Crossing((first, second)) if first and second else None
-
-
-def _key(word: str) -> str:
-    """Returns a word in capitals, without dots and commas: `N.E.,` becomes `NE`."""
-    return word.replace(".", "").strip(",;").upper()
 
 
 def _number(keys: list[str]) -> int | Reason:
@@ -221,7 +216,7 @@ def _number(keys: list[str]) -> int | Reason:
 
 def _ways(words: list[str]) -> Iterator[list[str]]:
     """Yields the words of a street without its units, and then with them, since a street may be called `Lot 5`."""
-    count = _without_unit([_key(word) for word in words])
+    count = _without_unit(word_keys(words))
     yield words[:count]
     if count < len(words) and not any("#" in word for word in words[count:]):
         yield words
@@ -257,7 +252,7 @@ def _is_unit_value(key: str) -> bool:
 @lru_cache(maxsize=10_000)
 def _readings(words: tuple[str, ...], state: str) -> tuple[Reading, ...]:
     """Returns the readings of a street without number and unit, starting with those that state the most parts."""
-    keys = [_key(word) for word in words]
+    keys = word_keys(words)
     found = []
     for predir, first in _directions_at_start(keys):
         for sufdir, after in _directions_at_end(keys):
@@ -267,11 +262,7 @@ def _readings(words: tuple[str, ...], state: str) -> tuple[Reading, ...]:
                     for name, is_other in _names(words[first:last], state)
                     if len(name) <= LONGEST_NAME
                 ]
-    return tuple(sorted(found, key=lambda reading: -_parts(reading)))
-
-
-def _parts(reading: Reading) -> int:
-    return bool(reading.predir) + bool(reading.type) + bool(reading.sufdir)
+    return tuple(sorted(found, key=lambda reading: -sum(map(bool, reading.parts))))
 
 
 def _directions_at_start(keys: list[str]) -> Iterator[tuple[str, int]]:
@@ -307,7 +298,7 @@ def _names(words: Sequence[str], state: str) -> Iterator[tuple[str, bool]]:
         yield name.replace(".", ""), False
     for text in other_spellings([word.strip(",;.") for word in words]):
         yield text, False
-    same, other = route_names(" ".join(_key(word) for word in words), state)
+    same, other = route_names(" ".join(word_keys(words)), state)
     for text in same:
         yield text, False
     for text in other:

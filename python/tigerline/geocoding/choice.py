@@ -36,11 +36,6 @@ class Hit(NamedTuple):
         return (self.longitude, self.latitude) if self.longitude else None
 
     @property
-    def is_hyphenated(self) -> bool:
-        """Whether the ends of the range are hyphenated."""
-        return "-" in self.first
-
-    @property
     def street(self) -> str:
         """The street in the data's spelling."""
         return " ".join(part for part in (self.fedirp, self.fename, self.fetype, self.fedirs) if part)
@@ -114,7 +109,7 @@ class Answer:
             self._refuse((_IN_OTHER_STATE, 0, 0), found, (Reason.OTHER_STATE,))
             return
         town = compare_towns(self.wanted, hit.zip, hit.cities)
-        if not town.agrees:
+        if town > Town.NOT_STATED:  # A place in such a town can't be that of the address.
             self._refuse((town, stage, missing), found, self._of_town(town, hit) + found.lacks)
             return
         rank = (stage, town.rank, missing)

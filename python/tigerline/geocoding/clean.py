@@ -4,7 +4,7 @@ import re
 from collections.abc import Sequence
 from typing import NamedTuple
 
-from .words import UNITS
+from .words import UNITS, word_keys
 
 LONGEST = 300  # Longer strings are no addresses, and the patterns would take long.
 _FRACTIONS = "¼½¾⅓⅔⅛⅜⅝⅞"
@@ -64,11 +64,7 @@ def without_town(words: list[str], town: Sequence[str]) -> list[str]:
     """Returns the words without the city, state and ZIP Code of the address, as far as they are repeated at the end."""
     count = len(words)
     for cell in reversed(town):
-        repeated = _keys(cell.split())
-        if repeated and count - len(repeated) > 1 and _keys(words[count - len(repeated) : count]) == repeated:
+        repeated = word_keys(cell.split())
+        if repeated and count - len(repeated) > 1 and word_keys(words[count - len(repeated) : count]) == repeated:
             count -= len(repeated)
     return words[:count]
-
-
-def _keys(words: list[str]) -> list[str]:
-    return [word.strip(",;.").replace(".", "").upper() for word in words]

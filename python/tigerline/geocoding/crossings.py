@@ -5,16 +5,15 @@ from collections.abc import Iterable, Sequence
 from pathlib import Path
 from typing import NamedTuple
 
-from ..layout import FIELDS, coordinate
+from ..layout import PLACES, coordinate
 from .addresses import Crossing, Reading, Reason
 from .choice import Answer, Found, Hit, compare_street
 from .street_names import AREAS, STREET, TLID, StreetName, other_names, records, street_name
 from .towns import Cities
 
-_PLACES = {field.name: field.bytes for field in FIELDS}
-_CFCC = _PLACES["CFCC"].start
+_CFCC = PLACES["CFCC"].start
 _ROAD = ord("A")
-_ENDS = tuple((_PLACES[f"{end}LONG"], _PLACES[f"{end}LAT"]) for end in ("FR", "TO"))
+_ENDS = tuple((PLACES[f"{end}LONG"], PLACES[f"{end}LAT"]) for end in ("FR", "TO"))
 
 Place = tuple[str, str]
 

@@ -113,13 +113,6 @@ def _candidates(street: Street | Crossing, found: Iterable[Found]) -> tuple[Cand
 
 def _candidate(street: Street | Crossing, found: Found) -> Candidate:
     hit = found.hit
-    number = f"{street.written(hit.is_hyphenated)} " if isinstance(street, Street) else ""
-    return Candidate(
-        found.lacks,
-        f"{number}{hit.street}, {hit.town}".upper(),
-        float(hit.longitude),
-        float(hit.latitude),
-        int(hit.tlid),
-        hit.side,
-        hit.county,
-    )
+    number = street.written("-" in hit.first) + " " if isinstance(street, Street) else ""
+    place = float(hit.longitude), float(hit.latitude), int(hit.tlid), hit.side, hit.county
+    return Candidate(found.lacks, f"{number}{hit.street}, {hit.town}".upper(), *place)

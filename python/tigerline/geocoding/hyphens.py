@@ -8,15 +8,14 @@ the copy isn't proved.
 import re
 from pathlib import Path
 
-from ..layout import FIELDS
+from ..layout import PLACES
 
 SHIFT = 100_000  # Even, so that a number keeps the parity of its last part.
 LONGEST_PART = 5  # digits; with the hyphen, two parts are as long as a field.
-_PLACES = {field.name: field.bytes for field in FIELDS}
 _END = re.compile(rb" *([0-9]{1,5})-([0-9]{1,5}) *")
 _WIDTH = 11
 # Where the range of the left side begins. That of the right side follows it.
-_RANGES = {"1": _PLACES["FRADDL"].start, "6": 18}
+_RANGES = {"1": PLACES["FRADDL"].start, "6": 18}
 
 
 def is_range(first: str, second: str) -> bool:

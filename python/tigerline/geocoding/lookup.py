@@ -5,7 +5,7 @@ import io
 import warnings
 from collections import defaultdict
 from collections.abc import Iterable, Iterator, Sequence, Set
-from contextlib import ExitStack, contextmanager
+from contextlib import contextmanager
 from dataclasses import dataclass, field
 from pathlib import Path
 from typing import NamedTuple
@@ -14,7 +14,7 @@ from ..extract import with_own_paths
 from ..interrupts import Interrupts
 from ..program import run
 from ..scratch import scratch_folder
-from ..sources import County, has_shapes, opened_county
+from ..sources import County, county_files, has_shapes, missing_names
 from .addresses import Crossing, Reading, Street
 from .choice import Answer, Hit
 from .crossings import add_crossings, read_ends
@@ -22,14 +22,9 @@ from .hyphens import copy_county, hyphenated
 from .street_names import OTHER_NAMES, Streets, name_key, street_names
 from .towns import Cities
 
-RECORD_TYPES = "1456C"
-WITH_SHAPES = "12456C"
 NO_PARTS = ("", "", "")
 QUESTION_COLUMNS = ("id", "number", "name", "predir", "type", "sufdir")
-HIT_COLUMNS = (
-    "id", "status", "reason", "longitude", "latitude", "tlid", "side", "fedirp", "fename", "fetype", "fedirs", "zip",
-    "county", "from", "to",
-)  # fmt: skip
+HIT_COLUMNS = ("id", "status", "reason", *Hit._fields[: Hit._fields.index("first")], "from", "to")
 ID, REASON, FIRST_FIELD, TLID, SIDE = map(HIT_COLUMNS.index, ("id", "reason", "longitude", "tlid", "side"))
 Asked = tuple[Street, Answer]
 # A house number, a name, and the directions and the type that it must have.
@@ -117,12 +112,11 @@ class Lookup:
 
     @contextmanager
     def _opened(self, county: County, order: int, interrupts: Interrupts) -> Iterator[OpenCounty]:
-        with ExitStack() as stack:
-            with warnings.catch_warnings():
-                if self.has_warned_of_files:
-                    warnings.simplefilter("ignore", UserWarning)
-                types = WITH_SHAPES if has_shapes(county) else RECORD_TYPES
-                files = stack.enter_context(opened_county(county, types, interrupts))
+        types = "12456C" if has_shapes(county) else "1456C"
+        with county_files(county, types, interrupts) as files:
+            missing = missing_names(county, files)
+            if missing and not self.has_warned_of_files:
+                warnings.warn(missing, stacklevel=2)
             name = str(county.files.get("C") or county.archive)
             if "C" not in files:
                 self._without_cities.add(county.code)
@@ -130,14 +124,12 @@ class Lookup:
 
     def _warn_of_cities(self, addresses: Sequence[Asked]) -> None:
         """Warns once if an address has no match since the cities of a county aren't known."""
-        if self.has_warned_of_cities:
-            return
-        for _, answer in addresses:
-            for found in answer.refused if answer.wanted.city and not answer.found else ():
-                if found.hit.county in self._without_cities:
-                    self.has_warned_of_cities = True
-                    warnings.warn(f"TGR{found.hit.county}.RTC is missing: cities can't be compared", stacklevel=2)
-                    return
+        lacking = [answer for _, answer in addresses if answer.wanted.city and not answer.found]
+        counties = [found.hit.county for answer in lacking for found in answer.refused]
+        unknown = [code for code in counties if code in self._without_cities]
+        if unknown and not self.has_warned_of_cities:
+            self.has_warned_of_cities = True
+            warnings.warn(f"TGR{unknown[0]}.RTC is missing: cities can't be compared", stacklevel=2)
 
     def _geocode_readings(self, opened: OpenCounty, asked: tuple[Questions, Questions], interrupts: Interrupts) -> None:
         """Geocodes plain numbers in a county, and hyphenated ones in its copy with plain numbers.
@@ -148,36 +140,31 @@ class Lookup:
             return
         names = street_names(opened.files)
         plain, with_hyphen = (questions.of(names) for questions in asked)
-        self._run(opened, opened.files, plain, interrupts)
+        self._run(opened, plain, interrupts)
         if with_hyphen:
             with scratch_folder() as folder:
-                self._run(opened, copy_county(opened.files, folder), with_hyphen, interrupts, is_copy=True)
+                copy = opened._replace(files=copy_county(opened.files, folder))
+                self._run(copy, with_hyphen, interrupts, is_copy=True)
 
     def _run(
-        self,
-        opened: OpenCounty,
-        files: dict[str, Path],
-        questions: dict[Question, list[Asker]],
-        interrupts: Interrupts,
-        is_copy: bool = False,
+        self, opened: OpenCounty, questions: dict[Question, list[Asker]], interrupts: Interrupts, is_copy: bool = False
     ) -> None:
         """Runs the program for a county or its copy."""
-        county = opened.county
+        county, files = opened.county, opened.files
         shape = ["--shape"] if "2" in files else []
         command = [self.program, "geocode-batch", "--addresses", "-", *shape, "--data", str(files["1"].parent)]
-        command.append(county.code)
         try:
-            output = run(command, interrupts, standard_input=_csv_of(questions), county=county.code)
+            given = _csv_of(questions)
+            output = run([*command, county.code], interrupts, standard_input=given, county=county.code)
         except OSError as error:
             raise with_own_paths(error, county, files) from None
-        hits = _hits(output, opened, files, is_copy)
-        _give(questions, hits, opened)
+        _give(questions, _hits(output, opened, is_copy), opened)
 
 
-def _hits(output: bytes, opened: OpenCounty, files: dict[str, Path], is_copy: bool) -> dict[int, list[Hit]]:
+def _hits(output: bytes, opened: OpenCounty, is_copy: bool) -> dict[int, list[Hit]]:
     """Returns the hits of each question whose street exists, with the names of their cities."""
     lines = read_lines(output)
-    cities = opened.cities.of_segments(files["1"], {line[TLID] for line in lines if line[TLID]})
+    cities = opened.cities.of_segments(opened.files["1"], {line[TLID] for line in lines if line[TLID]})
     hits: dict[int, list[Hit]] = {}
     for line in lines:
         if line[TLID]:

@@ -10,13 +10,7 @@ from ..optional import required
 from ..tuples import Point
 from .streets import Range, Street
 
-
-class Foot(NamedTuple):
-    """The point of a line that is nearest to the origin: how far it is, its piece, and its place on it, 0 to 1."""
-
-    distance: float
-    piece: int
-    along: float
+CENTIMETER = 0.01  # less than a piece of a street
 
 
 class Beside(NamedTuple):
@@ -59,7 +53,7 @@ class StreetIndex:
         box = self._line([(longitude - east, latitude - north), (longitude + east, latitude + north)])
         best: Beside | None = None
         for at in sorted(self._near(box)):
-            beside = _beside(self._streets[at], point, scales, distance if best is None else best.distance + 0.01)
+            beside = _beside(self._streets[at], point, scales, distance if best is None else best.distance + CENTIMETER)
             if beside is not None and (best is None or beside.order < best.order):
                 best = beside
         return best
@@ -74,44 +68,23 @@ def meters_per_degree(latitude: float) -> tuple[float, float]:
 
 def _beside(street: Street, point: Point, scales: tuple[float, float], distance: float) -> Beside | None:
     """Returns how a street lies beside a point, or None if it is further away than the distance."""
-    (longitude, latitude), (x_scale, y_scale) = point, scales
-    line = [((x - longitude) * x_scale, (y - latitude) * y_scale) for x, y in street.line]
-    foot = foot_of(line)
-    if foot.distance > distance:
+    line = [((x - point[0]) * scales[0], (y - point[1]) * scales[1]) for x, y in street.line]
+    pieces, length = [], 0.0
+    for (x, y), end in pairwise(line):
+        size = math.dist((x, y), end)
+        east, north = (end[0] - x) / size, (end[1] - y) / size
+        along = min(max(-x * east - y * north, 0.0), size)
+        foot = x + along * east, y + along * north
+        pieces.append((math.hypot(*foot), length + along, foot, (east, north)))
+        length += size
+    nearest, before, (x, y), _ = min(pieces)
+    if nearest > distance:
         return None
-    (x, y), (to_x, to_y) = line[foot.piece], line[foot.piece + 1]
-    x, y = x + foot.along * (to_x - x), y + foot.along * (to_y - y)
-    east, north = _direction(line, foot)
-    left = north * x - east * y  # how far the origin is to the left of this direction
-    lengths = [math.dist(start, end) for start, end in pairwise(line)]
-    before = sum(lengths[: foot.piece]) + foot.along * lengths[foot.piece]
-    return Beside(foot.distance, abs(left), left >= 0, before / sum(lengths), street)
-
-
-def foot_of(line: Sequence[Point]) -> Foot:
-    """Returns the point of a line that is nearest to the origin, the first of several."""
-    best = Foot(math.inf, 0, 0)
-    for piece, ((x, y), (to_x, to_y)) in enumerate(pairwise(line)):
-        east, north = to_x - x, to_y - y
-        along = -(x * east + y * north) / (east * east + north * north)
-        along = min(max(along, 0.0), 1.0)
-        distance = math.hypot(x + along * east, y + along * north)
-        if distance < best.distance:
-            best = Foot(distance, piece, along)
-    return best
-
-
-def _direction(line: Sequence[Point], foot: Foot) -> Point:
-    """Returns the direction of a line at a point. At a bend it is the mean of those of both pieces."""
-    first = foot.piece - 1 if foot.along == 0 and foot.piece > 0 else foot.piece
-    last = foot.piece + 1 if foot.along == 1 and foot.piece + 2 < len(line) else foot.piece
-    directions = []
-    for (x, y), (to_x, to_y) in pairwise(line[first : last + 2]):
-        length = math.hypot(to_x - x, to_y - y)
-        directions.append(((to_x - x) / length, (to_y - y) / length))
-    east, north = (sum(parts) for parts in zip(*directions))
-    length = math.hypot(east, north) or 1
-    return east / length, north / length
+    # At a bend, the direction is the mean of those of both pieces.
+    directions = [direction for _, place, _, direction in pieces if abs(place - before) < CENTIMETER]
+    east, north = map(sum, zip(*directions))
+    left = (north * x - east * y) / (math.hypot(east, north) or 1)  # how far the origin is to the left
+    return Beside(nearest, abs(left), left >= 0, before / length, street)
 
 
 def house_number(ranges: Sequence[Range], share: float) -> tuple[int | None, str]:

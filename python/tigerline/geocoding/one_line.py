@@ -2,9 +2,9 @@
 
 import re
 from collections.abc import Sequence
-from typing import NamedTuple
 
-from .words import DIRECTIONS, PARTS_OF_HOUSES, STATE_NAMES, TYPES, UNITS
+from ..sources import STATE_NAMES
+from .words import DIRECTIONS, PARTS_OF_HOUSES, TYPES, UNITS, word_keys
 
 LONGEST_STATE = 3  # words
 # Types that end a street, and are hardly ever in the name of a city.
@@ -18,17 +18,8 @@ _ZIP = re.compile(r"(?<![0-9-])([0-9]{5}(?:[- ]?[0-9]{4})?)(?:\.0+)?$")
 _ROUTE_NUMBER = re.compile(r"[0-9]{1,4}[A-Z]?")
 
 
-class Parts(NamedTuple):
-    """The parts of an address; those that it doesn't have are empty."""
-
-    street: str
-    city: str
-    state: str
-    zip: str
-
-
-def parts_of(text: str) -> Parts:
-    """Returns the parts of an address.
+def parts_of(text: str) -> tuple[str, str, str, str]:
+    """Returns the street, the city, the state and the ZIP Code of an address; those that it doesn't have are empty.
 
     What is behind the last comma is the city. Without a comma, the city begins behind the last word that is a type such
     as `St` or `Rd`, the directions and the unit; an address without such a word has no city.
@@ -41,16 +32,12 @@ def parts_of(text: str) -> Parts:
     rest, state = _without_state(rest)
     pieces = [piece.strip() for piece in rest.split(",") if piece.strip()]
     if len(pieces) > 1:
-        is_unit = _unit_length(_keys(pieces[-1].split())) > 0
+        is_unit = _unit_length(word_keys(pieces[-1].split())) > 0
         street, city = (pieces, "") if is_unit else (pieces[:-1], pieces[-1])
-        return Parts(", ".join(street), city, state, zip_code)
+        return ", ".join(street), city, state, zip_code
     words = rest.split()
-    end = _end_of_street(_keys(words))
-    return Parts(" ".join(words[:end]), " ".join(words[end:]), state, zip_code)
-
-
-def _keys(words: Sequence[str]) -> list[str]:
-    return [word.replace(".", "").strip(",;").upper() for word in words]
+    end = _end_of_street(word_keys(words))
+    return " ".join(words[:end]), " ".join(words[end:]), state, zip_code
 
 
 def _without_state(text: str) -> tuple[str, str]:
@@ -58,7 +45,7 @@ def _without_state(text: str) -> tuple[str, str]:
     words = text.split()
     for count in range(LONGEST_STATE, 0, -1):
         before, last = words[:-count], words[-count:]
-        key = " ".join(_keys(last))
+        key = " ".join(word_keys(last))
         if before and key in STATE_NAMES and _is_no_type(key, before):
             return " ".join(before).rstrip(" ,;"), " ".join(last).strip(",;")
     return text, ""
@@ -68,7 +55,7 @@ def _is_no_type(key: str, before: Sequence[str]) -> bool:
     """Returns whether a word such as CT or NE is a state: behind a comma, or if a street ends before it."""
     if key not in TYPES and key not in DIRECTIONS:
         return True
-    return bool(before) and (before[-1].endswith(",") or any(word in _ENDS for word in _keys(before)[2:]))
+    return bool(before) and (before[-1].endswith(",") or any(word in _ENDS for word in word_keys(before)[2:]))
 
 
 def _end_of_street(keys: Sequence[str]) -> int:

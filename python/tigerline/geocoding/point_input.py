@@ -6,7 +6,7 @@ from dataclasses import dataclass
 from typing import NamedTuple
 
 from ..interrupts import Interrupts
-from .table_input import TableFile, columns_by_name
+from .table_input import TableFile
 
 POINT_COLUMNS = {
     "id": ("id", "uniqueid", "pointid", "recordid", "objectid", "fid"),
@@ -41,31 +41,27 @@ class PointFile:
 
     def points(self, interrupts: Interrupts) -> Iterator[GivenPoint]:
         """Yields the points. Raises OSError with the line and the cell if a line isn't a point."""
-        columns: dict[str, int] | None = None
+        columns: dict[str, int] = {}
         for line, row in self.table.rows(interrupts):
-            if columns is None:
-                columns = self._columns_of_head(row, line)
-                if columns is not None:
+            if not columns:
+                columns, is_head = self._columns(row, line)
+                if is_head:
                     continue
-                columns = self._columns_without_head(row, line)
             identifier = row[columns["id"]] if columns.get("id", len(row)) < len(row) else str(line)
             yield GivenPoint(identifier, self._place(row, columns, line))
 
-    def _columns_of_head(self, row: list[str], line: int) -> dict[str, int] | None:
-        try:
-            columns = columns_by_name(row, POINT_COLUMNS, self.named)
-        except ValueError as error:
-            raise OSError(f"{self.table.name}: line {line}, the head line: {error}") from None
-        return columns if {"longitude", "latitude"} <= columns.keys() else None
-
-    def _columns_without_head(self, row: list[str], line: int) -> dict[str, int]:
-        names = {2: ("longitude", "latitude"), 3: ("id", "longitude", "latitude")}.get(len(row))
-        if names is None or not _is_number(row[-1]) or not _is_number(row[-2]):
+    def _columns(self, first: list[str], line: int) -> tuple[dict[str, int], bool]:
+        """Returns the places of the columns, and whether the first line is a head line."""
+        columns = self.table.places(first, line, POINT_COLUMNS, self.named)
+        if {"longitude", "latitude"} <= columns.keys():
+            return columns, True
+        names = tuple(POINT_COLUMNS)[-len(first) :]
+        if len(first) not in (2, 3) or not all(map(_is_number, first[-2:])):
             raise OSError(
-                f"{self.table.name}: line {line} has no columns longitude and latitude, but {', '.join(row)}: "
+                f"{self.table.name}: line {line} has no columns longitude and latitude, but {', '.join(first)}: "
                 "name them, as in --columns longitude=X,latitude=Y"
             )
-        return {name: at for at, name in enumerate(names)}
+        return {name: at for at, name in enumerate(names)}, False
 
     def _place(self, row: list[str], columns: dict[str, int], line: int) -> Place:
         degrees = []

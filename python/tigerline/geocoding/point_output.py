@@ -17,15 +17,12 @@ GDAL_OPTIONS = (
     f"-nln {LAYER} -nlt POINT -a_srs {CRS} -oo EMPTY_STRING_AS_NULL=YES -oo GEOM_POSSIBLE_NAMES=geom"
     " -oo KEEP_GEOM_COLUMNS=NO"
 )
+# GDAL's types of the columns that aren't texts.
+TYPES = {
+    "longitude": "Real", "latitude": "Real", "distance": "Real", "number": "Integer64", "tlid": "Integer64"
+}  # fmt: skip
 # GDAL ends a text at NUL and reads CR as a line end.
 READABLE = str.maketrans("\0\r", "??")
-
-
-class Column(NamedTuple):
-    """A column of points, and GDAL's type of its values."""
-
-    name: str
-    type: str = "String"
 
 
 class Point(NamedTuple):
@@ -37,7 +34,7 @@ class Point(NamedTuple):
 
 def write_points(
     file: PendingFile,
-    columns: Sequence[Column],
+    columns: Sequence[str],
     points: Iterable[Point],
     full: str,
     interrupts: Interrupts,
@@ -47,19 +44,18 @@ def write_points(
 
     FlatGeobuf has no features without a place, so these are left out. `full` is a column that has no empty cells.
     """
-    names = [column.name for column in columns]
     if file.kind not in DRIVERS:
-        rows = chain([names], (point.values for point in points))
+        rows = chain([columns], (point.values for point in points))
         write_csv(file.path, rows, interrupts, safe_cells=safe_cells)
         return 0
     counts: Counter[str] = Counter()
     with scratch_folder() as scratch:
         source = scratch / f"{LAYER}.csv"
         with rename_errors_to(source):
-            rows = chain([[*names, "geom"]], _rows_for_gdal(points, file.kind != ".fgb", counts))
+            rows = chain([[*columns, "geom"]], _rows_for_gdal(points, file.kind != ".fgb", counts))
             write_csv(source, rows, interrupts)
-            types = ",".join(column.type for column in columns)
-            source.with_suffix(".csvt").write_text(f"{types},String\n")
+            types = [TYPES.get(column, "String") for column in (*columns, "geom")]
+            source.with_suffix(".csvt").write_text(",".join(types) + "\n")
         write_layer(file, source, LAYER, full, GDAL_OPTIONS.split(), interrupts, (), lambda: counts["written"])
     return counts["left out"]
 

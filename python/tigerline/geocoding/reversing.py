@@ -12,7 +12,7 @@ from ..interrupts import Interrupts
 from ..optional import required
 from ..program import PathLike, find_program
 from ..progress import with_progress
-from ..sources import County, counties_in
+from ..sources import counties_in
 from .nearest import Beside, StreetIndex, house_number, meters_per_degree
 from .point_input import Place, checked
 from .streets import Street, read_streets
@@ -89,20 +89,14 @@ def streets_of(
         best: list[Beside | None] = [None] * len(part)
         for county in with_progress(chosen, len(chosen), "county", progress):
             with active_interrupts(interrupts) as held:
-                _find(part, best, program, county, distance, held)
+                _find(part, best, read_streets(program, county, held), distance, held)
         yield from map(_nearest, best)
 
 
 def _find(
-    points: Sequence[Place],
-    best: list[Beside | None],
-    program: str,
-    county: County,
-    distance: float,
-    interrupts: Interrupts,
+    points: Sequence[Place], best: list[Beside | None], streets: list[Street], distance: float, interrupts: Interrupts
 ) -> None:
     """Replaces the streets of points by nearer ones of a county."""
-    streets = read_streets(program, county, interrupts)
     chosen = _points_near(points, streets, distance)
     if not chosen:
         return
@@ -136,14 +130,5 @@ def _nearest(beside: Beside | None) -> Nearest | None:
     street = beside.street
     side = street.left if beside.is_left else street.right
     number, zip_code = house_number(side.ranges, beside.share)
-    return Nearest(
-        street.name,
-        number,
-        side.city,
-        state_of_county(street.county),
-        zip_code,
-        street.county,
-        street.tlid,
-        "L" if beside.is_left else "R",
-        beside.distance,
-    )
+    town = side.city, state_of_county(street.county), zip_code, street.county
+    return Nearest(street.name, number, *town, street.tlid, "L" if beside.is_left else "R", beside.distance)

@@ -9,21 +9,20 @@ from functools import cached_property
 from pathlib import Path
 from typing import NamedTuple
 
-from ..layout import FIELDS
+from ..layout import PLACES
 from .addresses import Reading, Reason, Stage
 from .choice import Answer, compare_street
 from .near_names import NearNames
 from .towns import Cities, city_key
 from .words import same_type
 
-_PLACES = {field.name: field.bytes for field in FIELDS}
-TLID = _PLACES["TLID"]
-STREET = slice(_PLACES["FEDIRP"].start, _PLACES["FEDIRS"].stop)
-_RANGES = slice(_PLACES["FRADDL"].start, _PLACES["TOADDR"].stop)
-AREAS = tuple(tuple(_PLACES[name + side] for name in ("ZIP", "PLACE", "COUSUB")) for side in "LR")
+TLID = PLACES["TLID"]
+STREET = slice(PLACES["FEDIRP"].start, PLACES["FEDIRS"].stop)
+_RANGES = slice(PLACES["FRADDL"].start, PLACES["TOADDR"].stop)
+AREAS = tuple(tuple(PLACES[name + side] for name in ("ZIP", "PLACE", "COUSUB")) for side in "LR")
 # Of types 4, 5 and 6: the numbers of alternate names, a name with its number, and the ZIP Codes of a further range.
 _FEATURES = tuple(slice(at, at + 8) for at in range(18, 58, 8))
-_NAME = _PLACES["FENAME"]
+_NAME = PLACES["FENAME"]
 _FEATURE, _FEATURE_STREET, _FEATURE_NAME = slice(10, 18), slice(18, 56), slice(20, 50)
 _FURTHER_ZIPS = (slice(66, 71), slice(71, 76))
 
@@ -72,10 +71,6 @@ class TownStreets:
         """Returns the spellings of a name in capitals, if there are letters whose case counts."""
         return [name] if name.isascii() else sorted({street.name for street in self.streets.get(name, ())})
 
-    def has_any(self, readings: tuple[Reading, ...]) -> bool:
-        """Returns whether a street is called as one of the readings."""
-        return any(reading.name.upper() in self.streets for reading in readings)
-
 
 class Streets:
     """The streets with house numbers of a county, by ZIP Code and by the key of a city."""
@@ -101,7 +96,7 @@ class Streets:
         for key in filter(None, (answer.wanted.zip, answer.wanted.city)):
             town = self.town(key)
             yield from _of_other_case(readings, town)
-            if not town.has_any(readings):
+            if not any(reading.name.upper() in town.streets for reading in readings):
                 for reading in readings:
                     for name in town.near.of(reading.name.upper()):
                         for spelled in town.spellings(name):

@@ -17,6 +17,10 @@ from ..tuples import Line, Point, read_lines
 from .towns import Cities
 
 STREETS = "CFCC LIKE 'A%' AND FENAME IS NOT NULL"
+COLUMNS = (
+    "TLID", "FEDIRP", "FENAME", "FETYPE", "FEDIRS", "FRADDL", "TOADDL", "FRADDR", "TOADDR", "ZIPL", "ZIPR", "COUSUBL",
+    "COUSUBR", "PLACEL", "PLACER",
+)  # fmt: skip
 
 
 class Range(NamedTuple):
@@ -25,26 +29,6 @@ class Range(NamedTuple):
     first: int | None
     last: int | None
     zip: str
-
-
-class Columns(NamedTuple):
-    """The columns of a street, which are empty where the record is blank."""
-
-    TLID: str
-    FEDIRP: str
-    FENAME: str
-    FETYPE: str
-    FEDIRS: str
-    FRADDL: str
-    TOADDL: str
-    FRADDR: str
-    TOADDR: str
-    ZIPL: str
-    ZIPR: str
-    COUSUBL: str
-    COUSUBR: str
-    PLACEL: str
-    PLACER: str
 
 
 class Side(NamedTuple):
@@ -71,15 +55,15 @@ Ranges = tuple[Range, Range]
 
 def read_streets(program: str, county: County, interrupts: Interrupts) -> list[Street]:
     """Returns the streets of a county that have coordinates, with shape points if it has a file of type 2."""
-    output = Output(Columns._fields, "auto").for_county(county)
+    output = Output(COLUMNS, "auto").for_county(county)
     with opened_county(county, record_types([output]) + "C", interrupts) as files:
         command = [program, "select", f"--where={STREETS}", "--data", str(files["1"].parent)]
         try:
             table = run([*command, *output.options, county.code], interrupts, county=county.code)
         except OSError as error:
             raise with_own_paths(error, county, files) from None
-        found = [(Columns._make(cells), line) for _, cells, line in read_lines(table, Columns._fields)]
-        further = further_ranges(files["6"], {int(row.TLID) for row, _ in found}) if "6" in files else {}
+        found = [(dict(zip(COLUMNS, cells)), line) for _, cells, line in read_lines(table, COLUMNS)]
+        further = further_ranges(files["6"], {int(row["TLID"]) for row, _ in found}) if "6" in files else {}
         cities = Cities(files.get("C"), str(county.files.get("C") or county.archive))
     interrupts.check()
     streets = (_street(county.code, row, line, further, cities) for row, line in found)
@@ -100,7 +84,7 @@ def further_ranges(path: Path, chosen: Collection[int]) -> Mapping[int, list[Ran
 
 
 def _street(
-    county: str, row: Columns, line: Line, further: Mapping[int, list[Ranges]], cities: Cities
+    county: str, row: Mapping[str, str], line: Line, further: Mapping[int, list[Ranges]], cities: Cities
 ) -> Street | None:
     """Returns the street of a segment, or None if it has no line with a length."""
     if line is None:
@@ -108,16 +92,12 @@ def _street(
     points = tuple(point for at, point in enumerate(line) if at == 0 or point != line[at - 1])
     if len(points) < 2:
         return None
-    tlid = int(row.TLID)
-    own = (_range(row.FRADDL, row.TOADDL, row.ZIPL), _range(row.FRADDR, row.TOADDR, row.ZIPR))
-    left, right = zip(own, *further.get(tlid, ()))
-    sides = Side(left, _city(cities, row.PLACEL, row.COUSUBL)), Side(right, _city(cities, row.PLACER, row.COUSUBR))
-    name = " ".join(part for part in (row.FEDIRP, row.FENAME, row.FETYPE, row.FEDIRS) if part)
+    tlid = int(row["TLID"])
+    own = [Range(number(row[f"FRADD{side}"]), number(row[f"TOADD{side}"]), row[f"ZIP{side}"]) for side in "LR"]
+    ranges = zip(own, *further.get(tlid, ()))
+    sides = [Side(found, _city(cities, row[f"PLACE{side}"], row[f"COUSUB{side}"])) for found, side in zip(ranges, "LR")]
+    name = " ".join(filter(None, (row[part] for part in COLUMNS[1:5])))
     return Street(county, tlid, name, points, *sides)
-
-
-def _range(first: str, last: str, zip_code: str) -> Range:
-    return Range(number(first), number(last), zip_code)
 
 
 def _city(cities: Cities, place: str, subdivision: str) -> str:

@@ -10,7 +10,6 @@ from collections.abc import Iterator, Mapping, Sequence
 from contextlib import contextmanager
 from dataclasses import dataclass
 from pathlib import Path
-from typing import TextIO
 
 from ..interrupts import Interrupts
 from ..scratch import rename_errors_to, scratch_folder
@@ -18,7 +17,6 @@ from ..scratch import rename_errors_to, scratch_folder
 STANDARD_INPUT = "-"
 CHUNK = 1 << 20
 POLL = 0.1  # seconds
-UTF_8 = "utf-8"
 # Of equally good delimiters, the first is taken: commas are in texts more often than the others.
 DELIMITERS = {"tab": "\t", "pipe": "|", "semicolon": ";", "comma": ","}
 
@@ -43,12 +41,17 @@ class TableFile:
 
         Raises OSError with the line's number if a line isn't CSV or isn't in the encoding.
         """
-        codec = self._codec()
+        codec, line = self._codec(), 1
         try:
             with rename_errors_to(Path(self.name)), open(self.path, encoding=codec, newline="") as file:
-                for line, row in self._rows(file, self.delimiter or self._found_delimiter(codec)):
+                reader = csv.reader(file, strict=True, delimiter=self.delimiter or self._found_delimiter(codec))
+                for row in reader:
                     interrupts.check()
-                    yield line, row
+                    if any(cell.strip() for cell in row):
+                        yield line, row
+                    line = reader.line_num + 1
+        except csv.Error as error:
+            raise OSError(f"{self.name}: line {line} isn't CSV: {error}") from None
         except UnicodeError:
             raise OSError(
                 f"{self.name}: line {self._line_of_encoding_error(codec)} isn't in {self.encoding or codec.removesuffix('-sig')}: "
@@ -65,7 +68,7 @@ class TableFile:
             "".encode(self.encoding)
         except LookupError:
             raise ValueError(f"there is no encoding {self.encoding}, but utf-8, cp1252, latin-1, utf-16 ...") from None
-        return "utf-8-sig" if codecs.lookup(self.encoding).name == UTF_8 else self.encoding
+        return "utf-8-sig" if codecs.lookup(self.encoding).name == "utf-8" else self.encoding
 
     def _found_delimiter(self, codec: str) -> str:
         """Returns the delimiter by which the first line has as many columns as expected, or else the most columns."""
@@ -73,36 +76,39 @@ class TableFile:
             lines = iter(lambda: file.readline(csv.field_size_limit()), "")
             first = next((line for line in lines if line.strip()), "")
         counts = {mark: len(next(csv.reader([first], delimiter=mark), [])) for mark in DELIMITERS.values()}
-        for delimiter, count in counts.items():
-            if count in self.columns:
-                return delimiter
-        most = max(counts.values())
-        return "," if counts[","] == most else next(found for found, count in counts.items() if count == most)
-
-    def _rows(self, file: TextIO, delimiter: str) -> Iterator[tuple[int, list[str]]]:
-        reader = csv.reader(file, strict=True, delimiter=delimiter)
-        while True:
-            line = reader.line_num + 1
-            try:
-                row = next(reader)
-            except StopIteration:
-                return
-            except csv.Error as error:
-                raise OSError(f"{self.name}: line {line} isn't CSV: {error}") from None
-            if any(cell.strip() for cell in row):
-                yield line, row
+        expected = [mark for mark, count in counts.items() if count in self.columns]
+        return expected[0] if expected else max(counts, key=lambda mark: (counts[mark], mark == ","))
 
     def _line_of_encoding_error(self, codec: str) -> int:
-        """Returns the first line that can't be decoded, by decoding line by line again."""
-        decoder = codecs.getincrementaldecoder(codec)()
-        number = 0
-        with open(self.path, "rb") as file:
-            for number, line in enumerate(file, start=1):
-                try:
-                    decoder.decode(line)
-                except UnicodeError:
-                    break
-        return number
+        """Returns the first line that can't be decoded."""
+        content = self.path.read_bytes()
+        try:
+            content.decode(codec)
+        except UnicodeDecodeError as error:
+            return content.count(b"\n", 0, error.start) + 1
+        return 1  # It lacks the byte order mark.
+
+    def places(
+        self, head: Sequence[str], line: int, usual: Mapping[str, Sequence[str]], named: Mapping[str, str]
+    ) -> dict[str, int]:
+        """Returns the places of columns by their names in the head line.
+
+        `named` has names that were given, and `usual` has those that are looked for otherwise, the best first. Case,
+        blanks and punctuation are ignored. Columns without one of their usual names are left out. Raises OSError if a
+        name that was given is missing.
+        """
+        keys = [key_of(name) for name in head]
+        places = {}
+        for column, names in usual.items():
+            wanted = [key_of(named[column])] if column in named else names
+            if found := [name for name in wanted if name in keys]:
+                places[column] = keys.index(found[0])
+            elif column in named:
+                raise OSError(
+                    f"{self.name}: line {line}, the head line: no column has the name {named[column]!r}; "
+                    f"the columns are {', '.join(head)}"
+                )
+        return places
 
 
 def delimiter_of(text: str) -> str:
@@ -111,27 +117,6 @@ def delimiter_of(text: str) -> str:
     if len(delimiter) != 1 or delimiter in '"\r\n\0':
         raise ValueError(f"{text!r} is neither one character nor {', '.join(DELIMITERS)}")
     return delimiter
-
-
-def columns_by_name(
-    head: Sequence[str], usual: Mapping[str, Sequence[str]], named: Mapping[str, str]
-) -> dict[str, int]:
-    """Returns the places of columns by their names in the head line.
-
-    `named` has names that were given, and `usual` has those that are looked for otherwise, the best first. Case, blanks
-    and punctuation are ignored. Columns without one of their usual names are left out. Raises ValueError if a name that
-    was given is missing.
-    """
-    keys = [key_of(name) for name in head]
-    places = {}
-    for column, names in usual.items():
-        if column in named:
-            if key_of(named[column]) not in keys:
-                raise ValueError(f"no column has the name {named[column]!r}; the columns are {', '.join(head)}")
-            places[column] = keys.index(key_of(named[column]))
-        elif found := [name for name in names if name in keys]:
-            places[column] = keys.index(found[0])
-    return places
 
 
 def key_of(name: str) -> str:

@@ -5,21 +5,19 @@ Nothing here is proved. `extractd` reads no record of type C, which has the name
 
 import re
 import unicodedata
-from collections.abc import Collection, Iterator
+from collections.abc import Collection
 from enum import IntEnum
 from functools import lru_cache
 from pathlib import Path
 from typing import NamedTuple
 
-from ..layout import FIELDS, number
-from ..sources import STATES
-from .words import STATE_NAMES
+from ..layout import PLACES, number
+from ..sources import STATE_NAMES, STATES
 
 NAME_LENGTH = 122
 _FIPS, _NAME = slice(14, 19), slice(62, 122)
-_PLACES = {field.name: field.bytes for field in FIELDS}
-_TLID = _PLACES["TLID"]
-_CITY_CODES = tuple((_PLACES[f"PLACE{side}"], _PLACES[f"COUSUB{side}"]) for side in "LR")
+_TLID = PLACES["TLID"]
+_CITY_CODES = tuple((PLACES[f"PLACE{side}"], PLACES[f"COUSUB{side}"]) for side in "LR")
 
 _POSTAL = {code: postal for postal, code in STATES.items()}
 _SHORT_WORDS = {"SAINT": "ST", "FORT": "FT", "MOUNT": "MT"}
@@ -35,11 +33,6 @@ class Town(IntEnum):
     OTHER_ZIP = 4
     OTHER_CITY = 5
     NOT_KNOWN = 6
-
-    @property
-    def agrees(self) -> bool:
-        """Whether a place in this town may be that of the address."""
-        return self <= Town.NOT_STATED
 
     @property
     def rank(self) -> int:
@@ -101,48 +94,30 @@ class Cities:
     """
 
     def __init__(self, path: Path | None, name: str) -> None:
-        self.is_missing = path is None
+        """Reads the names. Raises OSError for a line that isn't a record of type C, with the name of its file."""
         self._names: dict[bytes, str] = {}
-        self._known: dict[tuple[bytes, ...], tuple[str, ...]] = {}
-        if path is not None:
-            self._names.update(_names(path, name))
+        if path is None:
+            return
+        with open(path, "rb") as lines:
+            for at, line in enumerate(lines, start=1):
+                record = line.rstrip(b"\r\n")
+                if len(record) != NAME_LENGTH or not record.startswith(b"C"):
+                    raise OSError(f"{name}: line {at} isn't a record of type C, which has {NAME_LENGTH} bytes")
+                code, text = record[_FIPS], record[_NAME].decode("latin-1").strip()
+                if code.strip() and text:
+                    self._names[code] = text
 
     def of(self, codes: tuple[bytes, ...]) -> tuple[str, ...]:
         """Returns the names that belong to the codes of a place and a county subdivision, the place's first."""
-        found = self._known.get(codes)
-        if found is None:
-            found = tuple(dict.fromkeys(self._names[code] for code in codes if code in self._names))
-            self._known[codes] = found
-        return found
+        return tuple(dict.fromkeys(self._names[code] for code in codes if code in self._names))
 
     def of_segments(self, path: Path, segments: Collection[str]) -> dict[tuple[str, str], tuple[str, ...]]:
         """Returns the cities of both sides of these segments of a type 1 file, by TLID and side."""
-        if not self._names:
-            return {}
-        wanted = {segment.rjust(10).encode("ascii", "replace"): segment for segment in segments}
-        (place, subdivision), (other_place, other_subdivision) = _CITY_CODES
         found = {}
         with open(path, "rb") as records:
-            for record in records:
-                segment = wanted.get(_plain(record[_TLID]))
-                if segment:
-                    found[segment, "L"] = self.of((record[place], record[subdivision]))
-                    found[segment, "R"] = self.of((record[other_place], record[other_subdivision]))
+            for record in records if self._names else ():
+                tlid = str(number(record[_TLID].decode("latin-1")))
+                if tlid in segments:
+                    for side, codes in zip("LR", _CITY_CODES):
+                        found[tlid, side] = self.of(tuple(record[code] for code in codes))
         return found
-
-
-def _plain(tlid: bytes) -> bytes:
-    """Returns a TLID as the Bureau writes it, without zeros in front."""
-    return tlid if tlid[:1] != b"0" else str(number(tlid.decode("latin-1")) or 0).rjust(10).encode()
-
-
-def _names(path: Path, name: str) -> Iterator[tuple[bytes, str]]:
-    """Yields the codes and names in a file of type C. Raises OSError for a line that isn't such a record."""
-    with open(path, "rb") as lines:
-        for at, line in enumerate(lines, start=1):
-            record = line.rstrip(b"\r\n")
-            if len(record) != NAME_LENGTH or not record.startswith(b"C"):
-                raise OSError(f"{name}: line {at} isn't a record of type C, which has {NAME_LENGTH} bytes")
-            code, text = record[_FIPS], record[_NAME].decode("latin-1").strip()
-            if code.strip() and text:
-                yield code, text

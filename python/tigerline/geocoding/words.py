@@ -1,29 +1,18 @@
 """The abbreviations of the fields FEDIRP, FETYPE and FEDIRS, and what people write for them."""
 
 import re
+from collections.abc import Iterable
 from itertools import permutations, product
 
-_WORDS_OF_DIRECTIONS = {
-    "N": ("N", "NORTH"),
-    "S": ("S", "SOUTH"),
-    "E": ("E", "EAST"),
-    "W": ("W", "WEST"),
-}
-_WORDS_OF_CORNERS = {
-    north_or_south
-    + east_or_west: (
-        north_or_south + east_or_west,
-        _WORDS_OF_DIRECTIONS[north_or_south][1] + _WORDS_OF_DIRECTIONS[east_or_west][1],
-        *map(" ".join, product(_WORDS_OF_DIRECTIONS[north_or_south], _WORDS_OF_DIRECTIONS[east_or_west])),
-    )
-    for north_or_south, east_or_west in product("NS", "EW")
+from ..sources import STATE_NAMES
+
+_SIDES = {"N": ("N", "NORTH"), "S": ("S", "SOUTH"), "E": ("E", "EAST"), "W": ("W", "WEST")}
+_CORNERS = {
+    one + other: (one + other, _SIDES[one][1] + _SIDES[other][1], *map(" ".join, product(_SIDES[one], _SIDES[other])))
+    for one, other in product("NS", "EW")
 }
 # What may be written for a direction, in capitals: N, NORTH, NE, NORTHEAST, N E, NORTH EAST ...
-DIRECTIONS = {
-    written: direction
-    for direction, words in (*_WORDS_OF_DIRECTIONS.items(), *_WORDS_OF_CORNERS.items())
-    for written in words
-}
+DIRECTIONS = {written: direction for direction, words in (_SIDES | _CORNERS).items() for written in words}
 
 _TYPES = """
     Aly Alley Allee Ally | Arc Arcade | Ave Avenue Av Aven Avenu Avn | Bch Beach | Blf Bluff | Blvd Boulevard Boul Bvd
@@ -53,26 +42,6 @@ _UNITS = "APARTMENT APT BLDG BOX BUILDING DEPT DEPARTMENT FL FLOOR HANGAR HNGR L
 # Words before the number of a unit, and words that are a unit by themselves.
 UNITS = frozenset(f"{_UNITS} TRAILER TRLR UNIT".split())
 PARTS_OF_HOUSES = frozenset("BASEMENT BSMT FRNT FRONT LOWER LOWR PENTHOUSE PH REAR UPPER UPPR".split())
-
-_STATE_NAMES = """
-    AL Alabama Ala | AK Alaska | AZ Arizona Ariz | AR Arkansas Ark | CA California Calif Cal | CO Colorado Colo
-    CT Connecticut Conn | DE Delaware Del | DC District_of_Columbia Washington_DC | FL Florida Fla | GA Georgia
-    HI Hawaii | ID Idaho | IL Illinois Ill | IN Indiana Ind | IA Iowa | KS Kansas Kans Kan | KY Kentucky
-    LA Louisiana | ME Maine | MD Maryland | MA Massachusetts Mass | MI Michigan Mich | MN Minnesota Minn
-    MS Mississippi Miss | MO Missouri | MT Montana Mont | NE Nebraska Nebr Neb | NV Nevada Nev
-    NH New_Hampshire | NJ New_Jersey | NM New_Mexico | NY New_York | NC North_Carolina | ND North_Dakota
-    OH Ohio | OK Oklahoma Okla | OR Oregon Ore | PA Pennsylvania Penn Penna | RI Rhode_Island | SC South_Carolina
-    SD South_Dakota | TN Tennessee Tenn | TX Texas Tex | UT Utah | VT Vermont | VA Virginia | WA Washington Wash
-    WV West_Virginia | WI Wisconsin Wis Wisc | WY Wyoming Wyo | AS American_Samoa | GU Guam
-    MP Northern_Mariana_Islands | PR Puerto_Rico | UM US_Minor_Outlying_Islands | VI Virgin_Islands US_Virgin_Islands
-"""
-# What may be written for a state, in capitals and without dots, and its postal abbreviation.
-STATE_NAMES = {
-    word.replace("_", " ").upper(): words[0]
-    for line in re.split(r"[|\n]", _STATE_NAMES)
-    for words in (re.findall(r"\S+", line),)
-    for word in words
-}
 
 _COUNTY_ROAD = ("County Road {}", "County Rd {}", "Co Road {}", "Co Rd {}", "CR {}")
 _COUNTY_ROUTE = ("County Route {}", "County Rte {}", "Co Route {}", "Co Rte {}")
@@ -167,6 +136,16 @@ def other_spellings(words: list[str]) -> list[str]:
     if name[:1] in "DdMm" and _KING.fullmatch(name.replace(".", "").replace(",", "").upper()):
         found += _KING_NAMES
     return found
+
+
+def word_key(word: str) -> str:
+    """Returns a word in capitals, without dots and commas: `N.E.,` becomes `NE`."""
+    return word.replace(".", "").strip(",;").upper()
+
+
+def word_keys(words: Iterable[str]) -> list[str]:
+    """Returns words in capitals, without dots and commas."""
+    return [word_key(word) for word in words]
 
 
 def same_type(one: str, other: str) -> bool:

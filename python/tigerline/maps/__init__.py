@@ -1,6 +1,7 @@
-"""Segments as a map: an SVG picture, or one HTML page with zoom, pan and the segment under the pointer."""
+"""Segments as a map: a picture, or a page that zooms."""
 
-from .drawing import draw_html, draw_svg
-from .view import Box, MapSegment
+from .content import MapContent
+from .drawing import PICTURES, Drawing, writer_of
+from .view import MapSegment
 
-__all__ = ["Box", "MapSegment", "draw_html", "draw_svg"]
+__all__ = ["PICTURES", "Drawing", "MapContent", "MapSegment", "writer_of"]

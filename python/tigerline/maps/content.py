@@ -1,19 +1,17 @@
 """The segments of a map: the selected ones, and those around them."""
 
 import warnings
-from collections.abc import Callable, Iterable, Iterator
-from functools import partial
+from collections.abc import Iterable, Iterator
 
 from ..interrupts import Interrupts
 from ..tuples import read_lines, score_of
-from .view import SMALLEST_EXTENT, Box, MapSegment, extent_of
+from .drawing import Drawing
+from .layers import by_class, by_score
+from .view import MapSegment, View, view_of
 
-AROUND = 0.15  # how far the map extends around the selection, as a part of its larger extent
 MOST_SEGMENTS = 500_000  # about a small state; drawing more takes long, and so does opening the map
 # The columns of what is drawn. The TLID tells segments apart.
 DRAWN = ("TLID", "FEDIRP", "FENAME", "FETYPE", "FEDIRS", "CFCC")
-
-Reader = Callable[[], Iterator[MapSegment]]
 
 
 def map_segments(table: bytes, signed: bool = False) -> Iterator[MapSegment]:
@@ -30,59 +28,48 @@ def without(table: bytes, other: bytes) -> bytes:
     return b"".join(line + b"\n" for line in (header, *filter(None, rest)))
 
 
-def box_around(segments: Iterable[MapSegment]) -> Box | None:
-    """Returns a box slightly larger than the segments, or None if none of them has points."""
-    positions = [position for segment in segments for position in segment.points]
-    if not positions:
-        return None
-    west, south, east, north = extent_of(positions)
-    margin = AROUND * max(east - west, north - south, SMALLEST_EXTENT)
-    return Box(west - margin, south - margin, east + margin, north + margin)
+def shown(segments: Iterable[MapSegment], view: View, interrupts: Interrupts) -> Iterator[MapSegment]:
+    """Yields the segments in a view."""
+    for segment in segments:
+        interrupts.check()
+        if segment.points and view.shows(segment.points):
+            yield segment
 
 
 class MapContent:
-    """Collects the segments that a map shows: the selected ones, and the others of counties with selected ones.
-
-    The function that reads the others is kept until the place of the selected ones is known.
-    """
+    """Collects the segments that a map shows: the selected ones, and the others of counties with selected ones."""
 
     def __init__(self, signed: bool = False) -> None:
         self.selected: list[MapSegment] = []
-        self.others_count = 0
         self._signed = signed
-        self._others: list[Reader] = []
+        self._others: list[bytes] = []
+        self._count = 0
 
     def add_county(self, selected: bytes = b"", everything: bytes = b"") -> None:
-        """Adds the segments of a county: its selected ones, and the others, from tables that may be empty."""
+        """Adds the segments of a county: its selected ones, and the others, from tables that may be empty.
+
+        If there are too many others in total, none is kept.
+        """
         if selected:
             self.selected += map_segments(selected, self._signed)
         if everything:
             rest = without(everything, selected)
-            self.add_others(rest.count(b"\n") - 1, partial(map_segments, rest))
+            self._count += rest.count(b"\n") - 1
+            self._others = [*self._others, rest] if self._count <= MOST_SEGMENTS else []
 
-    def add_others(self, count: int, read: Reader) -> None:
-        """Adds the other segments of a county. If there are too many in total, none is kept."""
-        self.others_count += count
-        if self.others_count <= MOST_SEGMENTS:
-            self._others.append(read)
-        else:
-            self._others.clear()
+    def drawing(self, caption: str, score: str | None, interrupts: Interrupts) -> Drawing:
+        """Returns the map of the selection, or of everything if nothing is selected. Colors stand for classes or scores.
 
-    def others(self, interrupts: Interrupts) -> Iterator[MapSegment]:
-        """Yields the other segments that are kept."""
-        for read in self._others:
-            for segment in read():
-                interrupts.check()
-                yield segment
-
-    def background(self, box: Box | None, interrupts: Interrupts) -> list[MapSegment]:
-        """Returns the other segments near the box. Warns if there were too many to keep."""
-        if self.others_count > MOST_SEGMENTS:
+        `score` names the scores.
+        """
+        if self._count > MOST_SEGMENTS:
             warnings.warn(
                 f"the map shows the selection alone: its counties have more than {MOST_SEGMENTS:,} other segments",
                 stacklevel=2,
             )
-        if box is None:
-            return []
-        segments = (segment for segment in self.others(interrupts) if segment.points)
-        return [segment for segment in segments if box.touches(extent_of(segment.points))]
+        others = [segment for table in self._others for segment in map_segments(table)]
+        view = view_of([segment for segment in self.selected if segment.points] or others)
+        count = f"{len(self.selected):,} segment{'' if len(self.selected) == 1 else 's'}"
+        groups = by_class(self.selected) if score is None else by_score(self.selected)
+        background = by_class(list(shown(others, view, interrupts)))
+        return Drawing(view, groups, background, caption, f"{count} by {score or 'class'}", score)

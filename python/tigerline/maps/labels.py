@@ -1,120 +1,123 @@
-"""The names on a map: one place per name, without overlaps."""
+"""The names on a map: one place for each name, without overlaps."""
 
 import math
-from collections import deque
+from collections import defaultdict
 from collections.abc import Iterator, Sequence
-from itertools import pairwise
-from typing import NamedTuple
+from dataclasses import dataclass
+from functools import cached_property
 
-from .layers import Group
-from .view import Position, View
+from matplotlib.font_manager import FontProperties
+from matplotlib.textpath import text_to_path
+from shapely.geometry import CAP_STYLE, LineString, MultiLineString, MultiPoint, Polygon, box
+from shapely.ops import linemerge
+from shapely.prepared import prep
 
-MOST_NAMES = 60
-NAME_SIZE = 9.5
-CELL = 8  # two names overlap if they touch the same square of this size
+from .layers import Group, Layer
+from .view import WIDTH, Position
+
+MOST_NAMES = 100  # more would hide the lines
+NAME_SIZE = 6.0
+FONT = FontProperties(size=NAME_SIZE)
+NARROWEST = 0.3 * NAME_SIZE  # of all letters on average
+MARGIN = 1.15  # a line is this much longer than its name
+STRAIGHT = 0.97  # the distance between the ends of a name, as a part of the line between them
+SHARES = (0.5, 0.4, 0.6, 0.3, 0.7, 0.2, 0.8, 0.1, 0.9)  # where on a line a name is tried, as a part of its length
+DOT = 3.2  # the radius of a dot
+BESIDE = DOT + 1  # from the middle of a dot to its name
+
+Line = Sequence[Position]
 
 
-def text_width(text: str) -> float:
-    return len(text) * NAME_SIZE * 0.53
+@dataclass(frozen=True)
+class Label:
+    """A name, and the line that it is written along."""
 
-
-class Label(NamedTuple):
     text: str
-    middle: Position
-    angle: float
-    color: str
+    layer: Layer
+    start: Position
+    end: Position
 
     @property
-    def width(self) -> float:
-        """The approximate width of the text: the font isn't known here."""
-        return text_width(self.text)
+    def angle(self) -> float:
+        """The direction in degrees, counterclockwise from the east."""
+        return math.degrees(math.atan2(self.end[1] - self.start[1], self.end[0] - self.start[0]))
 
-    def cells(self) -> set[tuple[int, int]]:
-        """The squares of the frame that the label touches."""
-        east, south = math.cos(math.radians(self.angle)), math.sin(math.radians(self.angle))
-        steps = math.ceil(self.width / CELL)
-        cells = set()
-        for along in (step * CELL / 2 for step in range(-steps, steps + 1)):
-            for up in (-CELL / 2, CELL / 2):
-                x = self.middle[0] + along * east - up * south
-                y = self.middle[1] + along * south + up * east
-                cells.add((int(x // CELL), int(y // CELL)))
-        return cells
+    @property
+    def middle(self) -> Position:
+        """The middle of the text."""
+        return (self.start[0] + self.end[0]) / 2, (self.start[1] + self.end[1]) / 2
+
+    @cached_property
+    def area(self) -> Polygon:
+        """The rectangle around the text."""
+        return LineString([self.start, self.end]).buffer(0.6 * NAME_SIZE, cap_style=CAP_STYLE.flat)
+
+    def overlaps(self, other: "Label") -> bool:
+        """Returns whether another name is too close."""
+        reach = (math.dist(self.start, self.end) + math.dist(other.start, other.end)) / 2 + 2 * NAME_SIZE
+        return math.dist(self.middle, other.middle) < reach and bool(self.area.intersects(other.area))
 
 
-def labels_of(groups: Sequence[Group], view: View) -> list[Label]:
-    """Returns one place for each name, the main roads' first, without overlaps."""
+def labels_of(groups: Sequence[Group], height: float) -> list[Label]:
+    """Returns a place for each name that has one, those of the groups on top and of long lines first.
+
+    The points of the groups are on paper. No name hides a dot, and no name in the background the line of a selected segment.
+    """
+    sheet = prep(box(0, 0, WIDTH, height))
+    dots = [segment.points[0] for layer, segments in groups if layer.is_dot for segment in segments]
+    chosen = [one.points for layer, segments in groups if not layer.is_pale | layer.is_dot for one in segments]
+    spots, selected = prep(MultiPoint(dots).buffer(DOT)), prep(MultiLineString(chosen))
     labels: list[Label] = []
-    taken: set[tuple[int, int]] = set()
-    for group in reversed([group for group in groups if group.layer.names]):
-        for name, chain in longest_chains(group):
-            label = label_on(chain, Label(name, (0, 0), 0, group.layer.names), bool(group.layer.fill))
-            cells = label.cells() if label else set()
-            if label and not cells & taken and all(is_in_frame(cell, view) for cell in cells):
+    for layer, text, lines in _named_lines(groups):
+        if len(labels) == MOST_NAMES:
+            break
+        width = MARGIN * text_to_path.get_text_width_height_descent(text, FONT, ismath=False)[0]
+        for start, end in _places(lines, width, layer):
+            label = Label(text, layer, start, end)
+            hides = spots.intersects(label.area) or (layer.is_pale and selected.intersects(label.area))
+            if sheet.contains(label.area) and not hides and not any(map(label.overlaps, labels)):
                 labels.append(label)
-                taken |= cells
-            if len(labels) == MOST_NAMES:
-                return labels
+                break
     return labels
 
 
-def is_in_frame(cell: tuple[int, int], view: View) -> bool:
-    return 0 < cell[0] * CELL < view.width - CELL and 0 < cell[1] * CELL < view.height - CELL
+def _named_lines(groups: Sequence[Group]) -> Iterator[tuple[Layer, str, list[Line]]]:
+    """Yields the lines of each name, without those that are certainly shorter than the name.
+
+    That of an address ends before its city.
+    """
+    for layer, segments in reversed(groups):
+        found: dict[str, list[Line]] = defaultdict(list)
+        for segment in segments:
+            found[segment.name.partition(",")[0]].append(segment.points)
+        lengths = {
+            name: sum(math.dist(*ends) for line in found[name] for ends in zip(line, line[1:])) for name in found
+        }
+        for name in sorted(found, key=lambda name: -lengths[name]):
+            if name and (layer.is_dot or lengths[name] > NARROWEST * len(name)):
+                yield layer, name, found[name]
 
 
-def length_of(line: Sequence[Position]) -> float:
-    return sum(math.dist(a, b) for a, b in pairwise(line))
+def _places(lines: Sequence[Line], width: float, layer: Layer) -> Iterator[tuple[Position, Position]]:
+    """Yields the places of a text of this width: beside dots, in an area, or along straight parts of lines."""
+    if layer.is_dot:
+        for ((x, y),) in lines:
+            yield (x + BESIDE, y), (x + BESIDE + width, y)
+            yield (x - BESIDE - width, y), (x - BESIDE, y)
+        return
+    merged = linemerge(MultiLineString(lines))
+    for line in sorted(getattr(merged, "geoms", [merged]), key=lambda line: -line.length):
+        if layer.fill and line.is_ring:
+            yield from _inside(Polygon(line), width)
+        for middle in (share * line.length for share in SHARES):
+            if width / 2 < min(middle, line.length - middle):
+                start, end = sorted(line.interpolate(middle + side * width / 2).coords[0] for side in (-1, 1))
+                if math.dist(start, end) > STRAIGHT * width:
+                    yield start, end
 
 
-def longest_chains(group: Group) -> list[tuple[str, list[Position]]]:
-    """Returns the longest line of each name that is longer than the name, the longest of all first."""
-    chains: dict[str, tuple[float, list[Position]]] = {}
-    for name, chain in chains_of(group):
-        length = length_of(chain)
-        if length > text_width(name) and (name not in chains or length > chains[name][0]):
-            chains[name] = length, chain
-    return [(name, chain) for name, (_, chain) in sorted(chains.items(), key=lambda item: -item[1][0])]
-
-
-def chains_of(group: Group) -> Iterator[tuple[str, list[Position]]]:
-    """Joins segments of one name that follow each other, in either direction."""
-    name = ""
-    chain: deque[Position] = deque()
-    for segment, line in group.drawn():
-        if segment.name == name and chain and line[0] == chain[-1]:
-            chain.extend(line[1:])
-        elif segment.name == name and chain and line[-1] == chain[0]:
-            chain.extendleft(line[-2::-1])
-        else:
-            if name:
-                yield name, list(chain)
-            name, chain = segment.name, deque(line)
-    if name:
-        yield name, list(chain)
-
-
-def label_on(chain: Sequence[Position], label: Label, may_be_area: bool) -> Label | None:
-    """Returns a name's place in the middle of an area or along a straight part of a line, or None if there is none."""
-    if may_be_area and chain[0] == chain[-1]:
-        across, down = [x for x, _ in chain], [y for _, y in chain]
-        if max(across) - min(across) >= label.width * 0.9:
-            return label._replace(middle=((max(across) + min(across)) / 2, (max(down) + min(down)) / 2))
-    steps = [math.dist(a, b) for a, b in pairwise(chain)]
-    best: tuple[float, Position, Position] | None = None
-    for first in range(0, len(steps), max(1, len(steps) // 60)):
-        length, last = 0.0, first
-        while last < len(steps) and length < label.width * 1.15:
-            length += steps[last]
-            last += 1
-        straight = math.dist(chain[first], chain[last])
-        if length < label.width * 1.15 or straight < length * 0.95:
-            continue
-        # Straight is best, then a little away from the middle, since other lines cross there.
-        cost = (1 - straight / length) * 8 + abs(abs((first + last) / 2 / len(steps) - 0.5) - 0.2)
-        if best is None or cost < best[0]:
-            start, end = sorted((chain[first], chain[last]))
-            best = cost, start, end
-    if best is None:
-        return None
-    _, (x, y), (to_x, to_y) = best
-    return label._replace(middle=((x + to_x) / 2, (y + to_y) / 2), angle=math.degrees(math.atan2(to_y - y, to_x - x)))
+def _inside(area: Polygon, width: float) -> Iterator[tuple[Position, Position]]:
+    x, y = area.representative_point().coords[0]
+    place = (x - width / 2, y), (x + width / 2, y)
+    if area.contains(LineString(place)):
+        yield place

@@ -10,8 +10,7 @@ from ..layout import RECORD_LENGTH
 from ..program import RefusedError
 from ..scratch import scratch_folder
 from ..sources import County
-from .content import DRAWN, map_segments, without
-from .view import MapSegment
+from .content import DRAWN, MapContent
 
 CODE = "00000"  # of a county whose file has any name
 
@@ -32,9 +31,7 @@ def split_rows(rows: bytes, name: str) -> tuple[list[int], bytes]:
     return scores, b"".join(records)
 
 
-def segments_of(
-    program: str, rows: bytes, name: str, county: Path | None, interrupts: Interrupts
-) -> tuple[list[MapSegment], list[MapSegment]]:
+def content_of(program: str, rows: bytes, name: str, county: Path | None, interrupts: Interrupts) -> MapContent:
     """Returns the segments of rows, and the others of their county if its file of type 1 is given.
 
     `name` is that of the rows in messages.
@@ -45,8 +42,10 @@ def segments_of(
         chosen.write_bytes(records)
         selected = table_of(program, chosen, county or chosen, interrupts)
         everything = table_of(program, county, county, interrupts) if county else b""
-    segments = [segment._replace(score=score) for segment, score in zip(map_segments(selected), scores, strict=True)]
-    return segments, list(map_segments(without(everything, selected))) if everything else []
+    content = MapContent()
+    content.add_county(selected, everything)
+    content.selected = [segment._replace(score=score) for segment, score in zip(content.selected, scores, strict=True)]
+    return content
 
 
 def table_of(program: str, path: Path, county: Path, interrupts: Interrupts) -> bytes:

@@ -5,6 +5,7 @@ from array import array
 from collections.abc import Iterable
 from dataclasses import dataclass
 from fractions import Fraction
+from functools import cached_property
 
 from .geojson import Line
 
@@ -107,6 +108,9 @@ class Bounds:
     def _marks(self, box: PlainBox) -> bytes:
         """Returns the marks for a box. A line has no gaps, so it meets the box if it leaves it along one axis alone."""
         west, south, east, north = box.microdegrees()
+        first_x, first_y, last_x, last_y = self._edges
+        if last_x < west or first_x > east or last_y < south or first_y > north:
+            return bytes([OUTSIDE]) * (len(self._numbers) // 4)
         return bytes(
             OUTSIDE
             if last_x < west or x > east or last_y < south or y > north
@@ -116,14 +120,20 @@ class Bounds:
             for x, y, last_x, last_y in zip(*[iter(self._numbers)] * 4)
         )
 
+    @cached_property
+    def _edges(self) -> tuple[int, int, int, int]:
+        """The west, south, east and north of all features, when all are added."""
+        west, south = (min(self._numbers[place::4], default=MOST) for place in (0, 1))
+        east, north = (max(self._numbers[place::4], default=LEAST) for place in (2, 3))
+        return west, south, east, north
+
     def extent(self) -> Extent | None:
         """Returns the west, south, east and north of all lines, or None if there are none.
 
         For points on both sides of the 180th meridian there are two such boxes. The second crosses it and has its
         west > east. This is the smaller one.
         """
-        west, south = (min(self._numbers[place::4], default=MOST) for place in (0, 1))
-        east, north = (max(self._numbers[place::4], default=LEAST) for place in (2, 3))
+        west, south, east, north = self._edges
         if west > east:
             return None
         last_negative = max(self._last_negative, _last_negative(self._numbers[2::4]))
@@ -131,6 +141,18 @@ class Bounds:
         if west < 0 <= east and last_negative + ALL_AROUND - first_positive < east - west:
             west, east = first_positive, last_negative
         return west / MICRODEGREES, south / MICRODEGREES, east / MICRODEGREES, north / MICRODEGREES
+
+
+def extent_of(extents: Iterable[Extent | None]) -> Extent | None:
+    """Returns the extent of several counties."""
+    bounds = Bounds()
+    for extent in filter(None, extents):
+        west, south, east, north = (round(degrees * MICRODEGREES) for degrees in extent)
+        if west > east:
+            bounds.add([([west, ALL_AROUND // 2], [south, north]), ([-ALL_AROUND // 2, east], [south, north])])
+        else:  # A box has all that is between its edges.
+            bounds.add([([west, *((-1, 0) if west < 0 <= east else ()), east], [south, north])])
+    return bounds.extent()
 
 
 def _last_negative(longitudes: Iterable[int]) -> int:

@@ -1,17 +1,28 @@
-"""Reads the features that `extractd` writes, one on each line, and makes GeoJSON (RFC 7946) of them."""
+"""Makes features of GeoJSON (RFC 7946) of those that `extractd` writes, one on each line, and reads them.
+
+A feature of the service has an id in place of a score, and its line begins with a comma, so lines are a part of an array.
+"""
 
 import json
 import re
-from collections.abc import Callable
+from collections.abc import Sequence
+from typing import Any
+
+from ..layout import NAMES
 
 # Strings escape quotation marks, so this is at the start of each line and nowhere else. The score of a filter is 0.
 _START = re.compile(rb'\{"type":"Feature","properties":\{"score":0,(?=.*?"TLID":([0-9]+))')
+_POINT = re.compile(rb"(-?[0-9.]+)(,)(-?[0-9.]+)")
+_PROPERTIES = b'"properties":{'
+_GEOMETRY = b'},"geometry":'
+# What precedes the value of each property, and what follows it. No string contains it.
+_BEFORE = {name: f'"{name}":'.encode() for name in NAMES}
+_AFTER = {name: b"," + _BEFORE[following] for name, following in zip(NAMES, NAMES[1:])} | {NAMES[-1]: _GEOMETRY}
 _NO_LINE = b"null"
+COMMA = b","
 
 # The longitudes and the latitudes of a line in millionths of a degree.
 Line = tuple[list[int], list[int]]
-# Returns the id of the feature that begins at a match, whose first group is the TLID.
-IdOf = Callable[[re.Match[bytes]], bytes]
 
 
 class NotFeaturesError(OSError):
@@ -21,12 +32,24 @@ class NotFeaturesError(OSError):
         super().__init__("extractd wrote something that isn't features")
 
 
-def tlids(lines: bytes) -> list[bytes]:
-    """Returns the TLID of each line. Raises NotFeaturesError if one isn't a feature."""
-    found = _START.findall(lines)
-    if len(found) != lines.count(b"\n"):
+def split(lines: bytes) -> tuple[list[bytes], list[bytes]]:
+    """Returns the TLID of each line of `extractd`, and what follows its score. Raises NotFeaturesError if it has none."""
+    before, *parts = _START.split(lines)
+    if before or len(parts) != 2 * lines.count(b"\n"):
         raise NotFeaturesError
-    return found
+    return parts[::2], parts[1::2]
+
+
+def features(ids: Sequence[bytes], rests: Sequence[bytes]) -> bytes:
+    """Returns features with ids, of the rests of their lines."""
+    pieces = [COMMA + b'{"type":"Feature","id":', b"", b',"properties":{', b""] * len(ids)
+    pieces[1::4], pieces[3::4] = ids, rests
+    return b"".join(pieces)
+
+
+def single(line: bytes, links: list[dict[str, str]]) -> bytes:
+    """Returns a feature with links."""
+    return b'%b,"links":%b}' % (line.removeprefix(COMMA).removesuffix(b"}\n"), json.dumps(links).encode())
 
 
 def line_of(feature: bytes) -> Line | None:
@@ -38,27 +61,34 @@ def line_of(feature: bytes) -> Line | None:
     return numbers[::2], numbers[1::2]
 
 
-def collection(lines: bytes, count: int, id_of: IdOf, members: dict[str, object]) -> bytes:
-    """Returns a collection of the features of that many lines, with further members."""
-    head = json.dumps({"type": "FeatureCollection", **members}, separators=(",", ":"))
-    features = _with_ids(lines, count, id_of)
-    return b"".join((head[:-1].encode(), b',"features":[', *features, b"]}"))
+def values(features: Sequence[bytes], name: str) -> list[Any]:
+    """Returns a property of each feature."""
+    found = [_property(feature, name).removeprefix(_BEFORE[name]) for feature in features]
+    return list(json.loads(b"[%b]" % b",".join(found)))
 
 
-def single(line: bytes, number: bytes, links: list[dict[str, str]]) -> bytes:
-    """Returns the feature of a line with an id and links."""
-    feature = b"".join(_with_ids(line, 1, lambda start: number))
-    return b'%b,"links":%b}' % (feature.removesuffix(b"}\n"), json.dumps(links).encode())
+def _property(feature: bytes, name: str) -> bytes:
+    start = feature.index(_BEFORE[name])
+    return feature[start : feature.index(_AFTER[name], start)]
 
 
-def _with_ids(lines: bytes, count: int, id_of: IdOf) -> list[bytes]:
-    """Returns the pieces of the features with ids and without scores, with commas between the features."""
-    pieces: list[bytes] = []
-    end = found = 0
-    for found, start in enumerate(_START.finditer(lines), start=1):
-        comma = b"," if end else b""
-        pieces += lines[end : start.start()], comma, b'{"type":"Feature","id":', id_of(start), b',"properties":{'
-        end = start.end()
-    if found != count:
-        raise NotFeaturesError
-    return [*pieces, lines[end:]]
+def with_properties(names: Sequence[str], lines: bytes) -> bytes:
+    """Returns features with these properties alone."""
+    return b"".join(_with_properties(names, line) for line in lines.splitlines(keepends=True))
+
+
+def _with_properties(names: Sequence[str], line: bytes) -> bytes:
+    start, end = line.index(_PROPERTIES) + len(_PROPERTIES), line.index(_GEOMETRY)
+    return b"%b%b%b" % (line[:start], b",".join([_property(line, name) for name in names]), line[end:])
+
+
+def latitude_first(lines: bytes) -> bytes:
+    """Returns features whose points have the latitude before the longitude."""
+    return b"".join(map(_latitude_first, lines.splitlines(keepends=True)))
+
+
+def _latitude_first(line: bytes) -> bytes:
+    start = line.rindex(b":")
+    parts = _POINT.split(line[start:])
+    parts[1::4], parts[3::4] = parts[3::4], parts[1::4]
+    return line[:start] + b"".join(parts)

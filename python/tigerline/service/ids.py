@@ -1,11 +1,10 @@
 """The ids of features: a feature's TLID, plus a number for each earlier segment with this TLID in the county's file."""
 
-import re
 from collections import Counter
 from collections.abc import Callable, Iterable
 from hashlib import blake2b
 
-from .geojson import IdOf, tlids
+from .geojson import features, split
 
 # The second segment with a TLID, which has up to ten digits, has the TLID plus this number as its id, and so on.
 REPEATED = 10**10
@@ -29,46 +28,45 @@ def _twice(parts: Iterable[bytes]) -> set[bytes]:
     seen: set[bytes] = set()
     twice: set[bytes] = set()
     for lines in parts:
-        for tlid in tlids(lines):
+        for tlid in split(lines)[0]:
             (twice if tlid in seen else seen).add(tlid)
     return twice
 
 
 def _add_places(found: Repeated, counts: Counter[bytes], lines: bytes) -> None:
-    for tlid, line in zip(tlids(lines), lines.splitlines()):
+    for tlid, rest in zip(*split(lines)):
         if tlid in found:
-            found[tlid].setdefault(_digest(line), []).append(counts[tlid])
+            found[tlid].setdefault(digest(rest), []).append(counts[tlid])
             counts[tlid] += 1
 
 
-def id_of(found: Repeated, lines: bytes, before: Iterable[bytes]) -> IdOf:
-    """Returns a function that returns the ids of the features of a page, one after the other.
+class Numbering:
+    """Gives the selected segments of a county their ids, one after the other.
 
-    `before` yields the selected lines before the page. Equal lines are selected together, so the n-th of them that is
-    selected is the n-th in the file. (Only blanks at the start of a text can tell their segments apart.)
+    Equal lines are selected together, so the n-th of them that is selected is the n-th in the file. (Only blanks at the
+    start of a text can tell their segments apart.) In a collection of several counties an id is a text that begins with
+    the code of the county.
     """
-    equal = _equal_lines(found, lines)
-    counts = Counter(line for part in (before if equal else ()) for line in part.splitlines() if line in equal)
 
-    def number(start: re.Match[bytes]) -> bytes:
-        tlid = start[1]
-        if tlid not in found:
+    def __init__(self, found: Repeated, prefix: str) -> None:
+        self._found = found
+        self._form = f'"{prefix}%b"'.encode() if prefix else b"%b"
+        self._counts = Counter[bytes]()
+
+    def features(self, lines: bytes) -> bytes:
+        """Returns the features of the next lines."""
+        tlids, rests = split(lines)
+        numbers = map(self._number, tlids, rests) if self._found else tlids
+        return features([self._form % number for number in numbers], rests)
+
+    def _number(self, tlid: bytes, rest: bytes) -> bytes:
+        if tlid not in self._found:
             return tlid
-        line = lines[start.start() : lines.index(b"\n", start.end())]
-        counts[line] += 1
-        return b"%d" % (int(tlid) + REPEATED * found[tlid][_digest(line)][counts[line] - 1])
-
-    return number
+        line = digest(rest)
+        self._counts[line] += 1
+        return b"%d" % (int(tlid) + REPEATED * self._found[tlid][line][self._counts[line] - 1])
 
 
-def _equal_lines(found: Repeated, lines: bytes) -> set[bytes]:
-    """Returns the lines that a county has several times."""
-    if not found:
-        return set()
-    pairs = zip(tlids(lines), lines.splitlines())
-    return {line for tlid, line in pairs if tlid in found and len(found[tlid][_digest(line)]) > 1}
-
-
-def _digest(line: bytes) -> bytes:
-    """Returns 16 bytes that identify a line."""
-    return blake2b(line, digest_size=16).digest()
+def digest(text: bytes) -> bytes:
+    """Returns 16 bytes that identify a text."""
+    return blake2b(text, digest_size=16).digest()

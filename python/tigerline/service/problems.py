@@ -70,6 +70,11 @@ def busy() -> ProblemError:
     return ProblemError(503, "busy", "too many requests are waiting for a selection; try again")
 
 
+def many_to_sort(most: int) -> ProblemError:
+    """Returns the problem of a selection that is too large to be sorted."""
+    return bad_parameter("sortby", f"more than {most:,} segments are selected")
+
+
 def late(seconds: float) -> ProblemError:
-    """Returns the problem of a selection that took too long."""
-    return ProblemError(503, "time-limit", f"the selection took more than {seconds:g} seconds")
+    """Returns the problem of a request whose selections took or waited too long."""
+    return ProblemError(503, "time-limit", f"the selection took more than {seconds:g} seconds; try again")

@@ -9,14 +9,18 @@ from decimal import Decimal
 from fractions import Fraction
 from urllib.parse import parse_qsl
 
-from ..layout import FIELDS, HOUSE_NUMBER_TEXTS, Field, Kind
+from ..layout import FIELDS, HOUSE_NUMBER_TEXTS, NAMES, Field, Kind
+from .axes import exchanged
 from .boxes import FAR, BBox
+from .lines import Order
 from .problems import ProblemError, bad_parameter
 
-# In both, the longitude comes first. The files are in NAD 83, which is CRS83.
+# The files are in NAD 83, which is CRS83.
 CRS84 = "http://www.opengis.net/def/crs/OGC/1.3/CRS84"
 CRS83 = "http://www.opengis.net/def/crs/OGC/1.3/CRS83"
-SYSTEMS = (CRS84, CRS83)
+# WGS 84 and NAD 83 with the latitude first.
+LATITUDE_FIRST = tuple(f"http://www.opengis.net/def/crs/EPSG/0/{code}" for code in (4326, 4269))
+SYSTEMS = (CRS84, CRS83, *LATITUDE_FIRST)
 CQL2_JSON = "cql2-json"
 # GDAL sends filters only if it finds `cql-text`.
 LANGUAGES = ("cql2-text", CQL2_JSON, "cql-text")
@@ -31,8 +35,17 @@ _LITERALS = {
     Kind.NUMBER: re.compile(r"[0-9]{1,18}"),
     Kind.COORDINATE: re.compile(r"[-+]?[0-9]{1,3}(\.[0-9]{1,6})?"),
 }
+_SORT_KEY = re.compile(rf"([-+ ]?)({'|'.join(NAMES)})")
 _DAY = r"[0-9]{4}-[0-9]{2}-[0-9]{2}([Tt][0-9]{2}:[0-9]{2}:[0-9]{2}(\.[0-9]+)?([Zz]|[-+][0-9]{2}:[0-9]{2}))?"
 _TIME = re.compile(rf"{_DAY}|({_DAY}|(\.\.)?)/({_DAY}|(\.\.)?)")
+
+
+@dataclass(frozen=True)
+class View:
+    """What features show: these properties, or all of them, and points with the longitude or the latitude first."""
+
+    columns: tuple[str, ...] = NAMES
+    is_latitude_first: bool = False
 
 
 @dataclass(frozen=True)
@@ -40,13 +53,16 @@ class FeatureSelection:
     """The segments of a county that a request is about.
 
     The filter and all conditions are true for them, and their geometry meets the box. The conditions are in JSON if the
-    filter is.
+    filter is. The other members say how they are written: with the county in their ids, and in which order.
     """
 
     filter: str | None = None
     conditions: tuple[str, ...] = ()
     box: BBox | None = None
     is_json: bool = False
+    has_county: bool = False
+    order: Order = ()
+    view: View = View()
 
     # The part of the text that precedes the filter, and the pointer to it in JSON, if there are conditions.
     PREFIX = "("
@@ -96,7 +112,7 @@ def parameters(query: str, known: Collection[str]) -> dict[str, str]:
             raise bad_parameter(name, "a NUL can't be in it")
         found[name] = value
     if found.get("f", "json") != "json":
-        raise bad_parameter("f", "the only format is json")
+        raise bad_parameter("f", "the formats are json and html, and for segments also csv and gpkg")
     return found
 
 
@@ -115,13 +131,34 @@ def items_query(given: dict[str, str], filter_length: int, largest_page: int) ->
     if limit < 1:
         raise bad_parameter("limit", "it is 1 or more")
     is_json = text is not None and given.get("filter-lang") == CQL2_JSON
+    if text is not None and system(given, "filter-crs") in LATITUDE_FIRST:
+        text = exchanged(text, is_json)
     conditions = [equality(field, given[field.name], is_json) for field in PROPERTIES if field.name in given]
+    area = box(given["bbox"], system(given, "bbox-crs") in LATITUDE_FIRST) if "bbox" in given else None
     return ItemsQuery(
-        FeatureSelection(text, tuple(conditions), box(given["bbox"]) if "bbox" in given else None, is_json),
+        FeatureSelection(text, tuple(conditions), area, is_json, order=order(given), view=view(given)),
         min(limit, largest_page),
         whole_number(given, "offset", 0),
         system(given, "crs"),
     )
+
+
+def view(given: dict[str, str]) -> View:
+    """Returns what features show."""
+    names = given["properties"].split(",") if "properties" in given else NAMES
+    for name in names:
+        if name not in NAMES:
+            raise bad_parameter("properties", f"there is no property {name[:60]!r}")
+    return View(tuple(dict.fromkeys(names)), system(given, "crs") in LATITUDE_FIRST)
+
+
+def order(given: dict[str, str]) -> Order:
+    """Returns the columns by which features are sorted. A plus becomes a blank in a URL."""
+    keys = [_SORT_KEY.fullmatch(key) for key in given["sortby"].split(",")] if "sortby" in given else []
+    found = tuple((key[2], key[1] == "-") for key in keys if key)
+    if len({name for name, _ in found}) < len(keys):
+        raise bad_parameter("sortby", "it is properties, each once, with + or - before them and commas between them")
+    return found
 
 
 def system(given: dict[str, str], name: str) -> str:
@@ -161,7 +198,7 @@ def quoted(text: str) -> str:
     return "'" + text.replace("'", "''") + "'"
 
 
-def box(text: str) -> BBox:
+def box(text: str, is_latitude_first: bool = False) -> BBox:
     """Returns the box of the parameter bbox. Ignores the heights in a box of six numbers: segments have none."""
     parts = [part.strip(" ") for part in text.split(",")]
     if len(parts) not in (4, 6) or not all(_NUMBER.fullmatch(part) for part in parts):
@@ -173,6 +210,8 @@ def box(text: str) -> BBox:
         if numbers[2] > numbers[5]:
             raise bad_parameter("bbox", "its lower height is above its upper one")
         del numbers[5], numbers[2]
+    if is_latitude_first:
+        numbers = [numbers[place] for place in (1, 0, 3, 2)]
     if numbers[1] > numbers[3]:
         raise bad_parameter("bbox", "its south is north of its north")
     west, south, east, north = (_degrees(number) for number in numbers)

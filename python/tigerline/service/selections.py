@@ -1,6 +1,5 @@
 """Has `extractd` select segments within limits, and caches the features of the latest selections."""
 
-import os
 import subprocess
 import tempfile
 import threading
@@ -10,22 +9,26 @@ from collections.abc import Callable, Iterator
 from concurrent.futures import Future
 from contextlib import contextmanager, suppress
 from dataclasses import dataclass, field, replace
+from functools import partial
 from typing import IO
 
 from ..interrupts import Interrupts, kill_group
 from ..program import RefusedError, failure
 from ..sources import County, has_shapes, opened_county
-from .boxes import Extent
-from .ids import Repeated, repeated
-from .lines import Lines
-from .problems import ClientLeftError, ProblemError, busy, late, refused_county, refused_filter
-from .query import FeatureSelection
+from .boxes import Extent, extent_of
+from .collections import Collection
+from .geojson import latitude_first, with_properties
+from .ids import Numbering, Repeated, digest, repeated
+from .lines import Lines, Order, Slice, in_order
+from .problems import ClientLeftError, ProblemError, busy, late, many_to_sort, refused_county, refused_filter
+from .query import FeatureSelection, View
 
 POLL_SECONDS = 0.02
 SMALLEST_BUFFER = 4096  # bytes; a buffer without features counts as this size
-MOST_BUFFERS = 256  # each is an open file
-
-ClientIsThere = Callable[[], bool]
+MOST_BUFFERS = 400  # each is an open file
+MOST_COUNTS = 100_000
+MOST_SORTED = 200_000  # features, which take memory while they are sorted
+EVERYTHING = FeatureSelection()
 
 
 @dataclass(frozen=True)
@@ -42,56 +45,90 @@ class Limits:
 
 
 class Watch(Interrupts):
-    """Ends a selection when its time is over or when no client waits for it any longer."""
+    """Ends the selections of a request when the time for a county is over or when no client waits any longer."""
 
-    def __init__(self, seconds: float, client_is_there: ClientIsThere) -> None:
+    def __init__(self, seconds: float, has_left: Callable[[], bool]) -> None:
         super().__init__()
         self._seconds = seconds
-        self._deadline = time.monotonic() + seconds
-        self._client_is_there = client_is_there
+        self._has_left = has_left
+        self.restart()
+
+    def restart(self) -> None:
+        """Begins the time for the next county."""
+        self._deadline = time.monotonic() + self._seconds
 
     def check(self) -> None:
         """Raises ClientLeftError or ProblemError."""
-        if not self._client_is_there():
+        if self._has_left():
             raise ClientLeftError
         if time.monotonic() > self._deadline:
             raise late(self._seconds)
 
+    def enforce(self, done: threading.Event) -> None:
+        """Kills the processes that are watched, and each further one, when `check` says so."""
+        while not done.wait(POLL_SECONDS):
+            processes = tuple(self._processes)
+            try:
+                self.check()
+            except (ClientLeftError, ProblemError):
+                for process in processes:
+                    if process.returncode is None:
+                        kill_group(process)
+
+
+@contextmanager
+def taken(slots: threading.Semaphore, watch: Watch) -> Iterator[None]:
+    """Waits for a slot, which is free again after the block."""
+    while not slots.acquire(timeout=POLL_SECONDS):
+        watch.check()
+    try:
+        yield
+    finally:
+        slots.release()
+
 
 class Processes:
-    """Runs `extractd`: a few processes at once, each for a limited time, and none after `close`."""
+    """Runs `extractd`: a few processes at once, and none after `close`."""
 
     def __init__(self, program: str, limits: Limits) -> None:
         self._program = program
         self._limits = limits
         self._slots = threading.BoundedSemaphore(limits.processes)
-        self._lock = threading.Lock()
-        self._running: set[subprocess.Popen[bytes]] = set()
-        self._closed = False
+        self._is_closed = False
 
     def close(self) -> None:
-        """Kills all processes."""
-        with self._lock:
-            self._closed = True
-            for process in self._running:
-                if process.returncode is None:
-                    kill_group(process)
+        """Has the threads that wait for processes kill them."""
+        self._is_closed = True
 
-    def watch(self, client_is_there: ClientIsThere) -> Watch:
-        """Returns what ends a selection that begins now."""
-        return Watch(self._limits.seconds, lambda: client_is_there() and not self._closed)
+    def watch(self, has_left: Callable[[], bool]) -> Watch:
+        """Returns what ends a request that begins now."""
+        return Watch(self._limits.seconds, lambda: has_left() or self._is_closed)
 
-    def select(self, county: County, selection: FeatureSelection, client_is_there: ClientIsThere) -> Lines:
-        """Returns the features of a selection, whose box is ignored. Raises ProblemError if it has none to return."""
-        with self._slot(client_is_there), tempfile.TemporaryFile() as output:
-            watch = self.watch(client_is_there)
-            if selection.filter is not None and selection.conditions:
-                self._compile(selection, selection.filter, watch)
+    def select(self, county: County, selection: FeatureSelection, watch: Watch) -> Lines:
+        """Returns what `extractd` writes for a selection: for its filter alone. Raises ProblemError if it can't."""
+        try:
+            with taken(self._slots, watch):
+                if selection.filter is not None and selection.conditions:
+                    self._compile(selection, selection.filter, watch)
+                return self._select(county, selection, watch)
+        except RefusedError as refused:
+            raise _problem(refused, county.code, selection) from None
+
+    @contextmanager
+    def watched(self, watch: Watch) -> Iterator[None]:
+        """Waits until processes may run, and kills those that `watch` knows when it ends the request."""
+        done = threading.Event()
+        with taken(self._slots, watch):
+            thread = threading.Thread(target=watch.enforce, args=(done,))
+            thread.start()
             try:
-                self._run_select(county, selection, output, watch)
-            except RefusedError as refused:
-                raise _problem(refused, county.code, selection) from None
-            return Lines(output)
+                yield
+            except OSError:
+                watch.check()
+                raise
+            finally:
+                done.set()
+                thread.join()
 
     def _compile(self, selection: FeatureSelection, text: str, watch: Watch) -> None:
         """Raises ProblemError if a filter is refused.
@@ -104,59 +141,34 @@ class Processes:
             except RefusedError as refused:
                 raise refused_filter(refused) from None
 
-    def _run_select(self, county: County, selection: FeatureSelection, output: IO[bytes], watch: Watch) -> None:
+    def _select(self, county: County, selection: FeatureSelection, watch: Watch) -> Lines:
         types, geometry = ("12456", "shape") if has_shapes(county) else ("1456", "line")
-        with opened_county(county, types, watch) as files:
+        with opened_county(county, types, watch) as files, tempfile.TemporaryFile() as output:
             layer = ["--format", "geojsonseq", "--geometry", geometry]
             where = [f"--where={selection.text}", *selection.options]
             command = ["select", *where, "--data", str(files["1"].parent), *layer, county.code]
             self._run(command, output, watch, b"", county.code)
-
-    @contextmanager
-    def _slot(self, client_is_there: ClientIsThere) -> Iterator[None]:
-        deadline = time.monotonic() + self._limits.seconds
-        while not self._slots.acquire(timeout=POLL_SECONDS):
-            if not client_is_there():
-                raise ClientLeftError
-            if time.monotonic() > deadline or self._closed:
-                raise busy()
-        try:
-            yield
-        finally:
-            self._slots.release()
+            return Lines(output)
 
     def _run(
         self, arguments: list[str], output: IO[bytes], watch: Watch, given: bytes, county: str | None = None
     ) -> None:
-        with tempfile.TemporaryFile() as standard_input, tempfile.TemporaryFile() as errors:
-            standard_input.write(given)
-            standard_input.seek(0)
-            process = self._start([self._program, *arguments], standard_input, output, errors)
-            try:
-                status = _wait(process, watch)
-            finally:
-                with self._lock:
+        command = [self._program, *arguments]
+        with tempfile.TemporaryFile() as source, tempfile.TemporaryFile() as errors:
+            source.write(given)
+            source.seek(0)
+            watch.check()
+            with subprocess.Popen(
+                command, stdin=source, stdout=output, stderr=errors, process_group=0, restore_signals=False
+            ) as process:
+                try:
+                    status = _wait(process, watch)
+                finally:
                     if process.returncode is None:
                         kill_group(process)
-                    self._running.discard(process)
-                process.wait()
-            if self._closed:
-                raise busy()
             errors.seek(0)
             if status != 0:
                 raise failure(self._program, status, errors.read().decode("utf-8", "replace").strip(), county)
-
-    def _start(
-        self, command: list[str], given: IO[bytes], output: IO[bytes], errors: IO[bytes]
-    ) -> subprocess.Popen[bytes]:
-        with self._lock:
-            if self._closed:
-                raise busy()
-            process = subprocess.Popen(
-                command, stdin=given, stdout=output, stderr=errors, process_group=0, restore_signals=False
-            )
-            self._running.add(process)
-            return process
 
 
 def _wait(process: subprocess.Popen[bytes], watch: Watch) -> int:
@@ -182,39 +194,104 @@ def _problem(refused: RefusedError, county: str, selection: FeatureSelection) ->
     return problem
 
 
+Key = tuple[str, FeatureSelection]
+Page = tuple[list[Slice], int]
+
+
 @dataclass
 class Store:
     """The latest selections. Makes each only once, even if several clients request it at once."""
 
     processes: Processes
     limits: Limits
-    _buffers: OrderedDict[tuple[str, FeatureSelection], Lines] = field(default_factory=OrderedDict)
-    _pending: dict[tuple[str, FeatureSelection], "Future[Lines]"] = field(default_factory=dict)
+    _buffers: OrderedDict[Key, Lines] = field(default_factory=OrderedDict)
+    _counts: OrderedDict[tuple[str, bytes], int] = field(default_factory=OrderedDict)
+    _pending: dict[Key, "Future[Lines]"] = field(default_factory=dict)
     _extents: dict[str, Extent | None] = field(default_factory=dict)
     _repeated: dict[str, Repeated] = field(default_factory=dict)
     _lock: threading.Lock = field(default_factory=threading.Lock)
+    _sorting: threading.Semaphore = field(default_factory=threading.Semaphore)
     _size: int = 0
     _waiting: int = 0
 
-    def lines(self, county: County, selection: FeatureSelection, client_is_there: ClientIsThere) -> Lines:
-        """Returns the features of a selection. `extractd` runs only if they aren't cached."""
-        key = (county.code, selection)
-        if selection.box is None:
-            return self._once(key, lambda: self.processes.select(county, selection, client_is_there), keep=True)
+    def page(self, collection: Collection, selection: FeatureSelection, offset: int, limit: int, watch: Watch) -> Page:
+        """Returns a page of the features of a collection, and the number of all that are selected.
+
+        Counties follow one another unless their features are sorted.
+        """
+        slices: list[Slice] = []
+        matched = 0
+        # The number of features is kept longer than they are. What they show doesn't change it.
+        plain = replace(selection, view=View())
+        identity = _identity(plain)
+        for part in (collection,) if selection.order else collection.parts:
+            watch.restart()
+            count = self._counts.get((part.id, identity))
+            if count is None:
+                count = self.lines(part, plain, watch).count
+            first, last = (min(max(place - matched, 0), count) for place in (offset, offset + limit))
+            if first < last:
+                slices.append(self.lines(part, selection, watch).slice(first, last))
+            matched += count
+        return slices, matched
+
+    def lines(self, part: Collection, selection: FeatureSelection, watch: Watch) -> Lines:
+        """Returns the features of a selection. They are made only if they aren't cached.
+
+        The part of a collection is a county, unless its features are sorted.
+        """
+        key = (part.id, selection)
         with self._lock:
             cached = self._cached(key)
-        if cached is not None:
-            return cached
-        box, everywhere = selection.box, self.lines(county, replace(selection, box=None), client_is_there)
-        return self._once(key, lambda: everywhere.in_box(box, self.processes.watch(client_is_there).check), keep=True)
+        return cached or self._once(key, self._maker(part, selection, watch))
 
-    def segments(self, county: County, tlid: int, client_is_there: ClientIsThere) -> Lines:
-        """Returns the features of the segments with a TLID, which aren't cached."""
+    def _maker(self, part: Collection, selection: FeatureSelection, watch: Watch) -> Callable[[], Lines]:
+        """Returns what makes the features of a selection of what is made before: all, sorted, in a box, or of a filter."""
+        if selection.view != View():
+            whole = self.lines(part, replace(selection, view=View()), watch)
+            return partial(whole.converted, partial(viewed, selection.view), watch.check)
+        if selection.order:
+            return partial(self._in_order, self._unsorted(part, selection, watch), selection.order, watch)
+        if selection.box is not None:
+            everywhere = self.lines(part, replace(selection, box=None), watch)
+            return partial(everywhere.in_box, selection.box, watch.check)
+        if selection.text != EVERYTHING.text and part.id not in self._repeated:
+            self.lines(part, replace(EVERYTHING, has_county=selection.has_county), watch)
+        return partial(self._select, part, selection, watch)
+
+    def _unsorted(self, part: Collection, selection: FeatureSelection, watch: Watch) -> list[Lines]:
+        """Returns the features that are to be sorted. Raises ProblemError if they are too many."""
+        found: list[Lines] = []
+        for county in part.parts:
+            watch.restart()
+            found.append(self.lines(county, replace(selection, order=()), watch))
+            if sum(lines.count for lines in found) > MOST_SORTED:
+                raise many_to_sort(MOST_SORTED)
+        return found
+
+    def _in_order(self, parts: list[Lines], order: Order, watch: Watch) -> Lines:
+        """Returns the features in an order. Their keys take memory, so nothing else is sorted meanwhile."""
+        with taken(self._sorting, watch):
+            return in_order(parts, order, watch.check)
+
+    def _select(self, part: Collection, selection: FeatureSelection, watch: Watch) -> Lines:
+        """Returns the features of a county that a filter selects. The first selection is of all."""
+        (county,) = part.counties
+        written = self.processes.select(county, selection, watch)
+        if part.id not in self._repeated:
+            self._repeated[part.id] = repeated(written.parts)
+        numbering = Numbering(self._repeated[part.id], f"{county.code}." if selection.has_county else "")
+        return written.converted(numbering.features, watch.check)
+
+    def segment(self, part: Collection, tlid: int, place: int, watch: Watch) -> bytes:
+        """Returns one of the segments of a county with a TLID, as `extractd` writes it, or nothing. It isn't cached."""
         selection = FeatureSelection(f"TLID = {tlid}")
-        key = (county.code, selection)
-        return self._once(key, lambda: self.processes.select(county, selection, client_is_there), keep=False)
+        (county,) = part.counties
+        make = partial(self.processes.select, county, selection, watch)
+        line = self._once((f"one of {part.id}", selection), make, keep=False).slice(place, place + 1)
+        return line.read(0, line.length)
 
-    def _once(self, key: tuple[str, FeatureSelection], make: Callable[[], Lines], keep: bool) -> Lines:
+    def _once(self, key: Key, make: Callable[[], Lines], keep: bool = True) -> Lines:
         """Returns the features of a selection. Makes them if they are neither cached nor being made."""
         while True:
             with self._lock:
@@ -224,63 +301,73 @@ class Store:
                     raise busy()
                 self._waiting += 1
                 pending = self._pending.get(key)
-                mine = self._pending.setdefault(key, Future()) if pending is None else None
+                mine = self._pending.setdefault(key, Future())
             try:
-                if mine is not None:
-                    return self._fill(mine, key, make, keep)
-                if pending is not None:
-                    return pending.result()
+                return self._fill(mine, key, make, keep) if pending is None else pending.result()
             except ClientLeftError:
-                # The client that made the selection has left, so this one makes it now.
-                if mine is not None:
+                # If the client that made the selection has left, this one makes it now.
+                if pending is None:
                     raise
             finally:
                 with self._lock:
                     self._waiting -= 1
 
-    def _cached(self, key: tuple[str, FeatureSelection]) -> Lines | None:
+    def _cached(self, key: Key) -> Lines | None:
         """Returns the features of a selection if they are cached. The caller has the lock."""
         if key in self._buffers:
             self._buffers.move_to_end(key)
         return self._buffers.get(key)
 
-    def _fill(
-        self, pending: "Future[Lines]", key: tuple[str, FeatureSelection], make: Callable[[], Lines], keep: bool
-    ) -> Lines:
+    def _fill(self, mine: "Future[Lines]", key: Key, make: Callable[[], Lines], keep: bool) -> Lines:
         try:
             lines = make()
         except BaseException as error:
-            with self._lock:
-                del self._pending[key]
-            pending.set_exception(error)
+            mine.set_exception(error)
             raise
-        with self._lock:
-            del self._pending[key]
+        else:
             if keep:
                 self._keep(key, lines)
-        pending.set_result(lines)
-        return lines
+            mine.set_result(lines)
+            return lines
+        finally:
+            with self._lock:
+                del self._pending[key]
 
-    def _keep(self, key: tuple[str, FeatureSelection], lines: Lines) -> None:
-        """Caches features and drops those that were requested longest ago. The latest are always cached."""
-        self._buffers[key] = lines
-        self._size += _size(key, lines)
-        while len(self._buffers) > 1 and (self._size > self.limits.buffers or len(self._buffers) > MOST_BUFFERS):
-            self._size -= _size(*self._buffers.popitem(last=False))
+    def _keep(self, key: Key, lines: Lines) -> None:
+        """Caches features and drops those that were requested longest ago. The latest are always cached.
 
-    def extent(self, county: County, client_is_there: ClientIsThere) -> Extent | None:
-        """Returns the extent of a county, or None if no feature has a geometry."""
-        if county.code not in self._extents:
-            lines = self.lines(county, FeatureSelection(), client_is_there)
-            self._extents[county.code] = lines.bounds(self.processes.watch(client_is_there).check).extent()
-        return self._extents[county.code]
+        Of none it is enough to know their number, as a box leaves none of most counties.
+        """
+        with self._lock:
+            if lines.count:
+                self._buffers[key] = lines
+                self._size += _size(key, lines)
+            while len(self._buffers) > 1 and (self._size > self.limits.buffers or len(self._buffers) > MOST_BUFFERS):
+                self._size -= _size(*self._buffers.popitem(last=False))
+            self._counts[key[0], _identity(key[1])] = lines.count
+            if len(self._counts) > MOST_COUNTS:
+                self._counts.popitem(last=False)
 
-    def repeated(self, county: County, client_is_there: ClientIsThere) -> Repeated:
-        """Returns the repeated TLIDs of a county."""
-        if county.code not in self._repeated:
-            self._repeated[county.code] = repeated(self.lines(county, FeatureSelection(), client_is_there).parts)
-        return self._repeated[county.code]
+    def extent(self, collection: Collection, watch: Watch) -> Extent | None:
+        """Returns the extent of a collection, or None if no feature has a geometry."""
+        for part in collection.parts:
+            watch.restart()
+            if part.id not in self._extents:
+                self._extents[part.id] = self.lines(part, EVERYTHING, watch).bounds(watch.check).extent()
+        return extent_of(self._extents[part.id] for part in collection.parts)
 
 
-def _size(key: tuple[str, FeatureSelection], lines: Lines) -> int:
+def viewed(view: View, lines: bytes) -> bytes:
+    """Returns features with what a view shows of them."""
+    if view.columns != View.columns:
+        lines = with_properties(view.columns, lines)
+    return latitude_first(lines) if view.is_latitude_first else lines
+
+
+def _identity(selection: FeatureSelection) -> bytes:
+    """Returns what identifies a selection, whose filter may be long."""
+    return digest(repr(selection).encode())
+
+
+def _size(key: Key, lines: Lines) -> int:
     return max(lines.size, SMALLEST_BUFFER) + len(key[1].text)
