@@ -3,14 +3,14 @@
 
     python3 tools/contract_names.py
 
-Each section is about a crate, and each crate but those of tests has one. What comes before is about all crates. The
-words in backticks are names, unless they have other characters:
+Each section is about the crates in its heading. What comes before is about all crates. The words in backticks are names,
+unless they have other characters:
 
 - `Type::method`, `Type::Variant` or `module::item`: the crate, or a library of it, has it.
 - Words in parentheses directly after a function are its clauses.
 - Another word in parentheses is a clause of a function that the section has named so far. A type or a module stands for
   its functions. The word may also be an item or a definition of the crate, or a function of a library.
-- `specs/Name` and `proofs/Name` are files of the crate.
+- `specs/Name` and `proofs/Name` are files of one of the crates.
 - Any other word is in a source of the crate, or names a library.
 
 Prints what isn't so, and then the number of names. Exit status 1 means that something isn't so.
@@ -115,17 +115,28 @@ def read_crates() -> dict[str, Crate]:
     return {name.split()[0]: read_crate(name.split()[0], libraries.split()) for name, _, libraries in rows}
 
 
+def joined(crates: list[Crate]) -> Crate:
+    """Returns several crates as one."""
+    return Crate(
+        [function for crate in crates for function in crate.functions],
+        {member for crate in crates for member in crate.members},
+        {definition for crate in crates for definition in crate.definitions},
+        {word for crate in crates for word in crate.words},
+        [library for crate in crates for library in crate.libraries],
+    )
+
+
 class Section:
     """A section of the page, with the crates that its names are looked up in.
 
-    They are its own, its libraries, and for types its users; or all crates, if it is about none.
+    They are its own, their libraries, and for types their users; or all crates, if it is about none.
     """
 
-    def __init__(self, name: str, crates: dict[str, Crate]) -> None:
-        self.name = name
-        self.own = crates.get(name, Crate([], set(), set(), set(), list(crates)))
+    def __init__(self, names: list[str], crates: dict[str, Crate]) -> None:
+        self.names = names
+        self.own = joined([crates[name] for name in names]) if names else Crate([], set(), set(), set(), list(crates))
         self.libraries = [crates[library] for library in self.own.libraries if library in crates]
-        self.users = [crate for crate in crates.values() if name in crate.libraries]
+        self.users = [crate for crate in crates.values() if not set(names).isdisjoint(crate.libraries)]
         self.clauses: set[str] = set()  # those of the functions that were named so far
 
     def has_item(self, name: str) -> bool:
@@ -151,12 +162,15 @@ class Section:
         )
         return {clause for function in functions for clause in function.clauses}
 
+    def files_of(self, word: str) -> list[Path]:
+        """Returns the files of the section's crates that a word names."""
+        paths = [TOP / "crates" / name / f"{word}.antt" for name in self.names]
+        return [path for path in paths if OWN_FILE.fullmatch(word) and path.exists()]
+
     def file_words(self, words: list[str]) -> Iterator[str]:
-        """Yields the words of those of the crate's files that are named."""
-        for word in words:
-            path = TOP / "crates" / self.name / f"{word}.antt"
-            if OWN_FILE.fullmatch(word) and path.exists():
-                yield from re.findall(r"\w+", path.read_text(encoding="utf-8"))
+        """Yields the words of those of the crates' files that are named."""
+        for path in (path for word in words for path in self.files_of(word)):
+            yield from re.findall(r"\w+", path.read_text(encoding="utf-8"))
 
     def fault_of(self, name: str, is_grouped: bool) -> Optional[str]:
         if "::" in name or name.startswith("Is"):
@@ -189,7 +203,7 @@ class Section:
                 yield fault
         yield from self.adjacent_faults(paragraph)
         for word in words:
-            if OWN_FILE.fullmatch(word) and not (TOP / "crates" / self.name / f"{word}.antt").exists():
+            if OWN_FILE.fullmatch(word) and not self.files_of(word):
                 yield f"no file {word}.antt"
 
 
@@ -211,18 +225,16 @@ def sections_of(text: str) -> Iterator[tuple[int, str, list[tuple[int, str]]]]:
 
 def main() -> int:
     crates = read_crates()
-    count, faults, seen = 0, [], set()
+    count, faults = 0, []
     for number, heading, paragraphs in sections_of(PAGE.read_text(encoding="utf-8")):
-        name = heading.partition(",")[0]
-        seen.add(name)
-        if name and name not in crates:
-            faults.append(f"line {number}: no crate {name}")
+        names = heading.split(", ") if heading else []
+        if unknown := [name for name in names if name not in crates]:
+            faults.append(f"line {number}: no crate {unknown[0]}")
             continue
-        section = Section(name, crates)
+        section = Section(names, crates)
         for begin, paragraph in paragraphs:
             count += len(re.findall(r"`[^`]+`", paragraph))
-            faults += [f"line {begin}: {name or 'all crates'}: {fault}" for fault in section.faults(paragraph)]
-    faults += [f"no section on {name}" for name in crates if name not in seen and not name.endswith("_tests")]
+            faults += [f"line {begin}: {heading or 'all crates'}: {fault}" for fault in section.faults(paragraph)]
     for fault in faults:
         print(f"docs/contracts.md: {fault}")
     print(f"{count} names, {len(faults)} of them wrong")

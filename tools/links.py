@@ -1,8 +1,9 @@
 #!/usr/bin/env python3
 """Checks the links of the documents: each leads to a file that exists, and to a heading of it if it names one.
 
-    python3 tools/links.py
+    python3 tools/links.py [FOLDER]
 
+FOLDER has the pages README.md, docs/*.md and examples/*.md, by default those of this clone.
 Addresses on the web aren't fetched. Prints each broken link, and then the number of links. Exit status 1 means that
 a link is broken.
 """
@@ -13,7 +14,7 @@ from collections import Counter
 from collections.abc import Iterator
 from pathlib import Path
 
-ROOT = Path(__file__).resolve().parent.parent
+ROOT = Path(sys.argv[1] if len(sys.argv) > 1 else Path(__file__).parent.parent).resolve()
 PAGES = [path for folder in (ROOT, ROOT / "docs", ROOT / "examples") for path in sorted(folder.glob("*.md"))]
 FENCED = re.compile(r"^```.*?^```", re.DOTALL | re.MULTILINE)
 LINK = re.compile(r"\]\(([^)\s]+)\)")

@@ -1,0 +1,304 @@
+#!/usr/bin/env python3
+"""Writes the parts of the pages that repeat the sources, and checks the pages.
+
+    python3 tools/pages.py            writes these parts
+    python3 tools/pages.py --check    prints what is wrong with the pages; exits with 1 if anything is
+    python3 tools/pages.py --count    prints the words, the lines and the words per sentence of each page
+
+A part is between two comments of a page: `<!-- NAME: by tools/pages.py -->` and `<!-- end of NAME -->`. It is wrong if it
+isn't what the sources say. A page is wrong if it has more than 400 lines, or docs/http.md more than 600. And docs/refusals.md
+has to have the number and the name of each refusal that a command reports, and no others, README.md the options of each
+command, and docs/http.md the routes.
+"""
+# Needs only Python 3.9.
+
+import re
+import sys
+import textwrap
+from collections.abc import Iterator
+from pathlib import Path
+from typing import NamedTuple
+
+TOP = Path(__file__).resolve().parent.parent
+MAX_LINES = 400
+# Each route has an example, which is a test.
+LONGER = {"docs/http.md": 600}
+FENCED = re.compile(r"^```.*?^```$|<!--.*?-->", re.DOTALL | re.MULTILINE)
+CITATION = r" \((?:RFC|TIGER|OGC|ISO)[^)]*\)"
+# The end of a sentence, and the beginning of the next one.
+BETWEEN = re.compile(r"(?<=[.!?])[)*`\"]*\s+(?=[\w`*\[(\"])")
+
+
+def source(path: str) -> str:
+    return (TOP / "crates" / path).read_text(encoding="utf-8")
+
+
+def crate_names() -> list[str]:
+    lines = (TOP / "crates.txt").read_text(encoding="utf-8").splitlines()
+    return [line.partition(":")[0].split()[0] for line in lines if line and not line.startswith("#")]
+
+
+def root_of(crate: str) -> str:
+    """Returns the file that begins a crate's description."""
+    return next(
+        f"{crate}/src/{name}.rt" for name in ("lib", "main") if (TOP / "crates" / crate / f"src/{name}.rt").exists()
+    )
+
+
+def head_of(path: str) -> str:
+    """Returns the first sentence about a module, without its full stop. One of up to four words has the next one with it."""
+    lines = re.match(r"(//! .*\n)+", source(path))
+    if lines is None:
+        raise ValueError(f"{path} doesn't begin with a comment on the module")
+    sentences = BETWEEN.split(re.sub(r"(?m)^//! ", "", lines[0]).replace("\n", " ").strip())
+    return " ".join(sentences[: 2 if len(sentences[0].split()) < 5 else 1]).rstrip(".")
+
+
+def crates_part() -> str:
+    """Returns the list of crates but those of tests: a name, and the first sentence about it without what it cites."""
+    heads = {crate: head_of(root_of(crate)) for crate in crate_names() if not crate.endswith("_tests")}
+    return "".join(
+        wrapped(f"- `{crate}`: {lowered(re.sub(CITATION, '', head))}", "  ") for crate, head in heads.items()
+    )
+
+
+def wrapped(text: str, indent: str = "") -> str:
+    return textwrap.fill(text, 140, subsequent_indent=indent, break_on_hyphens=False) + "\n"
+
+
+def lowered(sentence: str) -> str:
+    """Returns a sentence as a phrase. A word of capitals stays."""
+    return (sentence if sentence[1:2].isupper() else sentence[0].lower() + sentence[1:]).rstrip(".")
+
+
+def table(*rows: tuple[str, ...]) -> str:
+    """Returns a table in Markdown. The first row is its head."""
+    lines = [f"| {' | '.join(row)} |" for row in rows]
+    return "\n".join([lines[0], "|---" * len(rows[0]) + "|", *lines[1:]]) + "\n"
+
+
+class Field(NamedTuple):
+    name: str
+    first: int
+    last: int
+    meaning: str
+
+    def places(self) -> str:
+        return str(self.first) if self.first == self.last else f"{self.first}-{self.last}"
+
+
+def fields_of(record_type: str) -> list[Field]:
+    """Returns the fields that the table of record types names."""
+    block = source("tl_records/src/layout.rt").split(f"\nimpl {record_type} {{")[1].split("\n}")[0]
+    found = re.findall(r"/// (.*)\n +pub const (\w+): Places = Places\((\d+), (\d+)\)", block)
+    return [Field(name, int(first), int(last), lowered(meaning)) for meaning, name, first, last in found]
+
+
+def flags() -> list[Field]:
+    """Returns the flags of imputed addresses, which filters name."""
+    found = re.findall(r"TextColumn::((?:Fr|To)iadd[lr]) => Places\((\d+), (\d+)\)", source("cql2/src/column.rt"))
+    return [
+        Field(
+            name.upper(),
+            int(first),
+            int(last),
+            f"whether {name.upper().replace('IADD', 'ADD')} is imputed: `1`, `0` or blank",
+        )
+        for name, first, last in found
+    ]
+
+
+def first_layout_part() -> str:
+    """Returns the table of the fields of type 1, in the order of the record."""
+    fields = sorted(fields_of("Type1") + flags(), key=lambda field: field.first)
+    rows = ((field.name, field.places(), field.meaning) for field in fields)
+    return table(("Field", "Places", "Meaning"), *rows)
+
+
+def layout_part(record_type: str) -> str:
+    """Returns the fields of another type with their places."""
+    return wrapped(", ".join(f"{field.name} {field.places()}" for field in fields_of(record_type)))
+
+
+# What the table of helper functions says of the bounds of their arguments and answers.
+BOUNDS = {"FIELD_IDS": " 0 to 16", "COORDINATE_IDS": " 0 to 3", "ANY_NUMBER": ""}
+FRAME_BOUNDS = ["", " in the frame", " 1 to 30"]
+LIMITS = {"MAX_NAMES as u64": "5000", "MAX_RANGES as u64 + 1": "1001", "u64::MAX": "any number"}
+PROTOTYPE = re.compile(
+    r"Helper::(\w+) => row\(\s*(\d+),\s*(\w+(?:\([^)]*\))?),\s*Shape::\w+,\s*(\w+),\s*([^,]+?),?\s*\)"
+)
+
+
+def argument_names() -> dict[str, list[str]]:
+    """Returns the names that the declarations in C give the arguments of each function, by its number."""
+    header = (TOP / "tools/c/extractd.h").read_text(encoding="utf-8")
+    declared = re.findall(r"^HELPER\((\d+), \w+, \w+, \(([^)]*)\)\)", header, re.MULTILINE)
+    return {
+        number: re.findall(r"(\w+)(?:,|$)", "" if arguments == "void" else arguments) for number, arguments in declared
+    }
+
+
+def arguments_of(number: str, prototype: str) -> str:
+    """Returns what a helper function takes: each argument with its bounds."""
+    bounds = [BOUNDS[word] for word in re.findall(r"\w+", prototype.partition("(")[2])]
+    names = argument_names()[number]
+    if prototype == "NAME_AND_BYTES":
+        bounds = FRAME_BOUNDS
+    if len(names) != len(bounds):
+        raise ValueError(f"helper function {number} has other arguments in extractd.h")
+    return ", ".join(f"`{name}`{bound}" for name, bound in zip(names, bounds))
+
+
+def answer_of(low: str, high: str) -> str:
+    last = LIMITS.get(high, high.replace("_", ""))
+    return last if last in (low, "any number") else f"{low} to {last}"
+
+
+def helpers_part() -> str:
+    """Returns the table of helper functions, in the order of their numbers."""
+    text = source("bpf_helpers/src/helper.rt")
+    does = {name: lowered(what) for what, name in re.findall(r"/// (.*)\n    (\w+),", text)}
+    names = dict(re.findall(r'Helper::(\w+) => "(\w+)"', text))
+    rows = [
+        (number, f"`{names[helper]}`", arguments_of(number, prototype), answer_of(low, high), does[helper])
+        for helper, number, prototype, low, high in PROTOTYPE.findall(text)
+    ]
+    return table(
+        ("No", "Name", "r1, r2, r3", "Answer in r0", "What it does"), *sorted(rows, key=lambda row: int(row[0]))
+    )
+
+
+# The parts: the page of each, and what it should be.
+PARTS = {
+    "crates": ("docs/ARCHITECTURE.md", crates_part),
+    "helpers": ("docs/helpers.md", helpers_part),
+    "type 1": ("docs/records.md", first_layout_part),
+    "type 4": ("docs/records.md", lambda: layout_part("Type4")),
+    "type 5": ("docs/records.md", lambda: layout_part("Type5")),
+    "type 6": ("docs/records.md", lambda: layout_part("Type6")),
+}
+
+
+def with_part(name: str, text: str) -> str:
+    """Returns a page's text with one part as it should be."""
+    begin, end = f"<!-- {name}: by tools/pages.py -->\n", f"<!-- end of {name} -->"
+    if begin not in text or end not in text:
+        raise ValueError(f"{PARTS[name][0]} has no part {name}")
+    return f"{text.partition(begin)[0]}{begin}\n{PARTS[name][1]()}\n{end}{text.partition(end)[2]}"
+
+
+def pages() -> list[str]:
+    return ["README.md", *(f"docs/{page.name}" for page in sorted((TOP / "docs").glob("*.md")))]
+
+
+def read(page: str) -> str:
+    return (TOP / page).read_text(encoding="utf-8")
+
+
+def refusals_in_sources() -> set[tuple[str, str]]:
+    """Returns the number and the name of each refusal."""
+    texts = (path.read_text(encoding="utf-8") for path in sorted((TOP / "crates").glob("*/src/**/*.rt")))
+    return {row for text in texts for row in re.findall(r'Refusal::(?:refused|detailed|io)\(\s*(\d+),\s*"(\w+)"', text)}
+
+
+def refusal_faults() -> Iterator[str]:
+    page = read("docs/refusals.md")
+    listed = set(re.findall(r"^- \*\*(\d+) ([A-Z]\w+)", page, re.MULTILINE))
+    sources = refusals_in_sources()
+    for number, name in sorted(listed - sources):
+        yield f"docs/refusals.md: {number} {name} isn't in the sources"
+    for number, name in sorted(sources - listed):
+        if number not in UNREPORTED:
+            yield f"docs/refusals.md: {number} {name} is missing"
+
+
+# Refusals that no command reports: of a table of jobs, and of connections.
+UNREPORTED = ("70", "71", "72", "80", "81", "82", "83")
+
+
+def options_in_definition() -> dict[str, set[str]]:
+    """Returns the options of each command. `LAYER` stands for those that several commands share."""
+    text = (TOP / "crates/command_line/specs/Arguments.antt").read_text(encoding="utf-8")
+    names = re.findall(r"^name_of (\w+) = codes \"([a-z-]+)\"", text, re.MULTILINE)
+    rules = dict(re.findall(r"^arguments_of (\w+) =((?: .*|\n    .*)+)", text, re.MULTILINE))
+    return {
+        command: {
+            *re.findall(r'codes "([a-z-]+)"', rules[name]),
+            *(["LAYER"] if "layer_options" in rules[name] else []),
+        }
+        for name, command in names
+    }
+
+
+def options_in_readme() -> dict[str, set[str]]:
+    """Returns the options that the point on each command names."""
+    section = read("README.md").split("\n## Using it\n")[1].split("\n## ")[0]
+    points = re.findall(r"^- `([a-z-]+) ((?:.|\n(?!- |\n))*)", section, re.MULTILINE)
+    return {command: set(re.findall(r"(?<=--)[a-z-]+|LAYER", text)) for command, text in points}
+
+
+def option_faults() -> Iterator[str]:
+    shown = options_in_readme()
+    for command, options in options_in_definition().items():
+        if shown.get(command) != options:
+            yield f"README.md: {command} has the options {' '.join(sorted(options))}, and not those shown under \"Using it\""
+
+
+def route_faults() -> Iterator[str]:
+    page = read("docs/http.md")
+    for path, methods in re.findall(r'\w+: "(/[^"]*)" "([A-Z, ]+)"', source("http_routes/src/route.rt")):
+        for method in methods.split(", "):
+            if f"| `{method} {path}` |" not in page:
+                yield f"docs/http.md: no row for {method} {path}"
+
+
+def faults() -> Iterator[str]:
+    for name, (page, _) in PARTS.items():
+        if with_part(name, read(page)) != read(page):
+            yield f"{page}: the part {name} isn't what the sources say; run tools/pages.py"
+    for page in pages():
+        if (lines := read(page).count("\n")) > (limit := LONGER.get(page, MAX_LINES)):
+            yield f"{page}: {lines} lines, more than {limit}"
+    yield from refusal_faults()
+    yield from option_faults()
+    yield from route_faults()
+
+
+def paragraphs(text: str) -> Iterator[str]:
+    """Yields the paragraphs and points of a page, without its headings, tables and blocks of code."""
+    for block in re.split(r"\n\s*\n|\n(?=\s*(?:- |\d+\. ))", FENCED.sub("", text)):
+        lines = [line.strip() for line in block.splitlines() if not re.match(r"\s*[#|]|    \S", line)]
+        if any(lines):
+            yield re.sub(r"\]\([^)]*\)", "]", " ".join(lines))
+
+
+def count() -> None:
+    total = 0
+    for page in pages():
+        text = read(page)
+        sentences = [sentence for paragraph in paragraphs(text) for sentence in BETWEEN.split(paragraph)]
+        lengths = [len(sentence.split()) for sentence in sentences]
+        words = len(text.split())
+        total += words
+        mean = sum(lengths) / max(1, len(lengths))
+        print(
+            f"{page:28} {words:6} words {text.count(chr(10)):4} lines {mean:5.1f} words per sentence, at most {max(lengths, default=0)}"
+        )
+    print(f"{len(pages())} pages, {total} words")
+
+
+def main() -> int:
+    if sys.argv[1:] == ["--count"]:
+        count()
+        return 0
+    if sys.argv[1:] == ["--check"]:
+        found = list(faults())
+        print("\n".join(found) if found else f"{len(pages())} pages")
+        return 1 if found else 0
+    for name, (page, _) in PARTS.items():
+        (TOP / page).write_text(with_part(name, read(page)), encoding="utf-8")
+    return 0
+
+
+if __name__ == "__main__":
+    sys.exit(main())
