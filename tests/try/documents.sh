@@ -12,7 +12,7 @@
 #   a free one here. Words after the folder name further commands. Heads that curl shows are compared without their CRs.
 # - A row of a table with a status, its phrase and a text is a reply. A row with a request in its first cell, in which `\n` ends a line, and a
 #   status in its second is sent as written, and the complete reply must be that of the status, byte for byte.
-#   The requests and replies that docs/http.md shows with curl must be those of crates/wire_tests/src/examples.rt, row for row.
+#   The requests and replies that docs/http.md shows with curl must be rows of crates/wire_tests/src/examples.rt, in its order.
 # - In a block ```answers each line is the beginning of a program, then `;` and the value of r0 at its end, on the segment of examples/one.
 # - A row of a table with bytes in its first cell and a refusal in its second is a program that `verify` and `run` refuse that way. One with a
 #   place, an instruction and its bytes is a program of one instruction, tested as above.
