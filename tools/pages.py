@@ -6,9 +6,8 @@
     python3 tools/pages.py --count    prints the words, the lines and the words per sentence of each page
 
 A part is between two comments of a page: `<!-- NAME: by tools/pages.py -->` and `<!-- end of NAME -->`. It is wrong if it
-isn't what the sources say. A page is wrong if it has more than 400 lines, or docs/http.md more than 600. And docs/refusals.md
-has to have the number and the name of each refusal that a command reports, and no others, README.md the options of each
-command, and docs/http.md the routes.
+isn't what the sources say. A page is wrong if it has more than 400 lines. And docs/refusals.md has to have the number and the
+name of each refusal that a command reports, and no others, README.md the options of each command, and docs/http.md the routes.
 """
 # Needs only Python 3.9.
 
@@ -21,8 +20,6 @@ from typing import NamedTuple
 
 TOP = Path(__file__).resolve().parent.parent
 MAX_LINES = 400
-# Each route has an example, which is a test.
-LONGER = {"docs/http.md": 600}
 FENCED = re.compile(r"^```.*?^```$|<!--.*?-->", re.DOTALL | re.MULTILINE)
 CITATION = r" \((?:RFC|TIGER|OGC|ISO)[^)]*\)"
 # The end of a sentence, and the beginning of the next one.
@@ -257,8 +254,8 @@ def faults() -> Iterator[str]:
         if with_part(name, read(page)) != read(page):
             yield f"{page}: the part {name} isn't what the sources say; run tools/pages.py"
     for page in pages():
-        if (lines := read(page).count("\n")) > (limit := LONGER.get(page, MAX_LINES)):
-            yield f"{page}: {lines} lines, more than {limit}"
+        if (lines := read(page).count("\n")) > MAX_LINES:
+            yield f"{page}: {lines} lines, more than {MAX_LINES}"
     yield from refusal_faults()
     yield from option_faults()
     yield from route_faults()
