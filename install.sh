@@ -85,7 +85,7 @@ files() {
     # What the pages use. Those for contributors stay in the sources.
     for path in README.md CHANGELOG.md SECURITY.md LICENSE docs examples tools/c tools/make_county.py tools/make_town.py deploy/server deploy/cluster; do
         below . "$path" share/doc/extractd
-    done | grep -v -E '/docs/(ARCHITECTURE|CHANGING|DECISIONS|contracts)\.md$'
+    done | grep -v -E '/docs/(ARCHITECTURE|CHANGING|DECISIONS)\.md$'
 }
 
 row() { printf '%s\t%s\t%s\n' "$@"; }

@@ -1,10 +1,10 @@
 #!/usr/bin/env python3
-"""Compares the names in docs/contracts.md with the sources.
+"""Compares the names in docs/PROOFS.md with the sources.
 
     python3 tools/contract_names.py
 
-Each section is about the crates in its heading. What comes before is about all crates. The words in backticks are names,
-unless they have other characters:
+A section `###` is about the crates in its heading, and each crate has one, but for the tests. The others are about all
+crates. The words in backticks are names, unless they have other characters:
 
 - `Type::method`, `Type::Variant` or `module::item`: the crate, or a library of it, has it.
 - Words in parentheses directly after a function are its clauses.
@@ -24,7 +24,7 @@ from pathlib import Path
 from typing import NamedTuple, Optional
 
 TOP = Path(__file__).resolve().parent.parent
-PAGE = TOP / "docs" / "contracts.md"
+PAGE = TOP / "docs" / "PROOFS.md"
 NAME = re.compile(r"[A-Za-z_]\w*(::[A-Za-z_]\w*)*")
 OWN_FILE = re.compile(r"(specs|proofs)/\w+")
 ITEM = re.compile(r"^\s*(?:pub(?:\([a-z]+\))? )?(?:const )?(fn|struct|enum|trait|type|const) (\w+)")
@@ -208,35 +208,35 @@ class Section:
 
 
 def sections_of(text: str) -> Iterator[tuple[int, str, list[tuple[int, str]]]]:
-    """Yields each section: the number of its first line, its name, and its paragraphs and points with their numbers.
-
-    The first one, without a name, is what comes before the sections.
-    """
+    """Yields each section: the number of its first line, its crates, and its paragraphs and points with their numbers."""
     line = 1
-    for part in re.split(r"^(?=## )", text, flags=re.MULTILINE):
+    for part in re.split(r"^(?=###? )", text, flags=re.MULTILINE):
         heading = part.partition("\n")[0]
         paragraphs, begin = [], line
         for paragraph in re.split(r"\n(?=\n|- )", part):
             paragraphs.append((begin + len(paragraph) - len(paragraph.lstrip("\n")), paragraph))
             begin += paragraph.count("\n") + 1
-        yield line, heading.removeprefix("## ") if heading.startswith("## ") else "", paragraphs
+        yield line, heading.removeprefix("### ") if heading.startswith("### ") else "", paragraphs
         line += part.count("\n")
 
 
 def main() -> int:
     crates = read_crates()
+    missing = {name for name in crates if not name.endswith("_tests") and name != "fixtures"}
     count, faults = 0, []
     for number, heading, paragraphs in sections_of(PAGE.read_text(encoding="utf-8")):
         names = heading.split(", ") if heading else []
         if unknown := [name for name in names if name not in crates]:
             faults.append(f"line {number}: no crate {unknown[0]}")
             continue
+        missing.difference_update(names)
         section = Section(names, crates)
         for begin, paragraph in paragraphs:
             count += len(re.findall(r"`[^`]+`", paragraph))
             faults += [f"line {begin}: {heading or 'all crates'}: {fault}" for fault in section.faults(paragraph)]
+    faults += [f"no section about {name}" for name in sorted(missing)]
     for fault in faults:
-        print(f"docs/contracts.md: {fault}")
+        print(f"docs/PROOFS.md: {fault}")
     print(f"{count} names, {len(faults)} of them wrong")
     return 1 if faults else 0
 
