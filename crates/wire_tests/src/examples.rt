@@ -1,5 +1,5 @@
-//! The examples of docs/http.md in order, row for row. tests/try.sh compares the document with these tables, and sends the examples to the
-//! program.
+//! Requests with whole replies, those that docs/http.md shows among them, in its order. tests/try.sh looks for the page's in these tables, and sends
+//! them to the program.
 use fixtures::Table;
 
 // The blocks with complete replies, separated by empty lines: the county, then each request of curl and its reply. Turns are the ones that the
@@ -107,7 +107,7 @@ GET /jobs/0 HTTP/1.0\r\n\r\n => 404
 DELETE /jobs/18446744073709551616 HTTP/1.1\r\n\r\n => 404",
 };
 
-// The requests that the document lists with what comes next. A client that stays silent is covered by the tests of slow clients.
+// Requests with what comes next. A client that stays silent is covered by the tests of slow clients.
 pub const ENDS: Table = Table {
     rows: 9,
     text: r"{rt1}\n
