@@ -74,6 +74,13 @@ impl Reply<'_> {
         }
     }
 
+    /// Returns the length of the body, in bytes.
+    pub fn body_length(&self) -> usize
+        ensures { result ≡ length (parts_of self.now).body }
+    {
+        self.lead.len() + self.rest.len()
+    }
+
     /// Writes the reply in one write if it fits into a small packet, otherwise everything before `rest` in one write and `rest` in another. Doesn't
     /// retry, flush or allocate.
     pub fn write<W: CountedWrite>(&self, out: &mut W) -> Result<(), WriteFault>
@@ -96,7 +103,7 @@ impl Reply<'_> {
         ensures value { packet.new.items ≡ head (parts_of self.now) }
         ensures room { length packet.new.items + MAX_LEAD_LENGTH ≤ MAX_PACKET_LENGTH }
     {
-        let length = self.lead.len() + self.rest.len();
+        let length = self.body_length();
         push_status_line(self.status, packet);
         push_header("Content-Type", self.media.as_str(), packet);
         push_header("Content-Length", Buffer::new().format(length), packet);

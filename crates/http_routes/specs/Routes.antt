@@ -16,6 +16,13 @@ verb_name Get = codes "GET"
 verb_name Post = codes "POST"
 verb_name Delete = codes "DELETE"
 
+abbrev pub verbs : List Verb
+verbs = Get ∷ Post ∷ Delete ∷ []
+
+-- the method that a text names, if a route has it
+abbrev pub verb_named : List ℕ → Option Verb
+verb_named method = find (λ verb. bytes_eq (verb_name verb) method) verbs
+
 -- A row of the table: the path, in which the name in braces stands for any one segment that isn't empty, and the methods with their actions.
 pub record RowParts : Type 0 where
   pub path : List ℕ

@@ -5,6 +5,6 @@ mod route;
 mod router;
 mod target;
 
-pub use route::{Action, Route, index};
+pub use route::{Action, Route, Verb, index};
 pub use router::Routes;
 pub use target::{Target, job_id};

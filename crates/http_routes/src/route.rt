@@ -1,7 +1,7 @@
 //! The table of routes.
 ghost use Rattle.std.specs.Prelude.{◌≡◌, ◌≤◌, length, map, find, option_map};
 ghost use Rattle.std.specs.Str.{bytes_eq};
-ghost use Rattle.http_routes.specs.Routes.{action_of, allow, index, row, verb_name};
+ghost use Rattle.http_routes.specs.Routes.{action_of, allow, index, row, verb_name, verb_named};
 
 use http::Method;
 
@@ -58,14 +58,36 @@ struct Row {
 }
 
 /// A method of a route.
-#[derive(Clone, Copy)]
-enum Verb {
+#[derive(Clone, Copy, PartialEq, Eq)]
+pub enum Verb {
     Get,
     Post,
     Delete,
 }
 
 impl Verb {
+    /// All methods of routes, each once.
+    const ALL: [Verb; 3] = [Verb::Get, Verb::Post, Verb::Delete];
+
+    /// Returns the method's name.
+    pub fn name(self) -> &'static str
+        ensures value { result.now ≡ verb_name self }
+        ensures short { length result.now ≤ 6 }
+    {
+        match self {
+            Verb::Get => "GET",
+            Verb::Post => "POST",
+            Verb::Delete => "DELETE",
+        }
+    }
+
+    /// Returns the method that a text names, if a route has it.
+    pub fn named(method: &[u8]) -> Option<Verb>
+        ensures { result ≡ verb_named method.now }
+    {
+        Verb::ALL.iter().copied().find(|verb| verb.is(method))
+    }
+
     /// Compares a request's method with this one. Methods are case-sensitive (RFC 9110, section 9.1).
     fn is(self, method: &[u8]) -> bool
         ensures { result ≡ bytes_eq (verb_name self) method.now }
@@ -109,6 +131,7 @@ impl Route {
 
     fn row(self) -> Row
         ensures path { result.path.now ≡ (row self).path }
+        ensures short_path { length result.path.now ≤ 14 }
         ensures allow { result.allow.now ≡ allow self }
         ensures short { length result.allow.now ≤ 32 }
         ensures methods { map (λ pair. (verb_name pair.0, pair.1)) result.methods.now ≡ (row self).actions }
@@ -132,8 +155,10 @@ impl Route {
         )
     }
 
-    pub(crate) fn path(self) -> &'static str
-        ensures { result.now ≡ (row self).path }
+    /// Returns the path, in which a name in braces stands for any one segment.
+    pub fn path(self) -> &'static str
+        ensures value { result.now ≡ (row self).path }
+        ensures short { length result.now ≤ 14 }
     {
         self.row().path
     }

@@ -1,4 +1,4 @@
-use Rattle.std.proofs.Common.{length-append, append_assoc, ◌∙◌}
+use Rattle.std.proofs.Common.{append_assoc, ◌∙◌}
 use Rattle.http_reply.proofs.reply.Reply.push_head.Goals as goal
 
 pub returns-clause-value : goal.returns-clause-value
@@ -11,6 +11,6 @@ returns-clause-value c =
       c.push_status_line.ensures.value,
       c.as_str.ensures.value,
       c.format.ensures.text,
-      c.len.ensures.value,
+      c.body_length-length.ensures,
     ) at c.push.ensures in
-    rw length-append (is ∙ simp append_assoc)
+    is ∙ simp append_assoc
