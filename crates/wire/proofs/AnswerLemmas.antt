@@ -1,7 +1,6 @@
 -- The answers of the code are the replies of the definitions.
 use Rattle.std.proofs.Common.{◌≡◌, ℕ, List, Option, Some, None, Bor, inl, inr, ap, refl, subst, sym}
-use Rattle.std.specs.Prelude.{Result}
-use Rattle.http_reply.specs.Reply.{ReplyParts, reply_text}
+use Rattle.http_reply.specs.Reply.{ReplyParts}
 use Rattle.http_reply.specs.declared.status.Status.TheVariants.{NotFound}
 use Rattle.jobs.specs.Table.{Step, Table}
 use Rattle.jobs.specs.declared.event.Event.{Event}
@@ -10,21 +9,20 @@ use Rattle.jobs.specs.declared.event.Reply.{Reply as JobReply}
 use Rattle.jobs.specs.declared.event.Reply.TheVariants.{Submitted, Turned, Rows, Dropped, Refused}
 use Rattle.jobs.specs.declared.fault.JobFault.TheVariants.{Full, NoJob, Program, Memory}
 use Rattle.counted_io.specs.ReaderWriter.{Writer}
-use Rattle.counted_io.specs.Writing.{WritesText}
-use Rattle.counted_io.specs.declared.writing.WriteFault.{WriteFault}
 use Rattle.wire.specs.Answer.{IsFilterProgram, IsJobReply, IsTableReply, Submits, SubmitsTo, status_reply}
-use Rattle.wire.specs.Reading.{WritesReply}
+use Rattle.wire.specs.Reading.{Sends, WritesReply}
 use Rattle.wire.specs.Turn.{IsTurn}
+use Rattle.wire.specs.declared.summary.Sent.{Sent}
 
-pub writes_such : (is_reply : ReplyParts → Type 0) (reply : ReplyParts) (written : Result (Unit {0}) WriteFault) (old new : Writer)
-    → is_reply reply → WritesText (reply_text reply) written old new → WritesReply is_reply written old new
-writes_such is_reply reply written old new is writes = record { reply = reply; is_such = is; writes = writes }
+pub writes_such : (is_reply : ReplyParts → Type 0) (reply : ReplyParts) (sent : Sent) (old new : Writer) → is_reply reply
+    → Sends reply sent old new → WritesReply is_reply sent old new
+writes_such is_reply reply sent old new is sends = record { reply = reply; is_such = is; sends = sends }
 
 -- a reply that is such is also another one
-pub writes_implied : (is_reply is_other : ReplyParts → Type 0) (written : Result (Unit {0}) WriteFault) (old new : Writer)
-    → ((reply : ReplyParts) → is_reply reply → is_other reply) → WritesReply is_reply written old new → WritesReply is_other written old new
-writes_implied is_reply is_other written old new implies wrote =
-    record { reply = wrote.reply; is_such = implies wrote.reply wrote.is_such; writes = wrote.writes }
+pub writes_implied : (is_reply is_other : ReplyParts → Type 0) (sent : Sent) (old new : Writer)
+    → ((reply : ReplyParts) → is_reply reply → is_other reply) → WritesReply is_reply sent old new → WritesReply is_other sent old new
+writes_implied is_reply is_other sent old new implies wrote =
+    record { reply = wrote.reply; is_such = implies wrote.reply wrote.is_such; sends = wrote.sends }
 
 -- a program with these bytes is submitted
 pub of_submission : (program : Bor (List ℕ)) (body : List ℕ) (old new : Table) (reply : ReplyParts) → program.now ≡ body

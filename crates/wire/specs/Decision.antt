@@ -9,13 +9,14 @@ use Rattle.http_request.specs.declared.length.LengthFault.{LengthFault}
 use Rattle.http_request.specs.declared.length.LengthFault.TheVariants.{Missing, Invalid, TooLarge}
 use Rattle.http_reply.specs.declared.status.Status.{Status}
 use Rattle.http_reply.specs.declared.status.Status.TheVariants.{BadRequest, NotFound, LengthRequired, PayloadTooLarge}
-use Rattle.http_routes.specs.Routes.{action_of, route_of}
+use Rattle.http_routes.specs.Routes.{action_of, route_of, verb_named}
 use Rattle.http_routes.specs.Target.{path_of, query_of}
 use Rattle.http_routes.specs.declared.route.Action.{Action}
 use Rattle.http_routes.specs.declared.route.Action.TheVariants.{Index, Health, Geocode, Select, Compile, SubmitFilter, List as ListJobs, Fetch, Drop}
 use Rattle.http_routes.specs.declared.route.Route.{Route}
 use Rattle.wire.specs.declared.decision.RequestRead.{RequestRead}
 use Rattle.wire.specs.declared.decision.RequestRead.TheVariants.{Complete, Partial}
+use Rattle.wire.specs.declared.summary.Named.{Named}
 
 -- an accepted request: its action, the path and the query of its target, and its body
 pub record RoutedParts : Type 0 where
@@ -89,6 +90,16 @@ abbrev pub IsDecided : List ℕ → DecisionParts → Type 0
 IsDecided input decision =
     (HasNoHead input × (decision ≡ Refuses BadRequest))
     ⊎ ((head : Head) × (rest : List ℕ) × HasHead input head rest × (decision ≡ decide head rest))
+
+-- what a head names: its method and the route of its path, each if there is one
+abbrev pub named_by : Head → Named
+named_by head = record { verb = verb_named head.method; route = route_of (path_of head.target) }
+
+-- what the head of an input names; nothing if it has no head
+abbrev pub Names : List ℕ → Named → Type 0
+Names input named =
+    (HasNoHead input × (named ≡ record { verb = None; route = None }))
+    ⊎ ((head : Head) × (rest : List ℕ) × HasHead input head rest × (named ≡ named_by head))
 
 -- the input is a request with a filter
 abbrev pub SendsFilter : List ℕ → Type 0

@@ -1,5 +1,5 @@
 -- Internal definitions: why a filter has no program.
-use Rattle.std.specs.Prelude.{◌≡◌, ℕ, List, ⊤}
+use Rattle.std.specs.Prelude.{ℕ, List, ⊤}
 use Rattle.filters.specs.Filter.{IsFilterFailure}
 use Rattle.filters.specs.declared.failure.FilterFailure.TheVariants.{Memory}
 use Rattle.filters.specs.declared.filter.FilterOptions.{FilterOptions}

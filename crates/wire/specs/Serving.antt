@@ -1,5 +1,5 @@
 -- The effect of serving a connection on the state and on both ends of the connection.
-use Rattle.std.specs.Prelude.{◌≡◌, ◌<◌, ℕ, List, length, Some, Result, Ok, Err, ⊤}
+use Rattle.std.specs.Prelude.{◌≡◌, ◌<◌, ℕ, List, length, Option, Some, None, Result, Ok, Err, ⊤}
 use Rattle.std.specs.Io.KnownBytes.{Keeps}
 use Rattle.http_reply.specs.Reply.{ReplyParts, reply_text}
 use Rattle.http_request.specs.Reading.{FailsAfter, IsClosed, Takes}
@@ -8,11 +8,12 @@ use Rattle.counted_io.specs.Writing.{WritesText}
 use Rattle.counted_io.specs.declared.writing.WriteFault.{WriteFault}
 use Rattle.counted_io.specs.declared.writing.WriteFault.TheVariants as write_fault
 use Rattle.wire.specs.Answer.{Replies}
-use Rattle.wire.specs.Decision.{IsEnough, IsUndecided}
+use Rattle.wire.specs.Decision.{IsEnough, IsUndecided, Names}
 use Rattle.wire.specs.State.{StateParts}
 use Rattle.wire.specs.declared.fault.WireFault.{WireFault}
 use Rattle.wire.specs.declared.fault.WireFault.TheVariants.{Closed, Read, Write, WriteZero}
 use Rattle.wire.specs.declared.decision.RequestRead.{RequestRead}
+use Rattle.wire.specs.declared.summary.Summary.{Summary}
 
 -- a server's state, with the reader and the writer of a connection
 pub record Connection : Type 0 where
@@ -61,3 +62,32 @@ IsServed (Err Read) old new = IsUnanswered old new × FailsUndecided old.reader 
 abbrev pub ReturnsRequestRead : Result RequestRead WireFault → Connection → Connection → Type 0
 ReturnsRequestRead (Ok request_read) old new = IsReplied request_read (Ok tt) old new
 ReturnsRequestRead (Err fault) old new = ⊤
+
+-- the length of a body, if the reply was written completely
+abbrev pub written_length : Result (Unit {0}) WriteFault → ℕ → Option ℕ
+written_length (Ok done) length = Some length
+written_length (Err fault) length = None
+
+-- what an input names, the status of its reply, and the length of the reply's body if the reply was written completely
+pub record IsSummaryOf (summary : Summary) (input : List ℕ) (reply : ReplyParts) (written : Result (Unit {0}) WriteFault) : Type 0 where
+  pub names : Names input summary.named
+  pub status : summary.status ≡ Some reply.status
+  pub length_is : summary.length ≡ written_length written (length reply.body)
+
+-- a request was replied to, and this is the summary
+pub record SummarizesReply (summary : Summary) (written : Result (Unit {0}) WriteFault) (old new : Connection) : Type 0 where
+  pub request_read : RequestRead
+  pub replied : IsReplied request_read written old new
+  pub is_summary : IsSummaryOf summary replied.input replied.reply written
+
+-- the summary without a request
+abbrev pub nothing : Summary
+nothing = record { named = record { verb = None; route = None }; status = None; length = None }
+
+-- the summary of serving a connection
+abbrev pub IsSummarized : {T : Type 0} → Summary → Result T WireFault → Connection → Connection → Type 0
+IsSummarized summary (Ok done) old new = SummarizesReply summary (Ok tt) old new
+IsSummarized summary (Err Write) old new = SummarizesReply summary (Err write_fault.Write) old new
+IsSummarized summary (Err WriteZero) old new = SummarizesReply summary (Err write_fault.WriteZero) old new
+IsSummarized summary (Err Closed) old new = summary ≡ nothing
+IsSummarized summary (Err Read) old new = summary ≡ nothing

@@ -1,14 +1,15 @@
 //! The answers to requests.
 ghost use Rattle.std.specs.Prelude.{◌≡◌, ◌++◌, ◌∷◌, [], codes, decimal};
 ghost use Rattle.counted_io.specs.ReaderWriter.{writer};
-ghost use Rattle.counted_io.specs.Writing.{WritesText};
-ghost use Rattle.http_reply.specs.Reply.{parts_of, reply_text};
+ghost use Rattle.http_reply.specs.Reply.{parts_of};
 ghost use Rattle.http_reply.specs.declared.status.Status.TheVariants as status;
 ghost use Rattle.wire.specs.Answer.{class_status, plain};
+ghost use Rattle.wire.specs.Reading.{Sends};
 ghost use Rattle.wire.specs.Reply.{reply_of};
 
+use crate::summary::Sent;
 use arrayvec::{ArrayString, ArrayVec};
-use counted_io::{CountedWrite, WriteFault};
+use counted_io::CountedWrite;
 use http_reply::{MAX_LEAD_LENGTH, MediaType, Reply, Status};
 use http_routes::Route;
 use itoa::Buffer;
@@ -81,11 +82,16 @@ impl<'a, A: Allocator> Answer<'a, A> {
     }
 
     /// Writes the reply, in as few writes as its parts allow. It doesn't allocate.
-    pub fn write<W: CountedWrite>(self, out: &mut W) -> Result<(), WriteFault>
-        ensures { WritesText (reply_text (reply_of self.entry)) result
+    pub fn write<W: CountedWrite>(self, out: &mut W) -> Sent
+        ensures { Sends (reply_of self.entry) result
             (writer W.contents W.counts out.old) (writer W.contents W.counts out.new) }
     {
-        self.reply().write(out)
+        let reply = self.reply();
+        Sent {
+            status: reply.status,
+            length: reply.body_length(),
+            written: reply.write(out),
+        }
     }
 }
 

@@ -3,13 +3,14 @@ ghost use Rattle.std.specs.Prelude.{◌≡◌, IfErr, IfOk, IsTrue};
 ghost use Rattle.http_request.specs.Reading.{ReadsHead};
 ghost use Rattle.http_routes.specs.Target.{path_of, query_of};
 ghost use Rattle.counted_io.specs.ReaderWriter.{Reader, reader};
-ghost use Rattle.wire.specs.Decision.{length_status, request_read_of, requested_action, takes_body};
+ghost use Rattle.wire.specs.Decision.{length_status, named_by, request_read_of, requested_action, takes_body};
 ghost use Rattle.wire.specs.Reading.{Decides, FailsToDecide, decision_of, of_head};
 
+use crate::summary::Named;
 use counted_io::CountedRead;
 use http_reply::Status;
 use http_request::{BodyFault, HeadBuffer, HeadFault, LengthFault, Request, read_body};
-use http_routes::{Action, Route, Routes, Target};
+use http_routes::{Action, Route, Routes, Target, Verb};
 use std::alloc::Allocator;
 
 /// How much of a request was read.
@@ -48,12 +49,20 @@ impl<A: Allocator> Decision<'_, A> {
     }
 }
 
+/// What the head of an input names, and the decision on the input.
+#[derive(Drop)]
+pub(crate) struct Decided<'a, A: Allocator> {
+    pub named: Named,
+    pub decision: Decision<'a, A>,
+}
+
 /// Why there is no decision.
 #[derive(Clone, Copy)]
 pub(crate) enum ReadFault {
     Closed,
     Read,
-    Memory,
+    /// An allocation failed for the body of a request whose head names this.
+    Memory(Named),
 }
 
 impl From<HeadFault> for ReadFault {
@@ -73,64 +82,97 @@ pub(crate) fn read_decision<'a, A: Allocator + Copy, R: CountedRead>(
     routes: &Routes,
     buffer: &'a mut HeadBuffer,
     input: &mut R,
-) -> Result<Decision<'a, A>, ReadFault>
-    ensures ok { IfOk result (λ decision. Decides (decision_of decision)
+) -> Result<Decided<'a, A>, ReadFault>
+    ensures ok { IfOk result (λ decided. Decides decided.named (decision_of decided.decision)
         (reader R.remaining R.failed_reads input.old) (reader R.remaining R.failed_reads input.new)) }
     ensures err { IfErr result (λ fault. FailsToDecide fault
         (reader R.remaining R.failed_reads input.old) (reader R.remaining R.failed_reads input.new)) }
 {
     let Some(request) = buffer.read_head(input)? else {
-        return Ok(Decision::Refuses(Status::BadRequest));
+        return Ok(Decided {
+            named: Named {
+                verb: None,
+                route: None,
+            },
+            decision: Decision::Refuses(Status::BadRequest),
+        });
     };
+    let verb = Verb::named(request.method());
     let target = Target::of(request.target());
     let Some(route) = routes.find(target.path) else {
-        return Ok(Decision::Refuses(Status::NotFound));
+        return Ok(Decided {
+            named: Named { verb, route: None },
+            decision: Decision::Refuses(Status::NotFound),
+        });
+    };
+    let named = Named {
+        verb,
+        route: Some(route),
     };
     let Some(action) = route.action(request.method()) else {
-        return Ok(Decision::Disallows(route));
+        return Ok(Decided {
+            named,
+            decision: Decision::Disallows(route),
+        });
     };
     if !takes_body(action) {
-        return Ok(Decision::Accepts(RoutedRequest {
-            action,
-            target,
-            body: Vec::new(alloc),
-        }));
+        return Ok(Decided {
+            named,
+            decision: Decision::Accepts(RoutedRequest {
+                action,
+                target,
+                body: Vec::new(alloc),
+            }),
+        });
     }
-    read_routed(alloc, &request, target, action, input)
+    read_routed(alloc, &request, named, target, action, input)
 }
 
 /// Reads the body of a request whose action takes one.
 fn read_routed<'a, A: Allocator + Copy, R: CountedRead>(
     alloc: A,
     request: &Request<'a>,
+    named: Named,
     target: Target<'a>,
     action: Action,
     input: &mut R,
-) -> Result<Decision<'a, A>, ReadFault>
+) -> Result<Decided<'a, A>, ReadFault>
+    requires named { named ≡ named_by request.now.head }
     requires path { target.path.now ≡ path_of request.now.head.target }
     requires query { target.query.now ≡ query_of request.now.head.target }
     requires requests { requested_action request.now.head ≡ Some action }
     requires takes { IsTrue (takes_body action) }
-    ensures ok { IfOk result (λ decision. (start : Reader)
+    ensures ok { IfOk result (λ decided. (start : Reader)
         → ReadsHead request.now start (reader R.remaining R.failed_reads input.old)
-        → Decides (decision_of decision) start (reader R.remaining R.failed_reads input.new)) }
+        → Decides decided.named (decision_of decided.decision) start (reader R.remaining R.failed_reads input.new)) }
     ensures err { IfErr result (λ fault. (start : Reader)
         → ReadsHead request.now start (reader R.remaining R.failed_reads input.old)
         → FailsToDecide fault start (reader R.remaining R.failed_reads input.new)) }
 {
     let length = match request.body_length() {
         Ok(length) => length,
-        Err(fault) => return Ok(Decision::Refuses(length_status(fault))),
+        Err(fault) => {
+            return Ok(Decided {
+                named,
+                decision: Decision::Refuses(length_status(fault)),
+            });
+        }
     };
     match read_body(alloc, request.after_head(), length, input) {
-        Ok(body) => Ok(Decision::Accepts(RoutedRequest {
-            action,
-            target,
-            body,
-        })),
-        Err(BodyFault::Short) => Ok(Decision::Refuses(Status::BadRequest)),
+        Ok(body) => Ok(Decided {
+            named,
+            decision: Decision::Accepts(RoutedRequest {
+                action,
+                target,
+                body,
+            }),
+        }),
+        Err(BodyFault::Short) => Ok(Decided {
+            named,
+            decision: Decision::Refuses(Status::BadRequest),
+        }),
         Err(BodyFault::Read) => Err(ReadFault::Read),
-        Err(BodyFault::Memory) => Err(ReadFault::Memory),
+        Err(BodyFault::Memory) => Err(ReadFault::Memory(named)),
     }
 }
 

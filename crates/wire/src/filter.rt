@@ -11,7 +11,8 @@ ghost use Rattle.wire.specs.Reply.{reply_of};
 use crate::answer::Answer;
 use crate::job::write_job_reply;
 use crate::query::{filter_options, layer};
-use counted_io::{CountedWrite, WriteFault};
+use crate::summary::Sent;
+use counted_io::CountedWrite;
 use filters::{FilterFailure, FilterOptions};
 use http_reply::{MediaType, Status};
 use jobs::{Event, Jobs};
@@ -137,7 +138,7 @@ pub(crate) fn submit_filter<A: Allocator + Copy, W: CountedWrite>(
     query: &str,
     filter: &[u8],
     out: &mut W,
-) -> Result<(), WriteFault>
+) -> Sent
     ensures { WritesReply (λ reply. SubmitsTo query.now filter.now jobs.old reply jobs.new) result
         (writer W.contents W.counts out.old) (writer W.contents W.counts out.new) }
 {

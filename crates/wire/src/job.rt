@@ -1,20 +1,19 @@
 //! The requests to the table of jobs, and its replies as answers.
 ghost use Rattle.std.specs.Prelude.{◌≡◌, ◌⊎◌, decimal, false};
-ghost use Rattle.http_reply.specs.Reply.{reply_text};
 ghost use Rattle.http_reply.specs.declared.status.Status.TheVariants as status;
 ghost use Rattle.http_reply.specs.declared.status.Status.TheVariants.{NotFound};
 ghost use Rattle.http_routes.specs.Target.{job_id};
 ghost use Rattle.counted_io.specs.ReaderWriter.{writer};
-ghost use Rattle.counted_io.specs.Writing.{WritesText};
 ghost use Rattle.jobs.specs.Listing.{listing};
 ghost use Rattle.wire.specs.Answer.{IsJobReply, IsTableReply, job_fault_reply, job_reply, memory_reply, plain, status_reply};
-ghost use Rattle.wire.specs.Reading.{WritesReply};
+ghost use Rattle.wire.specs.Reading.{Sends, WritesReply};
 ghost use Rattle.wire.specs.Turn.{IsTurn, lends_rows};
 ghost use Rattle.wire.specs.Reply.{reply_of};
 
 use crate::answer::Answer;
+use crate::summary::Sent;
 use arrayvec::ArrayString;
-use counted_io::{CountedWrite, WriteFault};
+use counted_io::CountedWrite;
 use http_reply::{MediaType, Status};
 use http_routes::job_id;
 use itoa::Buffer;
@@ -27,7 +26,7 @@ pub(crate) fn write_job_reply<A: Allocator + Copy, W: CountedWrite>(
     jobs: &mut Jobs<A>,
     event: Event<'_>,
     out: &mut W,
-) -> Result<(), WriteFault>
+) -> Sent
     ensures { WritesReply (λ reply. IsTableReply (λ made. made ≡ event.entry) jobs.old reply jobs.new) result
         (writer W.contents W.counts out.old) (writer W.contents W.counts out.new) }
 {
@@ -53,7 +52,7 @@ pub(crate) fn fetch<A: Allocator + Copy, W: CountedWrite>(
     jobs: &mut Jobs<A>,
     path: &str,
     out: &mut W,
-) -> Result<(), WriteFault>
+) -> Sent
     ensures { WritesReply (λ reply. IsJobReply Event.Fetch (job_id path.now) jobs.old reply jobs.new) result
         (writer W.contents W.counts out.old) (writer W.contents W.counts out.new) }
 {
@@ -68,7 +67,7 @@ pub(crate) fn remove<A: Allocator + Copy, W: CountedWrite>(
     jobs: &mut Jobs<A>,
     path: &str,
     out: &mut W,
-) -> Result<(), WriteFault>
+) -> Sent
     ensures { WritesReply (λ reply. IsJobReply Event.Drop (job_id path.now) jobs.old reply jobs.new) result
         (writer W.contents W.counts out.old) (writer W.contents W.counts out.new) }
 {
@@ -79,8 +78,8 @@ pub(crate) fn remove<A: Allocator + Copy, W: CountedWrite>(
 }
 
 /// Writes the reply for an invalid id, which belongs to no job.
-fn no_job<A: Allocator, W: CountedWrite>(out: &mut W) -> Result<(), WriteFault>
-    ensures { WritesText (reply_text (status_reply NotFound)) result
+fn no_job<A: Allocator, W: CountedWrite>(out: &mut W) -> Sent
+    ensures { Sends (status_reply NotFound) result
         (writer W.contents W.counts out.old) (writer W.contents W.counts out.new) }
 {
     Answer::<A>::Status(Status::NotFound).write(out)

@@ -14,8 +14,10 @@ mod programs;
 mod query;
 mod serving;
 mod state;
+mod summary;
 
 pub use decision::RequestRead;
 pub use fault::WireFault;
-pub use serving::{serve_one, serve_request};
+pub use serving::{Served, serve_one, serve_request};
 pub use state::State;
+pub use summary::{Named, Summary};

@@ -1,11 +1,9 @@
 //! Reading and answering one request.
 ghost use Rattle.counted_io.specs.ReaderWriter.{reader, writer};
 ghost use Rattle.std.specs.Prelude.{◌≡◌};
-ghost use Rattle.counted_io.specs.Writing.{WritesText};
-ghost use Rattle.http_reply.specs.Reply.{reply_text};
 ghost use Rattle.wire.specs.Answer.{Answers, AnswersAction, memory_reply};
-ghost use Rattle.wire.specs.Reading.{WritesReply, decision_of, result_of, routed_of};
-ghost use Rattle.wire.specs.Serving.{IsServed, ReturnsRequestRead};
+ghost use Rattle.wire.specs.Reading.{Sends, WritesReply, decision_of, replied, result_of, routed_of, unanswered};
+ghost use Rattle.wire.specs.Serving.{IsServed, IsSummarized, ReturnsRequestRead, written_length};
 
 use crate::answer::Answer;
 use crate::decision::{Decision, ReadFault, RequestRead, RoutedRequest, read_decision};
@@ -16,6 +14,7 @@ use crate::geocoder::geocode;
 use crate::job::{fetch, list, remove, write_job_reply};
 use crate::programs::{assemble, disassemble, extract, verify};
 use crate::state::State;
+use crate::summary::{Named, Sent, Summary};
 use counted_io::{CountedRead, CountedWrite, WriteFault};
 use http_request::HeadBuffer;
 use http_routes::{Action, index};
@@ -23,7 +22,48 @@ use jobs::Event;
 use refusals::Refusal;
 use std::alloc::Allocator;
 
-/// Reads one request, writes one reply, and returns how much of the request was read.
+/// The result of serving a connection.
+#[derive(Clone, Copy)]
+pub struct Served {
+    /// How much of the request was read, or why there is no reply or only a part of one.
+    pub result: Result<RequestRead, WireFault>,
+    pub summary: Summary,
+}
+
+impl Served {
+    /// Returns the result for a reply, written completely or in part.
+    fn replied(named: Named, request_read: RequestRead, sent: Sent) -> Served
+        ensures { result ≡ replied named request_read sent }
+    {
+        Served {
+            result: to_result(request_read, sent.written),
+            summary: Summary {
+                named,
+                status: Some(sent.status),
+                length: written_length(sent.written, sent.length),
+            },
+        }
+    }
+
+    /// Returns the result without a reply.
+    fn unanswered(fault: WireFault) -> Served
+        ensures { result ≡ unanswered fault }
+    {
+        Served {
+            result: Err(fault),
+            summary: Summary {
+                named: Named {
+                    verb: None,
+                    route: None,
+                },
+                status: None,
+                length: None,
+            },
+        }
+    }
+}
+
+/// Reads one request, writes one reply, and returns how much of the request was read, with a summary of both.
 ///
 /// Nothing more is read once the bytes read decide the reply. Reads of the head may also take bytes after it, at most 8,192 bytes with the head. No
 /// read or write is retried, and nothing is flushed. The out-of-memory reply itself doesn't allocate.
@@ -31,24 +71,30 @@ pub fn serve_request<A: Allocator + Copy, R: CountedRead, W: CountedWrite>(
     state: &mut State<A>,
     input: &mut R,
     out: &mut W,
-) -> Result<RequestRead, WireFault>
-    ensures served { IsServed result
+) -> Served
+    ensures served { IsServed result.result
         (record { state = state.old; reader = reader R.remaining R.failed_reads input.old; writer = writer W.contents W.counts out.old })
         (record { state = state.new; reader = reader R.remaining R.failed_reads input.new; writer = writer W.contents W.counts out.new }) }
-    ensures request_read { ReturnsRequestRead result
+    ensures request_read { ReturnsRequestRead result.result
+        (record { state = state.old; reader = reader R.remaining R.failed_reads input.old; writer = writer W.contents W.counts out.old })
+        (record { state = state.new; reader = reader R.remaining R.failed_reads input.new; writer = writer W.contents W.counts out.new }) }
+    ensures summarized { IsSummarized result.summary result.result
         (record { state = state.old; reader = reader R.remaining R.failed_reads input.old; writer = writer W.contents W.counts out.old })
         (record { state = state.new; reader = reader R.remaining R.failed_reads input.new; writer = writer W.contents W.counts out.new }) }
 {
     let mut buffer = HeadBuffer::new();
-    let decision = match read_decision(state.alloc, &state.routes, &mut buffer, input) {
-        Ok(decision) => decision,
-        Err(ReadFault::Closed) => return Err(WireFault::Closed),
-        Err(ReadFault::Read) => return Err(WireFault::Read),
-        Err(ReadFault::Memory) => {
-            return to_result(RequestRead::Partial, write_out_of_memory::<A, W>(out));
+    let decided = match read_decision(state.alloc, &state.routes, &mut buffer, input) {
+        Ok(decided) => decided,
+        Err(ReadFault::Closed) => return Served::unanswered(WireFault::Closed),
+        Err(ReadFault::Read) => return Served::unanswered(WireFault::Read),
+        Err(ReadFault::Memory(named)) => {
+            let sent = write_out_of_memory::<A, W>(out);
+            return Served::replied(named, RequestRead::Partial, sent);
         }
     };
-    to_result(decision.request_read(), state.answer(&decision, out))
+    let request_read = decided.decision.request_read();
+    let sent = state.answer(&decided.decision, out);
+    Served::replied(decided.named, request_read, sent)
 }
 
 /// Serves like [`serve_request`], but doesn't return how much of the request was read.
@@ -61,7 +107,7 @@ pub fn serve_one<A: Allocator + Copy, R: CountedRead, W: CountedWrite>(
         (record { state = state.old; reader = reader R.remaining R.failed_reads input.old; writer = writer W.contents W.counts out.old })
         (record { state = state.new; reader = reader R.remaining R.failed_reads input.new; writer = writer W.contents W.counts out.new }) }
 {
-    match serve_request(state, input, out) {
+    match serve_request(state, input, out).result {
         Ok(_request_read) => Ok(()),
         Err(fault) => Err(fault),
     }
@@ -79,9 +125,18 @@ fn to_result(
     }
 }
 
+fn written_length(written: Result<(), WriteFault>, length: usize) -> Option<u64>
+    ensures { result ≡ written_length written length }
+{
+    match written {
+        Ok(()) => Some(length as u64),
+        Err(_fault) => None,
+    }
+}
+
 /// Writes the reply for a failed allocation of the body.
-fn write_out_of_memory<A: Allocator, W: CountedWrite>(out: &mut W) -> Result<(), WriteFault>
-    ensures { WritesText (reply_text memory_reply) result
+fn write_out_of_memory<A: Allocator, W: CountedWrite>(out: &mut W) -> Sent
+    ensures { Sends memory_reply result
         (writer W.contents W.counts out.old) (writer W.contents W.counts out.new) }
 {
     Answer::<A>::Refused(Refusal::memory()).write(out)
@@ -89,11 +144,7 @@ fn write_out_of_memory<A: Allocator, W: CountedWrite>(out: &mut W) -> Result<(),
 
 impl<A: Allocator + Copy> State<A> {
     /// Writes the reply to a decision.
-    fn answer<W: CountedWrite>(
-        &mut self,
-        decision: &Decision<'_, A>,
-        out: &mut W,
-    ) -> Result<(), WriteFault>
+    fn answer<W: CountedWrite>(&mut self, decision: &Decision<'_, A>, out: &mut W) -> Sent
         ensures { WritesReply (λ reply. Answers self.old (decision_of decision.now) reply self.new) result
             (writer W.contents W.counts out.old) (writer W.contents W.counts out.new) }
     {
@@ -109,7 +160,7 @@ impl<A: Allocator + Copy> State<A> {
         &mut self,
         request: &RoutedRequest<'_, A>,
         out: &mut W,
-    ) -> Result<(), WriteFault>
+    ) -> Sent
         ensures { WritesReply (λ reply. AnswersAction request.now.action self.old (routed_of request.now) reply self.new) result
             (writer W.contents W.counts out.old) (writer W.contents W.counts out.new) }
     {

@@ -1,8 +1,4 @@
-use Rattle.std.proofs.Common.{◌≡◌, ℕ, List, [], ◌∷◌, ◌++◌, Ok, Err, refl, ap, sym, ◌∙◌, append_assoc}
-use Rattle.bpf_verify.specs.VerifyFault as verify_fault
-use Rattle.http_reply.specs.declared.status.Status.TheVariants as status
-use Rattle.refusals.specs.Refusal.{line}
-use Rattle.wire.specs.Answer.{plain}
+use Rattle.std.proofs.Common.{◌≡◌, [], ◌∷◌, ◌++◌, Ok, Err, refl, sym, ◌∙◌}
 use Rattle.wire.proofs.ExplanationLemmas.{explains_alone, no_lines, refused_reply}
 use Rattle.wire.proofs.explanation.explained.Goals as goal
 

@@ -11,5 +11,5 @@ returns g c = record {
     step = c.apply-reply.follows.holds-at-none;
     is_reply = c.job_answer.ensures;
   };
-  writes = c.write.ensures;
+  sends = c.write.ensures;
 }
