@@ -5,9 +5,11 @@ use Rattle.jobs.specs.declared.event.Reply.{Reply as JobReply}
 use Rattle.server.specs.Acceptor.{Accepts}
 use Rattle.server.specs.Repeats.{HasRepeated, Repeats}
 use Rattle.server.specs.Rounds.{IsRound, Rules, Server}
+use Rattle.server.specs.Service.{ClientStreams, Serves}
 use Rattle.server.specs.State.{HasServed, HasTurned}
 use Rattle.server.specs.Tally.{ServesTallied, Tallied, TurnsTallied}
 use Rattle.server.specs.declared.limits.Limits.{Limits}
+use Rattle.server.specs.declared.service.Close.{Close}
 use Rattle.counted_io.specs.declared.writing.WriteFault.{WriteFault}
 use Rattle.wire.proofs.EventLemmas.{same_state}
 use Rattle.wire.specs.Event.{Act, AreActs, Replied, Rested, Turned}
@@ -38,21 +40,26 @@ module _ (old now : Connection) (new : StateParts) (leads : LeadsTo now.state ne
   after_serving (Err Closed) is = subst (λ state. LeadsTo state new) is.0.state leads
   after_serving (Err Read) is = subst (λ state. LeadsTo state new) is.0.state leads
 
-module _ {L C : Type 0} (accepts : Accepts L C) (limits : Limits) where
-  -- the rules of a server over the program's state
-  abbrev rules : Rules L C (Tallied StateParts)
-  rules = record { accepts = accepts; serves = ServesTallied HasServed; turns = TurnsTallied HasTurned; limits = limits }
+-- a service that has a state, serves by replies to requests and makes turns of jobs
+module _ {L C S : Type 0} (accepts : Accepts L C) (limits : Limits) (state_of : S → StateParts) (serves : Serves S) (turns : S → S → Type 0)
+    (has_served : (old : S) (streams : ClientStreams) (close : Close) (new : S) (new_streams : ClientStreams)
+    → serves old streams close new new_streams → HasServed (state_of old) streams close (state_of new) new_streams)
+    (has_turned : (old new : S) → turns old new → HasTurned (state_of old) (state_of new)) where
+  -- the rules of a server over such a service
+  abbrev rules : Rules L C (Tallied S)
+  rules = record { accepts = accepts; serves = ServesTallied serves; turns = TurnsTallied turns; limits = limits }
 
-  all_are_acts : (count : ℕ) (old new : Server L (Tallied StateParts)) → Repeats (IsRound rules) count old new
-      → LeadsTo old.service.service new.service.service
-  all_are_acts zero old new same = ([], ap (λ (server : Server L (Tallied StateParts)). server.service.service) same)
+  all_are_acts : (count : ℕ) (old new : Server L (Tallied S)) → Repeats (IsRound rules) count old new
+      → LeadsTo (state_of old.service.service) (state_of new.service.service)
+  all_are_acts zero old new same = ([], ap (λ (server : Server L (Tallied S)). state_of server.service.service) same)
   all_are_acts (suc count) old new (now, round, rounds) =
-      let turn = round.makes_turn.makes_turn in
-      let served = round.serves_client.serves_client.serves_client in
-      after_serving _ _ new.service.service
-      (after_turn round.served.service now.service.service new.service.service turn.0 turn.1 turn.2 (all_are_acts count now new rounds))
+      let turn = has_turned round.served.service now.service.service round.makes_turn.makes_turn in
+      let served = has_served old.service.service _ round.close round.served.service _ round.serves_client.serves_client.serves_client in
+      after_serving _ _ (state_of new.service.service)
+      (after_turn (state_of round.served.service) (state_of now.service.service) (state_of new.service.service) turn.0 turn.1 turn.2
+      (all_are_acts count now new rounds))
       served.result served.is_served
 
-  pub rounds_are_acts : (old new : Server L (Tallied StateParts)) → HasRepeated (IsRound rules) old new
-      → (acts : List Act) × AreActs old.service.service acts new.service.service
+  pub rounds_are_acts : (old new : Server L (Tallied S)) → HasRepeated (IsRound rules) old new
+      → (acts : List Act) × AreActs (state_of old.service.service) acts (state_of new.service.service)
   rounds_are_acts old new rounds = all_are_acts rounds.count old new rounds.steps

@@ -4,6 +4,7 @@ use Rattle.std.specs.IoError.{error_kind}
 use Rattle.std.specs.declared.io.Error.{Error}
 use Rattle.std.specs.declared.io.ErrorKind.{ErrorKind}
 use Rattle.std.specs.declared.io.ErrorKind.TheVariants.{ConnectionAborted, Interrupted}
+use Rattle.std.specs.declared.net.socket_addr.SocketAddr.{SocketAddr}
 use Rattle.server.specs.Repeats.{HasRepeated}
 use Rattle.server.specs.declared.acceptor.Acceptor.{Acceptor}
 use Rattle.server.specs.declared.acceptor.Connection.{Connection}
@@ -14,12 +15,12 @@ is_transient ConnectionAborted = true
 is_transient Interrupted = true
 is_transient kind = false
 
--- what an accept does: the listener before it, its result, and the listener after it
+-- what an accept does: the listener before it, its result, a stream with the address of the client, and the listener after it
 abbrev pub Accepts : Type 0 → Type 0 → Type 1
-Accepts L S = L → Result S Error → L → Type 0
+Accepts L S = L → Result (S × SocketAddr) Error → L → Type 0
 
 -- one accept was made and counted, with this result
-pub record MakesAccept {L S : Type 0} (accepts : Accepts L S) (result : Result S Error) (old new : Acceptor L) : Type 0 where
+pub record MakesAccept {L S : Type 0} (accepts : Accepts L S) (result : Result (S × SocketAddr) Error) (old new : Acceptor L) : Type 0 where
   pub room : old.attempts < 2 ^ 64 - 1
   pub counted : new.attempts ≡ old.attempts + 1
   pub accept : accepts old.listener result new.listener
@@ -34,7 +35,7 @@ pub record SkipsAccept {L S : Type 0} (accepts : Accepts L S) (old new : Accepto
 pub record AcceptsConnection {L S : Type 0} (accepts : Accepts L S) (connection : Connection S) (old new : Acceptor L) : Type 0 where
   pub now : Acceptor L
   pub skips : HasRepeated (SkipsAccept accepts) old now
-  pub accept : MakesAccept accepts (Ok connection.stream) now new
+  pub accept : MakesAccept accepts (Ok (connection.stream, connection.peer)) now new
   pub number : connection.number ≡ new.attempts
 
 -- the last accept failed for another reason than a single connection or a signal

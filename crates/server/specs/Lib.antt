@@ -9,4 +9,6 @@ pub mod Service
 pub mod State
 pub mod Tally
 pub mod Closing
+pub mod Log
+pub mod Logged
 pub mod Rounds

@@ -36,7 +36,7 @@ pub record Server (L S : Type 0) : Type 0 where
 
 -- the client of a TCP connection, about whose bytes nothing is known
 abbrev pub client_of : {C : Type 0} → Connection C → Client
-client_of connection = record { connection = connection.number; left = None; held = None }
+client_of connection = record { connection = connection.number; peer = connection.peer; left = None; held = None }
 
 -- the listener's next connection was accepted and served once, then one turn was made
 pub record IsRound {L C S : Type 0} (rules : Rules L C S) (old new : Server L S) : Type 0 where

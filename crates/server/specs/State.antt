@@ -4,12 +4,13 @@ use Rattle.jobs.specs.declared.event.Reply.{Reply as JobReply}
 use Rattle.server.specs.Service.{ClientStreams}
 use Rattle.server.specs.declared.service.Close.{Close}
 use Rattle.server.specs.declared.service.Close.TheVariants.{AtOnce, Lingering}
-use Rattle.wire.specs.Serving.{Connection, IsServed, ReturnsRequestRead}
+use Rattle.wire.specs.Serving.{Connection, IsServed, IsSummarized, ReturnsRequestRead}
 use Rattle.wire.specs.State.{StateParts}
 use Rattle.wire.specs.Turn.{IsTurn}
 use Rattle.wire.specs.declared.decision.RequestRead.{RequestRead}
 use Rattle.wire.specs.declared.decision.RequestRead.TheVariants.{Complete, Partial}
 use Rattle.wire.specs.declared.fault.WireFault.{WireFault}
+use Rattle.wire.specs.declared.summary.Summary.{Summary}
 
 -- how to close a connection: lingering if the reply was written before the request was read completely
 abbrev pub close_of : Result RequestRead WireFault → Close
@@ -20,12 +21,14 @@ close_of (Err fault) = AtOnce
 abbrev pub connection : StateParts → ClientStreams → Connection
 connection state streams = record { state = state; reader = streams.reader; writer = streams.writer }
 
--- a request over these streams was served, whatever the result, which determines how to close the connection
+-- a request over these streams was served, whatever the result, which has a summary and determines how to close the connection
 pub record HasServed (old : StateParts) (streams : ClientStreams) (close : Close) (new : StateParts) (new_streams : ClientStreams)
     : Type 0 where
   pub result : Result RequestRead WireFault
   pub is_served : IsServed result (connection old streams) (connection new new_streams)
   pub returns_request_read : ReturnsRequestRead result (connection old streams) (connection new new_streams)
+  pub summary : Summary
+  pub is_summarized : IsSummarized summary result (connection old streams) (connection new new_streams)
   pub closes : close ≡ close_of result
 
 -- a turn was made, or there was none to make; the codes stay

@@ -5,6 +5,7 @@ ghost use Rattle.server.specs.Acceptor.{AcceptsConnection, FailsToAccept, is_tra
 use crate::listener::Listener;
 use std::io;
 use std::io::ErrorKind;
+use std::net::SocketAddr;
 
 /// Accepts connections at a listener, and counts the accepts that it makes, whatever their results.
 #[derive(Drop)]
@@ -17,6 +18,8 @@ pub struct Acceptor<L> {
 #[derive(Drop)]
 pub struct Connection<S> {
     pub stream: S,
+    /// The address of the client.
+    pub peer: SocketAddr,
     pub number: u64,
 }
 
@@ -43,9 +46,10 @@ impl<L: Listener> Acceptor<L> {
             }
             self.attempts += 1;
             match self.listener.accept() {
-                Ok(stream) => {
+                Ok((stream, peer)) => {
                     return Ok(Connection {
                         stream,
+                        peer,
                         number: self.attempts,
                     });
                 }

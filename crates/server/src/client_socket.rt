@@ -7,7 +7,7 @@ use crate::acceptor::Connection;
 use crate::socket::Socket;
 use std::io;
 use std::io::{ErrorKind, Read, Write};
-use std::net::{Shutdown, TcpStream};
+use std::net::{Shutdown, SocketAddr, TcpStream};
 use std::time::Duration;
 
 /// A handle of an accepted TCP connection.
@@ -15,6 +15,7 @@ use std::time::Duration;
 pub struct ClientSocket<'a> {
     stream: &'a TcpStream,
     number: u64,
+    peer: SocketAddr,
     // The timeouts and the mode that the socket has now. Each change costs a system call.
     read_timeout: Option<Duration>,
     write_timeout: Option<Duration>,
@@ -23,11 +24,13 @@ pub struct ClientSocket<'a> {
 
 impl<'a> ClientSocket<'a> {
     pub fn new(connection: &'a Connection<TcpStream>) -> Self
-        ensures { result.number ≡ connection.now.number }
+        ensures number { result.number ≡ connection.now.number }
+        ensures peer { result.peer ≡ connection.now.peer }
     {
         ClientSocket {
             stream: &connection.stream,
             number: connection.number,
+            peer: connection.peer,
             read_timeout: None,
             write_timeout: None,
             is_blocking: true,
@@ -69,6 +72,14 @@ impl<'a> ClientSocket<'a> {
 
 impl Socket for ClientSocket<'_> {
     ghost number = { λ s. s.number };
+
+    ghost address = { λ s. s.peer };
+
+    fn peer(&self) -> SocketAddr
+        ensures { result ≡ self.now.peer }
+    {
+        self.peer
+    }
 
     fn read_within(&mut self, wait: Duration, buf: &mut [u8]) -> io::Result<usize>
         ensures bound { ReadsAtMost result buf.new }

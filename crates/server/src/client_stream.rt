@@ -15,6 +15,7 @@ use crate::timed::Timed;
 use counted_io::Counting;
 use std::io;
 use std::io::{Read, Write};
+use std::net::SocketAddr;
 use std::time::Duration;
 
 /// A reader of what a client sends. A read fails once its time is up; if the time was up before the read, the socket isn't touched.
@@ -23,17 +24,19 @@ pub struct ClientReader<H, T> {
     timed: Timed<H, T>,
     idle: Duration,
     limit: Duration,
+    received: u64,
 }
 
 impl<H: Socket, T: Timer> ClientReader<H, T> {
     /// Returns a reader that waits at most `idle` in one read, and at most `limit` in all reads, counted from the first.
     pub fn new(socket: H, timer: T, idle: Duration, limit: Duration) -> Self
-        ensures { result ≡ record { timed = record { socket = socket; stopwatch = record { timer = timer; start = None } }; idle = idle; limit = limit } }
+        ensures { result ≡ record { timed = record { socket = socket; stopwatch = record { timer = timer; start = None } }; idle = idle; limit = limit; received = 0 } }
     {
         ClientReader {
             timed: Timed::new(socket, timer),
             idle,
             limit,
+            received: 0,
         }
     }
 }
@@ -47,19 +50,37 @@ impl<H: Socket, T: Timer> Read for ClientReader<H, T> {
         ensures waits { Waits (record { shows = T.shows; calls = H.reads; idle = as_nanos self.old.idle; limit = as_nanos self.old.limit })
             buf.new result self.old.timed self.new.timed }
         ensures idle { self.new.idle ≡ self.old.idle }
+        ensures counted { IfOk result (λ count. self.new.received ≡ min (self.old.received + count) (2 ^ 64 - 1)) }
+        ensures uncounted { OnErr result (self.new.received ≡ self.old.received) }
         ensures limit { self.new.limit ≡ self.old.limit }
     {
-        self.timed.read(self.idle, self.limit, buf)
+        match self.timed.read(self.idle, self.limit, buf) {
+            Ok(count) => {
+                self.received = self.received.saturating_add(count as u64);
+                Ok(count)
+            }
+            Err(error) => Err(error),
+        }
     }
 }
 
 impl<H: Socket, T: Timer> ClientInput for Counting<ClientReader<H, T>> {
     ghost input_terms = { λ c. record {
       connection = H.number c.inner.timed.socket;
+      peer = H.address c.inner.timed.socket;
       idle = as_nanos c.inner.idle;
       limit = as_nanos c.inner.limit;
+      received = c.inner.received;
       start = c.inner.timed.stopwatch.start;
     } };
+
+    fn peer(&self) -> SocketAddr {
+        self.get_ref().timed.peer()
+    }
+
+    fn received(&self) -> u64 {
+        self.get_ref().received
+    }
 }
 
 /// A writer of what a client receives. A write fails once its time is up; if the time was up before the write, the socket isn't touched.

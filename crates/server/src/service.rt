@@ -1,10 +1,11 @@
 //! The service of each connection.
-ghost use Rattle.std.specs.Prelude.{⊤};
+ghost use Rattle.std.specs.Prelude.{◌≡◌, ⊤};
 ghost use Rattle.counted_io.specs.ReaderWriter.{reader, writer};
 ghost use Rattle.server.specs.Service.{ClientStreams, InputTerms, OutputTerms};
 ghost use Rattle.server.specs.declared.service.Close.{Close};
 
 use counted_io::{CountedRead, CountedWrite};
+use std::net::SocketAddr;
 
 /// The way to close a connection.
 #[derive(Clone, Copy, PartialEq, Eq)]
@@ -17,8 +18,16 @@ pub enum Close {
 
 /// A reader of what a client sends.
 pub trait ClientInput: CountedRead {
-    // Whose connection it reads, and within which limits.
+    // Whose connection it reads, within which limits, and how much was read.
     ghost input_terms: { Self → InputTerms };
+
+    /// Returns the address of the client.
+    fn peer(&self) -> SocketAddr
+        ensures { result ≡ (input_terms self.now).peer };
+
+    /// Returns the number of bytes read.
+    fn received(&self) -> u64
+        ensures { result ≡ (input_terms self.now).received };
 }
 
 /// A writer of what a client receives.

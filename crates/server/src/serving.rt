@@ -71,7 +71,12 @@ fn serve_client<H: Socket + Copy, T: Timer + Copy, S: Service>(
 )
     ensures { ServesAndCloses S.serves
         (record { reads = H.reads; looks = H.looks; ends_output = H.ends_output; shows = T.shows; timer = timer; limit = as_nanos limits.now.linger })
-        (record { connection = H.number socket.old; left = H.remaining socket.old; held = H.contents socket.old }) limits.now
+        (record {
+          connection = H.number socket.old;
+          peer = H.address socket.old;
+          left = H.remaining socket.old;
+          held = H.contents socket.old;
+        }) limits.now
         (record { socket = socket.old; service = service.old }) (record { socket = socket.new; service = service.new }) }
 {
     let reader = ClientReader::new(*socket, timer, limits.idle, limits.request);

@@ -1,17 +1,21 @@
 //! Sockets, as contracts see them.
-ghost use Rattle.std.specs.Prelude.{ℕ, Bool, List, Option, None, ⊤};
+ghost use Rattle.std.specs.Prelude.{◌≡◌, ℕ, Bool, List, Option, None, ⊤};
 ghost use Rattle.std.specs.Duration.{as_nanos};
 ghost use Rattle.std.specs.Io.{ReadsAtMost, WritesAtMost};
 ghost use Rattle.std.specs.Io.KnownBytes.{ReadConsumes, WriteAppends};
+ghost use Rattle.std.specs.declared.net.socket_addr.SocketAddr.{SocketAddr};
 ghost use Rattle.server.specs.Socket.{Call};
 
 use std::io;
+use std::net::SocketAddr;
 use std::time::Duration;
 
 /// A handle of a client's socket. No read or write waits without a limit.
 pub trait Socket {
-    // The number of the connection.
+    // The number of the connection, and the address of the client.
     ghost number: { Self → ℕ };
+
+    ghost address: { Self → SocketAddr };
 
     // The bytes that the client has sent and that are still to be read, and the bytes written to it, if they are known.
     ghost remaining: { Self → Option (List ℕ) } = { λ _. None };
@@ -26,6 +30,10 @@ pub trait Socket {
     ghost looks: { Self → Bool → Self → Type 0 } = { λ _ _ _. ⊤ };
 
     ghost ends_output: { Self → Self → Type 0 } = { λ _ _. ⊤ };
+
+    /// Returns the address of the client.
+    fn peer(&self) -> SocketAddr
+        ensures { result ≡ address self.now };
 
     /// Reads once. Fails with `TimedOut` if no byte has come after `wait`.
     fn read_within(&mut self, wait: Duration, buf: &mut [u8]) -> io::Result<usize>

@@ -1,7 +1,10 @@
 //! The program's service: requests over HTTP, and the turns of its jobs.
+ghost use Rattle.std.specs.Prelude.{◌≡◌};
+ghost use Rattle.server.specs.State.{close_of};
+
 use crate::service::{ClientInput, ClientOutput, Close, Service};
 use std::alloc::Allocator;
-use wire::{RequestRead, State, serve_request};
+use wire::{RequestRead, State, WireFault, serve_request};
 
 impl<A: Allocator + Copy> Service for State<A> {
     ghost use Rattle.server.specs.State.{HasServed, HasTurned};
@@ -11,13 +14,20 @@ impl<A: Allocator + Copy> Service for State<A> {
     ghost turns = { HasTurned };
 
     fn serve<R: ClientInput, W: ClientOutput>(&mut self, input: &mut R, out: &mut W) -> Close {
-        match serve_request(self, input, out) {
-            Ok(RequestRead::Partial) => Close::Lingering,
-            Ok(RequestRead::Complete) | Err(_) => Close::AtOnce,
-        }
+        close_of(serve_request(self, input, out).result)
     }
 
     fn turn(&mut self) {
         let _reply = State::turn(self);
+    }
+}
+
+/// Returns how to close a connection.
+pub(crate) fn close_of(served: Result<RequestRead, WireFault>) -> Close
+    ensures { result ≡ close_of served }
+{
+    match served {
+        Ok(RequestRead::Partial) => Close::Lingering,
+        Ok(RequestRead::Complete) | Err(_) => Close::AtOnce,
     }
 }

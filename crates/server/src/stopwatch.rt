@@ -3,26 +3,38 @@ ghost use Rattle.std.specs.Prelude.{◌≡◌, None, Result, ⊤};
 ghost use Rattle.std.specs.Duration.{as_nanos};
 ghost use Rattle.std.specs.declared.io.Error.{Error};
 ghost use Rattle.std.specs.declared.time.Instant.{Instant};
+ghost use Rattle.std.specs.declared.time.SystemTime.{SystemTime};
 ghost use Rattle.server.specs.Stopwatch.{Elapses, LeavesTime};
 
 use crate::limits::wait_left;
 use std::io;
 use std::io::ErrorKind;
-use std::time::{Clock, Duration, Instant};
+use std::time::{Clock, Duration, Instant, SystemTime};
 
 /// A clock, as contracts see it: a reference to any of std's.
 pub trait Timer {
-    // A reading: the clock before it, its result, and the clock after it. The contracts of the server hold for any such relation.
+    // A reading of the time, and one of the date: the clock before it, its result, and the clock after it. The contracts of the server hold for any
+    // such relations.
     ghost shows: { Self → Result Instant Error → Self → Type 0 } = { λ _ _ _. ⊤ };
+
+    ghost dates: { Self → Result SystemTime Error → Self → Type 0 } = { λ _ _ _. ⊤ };
 
     /// Reads the clock once.
     fn read(&mut self) -> io::Result<Instant>
         ensures { shows self.old result self.new };
+
+    /// Reads the date once.
+    fn read_date(&mut self) -> io::Result<SystemTime>
+        ensures { dates self.old result self.new };
 }
 
 impl<C: Clock> Timer for &C {
     fn read(&mut self) -> io::Result<Instant> {
         Instant::now(*self)
+    }
+
+    fn read_date(&mut self) -> io::Result<SystemTime> {
+        SystemTime::now(*self)
     }
 }
 

@@ -9,6 +9,7 @@ use crate::socket::Socket;
 use crate::stopwatch::{Stopwatch, Timer};
 use std::io;
 use std::io::ErrorKind;
+use std::net::SocketAddr;
 use std::time::Duration;
 
 /// A socket, with the stopwatch of its reader or its writer.
@@ -27,6 +28,13 @@ impl<H: Socket, T: Timer> Timed<H, T> {
             socket,
             stopwatch: Stopwatch::new(timer),
         }
+    }
+
+    /// Returns the address of the client.
+    pub fn peer(&self) -> SocketAddr
+        ensures { result ≡ H.address self.now.socket }
+    {
+        self.socket.peer()
     }
 
     /// Reads, and waits no longer than for the time left. Reads again after an interruption, within the time left then.

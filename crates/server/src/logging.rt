@@ -1,0 +1,58 @@
+//! Writing entries to a log.
+ghost use Rattle.std.specs.Prelude.{◌≡◌, Result};
+ghost use Rattle.counted_io.specs.ReaderWriter.{writer};
+ghost use Rattle.std.specs.declared.io.Error.{Error};
+ghost use Rattle.std.specs.declared.time.Instant.{Instant};
+ghost use Rattle.server.specs.Log.{LogsEvent, ReadsDate, WritesEntry, micros_between};
+
+use crate::stopwatch::Timer;
+use access_log::{Entry, Subject};
+use counted_io::{CountedWrite, write_text};
+use httpdate::HttpDate;
+use std::io;
+use std::time::Instant;
+
+/// Reads the date, if the clock can be read and the year has four digits.
+pub fn read_date<T: Timer>(timer: &mut T) -> Option<HttpDate>
+    ensures { ReadsDate T.dates result timer.old timer.new }
+{
+    let time = timer.read_date().ok()?;
+    HttpDate::try_from(time).ok()
+}
+
+/// Returns the microseconds between two readings, if both succeeded.
+pub fn micros_between(start: io::Result<Instant>, end: io::Result<Instant>) -> Option<u64>
+    ensures { result ≡ micros_between start end }
+{
+    match (start, end) {
+        (Ok(start), Ok(end)) => {
+            let micros = end.duration_since(start).as_micros();
+            Some(u64::try_from(micros).unwrap_or(u64::MAX))
+        }
+        _ => None,
+    }
+}
+
+/// Writes the line of an entry. A failed write isn't reported: a log never changes a reply.
+pub fn write_entry<W: CountedWrite>(log: &mut W, entry: &Entry)
+    ensures { WritesEntry entry.now (writer W.contents W.counts log.old) (writer W.contents W.counts log.new) }
+{
+    let _ = write_text(log, entry.line().as_slice());
+}
+
+/// Writes a line about something else than a request.
+pub fn write_event<W: CountedWrite, T: Timer>(log: &mut W, timer: &mut T, subject: Subject)
+    ensures { LogsEvent T.dates subject timer.old timer.new (writer W.contents W.counts log.old) (writer W.contents W.counts log.new) }
+{
+    let date = read_date(timer);
+    let entry = Entry {
+        peer: None,
+        date,
+        subject,
+        status: None,
+        length: None,
+        received: None,
+        micros: None,
+    };
+    write_entry(log, &entry);
+}
