@@ -1,3 +1,4 @@
+mod AddressLemmas
 mod ArgumentLemmas
 mod PortLemmas
 mod RequestLemmas

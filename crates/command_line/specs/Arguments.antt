@@ -67,7 +67,9 @@ arguments_of Verify = required (codes "program") ∷ []
 arguments_of Explain = required (codes "program") ∷ optional (codes "lines") ∷ []
 arguments_of Assemble = required (codes "source") ∷ []
 arguments_of Disassemble = required (codes "program") ∷ []
-arguments_of Serve = required (codes "data") ∷ required (codes "port") ∷ counties ∷ []
+arguments_of Serve =
+    required (codes "data") ∷ optional (codes "port") ∷ flag (codes "any-port") ∷ optional (codes "host") ∷ flag (codes "public") ∷ flag (codes "log")
+    ∷ counties ∷ []
 
 -- the commands in the order of the help
 abbrev pub every : List Subcommand

@@ -1,3 +1,4 @@
+pub mod Address
 pub mod Arguments
 pub mod Fault
 pub mod Values

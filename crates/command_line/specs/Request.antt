@@ -18,8 +18,9 @@ use Rattle.commands.specs.declared.explain.Explain.{Explain}
 use Rattle.commands.specs.declared.assemble.Assemble.{Assemble}
 use Rattle.commands.specs.declared.disassemble.Disassemble.{Disassemble}
 use Rattle.layers.specs.LayerParts.{parts_of as layer_parts}
+use Rattle.command_line.specs.Address.{IsAddress}
 use Rattle.command_line.specs.Arguments.{named, program}
-use Rattle.command_line.specs.Values.{code_of, codes_of, file_of, flag_of, language_of, layer_of, number_of, port_of, score_of}
+use Rattle.command_line.specs.Values.{code_of, codes_of, file_of, flag_of, language_of, layer_of, number_of, score_of}
 use Rattle.command_line.specs.declared.arguments.subcommand.Subcommand.{Subcommand}
 use Rattle.command_line.specs.declared.arguments.subcommand.Subcommand.TheVariants as command
 use Rattle.command_line.specs.declared.serve.Serve.{Serve}
@@ -88,10 +89,11 @@ IsAssemble rows assemble = first_of (codes "source") rows ≡ Some assemble.sour
 abbrev pub IsDisassemble : List Row → Disassemble → Type 0
 IsDisassemble rows disassemble = first_of (codes "program") rows ≡ Some disassemble.program.now
 
--- serve --data DIR --port P CODE..
+-- serve --data DIR (--port P | --any-port) [--host ADDRESS] [--public] [--log] CODE..
 pub record IsServe (rows : List Row) (serve : Serve) : Type 0 where
   pub folder : first_of (codes "data") rows ≡ Some serve.«data».now
-  pub port : port_of rows ≡ Some serve.port
+  pub address : IsAddress rows serve.address
+  pub log : flag_of (codes "log") rows ≡ serve.log
   pub codes : codes_of rows ≡ Some (map (λ code. code.now) serve.codes.items)
 
 -- the request of a command, from the values of its arguments; `serve` isn't a command over files

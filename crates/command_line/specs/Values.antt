@@ -101,9 +101,6 @@ code_of rows = option_and_then code_in (first_of (codes "code") rows)
 abbrev pub codes_of : List Row → Option (List Text)
 codes_of rows = option_and_then codes_in (all_of (codes "code") rows)
 
-abbrev pub port_of : List Row → Option ℕ
-port_of rows = option_and_then port_in (first_of (codes "port") rows)
-
 abbrev pub score_of : List Row → Option (Option NumericColumn)
 score_of rows = score_in (first_of (codes "score") rows)
 

@@ -59,6 +59,12 @@ pub enum ArgumentsFault<'a> {
     Geometry(&'a str),
     /// This port isn't 1 to 65535.
     Port(&'a str),
+    /// Both a port and any free one are requested.
+    TwoPorts,
+    /// This isn't an IP address.
+    Host(&'a str),
+    /// This IP address isn't a loopback address, and `--public` is missing.
+    NotLoopback(&'a str),
     /// `serve`, which is not a command over files.
     Serve,
     Memory,
@@ -155,6 +161,21 @@ impl ArgumentsFault<'_> {
             ArgumentsFault::Port(text) => {
                 write!(line, "error: --port is 1 to 65535")?;
                 end_with_value(line, text)
+            }
+            ArgumentsFault::TwoPorts => {
+                write!(
+                    line,
+                    "error: --port and --any-port can't be used together\n"
+                )
+            }
+            ArgumentsFault::Host(text) => {
+                write!(line, "error: --host is an IP address")?;
+                end_with_value(line, text)
+            }
+            ArgumentsFault::NotLoopback(text) => {
+                write!(line, "error: --host ")?;
+                line.echo(text)?;
+                write!(line, " needs --public, which lets other machines connect\n")
             }
             ArgumentsFault::Serve => write!(line, "error: serve needs a socket\n"),
             ArgumentsFault::Memory | ArgumentsFault::NotUtf8 => Ok(()),

@@ -1,5 +1,5 @@
 //! Flags: options without a value.
-ghost use Rattle.std.specs.Prelude.{◌≡◌, false};
+ghost use Rattle.std.specs.Prelude.{◌≡◌, codes, false};
 ghost use Rattle.clap.specs.Walk.{rule_of};
 ghost use Rattle.command_line.specs.Arguments.{flag as flag_rule};
 ghost use Rattle.command_line.specs.Values.{flag_of, rows_in};
@@ -16,6 +16,18 @@ pub fn flag<'a>(alloc: Global, name: &'a str, help: &'a str) -> Arg<'a>
         .long(name)
         .help(help)
         .action(ArgAction::SetTrue)
+}
+
+/// Returns the flag `--log`.
+pub fn log_option<'a>(alloc: Global) -> Arg<'a>
+    ensures rule { rule_of result ≡ flag_rule (codes "log") }
+    ensures local { result.global ≡ false }
+{
+    flag(
+        alloc,
+        "log",
+        "Writes a line to standard error for each connection",
+    )
 }
 
 /// Returns whether a flag is given.

@@ -1,6 +1,13 @@
 //! Laws about the definitions, stated as contracts of functions that do nothing.
-ghost use Rattle.std.specs.Prelude.{◌≡◌, [], ◌∷◌, None, codes, false, map, true};
-ghost use Rattle.command_line.specs.Request.{HasNoRequest, IsRequestOf};
+ghost use Rattle.std.specs.Prelude.{◌≡◌, [], ◌∷◌, List, None, IsSomeAnd, codes, false, map, true};
+ghost use Rattle.std.specs.Net.Grammar.{IsIpText};
+ghost use Rattle.std.specs.Net.Socket.{IsPlainSocket, socket_ip, socket_port};
+ghost use Rattle.clap.specs.Simple.{subcommand_of};
+ghost use Rattle.clap.specs.Walk.{Text};
+ghost use Rattle.command_line.specs.Address.{IsLoopback, is_public};
+ghost use Rattle.command_line.specs.Arguments.{program};
+ghost use Rattle.command_line.specs.Request.{HasNoRequest, IsRequestOf, IsServeOf};
+ghost use Rattle.command_line.specs.declared.serve.Serve.{Serve};
 ghost use Rattle.commands.specs.declared.compile.Compile.{Compile};
 ghost use Rattle.filters.specs.declared.filter.FilterLanguage.TheVariants as language;
 ghost use Rattle.commands.specs.declared.geocode_batch.GeocodeBatch.{GeocodeBatch};
@@ -42,4 +49,22 @@ pub fn requests()
     ensures twice { HasNoRequest (codes "dis" ∷ codes "--program" ∷ codes "a.bpf" ∷ codes "--program" ∷ codes "b.bpf" ∷ []) }
     ensures missing { HasNoRequest (codes "run" ∷ codes "--program" ∷ codes "street.bpf" ∷ codes "01001" ∷ []) }
     ensures help { HasNoRequest (codes "--help" ∷ []) }
+{}
+
+/// Shows where a server listens: without `--public` for this machine alone, whatever the words.
+pub fn listens()
+    ensures loopback { (words : List Text) (serve : Serve) → IsServeOf words serve
+        → IsSomeAnd (subcommand_of program words) (λ given. is_public given.1 ≡ false → IsLoopback (socket_ip serve.address)) }
+    ensures default { (serve : Serve) → IsServeOf (codes "serve" ∷ codes "--data=d" ∷ codes "--port=8080" ∷ codes "01001" ∷ []) serve
+        → IsIpText (codes "127.0.0.1") (socket_ip serve.address) × (socket_port serve.address ≡ 8080) × (serve.log ≡ false) }
+    ensures any_port { (serve : Serve) → IsServeOf (codes "serve" ∷ codes "--data=d" ∷ codes "--any-port" ∷ codes "--host=::1" ∷ codes "01001" ∷ []) serve
+        → IsIpText (codes "::1") (socket_ip serve.address) × (socket_port serve.address ≡ 0) }
+    ensures log { (serve : Serve) → IsServeOf (codes "serve" ∷ codes "--data=d" ∷ codes "--port=80" ∷ codes "--log" ∷ codes "01001" ∷ []) serve
+        → serve.log ≡ true }
+    ensures two_ports { (serve : Serve) → IsServeOf (codes "serve" ∷ codes "--data=d" ∷ codes "--port=80" ∷ codes "--any-port" ∷ codes "01001" ∷ []) serve → ⊥ }
+    ensures private { (serve : Serve)
+        → IsServeOf (codes "serve" ∷ codes "--data=d" ∷ codes "--port=80" ∷ codes "--host=0.0.0.0" ∷ codes "01001" ∷ []) serve → ⊥ }
+    ensures public { (serve : Serve) → serve.«data».now ≡ codes "d" → IsIpText (codes "0.0.0.0") (socket_ip serve.address)
+        → IsPlainSocket serve.address 80 → serve.log ≡ false → map (λ code. code.now) serve.codes.items ≡ codes "01001" ∷ []
+        → IsServeOf (codes "serve" ∷ codes "--data=d" ∷ codes "--port=80" ∷ codes "--host=0.0.0.0" ∷ codes "--public" ∷ codes "01001" ∷ []) serve }
 {}

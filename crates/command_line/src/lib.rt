@@ -1,6 +1,7 @@
 //! The command line: reads the arguments and carries out their request, over files, an output and an error writer that the caller passes in.
 #![tactic(auto)]
 
+mod address;
 mod arguments;
 mod dispatch;
 mod fault;

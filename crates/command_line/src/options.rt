@@ -4,7 +4,7 @@ ghost use Rattle.decimal.specs.declared.numeral.TheConstants.{MAX_NUMBER_DIGITS}
 ghost use Rattle.clap.specs.Walk.{first_of, rule_of};
 ghost use Rattle.cql2_tokens.specs.Name.{column_named as column_of};
 ghost use Rattle.command_line.specs.Arguments.{counties as counties_rule, county, optional, required};
-ghost use Rattle.command_line.specs.Values.{code_in, code_of, codes_in, codes_of, file_of, language_of, number_of, numeric, port_of, rows_in, score_of};
+ghost use Rattle.command_line.specs.Values.{code_in, code_of, codes_in, codes_of, file_of, language_of, number_of, numeric, rows_in, score_of};
 ghost use Rattle.command_line.specs.declared.fault.ArgumentsFault.TheVariants as ArgumentsFault;
 
 use crate::fault::{ArgumentsFault, CODE_LIMIT};
@@ -241,19 +241,4 @@ pub fn number<'a>(
         most_digits,
         text,
     })
-}
-
-/// Returns the port: 1 to 65535.
-pub fn port<'a>(matches: &ArgMatches<'a>) -> Result<u16, ArgumentsFault<'a>>
-    ensures { MatchResult result (λ port. port_of (rows_in matches.now) ≡ Some port)
-        (λ fault. (port_of (rows_in matches.now) ≡ None) × (fault ≢ ArgumentsFault.Memory)) }
-{
-    let text = value(matches, "port")?;
-    if !are_digits(text.as_bytes()) {
-        return Err(ArgumentsFault::Port(text));
-    }
-    match text.parse() {
-        Ok(port) if port > 0 => Ok(port),
-        _ => Err(ArgumentsFault::Port(text)),
-    }
 }
