@@ -1,21 +1,23 @@
--- Serving counties on a port.
+-- Serving counties at an address.
 use Rattle.std.specs.Prelude.{◌≡◌, ◌≢◌, ℕ, List, Option, ⊤}
+use Rattle.std.specs.declared.net.socket_addr.SocketAddr.{SocketAddr}
 use Rattle.counted_io.specs.ReaderWriter.{Writer}
 use Rattle.commands.specs.Counties.{AreCountiesOf, HaveRefusedCounty, IsLoadFailure, IsRefusedFileOfOne}
 use Rattle.commands.specs.Failure.{Reports, ReportsOutput}
 use Rattle.commands.specs.Failure.{status as status_of}
-use Rattle.extractd.specs.Listening.{Outside, PortRules, ServesPort}
+use Rattle.extractd.specs.Listening.{ListenRules, Outside, ServesAddress}
 use Rattle.extractd.specs.declared.serving.ServeFault.{ServeFault}
 use Rattle.extractd.specs.declared.serving.ServeFault.TheVariants.{Counties, Listen}
 use Rattle.extractd.specs.declared.serving.listening.ListenFault.{ListenFault}
 use Rattle.extractd.specs.declared.serving.listening.ListenFault.TheVariants.{Output}
 use Rattle.named_files.specs.Files.{Disk, OpenResults}
+use Rattle.server.specs.declared.logged.Logged.{Logged}
 use Rattle.wire.specs.State.{StateParts, counties_of, new_state}
 
 -- the exit status: that of a county that can't be loaded, and 3 otherwise
 abbrev pub serve_status : ServeFault → ℕ
 serve_status (Counties failure) = status_of failure
-serve_status (Listen port fault) = 3
+serve_status (Listen address fault) = 3
 
 -- the report of a fault, as far as it is known: that a county can't be loaded, or that the output can't be written
 abbrev pub ReportsListenFault : ListenFault → Writer → Writer → Type 0
@@ -24,7 +26,7 @@ ReportsListenFault fault errors errors' = ⊤
 
 abbrev pub ReportsServeFault : ServeFault → Writer → Writer → Type 0
 ReportsServeFault (Counties failure) errors errors' = Reports failure errors errors'
-ReportsServeFault (Listen port fault) errors errors' = ReportsListenFault fault errors errors'
+ReportsServeFault (Listen address fault) errors errors' = ReportsListenFault fault errors errors'
 
 -- A server ends with the status of its fault, which was reported. It is neither success nor a usage error.
 pub record EndsServer (status : ℕ) (errors errors' : Writer) : Type 0 where
@@ -34,11 +36,11 @@ pub record EndsServer (status : ℕ) (errors errors' : Writer) : Type 0 where
   pub no_usage : status ≢ 2
   pub reported : ReportsServeFault fault errors errors'
 
--- what is served: a folder, the codes of its counties, and the port; and what is known of the bytes of files
+-- what is served: a folder, the codes of its counties, and the address; and what is known of the bytes of files
 pub record Served : Type 0 where
   pub folder : List ℕ
   pub codes : List (List ℕ)
-  pub port : ℕ
+  pub address : SocketAddr
   pub known : List ℕ → Option (List ℕ)
 
 -- the files, the network and the output
@@ -46,18 +48,22 @@ pub record Host (N : Type 0) : Type 0 where
   pub disk : Disk
   pub outside : Outside N
 
--- the counties were loaded, one for each code, and served on the port in a state without jobs
-pub record ServesLoaded {N L C : Type 0} (rules : PortRules N L C StateParts) (served : Served) (port : ℕ) (fault : ListenFault)
+-- the counties were loaded, one for each code, and served at the address in a state without jobs, with a log
+pub record ServesLoaded {N L C A W T : Type 0} (rules : ListenRules N L C (Logged A W T)) (served : Served) (address : SocketAddr)
+    (fault : ListenFault)
     (old new : Outside N) : Type 0 where
   pub state : StateParts
   pub without_jobs : state ≡ new_state served.codes (counties_of state)
   pub loaded : AreCountiesOf served.known served.folder served.codes (counties_of state)
-  pub given_port : port ≡ served.port
-  pub serves_port : ServesPort rules served.port fault old state new
+  pub given_address : address ≡ served.address
+  pub logged : Logged A W T
+  pub over_state : logged.state ≡ state
+  pub serves_address : ServesAddress rules served.address fault old logged new
 
--- how serving ends: a county can't be loaded, and then the port isn't bound; or the counties were served until a fault
-abbrev pub ServesCounties : {R N L C : Type 0} → OpenResults R → PortRules N L C StateParts → Served → ServeFault → Host N → Host N → Type 0
+-- how serving ends: a county can't be loaded, and then the address isn't bound; or the counties were served until a fault
+abbrev pub ServesCounties : {R N L C A W T : Type 0} → OpenResults R → ListenRules N L C (Logged A W T) → Served → ServeFault → Host N → Host N
+    → Type 0
 ServesCounties opens rules served (Counties failure) old new =
     IsLoadFailure opens (HaveRefusedCounty served.known served.folder served.codes) (IsRefusedFileOfOne served.folder served.codes)
     old.disk new.disk failure × (new.outside ≡ old.outside)
-ServesCounties opens rules served (Listen port fault) old new = ServesLoaded rules served port fault old.outside new.outside
+ServesCounties opens rules served (Listen address fault) old new = ServesLoaded rules served address fault old.outside new.outside

@@ -1,25 +1,30 @@
 //! `serve`: serves counties over HTTP.
 ghost use Rattle.std.specs.Prelude.{◌≡◌, ◌≢◌, IfErr, IfOk, map};
+ghost use Rattle.std.specs.declared.alloc.Global.{Global};
 ghost use Rattle.commands.specs.Counties.{AreCountiesOf, HaveRefusedCounty, IsLoadFailure, IsRefusedFileOfOne};
 ghost use Rattle.commands.specs.Failure.{status};
 ghost use Rattle.named_files.specs.Files.{disk};
-ghost use Rattle.server.specs.State.{HasServed, HasTurned};
+ghost use Rattle.server.specs.Logged.{ServesLogged, TurnsLogged};
 ghost use Rattle.server.specs.Tally.{ServesTallied, TurnsTallied};
 ghost use Rattle.wire.specs.State.{counties_of, new_state};
 ghost use Rattle.counted_io.specs.ReaderWriter.{writer};
 ghost use Rattle.extractd.specs.Serving.{EndsServer, ReportsListenFault, ReportsServeFault, ServesCounties, serve_status};
 
 mod listening;
+mod log_output;
 
 use command_line::Serve;
 use commands::{DiagnosticLine, Failure, UNUSABLE, load_counties};
-use counted_io::CountedWrite;
-use listening::{ListenFault, Network, serve_port};
+use counted_io::{CountedWrite, Counting};
+use listening::{ListenFault, Network, serve_address};
+use log_output::{LogHost, LoggedNetwork};
 use named_files::{Files, SystemFiles};
+use server::{Logged, Timer};
 use std::alloc::Global;
 use std::fmt::Write as WriteText;
 use std::io;
 use std::io::Write;
+use std::net::SocketAddr;
 use std::time::Clock;
 use wire::State;
 
@@ -27,7 +32,10 @@ use wire::State;
 #[derive(Drop)]
 enum ServeFault<'a> {
     Counties(Failure<'a>),
-    Listen { port: u16, fault: ListenFault },
+    Listen {
+        address: SocketAddr,
+        fault: ListenFault,
+    },
 }
 
 impl ServeFault<'_> {
@@ -46,20 +54,20 @@ impl ServeFault<'_> {
     {
         match self {
             ServeFault::Counties(failure) => failure.report(errors),
-            ServeFault::Listen { port, fault } => report_fault(*port, fault, errors),
+            ServeFault::Listen { address, fault } => report_fault(*address, fault, errors),
         }
     }
 }
 
-/// Reports on one line why the server can't listen on the port, or stops.
-fn report_fault<E: CountedWrite>(port: u16, fault: &ListenFault, errors: &mut E)
+/// Reports on one line why the server can't listen at the address, or stops.
+fn report_fault<E: CountedWrite>(address: SocketAddr, fault: &ListenFault, errors: &mut E)
     ensures { ReportsListenFault fault.now (writer E.contents E.counts errors.old) (writer E.contents E.counts errors.new) }
 {
     match fault {
         ListenFault::Output(error) => Failure::Output(*error).report(errors),
-        ListenFault::Port(error) => {
+        ListenFault::Bind(error) | ListenFault::Port(error) => {
             let mut line = DiagnosticLine::new(errors);
-            let _ = write!(line, "error: 127.0.0.1:{port}: {error}\n");
+            let _ = write!(line, "error: {address}: {error}\n");
         }
         ListenFault::Accept(error) => {
             let mut line = DiagnosticLine::new(errors);
@@ -72,34 +80,53 @@ fn report_fault<E: CountedWrite>(port: u16, fault: &ListenFault, errors: &mut E)
 pub fn serve<E: CountedWrite>(rt: &HostRuntime, options: &Serve<'_>, errors: &mut E) -> u8
     ensures { EndsServer result (writer E.contents E.counts errors.old) (writer E.contents E.counts errors.new) }
 {
-    let mut network = rt;
+    let host = LogHost::new(rt, options.log);
     let fault = serve_counties(
         rt.alloc(),
         &mut SystemFiles::new(rt),
-        &mut network,
+        &mut LoggedNetwork::new(host),
         &mut io::writer(rt),
         rt,
+        Counting::new(host),
+        host,
         options,
     );
     fault.report(errors);
     fault.status()
 }
 
-/// Loads the counties, and serves them on the port until a fault.
-fn serve_counties<'a, F: Files, N: Network, W: Write, C: Clock>(
+/// Loads the counties, and serves them at the address until a fault.
+fn serve_counties<
+    'a,
+    F: Files,
+    N: Network,
+    W: Write,
+    C: Clock,
+    L: CountedWrite + Drop,
+    T: Timer + Drop,
+>(
     alloc: Global,
     files: &mut F,
     network: &mut N,
     out: &mut W,
     clock: &C,
+    log: L,
+    timer: T,
     options: &Serve<'a>,
 ) -> ServeFault<'a>
     ensures serves { ServesCounties F.opens
-        (record { binds = N.binds; accepts = N.Listener.accepts; serves = ServesTallied HasServed; turns = TurnsTallied HasTurned })
+        (record {
+          binds = N.binds;
+          locates = N.locates;
+          accepts = N.Listener.accepts;
+          serves = ServesTallied (ServesLogged {A = Global}
+              (record { shows = T.shows; dates = T.dates; writer_of = writer L.contents L.counts }));
+          turns = TurnsTallied (TurnsLogged {A = Global} {W = L} {T = T});
+        })
         (record {
           folder = options.now.«data».now;
           codes = map (λ code. code.now) options.now.codes.items;
-          port = options.now.port;
+          address = options.now.address;
           known = F.bytes files.old;
         })
         result
@@ -115,8 +142,14 @@ fn serve_counties<'a, F: Files, N: Network, W: Write, C: Clock>(
 {
     match load_state(alloc, files, options) {
         Ok(state) => ServeFault::Listen {
-            port: options.port,
-            fault: serve_port(network, out, clock, options.port, state),
+            address: options.address,
+            fault: serve_address(
+                network,
+                out,
+                clock,
+                options.address,
+                Logged::new(state, log, timer),
+            ),
         },
         Err(failure) => ServeFault::Counties(failure),
     }

@@ -1,6 +1,8 @@
-use Rattle.std.proofs.Common.{◌≢◌, arith}
+use Rattle.std.proofs.Common.{◌≢◌, ap, arith, refl}
+use Rattle.std.specs.declared.alloc.Global.{Global}
 use Rattle.commands.specs.Failure.{status}
 use Rattle.commands.specs.declared.failure.Failure.{Failure}
+use Rattle.server.specs.declared.logged.Logged.{Logged}
 use Rattle.extractd.proofs.serving.serve_counties.Goals as goal
 
 failure_status : (failure : Failure) → status failure ≢ 0
@@ -8,3 +10,14 @@ failure_status failure zero = grind (arith, zero)
 
 pub returns-in-Err-clause-status : goal.returns-in-Err-clause-status
 returns-in-Err-clause-status g c = (failure_status c.in-Err.failure, c.in-Err.ensures.usage)
+
+pub returns-in-Ok-clause-serves : goal.returns-in-Ok-clause-serves
+returns-in-Ok-clause-serves g c = record {
+  state = c.in-Ok.state;
+  without_jobs = c.in-Ok.ensures.ok.0;
+  loaded = c.in-Ok.ensures.ok.1;
+  given_address = refl;
+  logged = c.new.result;
+  over_state = ap (λ (logged : Logged Global g.row.L.Denot g.row.T.Denot). logged.state) c.new.ensures;
+  serves_address = c.serve_address.ensures;
+}

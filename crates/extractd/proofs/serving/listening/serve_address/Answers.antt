@@ -1,11 +1,13 @@
 use Rattle.std.proofs.Common.{rules}
-use Rattle.extractd.proofs.serving.listening.serve_port.Goals as goal
+use Rattle.extractd.proofs.serving.listening.serve_address.Goals as goal
 
 pub returns : goal.returns
 returns g c =
     record {
       listener = c.in-Ok.listener;
-      binds_port = c.in-Ok.ensures;
+      binds = c.in-Ok.ensures;
+      local = c.in-Ok-local_address.local;
+      is_local = c.in-Ok-local_address.ensures.ok;
       announces = search rules;
       serves_listener = record {
         limits = c.standard.result;
