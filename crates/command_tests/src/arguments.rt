@@ -2,12 +2,13 @@
 use super::cases::{Ending, Faults, ended, status_of};
 use super::files::failing;
 use command_line::{ArgumentsFault, Serve, read_request, read_serve};
-use fixtures::{FaultPlan, Table, TableFault, bytes, cells, number, size, taken, writer};
+use fixtures::{FaultPlan, Table, TableFault, bytes, cells, size, taken, writer};
 use std::alloc::Global;
+use std::net::SocketAddr;
 
 // A command line, and the start of the text for the user.
 const STARTS: Table = Table {
-    rows: 115,
+    rows: 121,
     text: r#"
 extractd; error: 'extractd' requires a subcommand
 extractd run; error:
@@ -112,6 +113,12 @@ extractd geocode-batch --addresses a.csv --data d --shape=true 01001; error:
 extractd geocode-batch --addresses a.csv --data d --shape; error: the following required arguments were not provided:
 extractd geocode --data d --number 1 --name Main --shape 01001; error: unexpected argument '--shape' found
 extractd serve --data d --port 8080; error: the following required arguments were not provided:
+extractd serve --data d --any-port; error: the following required arguments were not provided:
+extractd serve --data d --any-port --any-port 01001; error: the argument '--any-port' cannot be used multiple times
+extractd serve --data d --any-port=80 01001; error:
+extractd serve --data d --any-port --host ::1 --host ::1 01001; error:
+extractd serve --data d --any-port --public=yes 01001; error:
+extractd serve --data d --any-port --host 127.0.0.1\x1b 01001; error: --host is an IP address, and "127.0.0.1\u{1b}" isn't
 extractd serve --help; Answers requests
 extractd help; error:
 extractd --help; Selects TIGER/Line street segments
@@ -142,10 +149,12 @@ extractd geocode --data d --number 151 --name main 010010; error: CODE is five d
 
 // A command line, and a part of the text for the user: the program's name in a usage line, its version, or an example of each command.
 const PARTS: Table = Table {
-    rows: 37,
+    rows: 39,
     text: r#"
 extractd --help; extractd serve --data tiger --port 8080 01001
-extractd serve; Usage: extractd serve --data <DIR> --port <P> <CODE>...
+extractd serve; Usage: extractd serve --data <DIR> <CODE>...
+extractd serve --help; extractd serve --data tiger --any-port --host ::1 01001
+extractd serve --help; The server has no TLS and no authentication
 extractd geocode-batch --help; fedirp, fename, fetype, fedirs
 extractd geocode-batch --help; extractd geocode-batch --addresses addresses.csv --data tiger 01001 > places.csv
 extractd geocode-batch --help; extractd geocode-batch --addresses addresses.csv --data tiger --shape 01001 > places.csv
@@ -222,24 +231,52 @@ fn usage(rt: HostRuntime) {
     }
 }
 
-// The arguments of `serve`, the requested port and the number of counties.
+// The arguments of `serve`, the requested address and the number of counties.
 const SERVES: Table = Table {
-    rows: 3,
+    rows: 13,
     text: "\
-serve --data d --port 8080 01001; 8080; 1
-serve --data d --port 1 01001 01003 01001; 1; 3
-serve --port 65535 01001 01003 --data d; 65535; 2",
+serve --data d --port 8080 01001; 127.0.0.1:8080; 1
+serve --data d --port 1 01001 01003 01001; 127.0.0.1:1; 3
+serve --port 65535 01001 01003 --data d; 127.0.0.1:65535; 2
+serve --data d --any-port 01001; 127.0.0.1:0; 1
+serve --data d --any-port --host ::1 01001; [::1]:0; 1
+serve --data d --port 80 --host=0:0:0:0:0:0:0:1 01001; [::1]:80; 1
+serve --data d --port 80 --host 127.0.0.0 01001; 127.0.0.0:80; 1
+serve --data d --port 80 --host 127.255.255.255 01001; 127.255.255.255:80; 1
+serve --data d --port 80 --public 01001; 127.0.0.1:80; 1
+serve --data d --port 80 --public --host ::1 01001; [::1]:80; 1
+serve --data d --port 80 --host 0.0.0.0 01001 --public; 0.0.0.0:80; 1
+serve --data d --any-port --host :: --public 01001; [::]:0; 1
+serve --data d --port 80 --public --host 2001:db8::c000:201 01001; [2001:db8::c000:201]:80; 1",
 };
 
 // Other arguments, and the status and text of the fault.
 const FAULTS: Table = Table {
-    rows: 11,
+    rows: 27,
     text: r#"
 serve --data d --port 0 01001; 2; error: --port is 1 to 65535, and "0" isn't\n
 serve --data d --port 65536 01001; 2; error: --port is 1 to 65535, and "65536" isn't\n
 serve --data d --port +80 01001; 2; error: --port is 1 to 65535, and "+80" isn't\n
 serve --data d --port http 01001; 2; error: --port is 1 to 65535, and "http" isn't\n
 serve --data d --port 8080 0100; 2; error: CODE is five digits, and "0100" isn't\n
+serve --data d 01001; 2; error: --port or --any-port is missing\n
+serve --data d --public 01001; 2; error: --port or --any-port is missing\n
+serve --data d --port 80 --any-port 01001; 2; error: --port and --any-port can't be used together\n
+serve --data d --port 0 --any-port 01001; 2; error: --port and --any-port can't be used together\n
+serve --data d --any-port --host localhost 01001; 2; error: --host is an IP address, and "localhost" isn't\n
+serve --data d --any-port --host= 01001; 2; error: --host is an IP address, and "" isn't\n
+serve --data d --any-port --host 127.1 01001; 2; error: --host is an IP address, and "127.1" isn't\n
+serve --data d --any-port --host 127.0.0.1:80 01001; 2; error: --host is an IP address, and "127.0.0.1:80" isn't\n
+serve --data d --any-port --public --host [::1] 01001; 2; error: --host is an IP address, and "[::1]" isn't\n
+serve --data d --any-port --host 0.0.0.0 01001; 2; error: --host 0.0.0.0 needs --public, which lets other machines connect\n
+serve --data d --any-port --host :: 01001; 2; error: --host :: needs --public, which lets other machines connect\n
+serve --data d --any-port --host ::2 01001; 2; error: --host ::2 needs --public, which lets other machines connect\n
+serve --data d --any-port --host 192.0.2.1 01001; 2; error: --host 192.0.2.1 needs --public, which lets other machines connect\n
+serve --data d --any-port --host 126.255.255.255 01001; 2;
+  error: --host 126.255.255.255 needs --public, which lets other machines connect\n
+serve --data d --any-port --host 128.0.0.0 01001; 2; error: --host 128.0.0.0 needs --public, which lets other machines connect\n
+serve --data d --any-port --host ::ffff:127.0.0.1 01001; 2;
+  error: --host ::ffff:127.0.0.1 needs --public, which lets other machines connect\n
 run --program p --data d --format json 01001; 2; error: --format is rows, csv or geojsonseq, and "json" isn't\n
 run --program p --data d --columns CFCC 01001; 2; error: --columns needs --format csv or geojsonseq\n
 run --program p --data d --format csv --columns CFC 01001; 2;
@@ -265,17 +302,21 @@ by 1 nothing",
 
 /// Returns whether the arguments of a row request what the row says.
 fn is_serve(alloc: Global, row: &str) -> Result<bool, TableFault> {
-    let (line, port, counties) = cells(row)?.three()?;
-    let (port, counties) = (number(port)?, size(counties)?);
+    let (line, address, counties) = cells(row)?.three()?;
+    let (address, counties) = (socket_address(address)?, size(counties)?);
     let words: Vec<&str> = line.split(' ').collect(alloc)?;
     Ok(match read_serve(alloc, &words) {
-        Ok(serve) => is_asked(&serve, port, counties),
+        Ok(serve) => is_asked(&serve, address, counties),
         Err(_fault) => false,
     })
 }
 
-fn is_asked(serve: &Serve<'_>, port: u64, counties: usize) -> bool {
-    serve.data == "d" && u64::from(serve.port) == port && serve.codes.len() == counties
+fn socket_address(text: &str) -> Result<SocketAddr, TableFault> {
+    text.parse().map_err(|_error| TableFault::Word)
+}
+
+fn is_asked(serve: &Serve<'_>, address: SocketAddr, counties: usize) -> bool {
+    serve.data == "d" && serve.address == address && serve.codes.len() == counties
 }
 
 /// Returns whether the arguments of a row have the fault that the row says.

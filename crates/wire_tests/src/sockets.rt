@@ -7,6 +7,7 @@ mod closes;
 mod exchange;
 mod faults;
 mod http;
+mod logs;
 mod submissions;
 mod timeouts;
 mod waits;

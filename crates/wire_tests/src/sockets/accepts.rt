@@ -19,9 +19,18 @@ const EXCHANGE: Exchange = Exchange {
 
 /// A listener whose accepts fail at first, alternately because the connection was aborted and because of a signal.
 #[derive(Drop)]
-struct Aborting {
+pub struct Aborting {
     listener: TcpListener,
     failing: Cell<u64>,
+}
+
+impl Aborting {
+    pub fn new(listener: TcpListener, failing: u64) -> Self {
+        Aborting {
+            listener,
+            failing: Cell::new(failing),
+        }
+    }
 }
 
 impl OpenListener for Aborting {
@@ -41,10 +50,7 @@ impl OpenListener for Aborting {
 /// Checks that a client is served after accepts that failed for a single connection or because of a signal.
 #[test]
 fn aborted(rt: HostRuntime) -> Result<(), Fail> {
-    let listener = Aborting {
-        listener: TcpListener::bind(&rt, "127.0.0.1:0")?,
-        failing: Cell::new(3),
-    };
+    let listener = Aborting::new(TcpListener::bind(&rt, "127.0.0.1:0")?, 3);
     let address = listener.listener.local_addr()?;
     let mut service = Exchanges::new(EXCHANGE, &[b'r'; 50]);
     let mut acceptor = Acceptor::new(&listener);
