@@ -23,7 +23,7 @@ import re
 import sys
 from functools import lru_cache
 from pathlib import Path
-from typing import NamedTuple
+from typing import NamedTuple, Optional
 
 TOP = Path(__file__).resolve().parent.parent
 TABLE = Path(__file__).with_name("calls.txt")
@@ -41,6 +41,8 @@ class Call(NamedTuple):
     path: str
     kinds: tuple
     of_global: bool
+    # The trait that it implements, if it is in an `impl` of one.
+    trait: Optional[str]
 
     def name(self):
         return self.path.rpartition("::")[2]
@@ -147,7 +149,7 @@ def calls():
                 path = path_of(crate, item, modules, names)
                 kinds = kinds_of(item, wanting)
                 if path and kinds:
-                    found[path] = Call(path, kinds, is_of_global(item))
+                    found[path] = Call(path, kinds, is_of_global(item), trait_of(item))
     return found
 
 
@@ -170,6 +172,12 @@ def kinds_of(item, wanting):
     types = f"{item.header} {item.signature}"
     result = item.signature.partition("->")[2]
     return tuple(kind for kind in KINDS if re.search(BOUNDS[kind], types) or kind == "memory" and re.search(wanting, result))
+
+
+def trait_of(item):
+    """Returns the trait that a function implements, if it does."""
+    found = re.match(r"impl(?:<.*>)? (\w+)(?:<.*>)? for ", item.header)
+    return found[1] if found else None
 
 
 def is_of_global(item):
@@ -276,14 +284,15 @@ def reached(call, sweep):
 
 
 def is_made(call, crate, module, body):
-    """Returns whether the text of a function makes a call, in a file that names the call's type. `write!` calls `write_str`."""
+    """Returns whether the text of a function makes a call, in a file that names the call's type or trait. `write!` calls `write_str`."""
     file, name, owner = sources(crate)[module], call.name(), call.owner()
     source = call.path.split("::")[0]
     if owner:
         made = rf"\.{name}\(|\b{owner}(::<[^>]*>)?::{name}\b"
         if name == "write_str":
             made += r"|\bwrite!\("
-        return bool(re.search(made, body) and re.search(rf"\b{owner}\b", file))
+        named = rf"\b({owner}|{call.trait})\b" if call.trait else rf"\b{owner}\b"
+        return bool(re.search(made, body) and re.search(named, file))
     if crate == source:
         return bool(re.search(rf"(?<![.\w]){name}\(", body))
     imported = re.search(rf"\b{source}::(\{{[^}}]*\b{name}\b|{name}\b)", file)

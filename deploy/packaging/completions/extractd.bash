@@ -13,7 +13,7 @@ _extractd_options() {
     verify | dis) echo --program --help ;;
     explain) echo --program --lines --help ;;
     asm) echo --source --help ;;
-    serve) echo --data --port --help ;;
+    serve) echo --data --port --any-port --host --public --log --help ;;
     esac
 }
 
@@ -86,7 +86,7 @@ _extractd() {
         mapfile -t COMPREPLY < <(compgen -P "$before" -W "$words" -- "${word^^}")
         return
         ;;
-    --where | --number | --name | --zip | --line | --limit | --port) return ;;
+    --where | --number | --name | --zip | --line | --limit | --port | --host) return ;;
     esac
 
     if [[ $current == -* ]]; then
