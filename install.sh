@@ -70,17 +70,17 @@ list=$root/share/extractd/installed
 
 # Prints what to install: the mode, the source, and the path below PREFIX, separated by tabs.
 files() {
-    row 755 "$program" bin/extractd
-    row 755 "$here/deploy/packaging/tigerline" bin/tigerline
+    item 755 "$program" bin/extractd
+    item 755 "$here/deploy/packaging/tigerline" bin/tigerline
     below python tigerline lib/python3/dist-packages
     for page in "$here"/deploy/packaging/man/*.1; do
-        row 644 "$page" "share/man/man1/${page##*/}"
+        item 644 "$page" "share/man/man1/${page##*/}"
     done
-    row 644 "$here/deploy/packaging/completions/extractd.bash" share/bash-completion/completions/extractd
-    row 644 "$here/deploy/packaging/completions/_extractd" share/zsh/site-functions/_extractd
-    row 644 "$here/tools/c/extractd.h" include/extractd.h
+    item 644 "$here/deploy/packaging/completions/extractd.bash" share/bash-completion/completions/extractd
+    item 644 "$here/deploy/packaging/completions/_extractd" share/zsh/site-functions/_extractd
+    item 644 "$here/tools/c/extractd.h" include/extractd.h
     for unit in "$here"/deploy/server/*.service; do
-        row 644 "$unit" "lib/systemd/system/${unit##*/}"
+        item 644 "$unit" "lib/systemd/system/${unit##*/}"
     done
     # What the pages use. Those for contributors stay in the sources.
     for path in README.md CHANGELOG.md SECURITY.md LICENSE docs examples tools/c tools/make_county.py tools/make_town.py deploy/server deploy/cluster; do
@@ -88,14 +88,14 @@ files() {
     done | grep -v -E '/docs/(ARCHITECTURE|CHANGING|DECISIONS)\.md$'
 }
 
-row() { printf '%s\t%s\t%s\n' "$@"; }
+item() { printf '%s\t%s\t%s\n' "$@"; }
 
 # below FOLDER PATH TARGET: prints the files of PATH, which is in FOLDER, with the same names below TARGET.
 below() {
     (cd "$here/$1" && find "$2" -name __pycache__ -prune -o -type f -print | LC_ALL=C sort) | while IFS= read -r file; do
         mode=644
         [ ! -x "$here/$1/$file" ] || mode=755
-        row $mode "$here/$1/$file" "$3/$file"
+        item $mode "$here/$1/$file" "$3/$file"
     done
 }
 
