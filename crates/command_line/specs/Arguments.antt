@@ -8,7 +8,8 @@ use Rattle.clap.specs.declared.builder.action.ArgAction.TheVariants.{Set, SetTru
 use Rattle.clap.specs.declared.builder.command.Command.{Command}
 use Rattle.clap.specs.declared.builder.command.Command.TheViews.{out-Command as fields_of}
 use Rattle.command_line.specs.declared.arguments.subcommand.Subcommand.{Subcommand}
-use Rattle.command_line.specs.declared.arguments.subcommand.Subcommand.TheVariants.{Select, Compile, Run, Trace, Geocode, GeocodeBatch, Verify, Explain, Assemble, Disassemble, Serve}
+use Rattle.command_line.specs.declared.arguments.subcommand.Subcommand.TheVariants.{Select, Compile, Run, Trace, Geocode, GeocodeBatch}
+use Rattle.command_line.specs.declared.arguments.subcommand.Subcommand.TheVariants.{Verify, Explain, Assemble, Disassemble, Serve}
 
 -- `--NAME VALUE`, once
 abbrev pub required : Text → Rule

@@ -161,8 +161,8 @@ fn load_state<'a, F: Files>(
     files: &mut F,
     options: &Serve<'a>,
 ) -> Result<State<Global>, Failure<'a>>
-    ensures ok { IfOk result (λ state. (state ≡ new_state (map (λ code. code.now) options.now.codes.items) (counties_of state)) × AreCountiesOf (F.bytes files.old)
-        options.now.«data».now (map (λ code. code.now) options.now.codes.items) (counties_of state)) }
+    ensures ok { IfOk result (λ state. (state ≡ new_state (map (λ code. code.now) options.now.codes.items) (counties_of state))
+        × AreCountiesOf (F.bytes files.old) options.now.«data».now (map (λ code. code.now) options.now.codes.items) (counties_of state)) }
     ensures err { IfErr result (IsLoadFailure F.opens
         (HaveRefusedCounty (F.bytes files.old) options.now.«data».now (map (λ code. code.now) options.now.codes.items))
         (IsRefusedFileOfOne options.now.«data».now (map (λ code. code.now) options.now.codes.items))

@@ -15,8 +15,8 @@ use Rattle.http_routes.specs.Routes.{matches, route_of, routes, row}
 use Rattle.http_routes.specs.Table.{FindsRoutes, entry, pattern}
 use Rattle.http_routes.proofs.SeekLemmas.{seek_alone, seek_among, seek_literal}
 use Rattle.http_routes.specs.declared.route.Route.{Route}
-use Rattle.http_routes.specs.declared.route.Route.TheVariants.{Index, Health, Verify, Assemble, Disassemble, Extract, Explain, Select, Compile, Geocode, GeocodeBatch, Jobs, FilterJobs}
-use Rattle.http_routes.specs.declared.route.Route.TheVariants.{OpenJobs, Job}
+use Rattle.http_routes.specs.declared.route.Route.TheVariants.{Index, Health, Verify, Assemble, Disassemble, Extract, Explain, Select, Compile}
+use Rattle.http_routes.specs.declared.route.Route.TheVariants.{Geocode, GeocodeBatch, Jobs, FilterJobs, OpenJobs, Job}
 
 -- the effect of inserting a route's path on the rows
 pub row_inserted : (route : Route) (old new : RowsOf (RouteOf Route)) (result : Result (Unit {0}) InsertError)

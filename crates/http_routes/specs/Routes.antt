@@ -4,8 +4,8 @@ use Rattle.std.specs.List.{flat_map, starts_with}
 use Rattle.std.specs.Str.{bytes_eq}
 use Rattle.http_routes.specs.declared.route.Action.{Action}
 use Rattle.http_routes.specs.declared.route.Route.{Route}
-use Rattle.http_routes.specs.declared.route.Route.TheVariants.{Index, Health, Verify, Assemble, Disassemble, Extract, Explain, Select, Compile, Geocode, GeocodeBatch, Jobs, FilterJobs}
-use Rattle.http_routes.specs.declared.route.Route.TheVariants.{OpenJobs, Job}
+use Rattle.http_routes.specs.declared.route.Route.TheVariants.{Index, Health, Verify, Assemble, Disassemble, Extract, Explain, Select, Compile}
+use Rattle.http_routes.specs.declared.route.Route.TheVariants.{Geocode, GeocodeBatch, Jobs, FilterJobs, OpenJobs, Job}
 use Rattle.http_routes.specs.declared.route.Action.TheVariants as action
 use Rattle.http_routes.specs.declared.route.Verb.{Verb}
 use Rattle.http_routes.specs.declared.route.Verb.TheVariants.{Get, Post, Delete}

@@ -35,7 +35,7 @@ pub record ReadsClock {T : Type 0} (shows : Shows T) (dates : Dates T) (date : O
   pub reads_end : shows started end new
   pub is_micros : micros ≡ micros_between start end
 
--- a request of this peer, of which so many bytes were read, with its summary
+-- the entry of a request from this peer, with the number of bytes read
 abbrev pub request_entry : SocketAddr → ℕ → Summary → Option HttpDate → Option ℕ → Entry
 request_entry peer received summary date micros = record {
   peer = Some (socket_ip peer);

@@ -30,7 +30,12 @@ pub struct ClientReader<H, T> {
 impl<H: Socket, T: Timer> ClientReader<H, T> {
     /// Returns a reader that waits at most `idle` in one read, and at most `limit` in all reads, counted from the first.
     pub fn new(socket: H, timer: T, idle: Duration, limit: Duration) -> Self
-        ensures { result ≡ record { timed = record { socket = socket; stopwatch = record { timer = timer; start = None } }; idle = idle; limit = limit; received = 0 } }
+        ensures { result ≡ record {
+          timed = record { socket = socket; stopwatch = record { timer = timer; start = None } };
+          idle = idle;
+          limit = limit;
+          received = 0;
+        } }
     {
         ClientReader {
             timed: Timed::new(socket, timer),

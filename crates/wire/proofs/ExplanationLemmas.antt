@@ -146,7 +146,8 @@ module _ (code : List Insn) (lines : List SourceLine) where
         ∙ ap (λ (visit : Visit). visits_from also.annotation 0 (take also.index code) ++ visit ∷ []) last ∙ sym (listed other also) in
         is.is
         ∙ ap (λ (visits : List Visit). (listing lines visits).text ++ refusal_line is.known cause is.insn) all
-        ∙ ap (λ (known : AbstractState). (listing lines (visits_from also.annotation 0 (take (also.index + 1) code))).text ++ refusal_line known cause is.insn) known
+        ∙ ap (λ (known : AbstractState).
+        (listing lines (visits_from also.annotation 0 (take (also.index + 1) code))).text ++ refusal_line known cause is.insn) known
         ∙ ap (λ (insn : Insn). (listing lines (visits_from also.annotation 0 (take (also.index + 1) code))).text ++ refusal_line also.known cause insn) insn
         ∙ sym also.is
 

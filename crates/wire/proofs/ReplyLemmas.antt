@@ -44,7 +44,8 @@ use Rattle.wire.proofs.DecisionLemmas.{one_decision}
 use Rattle.wire.proofs.EventLemmas.{fetched, reply_of_job, same_state}
 use Rattle.wire.proofs.ExplanationLemmas.{one_explained}
 use Rattle.wire.proofs.VerdictLemmas.{one_extract, one_verdict}
-use Rattle.wire.specs.Answer.{Answers, AnswersAction, IsJobReply, AssemblesTo, DisassemblesTo, ExplainsTo, GeocodesAllTo, GeocodesTo, IsEarlyFault, IsExplanation, Replies, Submits, IsTableReply}
+use Rattle.wire.specs.Answer.{Answers, AnswersAction, IsJobReply, AssemblesTo, DisassemblesTo, ExplainsTo, GeocodesAllTo, GeocodesTo}
+use Rattle.wire.specs.Answer.{IsEarlyFault, IsExplanation, Replies, Submits, IsTableReply}
 use Rattle.wire.specs.Answer.{body_reply, job_reply, memory_reply, octets, plain, refusal_reply, source_reply}
 use Rattle.wire.specs.Decision.{RoutedParts, DecisionParts, IsDecided, Accepts, SendsFilter, takes_filter}
 use Rattle.wire.specs.State.{StateParts}
