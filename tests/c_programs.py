@@ -26,7 +26,10 @@ TOOLS, PROGRAMS, COUNTY, CODE = TOP / "tools" / "c", TOP / "examples" / "c" / "p
 
 # The builds that are refused, with a part of what is said.
 REFUSED: dict[tuple[str, str, str], str] = {
+    ("name_suffix", "clang", "-Os"): "PointerArithmetic",
+    ("sorted_letters", "bpf-gcc", "-O1"): "a loop may have more than 256 rounds",
     ("sorted_letters", "bpf-gcc", "-O2"): "a loop may have more than 256 rounds",
+    ("soundex", "bpf-gcc", "-O1"): "a loop may have more than 256 rounds",
 }
 
 
