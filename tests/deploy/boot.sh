@@ -59,14 +59,13 @@ try_swap() {
 
 # try_refusals: what doesn't improve by itself isn't tried again.
 try_refusals() {
-    local line
     echo COUNTIES=01002 > /etc/default/extractd-8082
     same 'a missing county' '1 3' "$(systemctl start extractd@8082 2> /dev/null; echo $?) $(state extractd@8082 | cut -d ' ' -f 2)"
     systemctl stop extractd@8082
     mkdir -p /srv/tiger-3 /srv/tiger-4 /etc/systemd/system/extractd@8084.service.d
     head -n 1 "$documents/examples/README.md" > /srv/tiger-3/TGR01001.RT1
     echo DATA=/srv/tiger-3 > /etc/default/extractd-8083
-    for line in {1..1000}; do cat "$documents/examples/TGR01001.RT1"; done > /srv/tiger-4/TGR01001.RT1
+    for _ in {1..1000}; do cat "$documents/examples/TGR01001.RT1"; done > /srv/tiger-4/TGR01001.RT1
     echo DATA=/srv/tiger-4 > /etc/default/extractd-8084
     printf '[Service]\nLimitAS=64M\n' > /etc/systemd/system/extractd@8084.service.d/limit.conf
     systemctl daemon-reload

@@ -23,6 +23,8 @@ top=$(realpath "$here/../..")
 packaging=$top/deploy/packaging
 # shellcheck source=tests/testing.sh
 . "$top/tests/testing.sh"
+# shellcheck source=tests/deploy/root.sh
+. "$here/root.sh"
 
 if [ $# -ne 1 ] || ! is_program "$1"; then
     echo "usage: ${0##*/} PATH_TO_extractd" >&2
@@ -31,19 +33,6 @@ fi
 program=$(realpath "$1")
 make_scratch
 install_missing debootstrap dpkg-shlibdeps groff lintian nsenter strace strip systemd-nspawn zsh
-
-# same NAME EXPECTED ACTUAL
-same() {
-    if [ "$2" = "$3" ]; then pass; else fail "$1" "should be: ${2:0:500}" "and is: ${3:0:500}"; fi
-}
-# does NAME COMMAND..: checks that a command exits with 0 and writes no error.
-does() {
-    local name=$1
-    shift
-    if "$@" > "$scratch/said" 2> "$scratch/error" && [ ! -s "$scratch/error" ]; then pass; else
-        fail "$name" "$(tail -n 5 "$scratch/error" "$scratch/said")"
-    fi
-}
 
 built=$scratch/built root=$scratch/root
 documents=usr/share/doc/extractd
@@ -73,49 +62,12 @@ try_building() {
     does 'lintian' lintian --allow-root --fail-on error,warning --suppress-tags initial-upload-closes-no-bugs "$package" "$python_package"
 }
 
-# snapshot: prints each file of the root, except dpkg's own and those of /run, with its mode, its owner and its checksum.
-snapshot() {
-    local pruned=(\( -path ./var/lib/dpkg -o -path ./var/log/dpkg.log -o -path ./run \) -prune)
-    (
-        cd "$root" || exit
-        find . "${pruned[@]}" -o -printf '%p %y %m %u %g %l\n' | sort
-        find . "${pruned[@]}" -o -type f -print0 | sort -z | xargs -0 -r sha256sum
-    )
-}
-# unchanged NAME: checks that the root is as it was when `before` was written.
-unchanged() {
-    snapshot > "$scratch/after"
-    same "$1" '' "$(diff "$scratch/before" "$scratch/after")"
-}
-
-# inside COMMAND..: runs a command in the root and its network.
-inside() { nsenter --net="/proc/$holder/ns/net" chroot "$root" "$@"; }
-# inside_mounted COMMAND..: does the same with the file systems that shells and Python use.
+# inside_mounted COMMAND..: runs a command in the root and its network, with the file systems that shells and Python use.
 inside_mounted() {
     # shellcheck disable=SC2016 # The inner shell expands them.
     nsenter --net="/proc/$holder/ns/net" unshare --mount \
         sh -c 'mount -t proc proc "$0/proc" && mount -t sysfs -o ro sysfs "$0/sys" && mount -t tmpfs tmpfs "$0/dev/shm" && exec chroot "$0" "$@"' \
         "$root" "$@"
-}
-
-# make_root: makes a clean Debian in `root` and a network of its own, which a process keeps open.
-make_root() {
-    local waited
-    [ "$(id -u)" = 0 ] && has debootstrap && has nsenter || return
-    if ! debootstrap --variant=minbase --include=nginx-light,openssl,curl,systemd,iproute2,python3 bookworm "$root" ${MIRROR:+"$MIRROR"} \
-        > "$scratch/debootstrap" 2>&1; then
-        tail -n 3 "$scratch/debootstrap"
-        return 1
-    fi
-    [ -z "${REQUIRE_ALL-}" ] || install_page_commands
-    unshare --net sleep 3600 &
-    holder=$!
-    started+=("$holder")
-    for ((waited = 0; waited < 100; waited++)); do
-        [ "$(readlink "/proc/$holder/ns/net")" = "$(readlink /proc/self/ns/net)" ] || break
-        sleep 0.1
-    done
-    inside ip link set lo up
 }
 
 # page_commands FOLDER: prints the commands that the blocks of its pages need.
@@ -152,14 +104,6 @@ try_pages() {
         add_counts "$scratch/page" "$page"
     done
     rm -rf "$root/tmp/clone"
-}
-
-# add_counts FILE NAME: adds the counts in the last line of a test's output.
-add_counts() {
-    local counts
-    counts=$(counts_of "$1")
-    [ -n "$counts" ] || { fail "$2 ends without its counts" "$(tail -n 5 "$1")"; return; }
-    passed=$((passed + ${counts% *})) failed=$((failed + ${counts#* }))
 }
 
 # setting NAME: prints the unit's setting.
@@ -307,7 +251,7 @@ try_install() {
     does 'install.sh again' env DESTDIR="$root" "$top/install.sh" --program "$scratch/program" /usr/local
     same 'install.sh: the first command' 110 "$("$@" | wc -l)"
     same 'install.sh: the units' /usr/local/bin/extractd "$(sed -n 's/^ExecStart=\([^ ]*\) .*/\1/p' "$root"/usr/local/lib/systemd/system/extractd*.service | uniq)"
-    [ "$1" != inside ] || try_pages /usr/local docs/tour.md docs/maps.md
+    [ "$1" != inside ] || try_pages /usr/local README.md docs/python.md
     does 'install.sh --uninstall' env DESTDIR="$root" "$top/install.sh" --uninstall /usr/local
     unchanged 'install.sh leaves something'
     same 'install.sh --uninstall again' 1 "$(DESTDIR=$root "$top/install.sh" --uninstall /usr/local > /dev/null 2>&1; echo $?)"
@@ -316,29 +260,10 @@ try_install() {
     unchanged 'a refused install.sh leaves something'
 }
 
-# try_boot: installs the package again, and boots the root, which runs boot.sh and powers off.
+# try_boot: installs the package again, and boots the root, which runs boot.sh.
 try_boot() {
-    needs 'the units with systemd as the first process' systemd-nspawn || return
     does 'the package is installed to boot' inside dpkg --install /extractd.deb
-    mkdir -p "$root/tests/deploy"
-    cp "$top/tests/testing.sh" "$root/tests"
-    cp "$here/boot.sh" "$root/tests/deploy"
-    cat > "$root/etc/systemd/system/boot-test.service" << 'END'
-[Service]
-Type=oneshot
-ExecStart=/bin/sh -c '/tests/deploy/boot.sh > /tests/said 2>&1'
-ExecStopPost=systemctl --no-block poweroff
-END
-    mkdir -p "$root/etc/systemd/system/multi-user.target.wants"
-    ln -s ../boot-test.service "$root/etc/systemd/system/multi-user.target.wants"
-    : > "$root/etc/machine-id"
-    timeout 600 systemd-nspawn --quiet --directory="$root" --boot --register=no --keep-unit --private-network > "$scratch/boot" 2>&1 < /dev/null
-    if [ -s "$root/tests/said" ]; then
-        sed '$d' "$root/tests/said"
-        add_counts "$root/tests/said" boot.sh
-    else
-        skip "the units with systemd as the first process (nspawn: $(tail -n 1 "$scratch/boot"))"
-    fi
+    boot boot.sh
 }
 
 if needs 'the package' dpkg-shlibdeps strip; then
@@ -347,6 +272,7 @@ if needs 'the package' dpkg-shlibdeps strip; then
     try_building
 fi
 if [ -e "${package-}" ] && make_root; then
+    [ -z "${REQUIRE_ALL-}" ] || install_page_commands
     mkdir -p "$scratch/nginx.before"
     (cd "$root" && cp -a --parents etc/nginx var/log/nginx var/lib/nginx "$scratch/nginx.before")
     try_package
