@@ -27,11 +27,15 @@ try_start() {
     mkdir -p /srv/tiger /srv/tiger-2
     cp "$documents"/examples/TGR* /srv/tiger
     cp "$documents"/examples/one/TGR* /srv/tiger-2
-    echo DATA=/srv/tiger-2 > /etc/default/extractd-8081
+    printf '%s\n' DATA=/srv/tiger-2 OPTIONS=--log > /etc/default/extractd-8081
     systemctl start extractd && same 'extractd answers when it is started' ok "$(health 127.0.0.1:8080)"
     systemctl start extractd@8081 && same 'extractd@8081 answers when it is started' ok "$(health 127.0.0.1:8081)"
     same 'their states' $'0 0 active\n0 0 active' "$(state extractd; state extractd@8081)"
     same 'their segments' '400 1' "$(rows 127.0.0.1:8080) $(rows 127.0.0.1:8081)"
+    journalctl --sync
+    same 'the log of the second one' '"GET /health HTTP/1.1" 200 3' \
+        "$(journalctl -u extractd@8081 -o cat -g '^[0-9-]' | grep -o '"GET /health HTTP/1.1" 200 3' | sort -u)"
+    same 'the first one has none' '' "$(journalctl -u extractd -o cat | grep HTTP/1)"
     same 'a server runs as root' '' "$(find "/proc/$(systemctl show extractd -p MainPID --value)" -maxdepth 0 -user root)"
 }
 
