@@ -58,7 +58,7 @@ try_swap() {
     same 'segments through nginx' 400 "$(rows https://127.0.0.1)"
     same 'swap.sh' '0 ' "$("$documents/deploy/server/swap.sh" 8080 8081 2>&1; echo "$? ")"
     systemctl stop extractd
-    same 'segments after the swap' '1 0 0 inactive' "$(rows https://127.0.0.1) $(state extractd)"
+    same 'segments after the swap' '1 inactive' "$(rows https://127.0.0.1) $(systemctl is-active extractd)"
 }
 
 # try_refusals: what doesn't improve by itself isn't tried again.
