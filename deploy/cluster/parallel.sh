@@ -6,6 +6,10 @@
 
 set -eu
 export LC_ALL=C
+if [ $# -lt 3 ] || [ $# -gt 4 ]; then
+    echo "usage: ${0##*/} DATA OUT FILTER [JOBS]" >&2
+    exit 2
+fi
 data=$1 out=$2 filter=$3 jobs=${4:-100%}
 here=$(dirname "$(realpath "$0")")
 mkdir -p "$out/counties"

@@ -9,6 +9,10 @@
 
 set -euo pipefail
 export LC_ALL=C
+if [ $# -ne 3 ] || [ -z "${SLURM_ARRAY_TASK_ID-}" ]; then
+    echo "usage: sbatch --array=1-78 deploy/cluster/slurm.sh DATA OUT FILTER" >&2
+    exit 2
+fi
 data=$1 out=$2 filter=$3
 state=$(printf %02d "$SLURM_ARRAY_TASK_ID")
 mkdir -p "$out"
