@@ -1,6 +1,7 @@
 pub mod FullNameLemmas
 pub mod IndexLemmas
 pub mod JoiningLemmas
+pub mod MarkLemmas
 pub mod OrderLemmas
 pub mod ReadingLemmas
 pub mod SegmentLemmas

@@ -7,7 +7,7 @@ use Rattle.std.proofs.lemmas.List.{get_or-map, map-append, take-append-drop}
 use Rattle.std.proofs.lemmas.List.FromFn.{map-range_with_len_more, take-map-range_with_len, get_or-map-range_with_len, length-map-range_with_len}
 use Rattle.std.proofs.Math.Seq.{drop-cons}
 use Rattle.tl_segments.specs.Shape.{ShapePartParts, before_none, point_at, points_in}
-use Rattle.tl_segments.specs.TableContents.{sequence_at}
+use Rattle.tl_segments.specs.Shape.{sequence_at}
 use Rattle.tl_segments.specs.declared.shape.Point.{Point}
 
 -- Points

@@ -16,9 +16,9 @@ use Rattle.tl_records.specs.declared.fault.LineFaultKind.TheVariants.{BadSequenc
 use Rattle.tl_segments.specs.Adding.{IsAdded}
 use Rattle.tl_segments.specs.Joining.{lines_with, number_in}
 use Rattle.tl_segments.specs.Loading.{AreValidLines}
-use Rattle.tl_segments.specs.Shape.{HasDistinctSequences, ShapePartParts, has_sequence, lines_at, part_in, points_in, sequence_in, sequences, shape_lines, shape_parts}
+use Rattle.tl_segments.specs.Shape.{IsPlace, IsTaken, HasDistinctSequences, ShapePartParts, has_sequence, lines_at, part_in, points_in, sequence_in, sequences, shape_lines, shape_parts}
 use Rattle.tl_segments.specs.Shape.{shape_points}
-use Rattle.tl_segments.specs.TableContents.{HoldsShapes, InsertsAt, IsPlace, IsTaken, MatchAddition, list_at}
+use Rattle.tl_segments.specs.TableContents.{HoldsShapes, InsertsAt, MatchAddition, list_at}
 use Rattle.tl_segments.specs.declared.county_file.Addition.{Addition}
 use Rattle.tl_segments.specs.declared.county_file.Addition.TheVariants.{Added, OverLimit, Repeated}
 use Rattle.tl_segments.specs.declared.fault.CountyFile.TheVariants.{Rt2}

@@ -1,7 +1,8 @@
 -- The lists shared by segments.
 use Rattle.std.proofs.Common.{◌≡◌, ◌<◌, ℕ, nat_eq, if◌then◌else◌, Bool, true, false, List, [], ◌∷◌, ◌++◌, length, Option, Some, IfSome}
 use Rattle.std.proofs.Common.{refl, sym, ap, subst, ◌∙◌, append_assoc, length-append, arith}
-use Rattle.std.specs.HashMap.{get}
+use Rattle.std.specs.BTreeMap.{get}
+use Rattle.std.specs.Ordering.{nat_cmp}
 use Rattle.std.specs.Option.{option_map_or}
 use Rattle.std.specs.declared.rc.Rc.{Rc}
 use Rattle.std.proofs.lemmas.List.Elements.{All-nil, All-cons, All-append}
@@ -77,10 +78,10 @@ lists_made lines names ranges {first} {bytes} has made is =
 -- lists stored along with those of other TLIDs
 pub holds_one_more : {A : Type 0} (index : Index A) (old new : SharedLists A) (tlid : ℕ) (joined : Rc (JoinedLists A) A) → HoldsShared index old
     → IsJoinedTo index tlid joined.value
-    → ((q : ℕ) → get nat_eq new.lists q ≡ (if nat_eq tlid q then Some joined else get nat_eq old.lists q)) → HoldsShared index new
+    → ((q : ℕ) → get nat_cmp new.lists q ≡ (if nat_eq tlid q then Some joined else get nat_cmp old.lists q)) → HoldsShared index new
 holds_one_more index old new tlid joined holds by lists = λ q. rw (lists q) (at_number q (nat_eq tlid q) refl)
   where
     at_number : (q : ℕ) (same : Bool) → nat_eq tlid q ≡ same
-        → IfSome (if same then Some joined else get nat_eq old.lists q) (λ joined. IsJoinedTo index q joined.value)
+        → IfSome (if same then Some joined else get nat_cmp old.lists q) (λ joined. IsJoinedTo index q joined.value)
     at_number q true e = subst (λ n. IsJoinedTo index n joined.value) (grind (arith, nat_tests)) by
     at_number q false e = holds q

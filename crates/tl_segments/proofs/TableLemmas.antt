@@ -2,16 +2,18 @@
 use Rattle.std.proofs.Common.{◌≡◌, ℕ, zero, suc, ◌+◌, ◌-◌, ◌<◌, ◌≤◌, nat_eq, nat_le, cond, if◌then◌else◌, List, [], ◌∷◌, ◌++◌, length}
 use Rattle.std.proofs.Common.{get_or, take, Option, Some, None, slice_get, Vec, ap, sym, subst, refl, ◌∙◌, arith, Bool, true}
 use Rattle.std.proofs.Common.{false, unwrap_or}
-use Rattle.std.specs.HashMap.{get, hash_map_len}
+use Rattle.std.specs.BTreeMap.{get, btree_map_len, is_at}
+use Rattle.std.specs.Ordering.{nat_cmp}
 use Rattle.std.specs.Map.{lookup}
 use Rattle.std.proofs.lemmas.List.{nil_from_length}
-use Rattle.std.specs.List.{filter_map, cons_option}
+use Rattle.std.specs.List.{filter_map, cons_option, insert}
 use Rattle.std.specs.Option.{option_map_or, option_or}
 use Rattle.std.proofs.lemmas.Grind.{common_steps, take_at_read}
 use Rattle.std.proofs.lemmas.List.Elements.{filter_map-append}
 use Rattle.std.proofs.lemmas.Bool.Decides.{nat_tests}
 use Rattle.tl_segments.specs.FullName.{FullNameFields, with_names}
 use Rattle.tl_segments.specs.Segment.{SegmentParts}
+use Rattle.tl_segments.specs.Shape.{ShapePartParts}
 use Rattle.tl_segments.specs.TableContents.{HasShortLists, list_at}
 use Rattle.tl_segments.specs.declared.multi_map.MultiMap.{MultiMap}
 use Rattle.tl_segments.proofs.FullNameLemmas.{with_names-more}
@@ -21,16 +23,23 @@ pub no_lists_short : {V A : Type 0} (table : MultiMap V A) → ((number : ℕ) �
 no_lists_short table none number = rw (none number) (omega arith)
 
 -- a map without entries has no list
-pub no_list_in : {V A : Type 0} (table : MultiMap V A) → hash_map_len table.lists ≡ 0 → (number : ℕ) → list_at table number ≡ []
+pub no_list_in : {V A : Type 0} (table : MultiMap V A) → btree_map_len table.lists ≡ 0 → (number : ℕ) → list_at table number ≡ []
 no_list_in {V = V} table none number =
-    ap (λ entries. option_map_or (λ (list : Vec V _). list.items) (lookup (nat_eq number) entries) [])
+    ap (λ entries. option_map_or (λ (list : Vec V _). list.items) (lookup (is_at (nat_cmp number)) entries) [])
     (nil_from_length table.lists.entries none)
 
 -- what a map returns for a number after a list was written: the previous list with one more value
 pub added_at : {V A : Type 0} (old : MultiMap V A) (found : Option (Vec V A)) (number : ℕ) (value : V) (list : Vec V A) (q : ℕ)
-    → found ≡ cond (nat_eq number q) (Some list) (get nat_eq old.lists q) → list.items ≡ list_at old number ++ value ∷ []
+    → found ≡ cond (nat_eq number q) (Some list) (get nat_cmp old.lists q) → list.items ≡ list_at old number ++ value ∷ []
     → option_map_or (λ list. list.items) found [] ≡ (if nat_eq number q then list_at old q ++ value ∷ [] else list_at old q)
 added_at old found number value list q here items = grind (arith, nat_tests, common_steps)
+
+-- the same after a part was inserted into a list
+pub inserted_at : {A : Type 0} (old : MultiMap ShapePartParts A) (found : Option (Vec ShapePartParts A)) (number place : ℕ) (part : ShapePartParts)
+    (list : Vec ShapePartParts A) (q : ℕ)
+    → found ≡ cond (nat_eq number q) (Some list) (get nat_cmp old.lists q) → list.items ≡ insert (list_at old number) place part
+    → option_map_or (λ list. list.items) found [] ≡ (if nat_eq number q then insert (list_at old q) place part else list_at old q)
+inserted_at old found number place part list q here items = grind (arith, nat_tests, common_steps)
 
 -- the results for the elements up to one more, given the result for that one
 pub filter_map-more : {X Y : Type 0} (h : X → Option Y) (xs : List X) (i : ℕ) (d : X) (found : Option Y) → i < length xs

@@ -8,8 +8,8 @@ pub mod JoinedLists
 pub mod Joining
 pub mod LoadFault
 pub mod Loading
+pub mod Marks
 pub mod Name
-pub mod LocalityHash
 pub mod Range
 pub mod Segment
 pub mod Shape

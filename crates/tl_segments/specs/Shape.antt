@@ -1,6 +1,6 @@
 -- Shapes of segments (TIGER/Line 2006, record type 2): the points between a segment's start and its end, joined by TLID. Lists of lines are in file
 -- order and contain only lines that are good for record type 2.
-use Rattle.std.specs.Prelude.{ℕ, ℤ, pos, ◌^◌, ◌<◌, ◌≤◌, nat_abs, nat_eq, Bool, ◌&&◌, if◌then◌else◌, List, [], ◌∷◌, length, map, filter, Option, Some, None, unwrap_or}
+use Rattle.std.specs.Prelude.{◌≡◌, ℕ, ℤ, pos, ◌+◌, ◌^◌, ◌<◌, ◌≤◌, nat_abs, nat_eq, Bool, ◌&&◌, if◌then◌else◌, List, [], ◌∷◌, length, map, filter, slice_index, Option, Some, None, unwrap_or}
 use Rattle.std.specs.List.{flat_map, range_with_len}
 use Rattle.std.specs.Option.{option_eq}
 use Rattle.std.specs.Ordering.{int_eq}
@@ -77,3 +77,18 @@ shape_parts rt2 tlid = map part_in (shape_lines rt2 tlid)
 abbrev pub HasDistinctSequences : CountyFile → List (List ℕ) → Type 0
 HasDistinctSequences Rt2 rt2 = (tlid sequence : ℕ) → length (lines_at tlid sequence rt2) ≤ 1
 HasDistinctSequences file lines = Unit {0}
+
+-- the sequence number of the part at an index
+abbrev pub sequence_at : List ShapePartParts → ℕ → ℕ
+sequence_at parts index = slice_index (map (λ part. part.sequence) parts) index
+
+-- parts in ascending order stay so if one with this sequence number is inserted at this index: the part before it has a smaller number, and all
+-- after it have greater ones
+pub record IsPlace (parts : List ShapePartParts) (sequence place : ℕ) : Type 0 where
+  pub within : place ≤ length parts
+  pub after : (k : ℕ) → k + 1 ≡ place → sequence_at parts k < sequence
+  pub before : (k : ℕ) → place ≤ k → k < length parts → sequence < sequence_at parts k
+
+-- one of the parts has this sequence number
+abbrev pub IsTaken : List ShapePartParts → ℕ → Type 0
+IsTaken parts sequence = (k : ℕ) × (k < length parts) × (sequence_at parts k ≡ sequence)

@@ -1,6 +1,7 @@
 -- Lists of names and ranges shared by the segments of a TLID.
 use Rattle.std.specs.Prelude.{◌≡◌, ℕ, nat_eq, List, Some, IfSome}
-use Rattle.std.specs.HashMap.{get}
+use Rattle.std.specs.BTreeMap.{get}
+use Rattle.std.specs.Ordering.{nat_cmp}
 use Rattle.tl_segments.specs.FullName.{contents}
 use Rattle.tl_segments.specs.Indexing.{IsIndexOf}
 use Rattle.tl_segments.specs.JoinedLists.{AreValidLists}
@@ -18,4 +19,4 @@ pub record IsJoinedTo {A : Type 0} (index : Index A) (tlid : ℕ) (joined : Join
 
 -- the lists stored for each TLID are those that the index joins to its type 1 lines
 abbrev pub HoldsShared : {A : Type 0} → Index A → SharedLists A → Type 0
-HoldsShared index shared = (tlid : ℕ) → IfSome (get nat_eq shared.lists tlid) (λ joined. IsJoinedTo index tlid joined.value)
+HoldsShared index shared = (tlid : ℕ) → IfSome (get nat_cmp shared.lists tlid) (λ joined. IsJoinedTo index tlid joined.value)

@@ -1,6 +1,7 @@
 -- Tables of the contents of a county's lines, by number.
-use Rattle.std.specs.Prelude.{◌≡◌, ℕ, ◌+◌, ◌<◌, ◌≤◌, cond, if◌then◌else◌, ◌-◌, nat_eq, nat_le, List, [], ◌∷◌, ◌++◌, length, map, slice_get, slice_index, Option, Some, None, unwrap_or, option_and_then}
-use Rattle.std.specs.HashMap.{get}
+use Rattle.std.specs.Prelude.{◌≡◌, ℕ, ◌+◌, ◌<◌, ◌≤◌, cond, if◌then◌else◌, ◌-◌, nat_eq, nat_le, List, [], ◌∷◌, ◌++◌, length, map, slice_get, Option, Some, None, unwrap_or, option_and_then}
+use Rattle.std.specs.BTreeMap.{get}
+use Rattle.std.specs.Ordering.{nat_cmp}
 use Rattle.std.specs.List.{filter_map, find, insert}
 use Rattle.std.specs.Option.{option_map, option_map_or, option_or}
 use Rattle.tl_fields.specs.Number.{number_of}
@@ -9,7 +10,7 @@ use Rattle.tl_records.specs.declared.layout.TheConstants.Type4.{FEAT1, FEAT2, FE
 use Rattle.tl_records.specs.declared.layout.TheConstants.Type5.{FEDIRP, FENAME, FETYPE, FEDIRS}
 use Rattle.tl_segments.specs.FullName.{FullNameFields}
 use Rattle.tl_segments.specs.Joining.{has_number, lines_with, further_range}
-use Rattle.tl_segments.specs.Shape.{ShapePartParts, shape_parts}
+use Rattle.tl_segments.specs.Shape.{IsPlace, ShapePartParts, shape_parts}
 use Rattle.tl_segments.specs.declared.county_file.Addition.{Addition}
 use Rattle.tl_segments.specs.declared.county_file.Addition.TheVariants.{Added, OverLimit, Repeated}
 use Rattle.tl_segments.specs.declared.validation_tables.LinesPerTlid.{LinesPerTlid}
@@ -22,7 +23,7 @@ use Rattle.tl_segments.specs.declared.limits.TheConstants.{MAX_LINES_PER_TLID}
 
 -- the values for a number
 abbrev pub list_at : {V A : Type 0} → MultiMap V A → ℕ → List V
-list_at multi_map number = option_map_or (λ list. list.items) (get nat_eq multi_map.lists number) []
+list_at multi_map number = option_map_or (λ list. list.items) (get nat_cmp multi_map.lists number) []
 
 -- a fact for each outcome of an addition: it was made, a limit excluded it, or an earlier line did
 abbrev pub MatchAddition : Addition → Type 0 → Type 0 → Type 0 → Type 0
@@ -34,21 +35,6 @@ MatchAddition Repeated Adds Full Repeats = Repeats
 pub record AddsAt {V A : Type 0} (old new : MultiMap V A) (number : ℕ) (value : V) : Type 0 where
   pub room : length (list_at old number) < MAX_LINES_PER_TLID
   pub lists : (q : ℕ) → list_at new q ≡ (if nat_eq number q then list_at old q ++ value ∷ [] else list_at old q)
-
--- the sequence number of the part at an index
-abbrev pub sequence_at : List ShapePartParts → ℕ → ℕ
-sequence_at parts index = slice_index (map (λ part. part.sequence) parts) index
-
--- parts in ascending order stay so if one with this sequence number is inserted at this index: the part before it has a smaller number, and all
--- after it have greater ones
-pub record IsPlace (parts : List ShapePartParts) (sequence place : ℕ) : Type 0 where
-  pub within : place ≤ length parts
-  pub after : (k : ℕ) → k + 1 ≡ place → sequence_at parts k < sequence
-  pub before : (k : ℕ) → place ≤ k → k < length parts → sequence < sequence_at parts k
-
--- one of the parts has this sequence number
-abbrev pub IsTaken : List ShapePartParts → ℕ → Type 0
-IsTaken parts sequence = (k : ℕ) × (k < length parts) × (sequence_at parts k ≡ sequence)
 
 -- a part was inserted in its place among those for a number, which had room
 pub record InsertsAt {A : Type 0} (old new : MultiMap ShapePartParts A) (number : ℕ) (part : ShapePartParts) : Type 0 where
@@ -63,7 +49,7 @@ following_name table feat = if nat_le table.first feat then slice_get table.foll
 
 -- the full name of a FEAT, if it has one
 abbrev pub name_at : {A : Type 0} → FeatureNames A → ℕ → Option FullNameFields
-name_at table feat = option_or (following_name table feat) (get nat_eq table.others feat)
+name_at table feat = option_or (following_name table feat) (get nat_cmp table.others feat)
 
 -- a FEAT got this full name, unless it already had one
 abbrev pub AddsNameAt : {A : Type 0} → FeatureNames A → FeatureNames A → ℕ → FullNameFields → Type 0
@@ -111,7 +97,7 @@ HasShortLists table = (number : ℕ) → length (list_at table number) ≤ MAX_L
 
 -- the count of lines with a number
 abbrev pub count_at : {T A : Type 0} → LinesPerTlid T A → ℕ → ℕ
-count_at counts number = unwrap_or (get nat_eq counts.counts number) 0
+count_at counts number = unwrap_or (get nat_cmp counts.counts number) 0
 
 -- one more line was counted for a number, which had room
 pub record CountsAt {T A : Type 0} (old new : LinesPerTlid T A) (number : ℕ) : Type 0 where

@@ -4,10 +4,8 @@ ghost use Rattle.tl_segments.specs.FullName.{HasNameLengths, full_name_of};
 ghost use Rattle.tl_segments.specs.TableContents.{AddsNameAt, following_name, name_at};
 
 use crate::full_name::{FullName, FullNameFields};
-use crate::locality_hash::LocalityHasher;
 use std::alloc::{AllocError, Allocator};
-use std::collections::HashMap;
-use std::hash::BuildHasherDefault;
+use std::collections::BTreeMap;
 
 /// The full name of each FEAT: the first one that was added.
 ///
@@ -16,7 +14,7 @@ use std::hash::BuildHasherDefault;
 pub(crate) struct FeatureNames<A: Allocator> {
     first: u64,
     following: Vec<FullNameFields, A>,
-    others: HashMap<u64, FullNameFields, BuildHasherDefault<LocalityHasher>, A>,
+    others: BTreeMap<u64, FullNameFields, A>,
 }
 
 impl<A: Allocator + Copy> FeatureNames<A> {
@@ -26,7 +24,7 @@ impl<A: Allocator + Copy> FeatureNames<A> {
         FeatureNames {
             first: 0,
             following: Vec::new(alloc),
-            others: HashMap::with_hasher(alloc, BuildHasherDefault::new()),
+            others: BTreeMap::new(alloc),
         }
     }
 

@@ -13,7 +13,7 @@ mod index_tables;
 mod joined;
 pub mod laws;
 mod limits;
-mod locality_hash;
+mod marks;
 mod multi_map;
 mod name;
 mod range;

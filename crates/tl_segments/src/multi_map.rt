@@ -1,27 +1,32 @@
 //! Lists of values by number.
 ghost use Rattle.std.specs.Prelude.{◌≡◌, ◌<◌, ◌≤◌, ℕ, nat_le, [], length, IfOk, IsTrue, MatchOption};
-ghost use Rattle.tl_segments.specs.TableContents.{AddsAt, InsertsAt, IsPlace, IsTaken, MatchAddition, list_at};
+ghost use Rattle.tl_segments.specs.Marks.{AreMarked};
+ghost use Rattle.tl_segments.specs.Shape.{IsPlace, IsTaken};
 
 use crate::county_file::Addition;
 use crate::limits::MAX_LINES_PER_TLID;
-use crate::locality_hash::LocalityHasher;
+use crate::marks::Marks;
 use crate::shape::ShapePart;
 use std::alloc::{AllocError, Allocator};
-use std::collections::HashMap;
-use std::hash::BuildHasherDefault;
+use std::collections::BTreeMap;
 
 /// Lists of values by number, each with at most [`MAX_LINES_PER_TLID`] values.
 #[derive(Drop)]
 pub(crate) struct MultiMap<V, A: Allocator> {
-    lists: HashMap<u64, Vec<V, A>, BuildHasherDefault<LocalityHasher>, A>,
+    lists: BTreeMap<u64, Vec<V, A>, A>,
+    marks: Marks<A>,
+    ghost marked: { AreMarked lists marks },
 }
 
 impl<V: Drop, A: Allocator + Copy> MultiMap<V, A> {
+    ghost use Rattle.tl_segments.specs.TableContents.{AddsAt, MatchAddition, list_at};
+
     pub(crate) fn new(alloc: A) -> Self
         ensures { (number : ℕ) → list_at result number ≡ [] }
     {
         MultiMap {
-            lists: HashMap::with_hasher(alloc, BuildHasherDefault::new()),
+            lists: BTreeMap::new(alloc),
+            marks: Marks::new(alloc),
         }
     }
 
@@ -30,6 +35,7 @@ impl<V: Drop, A: Allocator + Copy> MultiMap<V, A> {
         ensures { IfOk result (λ addition.
             MatchAddition addition (AddsAt self.old self.new number value) (MAX_LINES_PER_TLID ≤ length (list_at self.old number)) ⊥) }
     {
+        self.marks.mark(number)?;
         let list = self.lists.entry(number)?.or_default();
         if is_full(list) {
             return Ok(Addition::OverLimit);
@@ -41,6 +47,8 @@ impl<V: Drop, A: Allocator + Copy> MultiMap<V, A> {
 }
 
 impl<A: Allocator + Copy> MultiMap<ShapePart, A> {
+    ghost use Rattle.tl_segments.specs.TableContents.{InsertsAt, MatchAddition, list_at};
+
     /// Inserts a part before those with this number that have a greater sequence number, unless there are already [`MAX_LINES_PER_TLID`] of them or
     /// one has its sequence number. Parts that come in order take constant time each.
     pub(crate) fn insert(&mut self, number: u64, part: ShapePart) -> Result<Addition, AllocError>
@@ -48,6 +56,7 @@ impl<A: Allocator + Copy> MultiMap<ShapePart, A> {
             MatchAddition addition (InsertsAt self.old self.new number part) (MAX_LINES_PER_TLID ≤ length (list_at self.old number))
             ((length (list_at self.old number) < MAX_LINES_PER_TLID) × IsTaken (list_at self.old number) part.sequence)) }
     {
+        self.marks.mark(number)?;
         let list = self.lists.entry(number)?.or_default();
         if is_full(list) {
             return Ok(Addition::OverLimit);
@@ -98,6 +107,8 @@ fn place_of(parts: &[ShapePart], sequence: u16) -> Option<usize>
 }
 
 impl<V, A: Allocator> MultiMap<V, A> {
+    ghost use Rattle.tl_segments.specs.TableContents.{list_at};
+
     /// Returns whether no number has a value.
     #[inline]
     #[tactic(auto, using(crate::proofs::TableLemmas::no_list_in))]
@@ -111,6 +122,9 @@ impl<V, A: Allocator> MultiMap<V, A> {
     pub(crate) fn list(&self, number: u64) -> &[V]
         ensures value { result.now ≡ list_at self.now number }
     {
+        if !self.marks.is_marked(number) {
+            return &[];
+        }
         match self.lists.get(&number) {
             Some(list) => list.as_slice(),
             None => &[],

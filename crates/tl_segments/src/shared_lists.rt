@@ -1,17 +1,16 @@
 //! Lists of names and ranges shared by the segments of a TLID.
 ghost use Rattle.std.specs.Prelude.{◌≡◌, ℕ, nat_eq, if◌then◌else◌, None, Some, IfOk, OnOk};
-ghost use Rattle.std.specs.HashMap.{get};
+ghost use Rattle.std.specs.BTreeMap.{get};
+ghost use Rattle.std.specs.Ordering.{nat_cmp};
 ghost use Rattle.tl_segments.specs.Indexing.{IsIndexOf};
 ghost use Rattle.tl_segments.specs.Joining.{JoinedLines, segment_of};
 ghost use Rattle.tl_segments.specs.SharedLists.{HoldsShared, IsJoinedTo};
 
 use crate::index::Index;
 use crate::joined::JoinedLists;
-use crate::locality_hash::LocalityHasher;
 use crate::segment::Segment;
 use std::alloc::{AllocError, Allocator};
-use std::collections::HashMap;
-use std::hash::BuildHasherDefault;
+use std::collections::BTreeMap;
 use std::rc::Rc;
 use tl_records::Rt1;
 
@@ -19,16 +18,16 @@ use tl_records::Rt1;
 #[derive(Drop)]
 pub(crate) struct SharedLists<A: Allocator> {
     alloc: A,
-    lists: HashMap<u64, Rc<JoinedLists<A>, A>, BuildHasherDefault<LocalityHasher>, A>,
+    lists: BTreeMap<u64, Rc<JoinedLists<A>, A>, A>,
 }
 
 impl<A: Allocator + Copy> SharedLists<A> {
     pub(crate) fn new(alloc: A) -> Self
-        ensures { (tlid : ℕ) → get nat_eq result.lists tlid ≡ None }
+        ensures { (tlid : ℕ) → get nat_cmp result.lists tlid ≡ None }
     {
         SharedLists {
             alloc,
-            lists: HashMap::with_hasher(alloc, BuildHasherDefault::new()),
+            lists: BTreeMap::new(alloc),
         }
     }
 
@@ -61,7 +60,7 @@ impl<A: Allocator + Copy> SharedLists<A> {
 
     fn store(&mut self, tlid: u64, joined: Rc<JoinedLists<A>, A>) -> Result<(), AllocError>
         ensures { OnOk result ((q : ℕ) →
-            get nat_eq self.new.lists q ≡ (if nat_eq tlid q then Some joined else get nat_eq self.old.lists q)) }
+            get nat_cmp self.new.lists q ≡ (if nat_eq tlid q then Some joined else get nat_cmp self.old.lists q)) }
     {
         self.lists.insert(tlid, joined)?;
         Ok(())

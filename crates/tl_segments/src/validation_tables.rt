@@ -4,17 +4,15 @@ ghost use Rattle.tl_segments.specs.TableContents.{CountsAt, HoldsCounts, MatchAd
 
 use crate::county_file::{Addition, Limited, Table};
 use crate::limits::MAX_LINES_PER_TLID;
-use crate::locality_hash::LocalityHasher;
 use std::alloc::{AllocError, Allocator};
-use std::collections::HashMap;
-use std::hash::BuildHasherDefault;
+use std::collections::BTreeMap;
 use std::marker::PhantomData;
 use tl_records::{Record, Type5};
 
 /// The number of lines of each TLID, at most [`MAX_LINES_PER_TLID`].
 #[derive(Drop)]
 pub(crate) struct LinesPerTlid<T, A: Allocator> {
-    counts: HashMap<u64, u16, BuildHasherDefault<LocalityHasher>, A>,
+    counts: BTreeMap<u64, u16, A>,
     of: PhantomData<T>,
 }
 
@@ -23,7 +21,7 @@ impl<T, A: Allocator + Copy> LinesPerTlid<T, A> {
         ensures { (number : ℕ) → count_at result number ≡ 0 }
     {
         LinesPerTlid {
-            counts: HashMap::with_hasher(alloc, BuildHasherDefault::new()),
+            counts: BTreeMap::new(alloc),
             of: PhantomData,
         }
     }

@@ -1,5 +1,5 @@
 use Rattle.std.proofs.Common.{ℕ, ◌<◌, ◌≤◌, length}
-use Rattle.tl_segments.specs.TableContents.{sequence_at}
+use Rattle.tl_segments.specs.Shape.{sequence_at}
 use Rattle.tl_segments.proofs.multi_map.place_of.Given as goal
 
 abbrev pub invariant-loop-place : goal.invariant-loop-place

@@ -1,7 +1,8 @@
-use Rattle.std.proofs.Common.{rules, ◌≡◌, ℕ, None, nat_eq, nat_le, slice_get, if◌then◌else◌, [], ◌∷◌, ◌++◌, ap, ◌∙◌, ◌+◌, ◌-◌, length}
+use Rattle.std.proofs.Common.{rules, ◌≡◌, ℕ, None, nat_le, slice_get, if◌then◌else◌, [], ◌∷◌, ◌++◌, ap, ◌∙◌, ◌+◌, ◌-◌, length}
 use Rattle.std.proofs.Common.{arith}
 use Rattle.std.proofs.lemmas.Grind.{common_steps}
-use Rattle.std.specs.HashMap.{get}
+use Rattle.std.specs.BTreeMap.{get}
+use Rattle.std.specs.Ordering.{nat_cmp}
 use Rattle.std.specs.Option.{option_or}
 use Rattle.tl_segments.specs.FullName.{full_name_of}
 use Rattle.tl_segments.specs.TableContents.{name_at}
@@ -22,9 +23,9 @@ returns-then-eq g c =
     let name = full_name_of c.args.name in
     let pushed : c.push.new.self.items ≡ now.following.items ++ name ∷ [] =
     c.in_ok-push.ensures.items ∙ ap (λ name. now.following.items ++ name ∷ []) c.of.ensures.value in
-    let names : AreNames now.following.items now.first (get nat_eq now.others) (name_at old) = record { are = before } in
+    let names : AreNames now.following.items now.first (get nat_cmp now.others) (name_at old) = record { are = before } in
     let follows = follows-push now.following.items name now.first names c.args.feat none next in
     record {
       ok = λ q. ap (λ names. option_or (if nat_le now.first q then slice_get names (q - now.first) else None)
-          (get nat_eq now.others q)) pushed ∙ follows q;
+          (get nat_cmp now.others q)) pushed ∙ follows q;
     }
