@@ -1,6 +1,6 @@
 -- Reading a program to its end: the bytes that are stored, and why it is too long.
 use Rattle.std.proofs.Common.{◌≡◌, ◌≢◌, ◌⊎◌, ℕ, ◌+◌, ◌*◌, ◌%◌, ◌<◌, ◌≤◌, List, [], ◌++◌, length, take, ◌-◌, Option, Some, None, Result, Ok}
-use Rattle.std.proofs.Common.{Err, IfOk, is_ok, min, if◌then◌else◌, inl, inr, refl, ap, sym, ◌∙◌, arith}
+use Rattle.std.proofs.Common.{Err, IfOk, is_ok, min, if◌then◌else◌, inl, inr, refl, ap, subst, sym, ◌∙◌, arith}
 use Rattle.std.specs.Io.KnownBytes.{Consumes, IsAtEnd, Keeps}
 use Rattle.std.proofs.Math.Seq.{take-append-add}
 use Rattle.std.proofs.lemmas.List.{append-nil, length-append, length-take, length-take-le, take-append-le, take_all, take_min}
@@ -8,7 +8,7 @@ use Rattle.std.proofs.lemmas.Bool.{cases_lt}
 use Rattle.bpf_insn.specs.declared.code.TheConstants.{MAX_WORDS}
 use Rattle.bpf_insn.specs.declared.fault.CodeFault.{CodeFault}
 use Rattle.bpf_insn.specs.declared.fault.CodeFault.TheVariants as code
-use Rattle.named_files.specs.Files.{IsPrefix, IsTooLong}
+use Rattle.named_files.specs.Files.{IsLong, IsPrefix, IsShort, IsTooLong}
 use Rattle.named_files.proofs.FileLemmas.{preserves_both}
 
 -- the stored prefix of what was read, extended by the bytes that are stored from the next read
@@ -48,6 +48,19 @@ module _ (limit : ℕ) (taken stored : List ℕ) (is : stored ≡ take limit tak
   prefix_full (Some xs) (Some ys) read full =
       let many : limit ≤ length taken = omega (arith, full, ap length is, length-take limit taken) in
       record { whole = xs; is_whole = refl; is_prefix = is ∙ sym (ap (take limit) read ∙ take-append-le limit taken ys many) }
+
+-- a prefix that is shorter than its limit is the whole file; with a full one, the file has at least so many bytes
+module _ {end : ℕ} {known : Option (List ℕ)} {prefix : List ℕ} (read : IsPrefix end known prefix) where
+  prefix_length : length prefix ≡ min end (length read.whole)
+  prefix_length = ap length read.is_prefix ∙ length-take end read.whole
+
+  pub short_file : length prefix < end → IsShort end known prefix
+  short_file short =
+      let whole : prefix ≡ read.whole = read.is_prefix ∙ take_all end read.whole (omega (arith, short, prefix_length)) in
+      record { is_file = subst (λ bytes. Keeps known (Some bytes)) (sym whole) read.is_whole; short = short }
+
+  pub long_file : end ≤ length prefix → IsLong end known
+  long_file many = record { bytes = read.whole; is_file = read.is_whole; long = omega (arith, many, prefix_length) }
 
 -- if no more bytes than the limit are stored, they are the whole program; if more are stored, the program is longer than the limit
 module _ (program stored : List ℕ) (is : stored ≡ take (8 * (MAX_WORDS + 1)) program) where

@@ -135,6 +135,17 @@ pub record IsPrefix (limit : ℕ) (known : Option (List ℕ)) (prefix : List ℕ
   pub is_whole : Keeps known (Some whole)
   pub is_prefix : prefix ≡ take limit whole
 
+-- the file has these bytes, consistent with what is known of them, and fewer than `end`
+pub record IsShort (end : ℕ) (known : Option (List ℕ)) (bytes : List ℕ) : Type 0 where
+  pub is_file : Keeps known (Some bytes)
+  pub short : length bytes < end
+
+-- the file has at least `end` bytes, consistent with what is known of them
+pub record IsLong (end : ℕ) (known : Option (List ℕ)) : Type 0 where
+  pub bytes : List ℕ
+  pub is_file : Keeps known (Some bytes)
+  pub long : end ≤ length bytes
+
 -- The program is longer than the limit of words, and is refused for its length alone.
 pub record IsTooLong (known : Option (List ℕ)) (fault : CodeFault) : Type 0 where
   pub program : List ℕ

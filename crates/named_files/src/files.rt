@@ -1,5 +1,5 @@
 //! The files that a command reads, by name.
-ghost use Rattle.std.specs.Prelude.{◌≡◌, ◌≤◌, ◌*◌, ◌%◌, ℕ, List, ◌++◌, length, take, Option, IfOk, IfErr, MatchResult, None, Result, Ok, Err, Some, ⊤};
+ghost use Rattle.std.specs.Prelude.{◌≡◌, ◌≤◌, ◌*◌, ◌%◌, ℕ, List, ◌++◌, length, take, Option, IfOk, IfErr, MatchOption, MatchResult, None, Result, Ok, Err, Some, ⊤};
 ghost use Rattle.std.specs.Io.{ReadsAtMost};
 ghost use Rattle.std.specs.Io.Buffered.{reader_inner};
 ghost use Rattle.std.specs.Io.KnownBytes.{Keeps, ReadConsumes};
@@ -7,7 +7,7 @@ ghost use Rattle.std.specs.declared.io.Error.{Error};
 ghost use Rattle.counted_io.specs.Counting.{CountsFailure};
 ghost use Rattle.counted_io.specs.ReaderWriter.{reader};
 ghost use Rattle.named_files.specs.County.{path_of};
-ghost use Rattle.named_files.specs.Files.{CountsOpen, CountsProgramFault, IsNotMissing, IsOpenFault, IsPrefix, IsProgramUseFault, IsTooLong, IsUseFault, IsUnread, Opens, OpensOptional, OpensReader, CountsFileResult, IsProgramInputFault, CountsProgramUse, CountsUseResult, disk, input_reader};
+ghost use Rattle.named_files.specs.Files.{CountsOpen, CountsProgramFault, IsLong, IsNotMissing, IsOpenFault, IsPrefix, IsProgramUseFault, IsShort, IsTooLong, IsUseFault, IsUnread, Opens, OpensOptional, OpensReader, CountsFileResult, IsProgramInputFault, CountsProgramUse, CountsUseResult, disk, input_reader};
 ghost use Rattle.named_files.specs.declared.files.FileFault.TheVariants.{Memory};
 ghost use Rattle.named_files.specs.declared.files.ProgramInputFault.TheVariants.{File};
 ghost use Rattle.named_files.specs.declared.files.TheConstants.{MAX_STORED_BYTES};
@@ -369,6 +369,29 @@ pub fn read_file_prefix<A: Allocator, F: Files>(
         }
         Err(fault) => Err(fault),
     }
+}
+
+/// Opens a file and reads it to its end. Returns `None` if it has `end` bytes or more, of which only so many are read and stored.
+#[tactic(auto, using(crate::proofs::ProgramLemmas::short_file, crate::proofs::ProgramLemmas::long_file))]
+pub fn read_short_file<A: Allocator, F: Files>(
+    alloc: A,
+    files: &mut F,
+    name: &str,
+    end: usize,
+) -> Result<Option<Vec<u8, A>>, FileFault>
+    ensures short { IfOk result (λ file. MatchOption file (IsLong end (F.bytes files.old name.now))
+        (λ bytes. IsShort end (F.bytes files.old name.now) bytes.items)) }
+    ensures stay { (other : List ℕ) → F.bytes files.new other ≡ F.bytes files.old other }
+    ensures fault { IfErr result (IsUseFault F.opens name.now (disk F.bytes F.failed_opens F.failed_reads files.old)
+        (disk F.bytes F.failed_opens F.failed_reads files.new)) }
+    ensures uses { CountsUseResult name.now result (disk F.bytes F.failed_opens F.failed_reads files.old)
+        (disk F.bytes F.failed_opens F.failed_reads files.new) }
+{
+    let prefix = read_file_prefix(alloc, files, name, end)?;
+    if prefix.len() < end {
+        return Ok(Some(prefix));
+    }
+    Ok(None)
 }
 
 // The maximum number of bytes stored of a program: one word past the limit shows that the program is too long.

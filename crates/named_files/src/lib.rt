@@ -11,6 +11,6 @@ pub use county::{
 };
 pub use files::{
     FileFault, FileSystem, Files, INPUT_BUFFER, ProgramInputFault, SystemFiles, open, read_file,
-    read_file_prefix, read_program, read_program_file, read_to_end,
+    read_file_prefix, read_program, read_program_file, read_short_file, read_to_end,
 };
 pub use open_file::{FileName, OpenFile};
