@@ -1,5 +1,5 @@
 -- What `explain` writes, and why it is refused.
-use Rattle.std.specs.Prelude.{◌≡◌, ◌≢◌, ◌⊎◌, ℕ, List, [], Option, Some, None, Result, Ok, Err, ⊤}
+use Rattle.std.specs.Prelude.{◌≡◌, ◌≢◌, ◌⊎◌, ℕ, ◌+◌, codes, List, [], Option, Some, None, Result, Ok, Err, ⊤}
 use Rattle.std.specs.Borrow.{Bor}
 use Rattle.std.specs.Io.KnownBytes.{Keeps}
 use Rattle.bpf_explain.specs.Explanation.{IsExplained}
@@ -22,11 +22,12 @@ use Rattle.bpf_verify.specs.declared.fault.VerifyFault.TheVariants.{Refused}
 use Rattle.bpf_program.specs.ProgramFault as program_fault
 use Rattle.bpf_program.specs.declared.program.ProgramFault.{ProgramFault}
 use Rattle.bpf_program.specs.declared.program.ProgramFault.TheVariants.{Code, Flow, Verify, Memory}
-use Rattle.refusals.specs.Refusal.{RefusalParts, memory}
+use Rattle.refusals.specs.Refusal.{RefusalParts, memory, refused}
 use Rattle.counted_io.specs.ReaderWriter.{Writer}
 use Rattle.counted_io.specs.Writing.{WritesText}
 use Rattle.counted_io.specs.declared.writing.WriteFault.{WriteFault}
-use Rattle.named_files.specs.Files.{Disk, FailsToUse, IsTooLong, OpenResults}
+use Rattle.named_files.specs.Files.{Disk, FailsToUse, IsLong, IsTooLong, OpenResults}
+use Rattle.commands.specs.Assemble.{source_limit}
 use Rattle.commands.specs.declared.explain.Explain.{Explain}
 use Rattle.commands.specs.declared.failure.Failure.{Failure}
 use Rattle.commands.specs.declared.failure.Failure.TheVariants as failure
@@ -36,14 +37,23 @@ abbrev pub HoldsLines : (List ℕ → Option (List ℕ)) → Option (Bor (List �
 HoldsLines known None file = file ≡ []
 HoldsLines known (Some name) file = Keeps (known name.now) (Some file)
 
+-- the file of source lines is longer than the limit
+abbrev pub HasLongLines : (List ℕ → Option (List ℕ)) → Option (Bor (List ℕ)) → Type 0
+HasLongLines known None = ⊥
+HasLongLines known (Some name) = IsLong (source_limit + 1) (known name.now)
+
+abbrev pub lines_too_long : RefusalParts
+lines_too_long = refused 113 (codes "LinesTooLong")
+
 -- this is the name of the file of source lines
 abbrev pub IsLinesFile : Option (Bor (List ℕ)) → List ℕ → Type 0
 IsLinesFile None name = ⊥
 IsLinesFile (Some lines) name = name ≡ lines.now
 
--- why the file of source lines can't be read: it can't be used, or an allocation fails
+-- why the file of source lines can't be read: it can't be used, it is too long, or an allocation fails
 abbrev pub IsLinesFailure : {R : Type 0} → OpenResults R → Option (Bor (List ℕ)) → Disk → Disk → Failure → Type 0
 IsLinesFailure opens lines disk disk' (failure.File name error) = IsLinesFile lines name.now × FailsToUse opens name.now error disk disk'
+IsLinesFailure opens lines disk disk' (failure.Refusal refusal) = HasLongLines disk.known lines × (refusal ≡ lines_too_long)
 IsLinesFailure opens lines disk disk' failure.Memory = ⊤
 IsLinesFailure opens lines disk disk' failure = ⊥
 
@@ -115,6 +125,7 @@ pub data IsRefused (explain : Explain) (known : List ℕ → Option (List ℕ)) 
       → IsRefused explain known refusal out out'
   of_program : (fault : ProgramFault) (text : List ℕ) → RefusedInputs explain known fault text
       → refusal ≡ program_fault.refusal fault → WritesText text (Ok tt) out out' → IsRefused explain known refusal out out'
+  of_long_lines : HasLongLines known explain.lines → refusal ≡ lines_too_long → out' ≡ out → IsRefused explain known refusal out out'
   of_lines : (file : List ℕ) → HoldsLines known explain.lines file → (fault : LinesFault) → lines_in file ≡ Err fault
       → refusal ≡ lines_fault.refusal fault → out' ≡ out → IsRefused explain known refusal out out'
   of_verdict : (inputs : Inputs explain known) (text : List ℕ) (place : ℕ) (cause : Cause)

@@ -9,8 +9,12 @@ ghost use Rattle.commands.specs.declared.request.Request.{Request};
 use crate::failure::{Failure, write};
 use bpf_text::assemble_source;
 use counted_io::CountedWrite;
-use named_files::{Files, read_file};
+use named_files::{Files, read_short_file};
+use refusals::Refusal;
 use std::alloc::Allocator;
+
+// The first length of a program text, or of a file of source lines, that is refused: 16 MiB are the most.
+pub(crate) const SOURCE_END: usize = 16 * 1024 * 1024 + 1;
 
 /// The arguments of `asm`.
 #[derive(Clone, Copy)]
@@ -20,7 +24,7 @@ pub struct Assemble<'a> {
 }
 
 impl<'a> Assemble<'a> {
-    /// Reads the source to its end and writes its words.
+    /// Reads the source to its end, up to the limit of its length, and writes its words.
     pub fn carry_out<A: Allocator + Copy, F: Files, W: CountedWrite>(
         self,
         alloc: A,
@@ -32,8 +36,9 @@ impl<'a> Assemble<'a> {
             (writer W.contents W.counts out.old) (writer W.contents W.counts out.new) }
         ensures usage { IfErr result (λ failure. status failure ≢ 2) }
     {
-        let source = match read_file(alloc, files, self.source) {
-            Ok(source) => source,
+        let source = match read_short_file(alloc, files, self.source, SOURCE_END) {
+            Ok(Some(source)) => source,
+            Ok(None) => return Err(Failure::Refusal(Refusal::refused(27, "TextTooLong"))),
             Err(fault) => return Err(Failure::of_file(self.source, fault)),
         };
         match assemble_source(alloc, source.as_slice()) {

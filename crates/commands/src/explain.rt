@@ -9,6 +9,7 @@ ghost use Rattle.commands.specs.Failure.{IsUnfailedUnlessUnusable, status};
 ghost use Rattle.named_files.specs.Files.{disk};
 ghost use Rattle.commands.specs.declared.request.Request.{Request};
 
+use crate::assemble::SOURCE_END;
 use crate::failure::{Failure, write};
 use bpf_excerpt::{list_code_fault, list_flow_fault};
 use bpf_explain::{Explanation, SourceLines, explain};
@@ -16,7 +17,7 @@ use bpf_flow::Flow;
 use bpf_insn::decode;
 use bpf_program::ProgramFault;
 use counted_io::CountedWrite;
-use named_files::{Files, read_file, read_program_file};
+use named_files::{Files, read_program_file, read_short_file};
 use refusals::{Fault, Refusal};
 use std::alloc::{AllocError, Allocator};
 
@@ -69,7 +70,7 @@ impl<'a> Explain<'a> {
     }
 }
 
-/// Reads the file of source lines to its end. Returns no bytes if none is given.
+/// Reads the file of source lines to its end, up to the limit of its length. Returns no bytes if none is given.
 fn read_lines_file<'a, A: Allocator, F: Files>(
     alloc: A,
     files: &mut F,
@@ -84,8 +85,9 @@ fn read_lines_file<'a, A: Allocator, F: Files>(
     let Some(name) = name else {
         return Ok(Vec::new(alloc));
     };
-    match read_file(alloc, files, name) {
-        Ok(file) => Ok(file),
+    match read_short_file(alloc, files, name, SOURCE_END) {
+        Ok(Some(file)) => Ok(file),
+        Ok(None) => Err(Failure::Refusal(Refusal::refused(113, "LinesTooLong"))),
         Err(fault) => Err(Failure::of_file(name, fault)),
     }
 }

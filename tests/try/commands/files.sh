@@ -30,6 +30,14 @@ try_empty_programs() {
     try_case 1 0 'refused 26 line 1 CodeFault(10)' 'extractd asm --source nothing'
 }
 
+# Texts of 16 MiB are read, and endless ones aren't.
+try_long_texts() {
+    try_case 0 8 '' 'extractd asm --source <(echo exit; head -c 16777211 /dev/zero | tr "\0" ";")'
+    try_case 1 0 'refused 27 TextTooLong' 'extractd asm --source <(echo exit; head -c 16777212 /dev/zero | tr "\0" ";")'
+    try_case 1 0 'refused 27 TextTooLong' 'extractd asm --source <(yes)'
+    try_case 1 0 'refused 113 LinesTooLong' "extractd explain --program \"\$all\" --lines <(yes $'0\tline')"
+}
+
 try_arguments() {
     local arguments front usage
     while IFS='|' read -r arguments front usage; do
@@ -100,6 +108,7 @@ try_forbidden_file() {
 
 try_rows
 try_empty_programs
+try_long_texts
 try_arguments
 try_help
 try_missing_files

@@ -1,4 +1,4 @@
-use Rattle.std.proofs.Common.{ℕ, List, Some, Err, refl, subst}
+use Rattle.std.proofs.Common.{ℕ, ◌+◌, List, Some, Err, refl, subst, arith}
 use Rattle.std.specs.Io.KnownBytes.{Keeps}
 use Rattle.bpf_text.specs.SourceFault.{IsSourceFault}
 use Rattle.bpf_assembler.specs.TextFault as text_fault
@@ -6,10 +6,12 @@ use Rattle.bpf_text.specs.declared.fault.SourceFault.{SourceFault}
 use Rattle.bpf_text.specs.declared.fault.SourceFault.TheVariants as source
 use Rattle.bpf_assembler.specs.declared.fault.TextFault.TheVariants as text
 use Rattle.counted_io.specs.ReaderWriter.{Writer}
+use Rattle.commands.specs.Assemble.{of_length, of_text, source_limit, too_long}
 use Rattle.commands.specs.Command.{CarriesOut}
 use Rattle.commands.specs.Failure.{of_source}
-use Rattle.named_files.specs.Files.{Disk, IsUnfailed, OpenResults}
+use Rattle.named_files.specs.Files.{Disk, IsLong, IsUnfailed, OpenResults}
 use Rattle.commands.specs.declared.assemble.Assemble.{Assemble}
+use Rattle.commands.specs.declared.failure.Failure.TheVariants as failure
 use Rattle.commands.specs.declared.request.Request.TheVariants as request
 use Rattle.commands.proofs.CarriedLemmas.{refused_carried}
 use Rattle.commands.proofs.ClassLemmas.{text_status}
@@ -28,7 +30,7 @@ source_refused arguments bytes source.NotUtf8 counts is no_text = record {
 source_refused arguments bytes (source.Text text.Memory) counts is faulty =
     record { outcome = refl; names = tt; counts = λ other. counts; unflushed = refl }
 source_refused arguments bytes (source.Text (text.InLine line flaw)) counts is faulty =
-    refused_carried (text_fault.refusal (text.InLine line flaw)) (record {
+    refused_carried (text_fault.refusal (text.InLine line flaw)) (of_text (record {
       source = bytes;
       is_source = is;
       is_text = faulty.0;
@@ -36,10 +38,18 @@ source_refused arguments bytes (source.Text (text.InLine line flaw)) counts is f
       first = faulty.1;
       is_refusal = refl;
       unwritten = refl;
-    }) counts.opens (sound (text_status (text.InLine line flaw)) counts.reads) refl
+    })) counts.opens (sound (text_status (text.InLine line flaw)) counts.reads) refl
+
+-- the source is too long
+long_refused : {R : Type 0} {opens : OpenResults R} {disk disk' : Disk} {out : Writer} (arguments : Assemble) → IsUnfailed disk disk'
+    → IsLong (source_limit + 1) (disk.known arguments.source.now)
+    → CarriesOut opens (request.Assemble arguments) (Err (failure.Refusal too_long)) disk disk' out out
+long_refused arguments counts long =
+    refused_carried too_long (of_length long refl refl) counts.opens (sound (λ e. grind (arith, e)) counts.reads) refl
 
 pub returns-clause-carried : goal.returns-clause-carried
 returns-clause-carried g c =
-    rw c.of_source.ensures (source_refused c.args.self _ c.in-Err-assemble_source.fault c.in-Ok.ensures.uses c.in-Ok.ensures.known
+    let short = rw c.in-Ok-Some.field-0-is at c.in-Ok-Some.ensures.short in
+    rw c.of_source.ensures (source_refused c.args.self _ c.in-Err-assemble_source.fault c.in-Ok-Some.ensures.uses short.is_file
     (subst (λ (bytes : List ℕ). IsSourceFault bytes c.in-Err-assemble_source.fault) c.as_slice.ensures.value
     c.in-Err-assemble_source.ensures.err))
