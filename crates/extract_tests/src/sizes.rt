@@ -21,7 +21,7 @@ mov r0, 1 | ja32 +65533 | mov r0, 0 *65533 | exit; {rt1\n*3};;;; ok 3; {0\trt1\n
 mov r3, 1 *32766 | ldxb r2, [r1+55] | jne r2, 65, +32766 | mov r0, 1 *32766 | exit *2; {rt1\n};;;;
   refused 40 place 65534 ReadsNothing(0);; 16777216
 mov r0, 1 *65536 | exit; {rt1\n*3};;;; refused 12 TooLong;; 16777216
-counts; {rt1\n*70000}; {rt4\n*2}; {rt5}\n; {rt6\n*2}; ok 70000; {20003\trt1\n*70000}; 16384
+counts; {rt1\n*70000}; {rt4\n*2}; {rt5}\n; {rt6\n*2}; ok 70000; {20003\trt1\n*70000}; 262144
 every; {rt1\n*3}; {rt4\n#1..25000}; {rt5}\n; {rt6\n#30001..55000}; ok 3; {0\trt1\n*3}; 16777216
 counts; {rt1 TLID=1}\n{rt1 TLID=25000}\n{rt1 TLID=25001}\n{rt1 TLID=30001}\n{rt1 TLID=55000}\n;
   {rt4\n#1..25000}; {rt5}\n; {rt6\n#30001..55000}; ok 5;
