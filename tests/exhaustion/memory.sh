@@ -130,11 +130,12 @@ try_long_files() {
     try_case 0 '' all accepted 'extractd verify --program longest.bpf'
     try_case 0 '' all traced 'extractd trace --program longest.bpf --data small --line 1 --limit 65536 01001'
     try_case 0 '' all longest.s 'extractd dis --program longest.bpf'
-    # A source is read completely into memory.
+    # A source of up to 16 MiB is read into memory.
     place="limited v $((least[asm] + 128))"
     try_case 4 'refused memory' 0 nothing "$place extractd asm --source gibibyte.bpf"
     try_case 4 'refused memory' 0 nothing "$place extractd asm --source <(yes 'mov r0, 1')"
-    try_case 4 'refused memory' 0 nothing "limited v $((least[asm] + 65536)) extractd asm --source <(yes 'mov r0, 1')"
+    try_case 1 'refused 27 TextTooLong' 0 nothing "limited v $((least[asm] + 65536)) extractd asm --source <(yes 'mov r0, 1')"
+    try_case 1 'refused 27 TextTooLong' 0 nothing 'extractd asm --source gibibyte.bpf'
     try_case 1 'refused 20 line 1 Syntax' 0 nothing 'extractd asm --source <(head -c 16M /dev/zero)'
     try_case 1 'refused 26 line 65537 CodeFault(12)' 0 nothing "extractd asm --source <(yes 'mov r0, 1' | head -c 16M)"
 }

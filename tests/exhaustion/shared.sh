@@ -8,7 +8,6 @@
 # Not tested:
 # - a program that can't be opened because no descriptor is free: the loader needs one more before `main` and closes it again;
 # - a read or a write that fails half-way without a limit: crates/command_tests has both;
-# - a source of a gibibyte with enough memory: `asm` takes two gibibytes and five seconds for it. One of 16 MiB is tested;
 # - a system that runs out of memory and kills processes.
 
 export LC_ALL=C
