@@ -16,7 +16,7 @@ use Rattle.http_routes.specs.Table.{FindsRoutes, entry, pattern}
 use Rattle.http_routes.proofs.SeekLemmas.{seek_alone, seek_among, seek_literal}
 use Rattle.http_routes.specs.declared.route.Route.{Route}
 use Rattle.http_routes.specs.declared.route.Route.TheVariants.{Index, Health, Verify, Assemble, Disassemble, Extract, Explain, Select, Compile}
-use Rattle.http_routes.specs.declared.route.Route.TheVariants.{Geocode, GeocodeBatch, Jobs, FilterJobs, OpenJobs, Job}
+use Rattle.http_routes.specs.declared.route.Route.TheVariants.{Geocode, GeocodeBatch, Metrics, Jobs, FilterJobs, OpenJobs, Job}
 
 -- the effect of inserting a route's path on the rows
 pub row_inserted : (route : Route) (old new : RowsOf (RouteOf Route)) (result : Result (Unit {0}) InsertError)
@@ -44,7 +44,7 @@ before_job =
     ∷ entry Health ∷ []
 
 after_job : RowsOf (RouteOf Route)
-after_job = entry Jobs ∷ entry OpenJobs ∷ entry Select ∷ entry Verify ∷ entry Index ∷ []
+after_job = entry Jobs ∷ entry Metrics ∷ entry OpenJobs ∷ entry Select ∷ entry Verify ∷ entry Index ∷ []
 
 pub table : RowsOf (RouteOf Route)
 table = before_job ++ entry Job ∷ after_job

@@ -5,7 +5,7 @@ use Rattle.std.specs.Str.{bytes_eq}
 use Rattle.http_routes.specs.declared.route.Action.{Action}
 use Rattle.http_routes.specs.declared.route.Route.{Route}
 use Rattle.http_routes.specs.declared.route.Route.TheVariants.{Index, Health, Verify, Assemble, Disassemble, Extract, Explain, Select, Compile}
-use Rattle.http_routes.specs.declared.route.Route.TheVariants.{Geocode, GeocodeBatch, Jobs, FilterJobs, OpenJobs, Job}
+use Rattle.http_routes.specs.declared.route.Route.TheVariants.{Geocode, GeocodeBatch, Metrics, Jobs, FilterJobs, OpenJobs, Job}
 use Rattle.http_routes.specs.declared.route.Action.TheVariants as action
 use Rattle.http_routes.specs.declared.route.Verb.{Verb}
 use Rattle.http_routes.specs.declared.route.Verb.TheVariants.{Get, Post, Delete}
@@ -41,6 +41,7 @@ row Select = record { path = codes "/select"; actions = (codes "POST", action.Se
 row Compile = record { path = codes "/compile"; actions = (codes "POST", action.Compile) ∷ [] }
 row Geocode = record { path = codes "/geocode"; actions = (codes "GET", action.Geocode) ∷ [] }
 row GeocodeBatch = record { path = codes "/geocode-batch"; actions = (codes "POST", action.GeocodeBatch) ∷ [] }
+row Metrics = record { path = codes "/metrics"; actions = (codes "GET", action.Metrics) ∷ [] }
 row Jobs = record { path = codes "/jobs"; actions = (codes "POST", action.Submit) ∷ [] }
 row FilterJobs = record { path = codes "/filter-jobs"; actions = (codes "POST", action.SubmitFilter) ∷ [] }
 row OpenJobs = record { path = codes "/open-jobs"; actions = (codes "GET", action.List) ∷ [] }
@@ -62,8 +63,8 @@ matches route text = bytes_eq (row route).path text
 -- all routes, in the order in which a router tries them; the one with a parameter is last
 abbrev pub routes : List Route
 routes =
-    Assemble ∷ Compile ∷ Disassemble ∷ Explain ∷ Extract ∷ FilterJobs ∷ GeocodeBatch ∷ Geocode ∷ Health ∷ Jobs ∷ OpenJobs ∷ Select ∷ Verify ∷ Index
-    ∷ Job ∷ []
+    Assemble ∷ Compile ∷ Disassemble ∷ Explain ∷ Extract ∷ FilterJobs ∷ GeocodeBatch ∷ Geocode ∷ Health ∷ Jobs ∷ Metrics ∷ OpenJobs ∷ Select ∷ Verify
+    ∷ Index ∷ Job ∷ []
 
 -- the route that matches a path
 abbrev pub route_of : List ℕ → Option Route

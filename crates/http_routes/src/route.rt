@@ -19,6 +19,7 @@ pub enum Action {
     Compile,
     Geocode,
     GeocodeBatch,
+    Metrics,
     Submit,
     SubmitFilter,
     List,
@@ -40,6 +41,7 @@ pub enum Route {
     Compile,
     Geocode,
     GeocodeBatch,
+    Metrics,
     Jobs,
     FilterJobs,
     OpenJobs,
@@ -111,7 +113,7 @@ macro_rules! row {
 
 impl Route {
     /// All routes, each once.
-    pub(crate) const ALL: [Route; 15] = [
+    pub const ALL: [Route; 16] = [
         Route::Assemble,
         Route::Compile,
         Route::Disassemble,
@@ -122,6 +124,7 @@ impl Route {
         Route::Geocode,
         Route::Health,
         Route::Jobs,
+        Route::Metrics,
         Route::OpenJobs,
         Route::Select,
         Route::Verify,
@@ -148,6 +151,7 @@ impl Route {
             Compile: "/compile" "POST" Post Compile;
             Geocode: "/geocode" "GET" Get Geocode;
             GeocodeBatch: "/geocode-batch" "POST" Post GeocodeBatch;
+            Metrics: "/metrics" "GET" Get Metrics;
             Jobs: "/jobs" "POST" Post Submit;
             FilterJobs: "/filter-jobs" "POST" Post SubmitFilter;
             OpenJobs: "/open-jobs" "GET" Get List;
@@ -200,6 +204,7 @@ POST /geocode-batch
 GET /geocode
 GET /health
 POST /jobs
+GET /metrics
 GET /open-jobs
 POST /select
 POST /verify
