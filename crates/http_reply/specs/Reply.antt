@@ -3,7 +3,7 @@ use Rattle.std.specs.Prelude.{ℕ, List, [], ◌++◌, length, codes, decimal, O
 use Rattle.http_reply.specs.Status.{number, phrase}
 use Rattle.http_reply.specs.declared.status.Status.{Status}
 use Rattle.http_reply.specs.declared.reply.MediaType.{MediaType}
-use Rattle.http_reply.specs.declared.reply.MediaType.TheVariants.{Plain, Octets, Csv, Features}
+use Rattle.http_reply.specs.declared.reply.MediaType.TheVariants.{Plain, Octets, Csv, Features, Metrics}
 use Rattle.http_reply.specs.declared.reply.Reply.{Reply}
 
 -- a reply: its status, its body's media type, the methods that are allowed if another one was used, and the body
@@ -27,6 +27,7 @@ media_type Plain = codes "text/plain"
 media_type Octets = codes "application/octet-stream"
 media_type Csv = codes "text/csv"
 media_type Features = codes "application/geo+json-seq"
+media_type Metrics = codes "text/plain; version=0.0.4"
 
 -- the first line
 abbrev pub status_line : Status → List ℕ

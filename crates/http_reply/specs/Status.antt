@@ -1,7 +1,12 @@
 -- The statuses of replies (RFC 9110, section 15), one row per status.
-use Rattle.std.specs.Prelude.{ℕ, List, [], codes}
+use Rattle.std.specs.Prelude.{ℕ, List, [], ◌∷◌, codes}
 use Rattle.http_reply.specs.declared.status.Status.{Status}
 use Rattle.http_reply.specs.declared.status.Status.TheVariants.{Ok, BadRequest, NotFound, MethodNotAllowed, LengthRequired, PayloadTooLarge, UnprocessableEntity, ServiceUnavailable}
+
+-- all statuses, in the order of their numbers
+abbrev pub statuses : List Status
+statuses =
+    Ok ∷ BadRequest ∷ NotFound ∷ MethodNotAllowed ∷ LengthRequired ∷ PayloadTooLarge ∷ UnprocessableEntity ∷ ServiceUnavailable ∷ []
 
 abbrev pub number : Status → ℕ
 number Ok = 200

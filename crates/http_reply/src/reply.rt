@@ -31,18 +31,21 @@ pub enum MediaType {
     Csv,
     /// Features of GeoJSON, one after the other.
     Features,
+    /// Prometheus' text format.
+    Metrics,
 }
 
 impl MediaType {
     fn as_str(self) -> &'static str
         ensures value { result.now ≡ media_type self }
-        ensures short { length result.now ≤ 24 }
+        ensures short { length result.now ≤ 25 }
     {
         match self {
             MediaType::Plain => "text/plain",
             MediaType::Octets => "application/octet-stream",
             MediaType::Csv => "text/csv",
             MediaType::Features => "application/geo+json-seq",
+            MediaType::Metrics => "text/plain; version=0.0.4",
         }
     }
 }

@@ -18,6 +18,18 @@ pub enum Status {
 }
 
 impl Status {
+    /// All statuses, each once.
+    pub const ALL: [Status; 8] = [
+        Status::Ok,
+        Status::BadRequest,
+        Status::NotFound,
+        Status::MethodNotAllowed,
+        Status::LengthRequired,
+        Status::PayloadTooLarge,
+        Status::UnprocessableEntity,
+        Status::ServiceUnavailable,
+    ];
+
     pub fn code(self) -> StatusCode
         ensures { result ≡ number self }
     {
