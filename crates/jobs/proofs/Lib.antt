@@ -1,4 +1,5 @@
 mod ListingLemmas
+mod ProgressLemmas
 mod MapLemmas
 pub mod SegmentLemmas
 mod RowsLemmas

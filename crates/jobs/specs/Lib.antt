@@ -4,3 +4,4 @@ pub mod Table
 pub mod Inside
 pub mod Run
 pub mod Listing
+pub mod Progress
