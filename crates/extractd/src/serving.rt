@@ -19,7 +19,7 @@ use counted_io::{CountedWrite, Counting};
 use listening::{ListenFault, Network, serve_address};
 use log_output::{LogHost, LoggedNetwork};
 use named_files::{Files, SystemFiles};
-use server::{Logged, Timer};
+use server::{Logged, Timer, read_second};
 use std::alloc::Global;
 use std::fmt::Write as WriteText;
 use std::io;
@@ -95,7 +95,7 @@ pub fn serve<E: CountedWrite>(rt: &HostRuntime, options: &Serve<'_>, errors: &mu
     fault.status()
 }
 
-/// Loads the counties, and serves them at the address until a fault.
+/// Reads the time of the start, loads the counties, and serves them at the address until a fault.
 fn serve_counties<
     'a,
     F: Files,
@@ -111,10 +111,10 @@ fn serve_counties<
     out: &mut W,
     clock: &C,
     log: L,
-    timer: T,
+    mut timer: T,
     options: &Serve<'a>,
 ) -> ServeFault<'a>
-    ensures serves { ServesCounties F.opens
+    ensures serves { ServesCounties F.opens (record { dates = T.dates; timer = timer })
         (record {
           binds = N.binds;
           locates = N.locates;
@@ -140,7 +140,8 @@ fn serve_counties<
         }) }
     ensures status { (serve_status result ≢ 0) × (serve_status result ≢ 2) }
 {
-    match load_state(alloc, files, options) {
+    let start = read_second(&mut timer);
+    match load_state(alloc, files, start, options) {
         Ok(state) => ServeFault::Listen {
             address: options.address,
             fault: serve_address(
@@ -155,13 +156,14 @@ fn serve_counties<
     }
 }
 
-/// Loads the counties of all codes, in order, into a state without jobs. Returns the failure of the first one that can't be loaded.
+/// Loads the counties of all codes, in order, into a state without jobs, in a process that started at this second. Returns the failure of the first one that can't be loaded.
 fn load_state<'a, F: Files>(
     alloc: Global,
     files: &mut F,
+    start: Option<u64>,
     options: &Serve<'a>,
 ) -> Result<State<Global>, Failure<'a>>
-    ensures ok { IfOk result (λ state. (state ≡ new_state (map (λ code. code.now) options.now.codes.items) (counties_of state))
+    ensures ok { IfOk result (λ state. (state ≡ new_state (map (λ code. code.now) options.now.codes.items) (counties_of state) start)
         × AreCountiesOf (F.bytes files.old) options.now.«data».now (map (λ code. code.now) options.now.codes.items) (counties_of state)) }
     ensures err { IfErr result (IsLoadFailure F.opens
         (HaveRefusedCounty (F.bytes files.old) options.now.«data».now (map (λ code. code.now) options.now.codes.items))
@@ -172,7 +174,7 @@ fn load_state<'a, F: Files>(
     match load_counties(alloc, files, options.data, options.codes.as_slice()) {
         Ok(counties) => {
             let codes = options.codes.as_slice();
-            Ok(State::with_codes(alloc, alloc, counties, codes)?)
+            Ok(State::with_codes(alloc, alloc, counties, codes, start)?)
         }
         Err(failure) => Err(failure),
     }

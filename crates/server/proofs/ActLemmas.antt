@@ -11,23 +11,26 @@ use Rattle.server.specs.Tally.{ServesTallied, Tallied, TurnsTallied}
 use Rattle.server.specs.declared.limits.Limits.{Limits}
 use Rattle.server.specs.declared.service.Close.{Close}
 use Rattle.counted_io.specs.declared.writing.WriteFault.{WriteFault}
-use Rattle.wire.proofs.EventLemmas.{same_state}
-use Rattle.wire.specs.Event.{Act, AreActs, Replied, Rested, Turned}
+use Rattle.wire.specs.Counting.{counted}
+use Rattle.wire.specs.Event.{Act, AreActs, Counted, Replied, Rested, Turned}
 use Rattle.wire.specs.Serving.{Connection, IsReplied, IsServed}
 use Rattle.wire.specs.State.{StateParts}
-use Rattle.wire.specs.Turn.{IsTurn}
+use Rattle.wire.specs.Turn.{MakesTurn}
 use Rattle.wire.specs.declared.fault.WireFault.{WireFault}
 use Rattle.wire.specs.declared.fault.WireFault.TheVariants.{Closed, Read, Write, WriteZero}
 use Rattle.wire.specs.declared.decision.RequestRead.{RequestRead}
+use Rattle.wire.specs.declared.summary.Summary.{Summary}
 
 -- the acts from one state to the other
 abbrev LeadsTo : StateParts → StateParts → Type 0
 LeadsTo old new = (acts : List Act) × AreActs old acts new
 
-after_turn : (old now new : StateParts) (reply : Option JobReply) → IsTurn old.table reply now.table → now.codes ≡ old.codes → LeadsTo now new
-    → LeadsTo old new
-after_turn old now new None turn codes leads = (Rested ∷ leads.0, (now, (turn.0, same_state now old turn.1 codes), leads.1))
-after_turn old now new (Some reply) turn codes leads = (Turned turn.0 reply ∷ leads.0, (now, (turn.1, turn.2, codes), leads.1))
+after_turn : (old now new : StateParts) (reply : Option JobReply) → MakesTurn old reply now → LeadsTo now new → LeadsTo old new
+after_turn old now new None turn leads = (Rested ∷ leads.0, (now, turn, leads.1))
+after_turn old now new (Some reply) turn leads = (Turned turn.0 reply ∷ leads.0, (now, turn.1, leads.1))
+
+after_count : (summary : Summary) (old now new : StateParts) → now ≡ counted summary old → LeadsTo now new → LeadsTo old new
+after_count summary old now new counts leads = (Counted summary ∷ leads.0, (now, counts, leads.1))
 
 module _ (old now : Connection) (new : StateParts) (leads : LeadsTo now.state new) where
   after_reply : (request_read : RequestRead) (written : Result (Unit {0}) WriteFault) → IsReplied request_read written old now → LeadsTo old.state new
@@ -56,8 +59,9 @@ module _ {L C S : Type 0} (accepts : Accepts L C) (limits : Limits) (state_of : 
       let turn = has_turned round.served.service now.service.service round.makes_turn.makes_turn in
       let served = has_served old.service.service _ round.close round.served.service _ round.serves_client.serves_client.serves_client in
       after_serving _ _ (state_of new.service.service)
-      (after_turn (state_of round.served.service) (state_of now.service.service) (state_of new.service.service) turn.0 turn.1 turn.2
-      (all_are_acts count now new rounds))
+      (after_count served.summary served.answered (state_of round.served.service) (state_of new.service.service) served.counts
+      (after_turn (state_of round.served.service) (state_of now.service.service) (state_of new.service.service) turn.0 turn.1
+      (all_are_acts count now new rounds)))
       served.result served.is_served
 
   pub rounds_are_acts : (old new : Server L (Tallied S)) → HasRepeated (IsRound rules) old new

@@ -1,5 +1,5 @@
 -- Writing to a log.
-use Rattle.std.specs.Prelude.{◌≡◌, ◌≤◌, ℕ, ◌-◌, ◌/◌, ◌^◌, min, Option, Some, None, Result, Ok, Err}
+use Rattle.std.specs.Prelude.{◌≡◌, ◌≤◌, ℕ, ◌-◌, ◌/◌, ◌^◌, min, Option, Some, None, option_map, Result, Ok, Err}
 use Rattle.std.specs.Time.{instant_nanos, system_time_nanos}
 use Rattle.std.specs.declared.io.Error.{Error}
 use Rattle.std.specs.declared.time.Instant.{Instant}
@@ -32,6 +32,10 @@ pub record ReadsDate {T : Type 0} (dates : Dates T) (date : Option HttpDate) (ol
   pub reading : Result SystemTime Error
   pub reads : dates old reading new
   pub is_date : IsDate reading date
+
+-- the clock was read for the second of its date
+abbrev pub ReadsSecond : {T : Type 0} → Dates T → Option ℕ → T → T → Type 0
+ReadsSecond dates second old new = (date : Option HttpDate) × ReadsDate dates date old new × (second ≡ option_map unix_secs date)
 
 -- the microseconds between two readings, if both succeeded
 abbrev pub micros_between : Result Instant Error → Result Instant Error → Option ℕ

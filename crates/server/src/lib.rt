@@ -23,6 +23,7 @@ pub use limits::{Limits, wait_left};
 pub use listener::Listener;
 pub use logged::Logged;
 pub use logged_listener::LoggedListener;
+pub use logging::read_second;
 pub use service::{ClientInput, ClientOutput, Close, Service};
 pub use serving::{serve_all, serve_next};
 pub use stopwatch::Timer;

@@ -48,6 +48,7 @@ impl<A: Allocator + Copy, W: CountedWrite, T: Timer> Service for Logged<A, W, T>
         let start = self.timer.read();
         let served = serve_request(&mut self.state, input, out);
         let end = self.timer.read();
+        self.state.count(&served.summary);
         let entry = Entry {
             peer: Some(peer),
             date,

@@ -3,7 +3,7 @@ ghost use Rattle.std.specs.Prelude.{◌≡◌, Result};
 ghost use Rattle.counted_io.specs.ReaderWriter.{writer};
 ghost use Rattle.std.specs.declared.io.Error.{Error};
 ghost use Rattle.std.specs.declared.time.Instant.{Instant};
-ghost use Rattle.server.specs.Log.{LogsEvent, ReadsDate, WritesEntry, micros_between};
+ghost use Rattle.server.specs.Log.{LogsEvent, ReadsDate, ReadsSecond, WritesEntry, micros_between};
 
 use crate::stopwatch::Timer;
 use access_log::{Entry, Subject};
@@ -18,6 +18,16 @@ pub fn read_date<T: Timer>(timer: &mut T) -> Option<HttpDate>
 {
     let time = timer.read_date().ok()?;
     HttpDate::try_from(time).ok()
+}
+
+/// Reads the second since 1970 that the date falls in, if [`read_date`] can read it.
+pub fn read_second<T: Timer>(timer: &mut T) -> Option<u64>
+    ensures { ReadsSecond T.dates result timer.old timer.new }
+{
+    match read_date(timer) {
+        Some(date) => Some(date.unix_secs()),
+        None => None,
+    }
 }
 
 /// Returns the microseconds between two readings, if both succeeded.

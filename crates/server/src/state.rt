@@ -14,7 +14,9 @@ impl<A: Allocator + Copy> Service for State<A> {
     ghost turns = { HasTurned };
 
     fn serve<R: ClientInput, W: ClientOutput>(&mut self, input: &mut R, out: &mut W) -> Close {
-        close_of(serve_request(self, input, out).result)
+        let served = serve_request(self, input, out);
+        self.count(&served.summary);
+        close_of(served.result)
     }
 
     fn turn(&mut self) {

@@ -12,6 +12,7 @@ use Rattle.counted_io.specs.ReaderWriter.{Writer}
 use Rattle.wire.specs.Answer.{IsFilterProgram, IsJobReply, IsTableReply, Submits, SubmitsTo, status_reply}
 use Rattle.wire.specs.Reading.{Sends, WritesReply}
 use Rattle.wire.specs.Turn.{IsTurn}
+use Rattle.wire.specs.declared.job.JobTurn.{JobTurn}
 use Rattle.wire.specs.declared.summary.Sent.{Sent}
 
 pub writes_such : (is_reply : ReplyParts → Type 0) (reply : ReplyParts) (sent : Sent) (old new : Writer) → is_reply reply
@@ -75,9 +76,9 @@ filter_counties query filter old reply new (inl submitted) = step_counties old s
 filter_counties query filter old reply new (inr refused) = ap (λ (table : Table). table.counties) refused.1
 
 -- nor does a turn
-pub turn_counties : (old : Table) (reply : Option JobReply) (new : Table) → IsTurn old reply new → new.counties ≡ old.counties
+pub turn_counties : (old : Table) (turn : Option JobTurn) (new : Table) → IsTurn old turn new → new.counties ≡ old.counties
 turn_counties old None new turn = ap (λ (table : Table). table.counties) turn.1
-turn_counties old (Some reply) new turn = step_counties old (Turn turn.0) reply new turn.2
+turn_counties old (Some made) new turn = step_counties old (Turn turn.0) made.reply new turn.2
 
 -- nor does an event for a job
 pub job_counties : (make : ℕ → Event) (id : Option ℕ) (old : Table) (reply : ReplyParts) (new : Table) → IsJobReply make id old reply new

@@ -18,6 +18,7 @@ use Rattle.jobs.specs.declared.event.Event.TheVariants as event
 use Rattle.jobs.specs.declared.event.Reply.{Reply as JobReply}
 use Rattle.jobs.specs.declared.event.Reply.TheVariants as table_reply
 use Rattle.jobs.specs.declared.fault.JobFault.TheVariants.{NoJob}
+use Rattle.metrics.specs.Counters.{CountersParts}
 use Rattle.tl_segments.specs.County.{CountyParts}
 use Rattle.wire.proofs.DecisionLemmas.{one_decision, with_body}
 use Rattle.wire.specs.Answer.{Answers, AnswersAction, ChangesTable, IsJobReply, Replies, SubmitsTo}
@@ -25,15 +26,17 @@ use Rattle.wire.specs.Answer.{IsTableReply, job_reply, memory_reply, rows_reply,
 use Rattle.wire.specs.Decision.{AnnouncesBody, RoutedParts, DecisionParts, Refuses, Accepts}
 use Rattle.wire.specs.Decision.{IsDecided, routed_by, decide, decide_body, takes_body}
 use Rattle.wire.specs.Event.{Act, Acts, AreActs, AreExchanges, IsRefusedFilter, LacksProgram, RefusesFilter, RequestsEvent, IsEventOf}
-use Rattle.wire.specs.Event.{IsEvent, IsExchange, IsNoExchange, IsOwnReply, Replied, Requests}
+use Rattle.wire.specs.Event.{Counted, IsEvent, IsExchange, IsNoExchange, IsOwnReply, Replied, Requests}
 use Rattle.wire.specs.Event.{Rested, Turned, is_requested}
 use Rattle.wire.specs.declared.decision.RequestRead.{RequestRead}
 use Rattle.wire.specs.State.{StateParts, new_state}
 
-pub same_state : (state other : StateParts) → state.table ≡ other.table → state.codes ≡ other.codes → state ≡ other
-same_state state other table codes =
-    ap (λ (table : Table). record { table = table; codes = state.codes }) table
-    ∙ ap (λ (codes : List (List ℕ)). record { table = other.table; codes = codes }) codes
+pub same_state : (state other : StateParts) → state.table ≡ other.table → state.codes ≡ other.codes → state.counters ≡ other.counters
+    → state ≡ other
+same_state state other table codes counters =
+    ap (λ (table : Table). record { table = table; codes = state.codes; counters = state.counters }) table
+    ∙ ap (λ (codes : List (List ℕ)). record { table = other.table; codes = codes; counters = state.counters }) codes
+    ∙ ap (λ (counters : CountersParts). record { table = other.table; codes = other.codes; counters = counters }) counters
 
 -- The reply to such an event: there is no such event, unless a filter is refused, and nothing is changed; or the table received one and replied to it.
 abbrev pub IsReplyTo : (Event → Type 0) → Type 0 → StateParts → ReplyParts → StateParts → Type 0
@@ -55,16 +58,16 @@ module _ (old : StateParts) (reply : ReplyParts) (new : StateParts) where
   OfJob make id event = (q : ℕ) × (id ≡ Some q) × (event ≡ make q)
 
   of_job : (make : ℕ → Event) (id : Option ℕ) → ChangesTable (IsJobReply make id) old reply new → IsReplyTo (OfJob make id) ⊥ old reply new
-  of_job make None is = inl ((λ event made. none made.0 made.1), same_state new old is.0.1 is.1)
+  of_job make None is = inl ((λ event made. none made.0 made.1), same_state new old is.0.1 is.1 is.2)
     where
       none : (q : ℕ) → None ≡ Some q → ⊥
       none q is = cc
-  of_job make (Some id) is = inr (reply_as (λ event made. (id, refl, made)) is.0, is.1)
+  of_job make (Some id) is = inr (reply_as (λ event made. (id, refl, made)) is.0, is.1, is.2)
 
   of_filter : (request : RoutedParts) → ChangesTable (SubmitsTo request.query request.body) old reply new
       → IsReplyTo (IsEventOf action.SubmitFilter request) (LacksProgram action.SubmitFilter request reply) old reply new
-  of_filter request (inl submitted, codes) = inr (submitted, codes)
-  of_filter request (inr refused, codes) = inl ((λ event is. refused.0), same_state new old refused.1 codes)
+  of_filter request (inl submitted, codes, counters) = inr (submitted, codes, counters)
+  of_filter request (inr refused, codes, counters) = inl ((λ event is. refused.0), same_state new old refused.1 codes counters)
 
   of_action : (action : Action) (request : RoutedParts) → AnswersAction action old request reply new
       → IsReplyTo (IsEventOf action request) (LacksProgram action request reply) old reply new
@@ -94,7 +97,7 @@ requested decision event is = absurd is
 is_event : (decision : DecisionParts) (old new : StateParts) (reply : ReplyParts)
     → IsReplyTo (RequestsEvent decision) (RefusesFilter decision reply) old reply new → (new ≡ old) ⊎ IsEvent old reply new
 is_event decision old new reply (inl unchanged) = inl unchanged.1
-is_event decision old new reply (inr changed) = inr (reply_as (requested decision) changed.0, changed.1)
+is_event decision old new reply (inr changed) = inr (reply_as (requested decision) changed.0, changed.1, changed.2)
 
 pub one_event_lem : (input : List ℕ) (request_read : RequestRead) (old new : StateParts) (reply : ReplyParts) → Replies input request_read old reply new
     → (new ≡ old) ⊎ IsEvent old reply new
@@ -105,11 +108,13 @@ one_event_lem input request_read old new reply (inr stopped) = inl stopped.4
 abbrev pub LeadsTo : StateParts → List Act → StateParts → Type 0
 LeadsTo old acts new = (exchanges : List Exchange) × AreExchanges acts exchanges × IsRun old.table exchanges new.table
 
+table_of : {old now : StateParts} → now ≡ old → now.table ≡ old.table
+table_of same = ap (λ state. state.table) same
+
 module _ (old now new : StateParts) (acts : List Act) (leads : LeadsTo now acts new) where
   -- an act that is no exchange
-  not_exchanged : (act : Act) → IsNoExchange act → now ≡ old → LeadsTo old (act ∷ acts) new
-  not_exchanged act none same =
-      (leads.0, inl (none, leads.1), subst (λ state. IsRun state.table leads.0 new.table) same leads.2)
+  not_exchanged : (act : Act) → IsNoExchange act → now.table ≡ old.table → LeadsTo old (act ∷ acts) new
+  not_exchanged act none same = (leads.0, inl (none, leads.1), subst (λ table. IsRun table leads.0 new.table) same leads.2)
 
   -- an act that is an exchange
   exchanged : (act : Act) (exchange : Exchange) → IsExchange act exchange → Step old.table exchange.event exchange.reply now.table
@@ -119,7 +124,7 @@ module _ (old now new : StateParts) (acts : List Act) (leads : LeadsTo now acts 
 
   decided : (input : List ℕ) (reply : ReplyParts) (decision : DecisionParts) → IsDecided input decision
       → IsReplyTo (RequestsEvent decision) (RefusesFilter decision reply) old reply now → LeadsTo old (Replied input reply ∷ acts) new
-  decided input reply decision is (inl unchanged) = not_exchanged (Replied input reply) nothing unchanged.1
+  decided input reply decision is (inl unchanged) = not_exchanged (Replied input reply) nothing (table_of unchanged.1)
     where
       nothing : (event : Event) → Requests input event → (reply ≡ memory_reply) ⊎ IsRefusedFilter input reply
       nothing event requests =
@@ -131,9 +136,10 @@ module _ (old now new : StateParts) (acts : List Act) (leads : LeadsTo now acts 
 
   pub acted : (act : Act) → Acts old act now → LeadsTo old (act ∷ acts) new
   acted (Replied input reply) (request_read, inl given) = decided input reply given.0 given.1 (of_decision old reply now given.0 given.3)
-  acted (Replied input reply) (request_read, inr stopped) = not_exchanged (Replied input reply) (λ event requests. inl stopped.3) stopped.4
-  acted (Turned id reply) (next, step, codes) = exchanged (Turned id reply) (record { event = event.Turn id; reply = reply }) refl step
-  acted Rested (none, same) = not_exchanged Rested tt same
+  acted (Replied input reply) (request_read, inr stopped) = not_exchanged (Replied input reply) (λ event requests. inl stopped.3) (table_of stopped.4)
+  acted (Counted summary) same = not_exchanged (Counted summary) tt (table_of same)
+  acted (Turned id reply) turn = exchanged (Turned id reply) (record { event = event.Turn id; reply = reply }) refl turn.step
+  acted Rested (none, same) = not_exchanged Rested tt (table_of same)
 
 pub acts_lead : (old : StateParts) (acts : List Act) (new : StateParts) → AreActs old acts new → LeadsTo old acts new
 acts_lead old [] new same = ([], refl, ap (λ state. state.table) same)
@@ -207,14 +213,14 @@ fetched old new id (table_reply.Rows done total rows) (job, there, is_done, is_t
 fetched old new id (table_reply.Refused NoJob) step = (rw step.0 refl, step.1)
 fetched old new id reply step = absurd step
 
-module _ (codes : List (List ℕ)) (counties : List CountyParts) (acts : List Act) (state : StateParts)
-    (are : AreActs (new_state codes counties) acts state) where
+module _ (codes : List (List ℕ)) (counties : List CountyParts) (start : Option ℕ) (acts : List Act) (state : StateParts)
+    (are : AreActs (new_state codes counties start) acts state) where
   replied : (id : ℕ) (found : Option JobParts) → job_of state.table id ≡ found
       → (reply_of_job (job_rows state.table) found ≡ status_reply NotFound)
       ⊎ IsOwnReply counties acts id (reply_of_job (job_rows state.table) found)
   replied id None there = inl refl
   replied id (Some job) there =
-      let leads = acts_lead (new_state codes counties) acts state are in
+      let leads = acts_lead (new_state codes counties start) acts state are in
       let so_far = whole_run counties leads.0 state.table leads.2 in
       inr (record {
         exchanges = leads.0;

@@ -1,4 +1,5 @@
 mod AnswerLemmas
+mod CountingLemmas
 mod DecisionLemmas
 pub mod EventLemmas
 mod ExplanationLemmas

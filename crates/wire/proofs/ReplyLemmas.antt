@@ -44,10 +44,11 @@ use Rattle.wire.proofs.DecisionLemmas.{one_decision}
 use Rattle.wire.proofs.EventLemmas.{fetched, reply_of_job, same_state}
 use Rattle.wire.proofs.ExplanationLemmas.{one_explained}
 use Rattle.wire.proofs.VerdictLemmas.{one_extract, one_verdict}
-use Rattle.wire.specs.Answer.{Answers, AnswersAction, IsJobReply, AssemblesTo, DisassemblesTo, ExplainsTo, GeocodesAllTo, GeocodesTo}
+use Rattle.wire.specs.Answer.{Answers, AnswersAction, IsJobReply, AssemblesTo, DisassemblesTo, ExplainsTo, GeocodesAllTo}
 use Rattle.wire.specs.Answer.{IsEarlyFault, IsExplanation, Replies, Submits, IsTableReply}
-use Rattle.wire.specs.Answer.{body_reply, job_reply, memory_reply, octets, plain, refusal_reply, source_reply}
+use Rattle.wire.specs.Answer.{body_reply, counts_reply, job_reply, memory_reply, octets, place_reply, plain, refusal_reply, source_reply}
 use Rattle.wire.specs.Decision.{RoutedParts, DecisionParts, IsDecided, Accepts, SendsFilter, takes_filter}
+use Rattle.wire.specs.Query.{requested_place}
 use Rattle.wire.specs.State.{StateParts}
 use Rattle.wire.specs.declared.decision.RequestRead.{RequestRead}
 
@@ -148,11 +149,11 @@ module _ (reply other : ReplyParts) (are : AreKnown reply other) where
       (known_early reply is.0 are.known is.2) (known_early other also.0 are.given also.2))
       ∙ sym also.2
 
-  one_place : (counties : List CountyParts) (query : List ℕ) → GeocodesTo counties query reply → GeocodesTo counties query other
-      → reply ≡ other
-  one_place counties query (inr memory) also = absurd (are.known memory)
-  one_place counties query is (inr memory) = absurd (are.given memory)
-  one_place counties query (inl is) (inl also) = is ∙ sym also
+  -- a reply that can only be replaced by that for a failed allocation
+  one_unless_memory : (made : ReplyParts) → (reply ≡ made) ⊎ (reply ≡ memory_reply) → (other ≡ made) ⊎ (other ≡ memory_reply) → reply ≡ other
+  one_unless_memory made (inr memory) also = absurd (are.known memory)
+  one_unless_memory made is (inr memory) = absurd (are.given memory)
+  one_unless_memory made (inl is) (inl also) = is ∙ sym also
 
   abbrev address_reply : AddressFault → ReplyParts
   address_reply fault = refusal_reply (address_fault.refusal fault)
@@ -175,12 +176,6 @@ module _ (reply other : ReplyParts) (are : AreKnown reply other) where
       ∙ ap address_reply (one_output_fault file fault fault' (known_fault file reply fault are.known is_reply faulty)
       (known_fault file other fault' are.given is_reply' faulty'))
       ∙ sym is_reply'
-
-  one_list : (table : Table) → (reply ≡ plain status.Ok (listing table)) ⊎ (reply ≡ memory_reply)
-      → (other ≡ plain status.Ok (listing table)) ⊎ (other ≡ memory_reply) → reply ≡ other
-  one_list table (inr memory) also = absurd (are.known memory)
-  one_list table is (inr memory) = absurd (are.given memory)
-  one_list table (inl is) (inl also) = is ∙ sym also
 
 -- A submission has the same reply for each program with these bytes.
 resubmitted : (old new : Table) (program copy : Bor (List ℕ)) (reply : JobReply) → program.now ≡ copy.now
@@ -247,9 +242,10 @@ module _ (old new again : StateParts) (reply other : ReplyParts) (are : AreKnown
       (subst (λ table_reply. Step old.table (event.Submit first.0) table_reply again.table) (sym one) copied) in
       (is.is_reply ∙ ap job_reply one ∙ sym also.is_reply, same)
 
-  -- a request about jobs doesn't change the codes
-  one_change : IsOne reply other new.table again.table → new.codes ≡ old.codes → again.codes ≡ old.codes → IsOne reply other new again
-  one_change one is also = (one.0, same_state new again one.1 (is ∙ sym also))
+  -- a request about jobs changes neither the codes nor the counters
+  one_change : IsOne reply other new.table again.table → (new.codes ≡ old.codes) × (new.counters ≡ old.counters)
+      → (again.codes ≡ old.codes) × (again.counters ≡ old.counters) → IsOne reply other new again
+  one_change one is also = (one.0, same_state new again one.1 (is.0 ∙ sym also.0) (is.1 ∙ sym also.1))
 
   one_answer : (action : Action) (request : RoutedParts) → takes_filter action ≡ false → AnswersAction action old request reply new
       → AnswersAction action old request other again → IsOne reply other new again
@@ -263,19 +259,21 @@ module _ (old new again : StateParts) (reply other : ReplyParts) (are : AreKnown
   one_answer action.Extract request no_filter is also =
       (one_extract old.table.counties request.body reply other is.0 also.0 are.known are.given, is.1 ∙ sym also.1)
   one_answer action.Geocode request no_filter is also =
-      (one_place reply other are old.table.counties request.query is.0 also.0, is.1 ∙ sym also.1)
+      (one_unless_memory reply other are (place_reply old.table.counties (requested_place request.query)) is.0 also.0, is.1 ∙ sym also.1)
   one_answer action.GeocodeBatch request no_filter is also =
       (one_batch reply other are old.codes old.table.counties request.body is.0 also.0, is.1 ∙ sym also.1)
-  one_answer action.Submit request no_filter is also = one_change (one_submission request.body is.0 also.0) is.1 also.1
-  one_answer action.List request no_filter is also = (one_list reply other are old.table is.0 also.0, is.1 ∙ sym also.1)
+  one_answer action.Submit request no_filter is also = one_change (one_submission request.body is.0 also.0) (is.1, is.2) (also.1, also.2)
+  one_answer action.Metrics request no_filter is also = (one_unless_memory reply other are (counts_reply old) is.0 also.0, is.1 ∙ sym also.1)
+  one_answer action.List request no_filter is also =
+      (one_unless_memory reply other are (plain status.Ok (listing old.table)) is.0 also.0, is.1 ∙ sym also.1)
   one_answer action.Fetch request no_filter is also = one_change (one_of_job event.Fetch (job_id request.path) (λ id table_reply other_reply step step'.
       let first = fetched old.table new.table id table_reply step in
       let second = fetched old.table again.table id other_reply step' in
-      (first.0 ∙ sym second.0, first.1 ∙ sym second.1)) is.0 also.0) is.1 also.1
+      (first.0 ∙ sym second.0, first.1 ∙ sym second.1)) is.0 also.0) (is.1, is.2) (also.1, also.2)
   one_answer action.Drop request no_filter is also = one_change (one_of_job event.Drop (job_id request.path) (λ id table_reply other_reply step step'.
       let first = dropped old.table new.table id table_reply step in
       let second = dropped old.table again.table id other_reply step' in
-      (first.0 ∙ sym second.0, first.1 ∙ sym second.1)) is.0 also.0) is.1 also.1
+      (first.0 ∙ sym second.0, first.1 ∙ sym second.1)) is.0 also.0) (is.1, is.2) (also.1, also.2)
   one_answer action.Select request no_filter is also = let no : ⊥ = cc in absurd no
   one_answer action.Compile request no_filter is also = let no : ⊥ = cc in absurd no
   one_answer action.SubmitFilter request no_filter is also = let no : ⊥ = cc in absurd no

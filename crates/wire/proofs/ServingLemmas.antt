@@ -3,10 +3,12 @@ use Rattle.std.proofs.Common.{◌≡◌, length, Some, inl, inr, refl, ap}
 use Rattle.std.specs.Prelude.{Result, Ok, Err}
 use Rattle.counted_io.specs.declared.writing.WriteFault.{WriteFault}
 use Rattle.counted_io.specs.declared.writing.WriteFault.TheVariants.{Write, WriteZero}
+use Rattle.wire.proofs.CountingLemmas.{same_rows}
 use Rattle.wire.specs.Answer.{Answers, memory_reply}
+use Rattle.wire.specs.Counting.{line_feeds}
 use Rattle.wire.specs.Decision.{DecisionParts, Names, request_read_of}
 use Rattle.wire.specs.Reading.{Decides, Sends, StopsInBody, WritesReply, replied, result_of}
-use Rattle.wire.specs.Serving.{Connection, IsReplied, IsServed, IsSummarized, IsSummaryOf, ReturnsRequestRead, written_length}
+use Rattle.wire.specs.Serving.{Connection, IsReplied, IsServed, IsSummarized, IsSummaryOf, ReturnsRequestRead, written_length, written_rows}
 use Rattle.wire.specs.declared.fault.WireFault.{WireFault}
 use Rattle.wire.specs.declared.decision.RequestRead.{RequestRead}
 use Rattle.wire.specs.declared.decision.RequestRead.TheVariants.{Partial}
@@ -20,7 +22,9 @@ pub record RepliesSo (named : Named) (request_read : RequestRead) (sent : Sent) 
   pub is_replied : IsReplied request_read sent.written old new
   pub names : Names is_replied.input named
   pub status : sent.status ≡ is_replied.reply.status
+  pub media_is : sent.media ≡ is_replied.reply.media
   pub length_is : sent.length ≡ length is_replied.reply.body
+  pub lines_is : sent.lines ≡ line_feeds is_replied.reply.body
 
 -- ---- what such a reply means for the result
 
@@ -63,6 +67,9 @@ module _ (named : Named) (request_read : RequestRead) (sent : Sent) (old new : C
         names = replies.names;
         status = ap Some replies.status;
         length_is = ap (written_length sent.written) replies.length_is;
+        rows_is = ap (written_rows sent.written)
+            (same_rows named.route sent.status replies.is_replied.reply.status sent.media replies.is_replied.reply.media sent.lines
+            (line_feeds replies.is_replied.reply.body) replies.status replies.media_is replies.lines_is);
       }))
 
 -- ---- such replies
@@ -82,7 +89,9 @@ answered named decision request_read sent old new is_extent decides writes = rec
   };
   names = decides.names;
   status = writes.sends.status;
+  media_is = writes.sends.media_is;
   length_is = writes.sends.length_is;
+  lines_is = writes.sends.lines_is;
 }
 
 -- an allocation failed for the body
@@ -99,5 +108,7 @@ out_of_memory named sent old new stops same sends = record {
   };
   names = stops.names;
   status = sends.status;
+  media_is = sends.media_is;
   length_is = sends.length_is;
+  lines_is = sends.lines_is;
 }

@@ -42,6 +42,7 @@ use Rattle.http_routes.specs.declared.route.Action.TheVariants as action
 use Rattle.http_routes.specs.declared.route.Route.{Route}
 use Rattle.jobs.specs.JobFault as job_fault
 use Rattle.jobs.specs.Listing.{listing}
+use Rattle.jobs.specs.Progress.{finished, running}
 use Rattle.jobs.specs.Segments.{segments_of}
 use Rattle.jobs.specs.Table.{Step, Table}
 use Rattle.jobs.specs.declared.event.Event.{Event}
@@ -52,6 +53,7 @@ use Rattle.jobs.specs.declared.fault.JobFault.{JobFault}
 use Rattle.jobs.specs.declared.fault.JobFault.TheVariants.{Full, NoJob, Program, Memory}
 use Rattle.layers.specs.Counties.{IsLayerOf}
 use Rattle.layers.specs.Layer.{LayerParts}
+use Rattle.metrics.specs.Text.{text as counts_text}
 use Rattle.layers.specs.Layer as layers
 use Rattle.refusals.specs.Refusal.{RefusalParts, line, memory}
 use Rattle.refusals.specs.declared.refusal.Class.{Class}
@@ -261,7 +263,11 @@ SubmitsTo query filter old reply new =
 
 -- a request about jobs, which changes at most their table
 abbrev pub ChangesTable : (Table → ReplyParts → Table → Type 0) → StateParts → ReplyParts → StateParts → Type 0
-ChangesTable Is old reply new = Is old.table reply new.table × (new.codes ≡ old.codes)
+ChangesTable Is old reply new = Is old.table reply new.table × (new.codes ≡ old.codes) × (new.counters ≡ old.counters)
+
+-- the counts, and the numbers of jobs, as text
+abbrev pub counts_reply : StateParts → ReplyParts
+counts_reply state = body_reply media_type.Metrics (counts_text state.counters (running state.table) (finished state.table))
 
 -- ---- all actions
 
@@ -280,6 +286,7 @@ AnswersAction action.Geocode old request reply new = GeocodesTo (counties_of old
 AnswersAction action.GeocodeBatch old request reply new = GeocodesAllTo old.codes (counties_of old) request.body reply × (new ≡ old)
 AnswersAction action.Submit old request reply new = ChangesTable (IsTableReply (Submits request.body)) old reply new
 AnswersAction action.SubmitFilter old request reply new = ChangesTable (SubmitsTo request.query request.body) old reply new
+AnswersAction action.Metrics old request reply new = ((reply ≡ counts_reply old) ⊎ (reply ≡ memory_reply)) × (new ≡ old)
 AnswersAction action.List old request reply new = ((reply ≡ plain status.Ok (listing old.table)) ⊎ (reply ≡ memory_reply)) × (new ≡ old)
 AnswersAction action.Fetch old request reply new = ChangesTable (IsJobReply event.Fetch (job_id request.path)) old reply new
 AnswersAction action.Drop old request reply new = ChangesTable (IsJobReply event.Drop (job_id request.path)) old reply new

@@ -12,7 +12,7 @@ use Rattle.http_reply.specs.declared.status.Status.TheVariants.{BadRequest, NotF
 use Rattle.http_routes.specs.Routes.{action_of, route_of, verb_named}
 use Rattle.http_routes.specs.Target.{path_of, query_of}
 use Rattle.http_routes.specs.declared.route.Action.{Action}
-use Rattle.http_routes.specs.declared.route.Action.TheVariants.{Index, Health, Geocode, Select, Compile, SubmitFilter, List as ListJobs, Fetch, Drop}
+use Rattle.http_routes.specs.declared.route.Action.TheVariants.{Index, Health, Geocode, Metrics, Select, Compile, SubmitFilter, List as ListJobs, Fetch, Drop}
 use Rattle.http_routes.specs.declared.route.Route.{Route}
 use Rattle.wire.specs.declared.decision.RequestRead.{RequestRead}
 use Rattle.wire.specs.declared.decision.RequestRead.TheVariants.{Complete, Partial}
@@ -42,6 +42,7 @@ abbrev pub takes_body : Action → Bool
 takes_body Index = false
 takes_body Health = false
 takes_body Geocode = false
+takes_body Metrics = false
 takes_body ListJobs = false
 takes_body Fetch = false
 takes_body Drop = false
@@ -104,6 +105,10 @@ Names input named =
 -- the input is a request with a filter
 abbrev pub SendsFilter : List ℕ → Type 0
 SendsFilter input = (request : RoutedParts) × IsDecided input (Accepts request) × IsTrue (takes_filter request.action)
+
+-- the input is a request for the counts
+abbrev pub RequestsCounts : List ℕ → Type 0
+RequestsCounts input = (request : RoutedParts) × IsDecided input (Accepts request) × (request.action ≡ Metrics)
 
 -- the action of a head, by its route and its method
 abbrev pub requested_action : Head → Option Action

@@ -6,15 +6,18 @@ use Rattle.http_routes.specs.declared.route.Action.{Action}
 use Rattle.http_routes.specs.declared.route.Action.TheVariants as action
 use Rattle.jobs.specs.Run.{Exchange, IsOwn}
 use Rattle.jobs.specs.Segments.{segments_of}
-use Rattle.jobs.specs.Table.{IsNextTurn, JobParts, Step}
+use Rattle.jobs.specs.Table.{IsNextTurn, JobParts}
 use Rattle.jobs.specs.declared.event.Event.{Event}
 use Rattle.jobs.specs.declared.event.Event.TheVariants.{Turn, Fetch, Drop}
 use Rattle.jobs.specs.declared.event.Reply.{Reply as JobReply}
 use Rattle.tl_segments.specs.County.{CountyParts}
 use Rattle.wire.specs.Answer.{ChangesTable, IsFilterRefused, Replies, Submits, SubmitsFilter, IsTableReply, job_reply, memory_reply, rows_reply}
 use Rattle.wire.specs.Decision.{RoutedParts, DecisionParts, IsDecided, Refuses, Disallows, Accepts}
+use Rattle.wire.specs.Counting.{counted}
 use Rattle.wire.specs.State.{StateParts}
+use Rattle.wire.specs.Turn.{IsTurnOf}
 use Rattle.wire.specs.declared.decision.RequestRead.{RequestRead}
+use Rattle.wire.specs.declared.summary.Summary.{Summary}
 
 -- an event that a request can be: any but a turn
 abbrev pub is_requested : Event → Bool
@@ -56,15 +59,17 @@ RefusesFilter (Disallows route) reply = ⊥
 abbrev pub IsRefusedFilter : List ℕ → ReplyParts → Type 0
 IsRefusedFilter input reply = (decision : DecisionParts) × IsDecided input decision × RefusesFilter decision reply
 
--- an act of a server: it replies to an input, makes a turn of the job with an id, or has no turn to make
+-- an act of a server: it replies to an input, counts a connection, makes a turn of the job with an id, or has no turn to make
 pub data Act : Type 0 where
   Replied : List ℕ → ReplyParts → Act
+  Counted : Summary → Act
   Turned : ℕ → JobReply → Act
   Rested : Act
 
 abbrev pub Acts : StateParts → Act → StateParts → Type 0
 Acts old (Replied input reply) new = (request_read : RequestRead) × Replies input request_read old reply new
-Acts old (Turned id reply) new = IsNextTurn old.table (Some id) × Step old.table (Turn id) reply new.table × (new.codes ≡ old.codes)
+Acts old (Counted summary) new = new ≡ counted summary old
+Acts old (Turned id reply) new = IsTurnOf id old reply new
 Acts old Rested new = IsNextTurn old.table None × (new ≡ old)
 
 -- acts in order
@@ -75,12 +80,14 @@ AreActs old (act ∷ acts) new = (now : StateParts) × Acts old act now × AreAc
 -- an act that is an exchange with the table
 abbrev pub IsExchange : Act → Exchange → Type 0
 IsExchange (Replied input reply) exchange = Requests input exchange.event × (reply ≡ job_reply exchange.reply)
+IsExchange (Counted summary) exchange = ⊥
 IsExchange (Turned id reply) exchange = exchange ≡ record { event = Turn id; reply = reply }
 IsExchange Rested exchange = ⊥
 
 -- an act that is no exchange: it requests nothing of the table, or an allocation fails or a filter is refused before the table sees the request
 abbrev pub IsNoExchange : Act → Type 0
 IsNoExchange (Replied input reply) = (event : Event) → Requests input event → (reply ≡ memory_reply) ⊎ IsRefusedFilter input reply
+IsNoExchange (Counted summary) = Unit {0}
 IsNoExchange (Turned id reply) = ⊥
 IsNoExchange Rested = Unit {0}
 

@@ -1,5 +1,6 @@
 pub mod WireFault
 pub mod State
+pub mod Counting
 pub mod Turn
 pub mod Decision
 pub mod Query

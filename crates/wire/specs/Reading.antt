@@ -10,7 +10,8 @@ use Rattle.counted_io.specs.Writing.{WritesText}
 use Rattle.counted_io.specs.declared.writing.WriteFault.{WriteFault}
 use Rattle.wire.specs.Decision.{AnnouncesBody, RoutedParts, DecisionParts, IsDecided, Names}
 use Rattle.wire.specs.Decision as parts
-use Rattle.wire.specs.Serving.{FailsUndecided, ReadsEnough, nothing, written_length}
+use Rattle.wire.specs.Counting.{line_feeds, rows_among}
+use Rattle.wire.specs.Serving.{FailsUndecided, ReadsEnough, nothing, written_length, written_rows}
 use Rattle.wire.specs.WireFault.{of_write}
 use Rattle.wire.specs.declared.fault.WireFault.{WireFault}
 use Rattle.wire.specs.declared.decision.RoutedRequest.{RoutedRequest}
@@ -66,7 +67,9 @@ result_of request_read (Err fault) = Err (of_write fault)
 -- a reply was written, completely or up to the writer's fault, and `sent` says so
 pub record Sends (reply : ReplyParts) (sent : Sent) (old new : Writer) : Type 0 where
   pub status : sent.status ≡ reply.status
+  pub media_is : sent.media ≡ reply.media
   pub length_is : sent.length ≡ length reply.body
+  pub lines_is : sent.lines ≡ line_feeds reply.body
   pub writes : WritesText (reply_text reply) sent.written old new
 
 -- the same of such a reply
@@ -76,7 +79,12 @@ pub record WritesReply (is_reply : ReplyParts → Type 0) (sent : Sent) (old new
   pub sends : Sends reply sent old new
 
 abbrev pub summary_of : Named → Sent → Summary
-summary_of named sent = record { named = named; status = Some sent.status; length = written_length sent.written sent.length }
+summary_of named sent = record {
+  named = named;
+  status = Some sent.status;
+  length = written_length sent.written sent.length;
+  rows = written_rows sent.written (rows_among named.route sent.status sent.media sent.lines);
+}
 
 -- a reply was written, completely or in part
 abbrev pub replied : Named → RequestRead → Sent → Served

@@ -8,6 +8,7 @@ use Rattle.counted_io.specs.Writing.{WritesText}
 use Rattle.counted_io.specs.declared.writing.WriteFault.{WriteFault}
 use Rattle.counted_io.specs.declared.writing.WriteFault.TheVariants as write_fault
 use Rattle.wire.specs.Answer.{Replies}
+use Rattle.wire.specs.Counting.{rows_of}
 use Rattle.wire.specs.Decision.{IsEnough, IsUndecided, Names}
 use Rattle.wire.specs.State.{StateParts}
 use Rattle.wire.specs.declared.fault.WireFault.{WireFault}
@@ -68,11 +69,17 @@ abbrev pub written_length : Result (Unit {0}) WriteFault → ℕ → Option ℕ
 written_length (Ok done) length = Some length
 written_length (Err fault) length = None
 
--- what an input names, the status of its reply, and the length of the reply's body if the reply was written completely
+-- the number of rows in a reply, if it was written completely
+abbrev pub written_rows : Result (Unit {0}) WriteFault → ℕ → ℕ
+written_rows (Ok done) rows = rows
+written_rows (Err fault) rows = 0
+
+-- what an input names, the status of its reply, and the length of the reply's body and its rows if the reply was written completely
 pub record IsSummaryOf (summary : Summary) (input : List ℕ) (reply : ReplyParts) (written : Result (Unit {0}) WriteFault) : Type 0 where
   pub names : Names input summary.named
   pub status : summary.status ≡ Some reply.status
   pub length_is : summary.length ≡ written_length written (length reply.body)
+  pub rows_is : summary.rows ≡ written_rows written (rows_of summary.named.route reply)
 
 -- a request was replied to, and this is the summary
 pub record SummarizesReply (summary : Summary) (written : Result (Unit {0}) WriteFault) (old new : Connection) : Type 0 where
@@ -82,7 +89,7 @@ pub record SummarizesReply (summary : Summary) (written : Result (Unit {0}) Writ
 
 -- the summary without a request
 abbrev pub nothing : Summary
-nothing = record { named = record { verb = None; route = None }; status = None; length = None }
+nothing = record { named = record { verb = None; route = None }; status = None; length = None; rows = 0 }
 
 -- the summary of serving a connection
 abbrev pub IsSummarized : {T : Type 0} → Summary → Result T WireFault → Connection → Connection → Type 0

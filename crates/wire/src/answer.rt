@@ -1,9 +1,10 @@
 //! The answers to requests.
-ghost use Rattle.std.specs.Prelude.{◌≡◌, ◌++◌, ◌∷◌, [], codes, decimal};
+ghost use Rattle.std.specs.Prelude.{◌≡◌, ◌≤◌, ◌++◌, ◌∷◌, [], codes, decimal, length};
 ghost use Rattle.counted_io.specs.ReaderWriter.{writer};
 ghost use Rattle.http_reply.specs.Reply.{parts_of};
 ghost use Rattle.http_reply.specs.declared.status.Status.TheVariants as status;
 ghost use Rattle.wire.specs.Answer.{class_status, plain};
+ghost use Rattle.wire.specs.Counting.{line_feeds};
 ghost use Rattle.wire.specs.Reading.{Sends};
 ghost use Rattle.wire.specs.Reply.{reply_of};
 
@@ -89,10 +90,33 @@ impl<'a, A: Allocator> Answer<'a, A> {
         let reply = self.reply();
         Sent {
             status: reply.status,
+            media: reply.media,
             length: reply.body_length(),
+            lines: body_lines(&reply),
             written: reply.write(out),
         }
     }
+}
+
+/// Returns the number of line feeds in the body.
+#[tactic(auto, using(crate::proofs::CountingLemmas::line_feeds_append))]
+fn body_lines(reply: &Reply<'_>) -> u64
+    ensures { result ≡ line_feeds (parts_of reply.now).body }
+{
+    line_feeds(reply.lead.as_slice()) + line_feeds(reply.rest)
+}
+
+fn line_feeds(text: &[u8]) -> u64
+    ensures value { result ≡ line_feeds text.now }
+    ensures bound { result ≤ length text.now }
+{
+    let mut count = 0;
+    for byte in text {
+        if *byte == b'\n' {
+            count += 1;
+        }
+    }
+    count
 }
 
 fn class_status(class: Class) -> Status

@@ -185,6 +185,7 @@ fn takes_body(action: Action) -> bool
         Action::Index
             | Action::Health
             | Action::Geocode
+            | Action::Metrics
             | Action::List
             | Action::Fetch
             | Action::Drop

@@ -7,7 +7,7 @@ ghost use Rattle.counted_io.specs.ReaderWriter.{writer};
 ghost use Rattle.jobs.specs.Listing.{listing};
 ghost use Rattle.wire.specs.Answer.{IsJobReply, IsTableReply, job_fault_reply, job_reply, memory_reply, plain, status_reply};
 ghost use Rattle.wire.specs.Reading.{Sends, WritesReply};
-ghost use Rattle.wire.specs.Turn.{IsTurn, lends_rows};
+ghost use Rattle.wire.specs.Turn.{IsTurn, judged_in, lends_rows};
 ghost use Rattle.wire.specs.Reply.{reply_of};
 
 use crate::answer::Answer;
@@ -85,13 +85,34 @@ fn no_job<A: Allocator, W: CountedWrite>(out: &mut W) -> Sent
     Answer::<A>::Status(Status::NotFound).write(out)
 }
 
+/// A turn of a job.
+#[derive(Clone, Copy)]
+pub(crate) struct JobTurn {
+    pub reply: JobReply<'static>,
+    /// The number of segments on which the job's program ran.
+    pub judged: u64,
+}
+
 /// Advances the next job by a turn.
-pub(crate) fn next_turn<A: Allocator + Copy>(jobs: &mut Jobs<A>) -> Option<JobReply<'static>>
+pub(crate) fn next_turn<A: Allocator + Copy>(jobs: &mut Jobs<A>) -> Option<JobTurn>
     ensures { IsTurn jobs.old result jobs.new }
 {
     let id = jobs.next_turn()?;
+    let before = jobs.done(id);
     let reply = jobs.apply(Event::Turn(id));
-    Some(without_rows(reply))
+    let reply = without_rows(reply);
+    let judged = judged_in(before, reply);
+    Some(JobTurn { reply, judged })
+}
+
+/// Returns the number of segments that a turn added to those done before it.
+fn judged_in(before: u64, reply: JobReply<'static>) -> u64
+    ensures { result ≡ judged_in before reply.entry }
+{
+    match reply {
+        JobReply::Turned { done, .. } => done.saturating_sub(before),
+        _ => 0,
+    }
 }
 
 /// Returns the reply to a turn with a lifetime of its own. Only `Rows` borrows from the table, and no turn has that reply, but all cases share the

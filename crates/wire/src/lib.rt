@@ -3,6 +3,7 @@
 
 mod address_batch;
 mod answer;
+mod counting;
 mod decision;
 mod explanation;
 mod fault;

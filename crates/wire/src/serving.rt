@@ -2,10 +2,12 @@
 ghost use Rattle.counted_io.specs.ReaderWriter.{reader, writer};
 ghost use Rattle.std.specs.Prelude.{◌≡◌};
 ghost use Rattle.wire.specs.Answer.{Answers, AnswersAction, memory_reply};
+ghost use Rattle.wire.specs.Counting.{rows_among};
 ghost use Rattle.wire.specs.Reading.{Sends, WritesReply, decision_of, replied, result_of, routed_of, unanswered};
-ghost use Rattle.wire.specs.Serving.{IsServed, IsSummarized, ReturnsRequestRead, written_length};
+ghost use Rattle.wire.specs.Serving.{IsServed, IsSummarized, ReturnsRequestRead, written_length, written_rows};
 
 use crate::answer::Answer;
+use crate::counting::rows_among;
 use crate::decision::{Decision, ReadFault, RequestRead, RoutedRequest, read_decision};
 use crate::explanation::explain_program;
 use crate::fault::WireFault;
@@ -17,7 +19,7 @@ use crate::state::State;
 use crate::summary::{Named, Sent, Summary};
 use counted_io::{CountedRead, CountedWrite, WriteFault};
 use http_request::HeadBuffer;
-use http_routes::{Action, index};
+use http_routes::{Action, Route, index};
 use jobs::Event;
 use refusals::Refusal;
 use std::alloc::Allocator;
@@ -41,6 +43,7 @@ impl Served {
                 named,
                 status: Some(sent.status),
                 length: written_length(sent.written, sent.length),
+                rows: written_rows(named.route, sent),
             },
         }
     }
@@ -58,6 +61,7 @@ impl Served {
                 },
                 status: None,
                 length: None,
+                rows: 0,
             },
         }
     }
@@ -134,6 +138,16 @@ fn written_length(written: Result<(), WriteFault>, length: usize) -> Option<u64>
     }
 }
 
+/// Returns the number of rows in a reply to a request for this route, or 0 if the reply wasn't written completely.
+fn written_rows(route: Option<Route>, sent: Sent) -> u64
+    ensures { result ≡ written_rows sent.written (rows_among route sent.status sent.media sent.lines) }
+{
+    match sent.written {
+        Ok(()) => rows_among(route, sent.status, sent.media, sent.lines),
+        Err(_fault) => 0,
+    }
+}
+
 /// Writes the reply for a failed allocation of the body.
 fn write_out_of_memory<A: Allocator, W: CountedWrite>(out: &mut W) -> Sent
     ensures { Sends memory_reply result
@@ -188,6 +202,7 @@ impl<A: Allocator + Copy> State<A> {
             Action::SubmitFilter => {
                 submit_filter(self.global, self.alloc, &mut self.jobs, query, body, out)
             }
+            Action::Metrics => self.counts_answer().write(out),
             Action::List => list(&self.jobs).write(out),
             Action::Fetch => fetch(&mut self.jobs, request.target.path, out),
             Action::Drop => remove(&mut self.jobs, request.target.path, out),

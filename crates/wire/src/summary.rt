@@ -1,6 +1,6 @@
 //! What a request was, and what its reply is.
 use counted_io::WriteFault;
-use http_reply::Status;
+use http_reply::{MediaType, Status};
 use http_routes::{Route, Verb};
 
 /// The method and the route that a request's head names. Either is `None` if there is no head, or if no route has it.
@@ -14,8 +14,11 @@ pub struct Named {
 #[derive(Clone, Copy)]
 pub(crate) struct Sent {
     pub status: Status,
+    pub media: MediaType,
     /// The length of the body.
     pub length: usize,
+    /// The number of line feeds in the body.
+    pub lines: u64,
     pub written: Result<(), WriteFault>,
 }
 
@@ -27,4 +30,6 @@ pub struct Summary {
     pub status: Option<Status>,
     /// The length of the reply's body, or `None` if the reply wasn't written completely.
     pub length: Option<u64>,
+    /// The number of rows in the reply, or 0 if the reply wasn't written completely.
+    pub rows: u64,
 }

@@ -52,32 +52,39 @@ pub returns-in-Submit : goal.returns-in-Submit
 returns-in-Submit g c =
     let table = ap (λ state. state.table) c.self.view_is in
     let codes = ap (λ state. state.codes) c.self.view_is in
+    let counters = ap (λ state. state.counters) c.self.view_is in
     writes_implied _ _ _ _ _
-    (λ reply is. rw c.in-Submit.is (of_submission _ _ _ _ reply c.as_slice-body.ensures.value (rw table at is), codes)) c.write_job_reply.ensures
+    (λ reply is. rw c.in-Submit.is (of_submission _ _ _ _ reply c.as_slice-body.ensures.value (rw table at is), codes, counters)) c.write_job_reply.ensures
 
 pub returns-in-SubmitFilter : goal.returns-in-SubmitFilter
 returns-in-SubmitFilter g c =
     let table = ap (λ state. state.table) c.self.view_is in
     let codes = ap (λ state. state.codes) c.self.view_is in
+    let counters = ap (λ state. state.counters) c.self.view_is in
     writes_implied _ _ _ _ _
-    (λ reply is. rw c.in-SubmitFilter.is (rw (table, c.as_slice-body.ensures.value) at is, codes)) c.submit_filter.ensures
+    (λ reply is. rw c.in-SubmitFilter.is (rw (table, c.as_slice-body.ensures.value) at is, codes, counters)) c.submit_filter.ensures
 
 pub returns-in-Fetch : goal.returns-in-Fetch
 returns-in-Fetch g c =
     let table = ap (λ state. state.table) c.self.view_is in
     let codes = ap (λ state. state.codes) c.self.view_is in
-    writes_implied _ _ _ _ _ (λ reply is. rw c.in-Fetch.is (rw table at is, codes)) c.fetch.ensures
+    let counters = ap (λ state. state.counters) c.self.view_is in
+    writes_implied _ _ _ _ _ (λ reply is. rw c.in-Fetch.is (rw table at is, codes, counters)) c.fetch.ensures
 
 pub returns-in-Drop : goal.returns-in-Drop
 returns-in-Drop g c =
     let table = ap (λ state. state.table) c.self.view_is in
     let codes = ap (λ state. state.codes) c.self.view_is in
-    writes_implied _ _ _ _ _ (λ reply is. rw c.in-Drop.is (rw table at is, codes)) c.remove.ensures
+    let counters = ap (λ state. state.counters) c.self.view_is in
+    writes_implied _ _ _ _ _ (λ reply is. rw c.in-Drop.is (rw table at is, codes, counters)) c.remove.ensures
 
 pub returns-in-Geocode : goal.returns-in-Geocode
 returns-in-Geocode g c =
     let counties = c.counties-counties-in-Geocode.ensures.value ∙ ap (λ state. state.table.counties) c.self.view_is in
     writes_such _ (reply_of c.geocode.result) _ _ _ (rw c.in-Geocode.is (rw counties at c.geocode.ensures, refl)) c.write-in-Geocode.ensures
+
+pub returns-in-Metrics : goal.returns-in-Metrics
+returns-in-Metrics g c = writes_such _ (reply_of c.counts_answer.result) _ _ _ (rw c.in-Metrics.is (c.counts_answer.ensures, refl)) c.write-in-Metrics.ensures
 
 pub returns-in-List : goal.returns-in-List
 returns-in-List g c =

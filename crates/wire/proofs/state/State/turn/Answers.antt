@@ -1,4 +1,3 @@
-use Rattle.std.proofs.Common.{ap}
 use Rattle.wire.proofs.AnswerLemmas.{turn_counties}
 use Rattle.wire.proofs.state.State.turn.Goals as goal
 
@@ -6,8 +5,3 @@ pub invariant_of-self : goal.invariant_of-self
 invariant_of-self g c =
     let same = turn_counties c.self.inside.jobs c.next_turn.result c.next_turn.new.jobs c.next_turn.ensures in
     rw same c.self.invariant
-
-pub returns-clause-turn : goal.returns-clause-turn
-returns-clause-turn g c =
-    let table = ap (λ state. state.table) c.self.view_is in
-    rw table at c.next_turn.ensures
