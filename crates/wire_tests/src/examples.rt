@@ -38,8 +38,8 @@ GET /geocode?number=251{curl} => =400 Bad Request; text/plain; 12; bad request\n
 
 one
 GET /health{curl} => =200 OK; text/plain; 3; ok\n
-GET /{curl} => =200 OK; text/plain; 219; POST /assemble\nPOST /compile\nPOST /disassemble\nPOST /explain\nPOST /extract\nPOST /filter-jobs\nPOST
-  /geocode-batch\nGET /geocode\nGET /health\nPOST /jobs\nGET /open-jobs\nPOST /select\nPOST /verify\nGET /\nGET, DELETE /jobs/\x7bid\x7d\n
+GET /{curl} => =200 OK; text/plain; 232; POST /assemble\nPOST /compile\nPOST /disassemble\nPOST /explain\nPOST /extract\nPOST /filter-jobs\nPOST
+  /geocode-batch\nGET /geocode\nGET /health\nPOST /jobs\nGET /metrics\nGET /open-jobs\nPOST /select\nPOST /verify\nGET /\nGET, DELETE /jobs/\x7bid\x7d\n
 
 one
 POST /jobs{curl} >> {every} => =200 OK; text/plain; 2; 1\n

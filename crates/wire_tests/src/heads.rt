@@ -36,7 +36,7 @@ job => 2",
 
 // Bytes before a head; its lines; methods; targets; versions; and headers.
 pub const HEADS: Table = Table {
-    rows: 204,
+    rows: 205,
     text: r"{rt1}\n
 jobs => 1
 turn => 1 1
@@ -83,6 +83,7 @@ HEAD /jobs/1{end} => 405 GET, DELETE
 POST / HTTP/1.1 >> {every} => 405 GET
 POST /health HTTP/1.1 >> {every} => 405 GET
 HEAD /health{end} => 405 GET
+POST /metrics HTTP/1.1 >> {every} => 405 GET
 POST /open-jobs HTTP/1.1 >> {every} => 405 GET
 GET /open-jobs{end} => 200 text 1 1 1\n
 GET /health?/verify{end} => 200 text ok\n
@@ -91,7 +92,7 @@ GET /health/{end} => 404
 GET /Health{end} => 404
 GET //{end} => 404
 GET /?{end} => 200 text POST /assemble\nPOST /compile\nPOST /disassemble\nPOST /explain\nPOST /extract\nPOST /filter-jobs\nPOST
-  /geocode-batch\nGET /geocode\nGET /health\nPOST /jobs\nGET /open-jobs\nPOST /select\nPOST /verify\nGET /\nGET, DELETE /jobs/\x7bid\x7d\n
+  /geocode-batch\nGET /geocode\nGET /health\nPOST /jobs\nGET /metrics\nGET /open-jobs\nPOST /select\nPOST /verify\nGET /\nGET, DELETE /jobs/\x7bid\x7d\n
 PATCH /jobs/none{end} => 405 GET, DELETE
 PUT /jobs/{text 0*30}{end} => 405 GET, DELETE
 DELETE /geocode?number=151&name=main{end} => 405 GET

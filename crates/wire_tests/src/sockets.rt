@@ -4,6 +4,7 @@ mod accepts;
 mod clients;
 mod clocks;
 mod closes;
+mod counts;
 mod exchange;
 mod faults;
 mod http;

@@ -91,7 +91,7 @@ impl<'a> Server<'a> {
                 return None;
             }
             heap.refuse(nth);
-            let state = State::with_codes(alloc, heap, counties, &["01001", "01003"]);
+            let state = State::with_codes(alloc, heap, counties, &["01001", "01003"], None);
             let growths = heap.count();
             heap.refuse(0);
             match state {

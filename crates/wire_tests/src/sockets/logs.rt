@@ -17,7 +17,7 @@ use std::time::{Clock, Duration};
 const LINES: Table = Table {
     rows: 12,
     text: r#"GET /health HTTP/1.1\r\n\r\n; "GET /health HTTP/1.1" 200 3 24 1500
-GET / HTTP/1.0\r\n\r\n; "GET / HTTP/1.1" 200 219 18 1500
+GET / HTTP/1.0\r\n\r\n; "GET / HTTP/1.1" 200 232 18 1500
 GET /jobs/1?%0A HTTP/1.1\r\n\r\n; "GET /jobs/{id} HTTP/1.1" 404 10 28 1500
 DELETE /jobs/no HTTP/1.1\r\n\r\n; "DELETE /jobs/{id} HTTP/1.1" 404 10 28 1500
 GET /x HTTP/1.1\r\nA: "GET / HTTP/1.1" 200\r\n\r\n; "GET - HTTP/1.1" 404 10 44 1500
