@@ -43,10 +43,12 @@ is_program() { [ -x "$1" ] && [ ! -d "$1" ]; }
 # is_python_3_11 COMMAND: whether it is Python 3.11 or later.
 is_python_3_11() { "$1" -c 'import sys; sys.exit(sys.version_info < (3, 11))' 2> /dev/null; }
 
-# has COMMAND: whether it is here. `python3.11` means a python3 of that version or a later one, `python3-shapely` the package for the system's.
+# has COMMAND: whether it is here. `python3.11` means a python3 of that version or a later one, `python3-shapely` and the like
+# the package for the system's.
 has() {
     case $1 in
     python3.11) is_python_3_11 python3 ;;
+    python3-prometheus-client) /usr/bin/python3 -c 'import prometheus_client' 2> /dev/null ;;
     python3-shapely) is_python_3_11 /usr/bin/python3 && /usr/bin/python3 -c 'import shapely.geometry' 2> /dev/null ;;
     *) command -v "$1" > /dev/null ;;
     esac

@@ -4,7 +4,8 @@
 # It needs bash, coreutils and curl. Other tests need
 # - nginx (1.19.5 or later) and openssl, which makes a certificate that is valid for a day: site.conf, through nginx.conf;
 # - systemd-analyze, of systemd 249 or later: extractd.service;
-# - python3 (3.8 or later): examples/job.py.
+# - python3 (3.8 or later): examples/job.py;
+# - python3-prometheus-client: the counts of /metrics.
 # What needs a command that is missing is left out. With REQUIRE_ALL set, as .ci/run sets it, missing commands are installed, as root on Debian 12, and
 # anything left out is a failure.
 #
@@ -31,7 +32,7 @@ fi
 program=$(realpath "$1")
 # nginx's worker isn't root, even if this script is; it can read this folder.
 make_scratch
-install_missing curl hostname nginx openssl python3 systemd-analyze
+install_missing curl hostname nginx openssl python3 python3-prometheus-client systemd-analyze
 make_commands "$program"
 cd "$scratch" || exit 1
 # Ignores the user's settings.
@@ -268,6 +269,21 @@ try_job_loop() {
     says 'its job is removed' 200 dropped -X DELETE "$url/jobs/$id"
 }
 
+# try_counts: the client library of Prometheus reads the counts of a server, without a log and with one.
+try_counts() {
+    local said
+    needs 'the counts of /metrics' python3-prometheus-client || return
+    if said=$(/usr/bin/python3 -B "$top/tests/counts.py" 2>&1); then pass; else fail 'counts.py' "$said"; fi
+}
+
+# try_monitor: through nginx, only this machine's own address gets the counts.
+try_monitor() {
+    local own other
+    own=$(curl -k -s -m 60 "$url/metrics" | grep -c '^extractd_jobs{')
+    other=$("${hostile[@]}" -m 60 -o /dev/null "$url/metrics")
+    if [ "$own $other" = '2 403' ]; then pass; else fail 'the counts through nginx' "$own lines, and another address gets $other"; fi
+}
+
 # try_log: each request has a line, with its client and without its query.
 try_log() {
     if grep -q ' 127\.0\.0\.2 - POST /extract 503 ' "$1" && grep -q ' 127\.0\.0\.1 - GET /geocode 200 ' "$1" && ! grep -q 'name=' "$1"; then pass; else
@@ -280,6 +296,7 @@ try_hostile() {
     if ! costly || ! start "$PWD/large"; then fail "no large county: $(cat said.err)"; return; fi
     segments=$(wc -l < large.rows)
     start_nginx
+    try_monitor
     try_slow_extracts
     try_left_extracts
     try_job_loop
@@ -455,6 +472,7 @@ try_address
 try_routes "$url"
 try_refused_client
 if needs 'job.py' python3; then try_job "$url" --server "$url"; fi
+try_counts
 
 # openssl makes the certificate.
 if needs 'nginx.conf' nginx openssl; then
