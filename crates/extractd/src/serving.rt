@@ -156,7 +156,8 @@ fn serve_counties<
     }
 }
 
-/// Loads the counties of all codes, in order, into a state without jobs, in a process that started at this second. Returns the failure of the first one that can't be loaded.
+/// Loads the counties of all codes, in order, into a state without jobs, in a process that started at this second. Returns the failure of the first
+/// one that can't be loaded.
 fn load_state<'a, F: Files>(
     alloc: Global,
     files: &mut F,
