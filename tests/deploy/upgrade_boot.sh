@@ -2,8 +2,9 @@
 # Tests an upgrade of the packages while the server runs, where systemd is the first process. upgrade.sh boots its root with it, in which the packages in
 # /packages/old are installed and configured.
 #
-# The old server runs behind nginx. After the upgrade to /packages/new the new one answers at once, over the same counties and through the site as it was.
-# Then the new settings work, a drop-in for another port needs PORT=, and a purge stops all servers. Prints what failed, then the counts.
+# The old server runs behind nginx. The packages in /packages/new replace it. The new server has to answer at once, for the same counties, through the
+# unchanged site. Then the script tries the new settings, a drop-in for another port, which needs PORT=, and a purge, which stops all servers. It prints
+# what failed, then the counts.
 
 set -u
 export LC_ALL=C.UTF-8
