@@ -1,9 +1,4 @@
-#!/usr/bin/env python3
-"""Runs a built program on the rows of the tables in tests/rows, and reports each row with a different result.
-
-    python3 rows.py PATH_TO_extractd [TABLE..]
-
-A line that begins with `#` is a comment, one that begins with two blanks continues the row above, and `;` separates cells. A table's kind is its name up to
+"""Tables of programs and what the commands make of them. A line that begins with `#` is a comment, one that begins with two blanks continues the row above, and `;` separates cells. A table's kind is its name up to
 the first `_` or `.`:
 
 words    bytes; their text, with ` | ` between its lines, or a refusal. `dis` must write the text and `asm` turn it back into the bytes; or `dis` and
@@ -17,19 +12,19 @@ extracts a program; the county's four files; `ok` and the number of rows, or a r
 
 Programs and bytes use the notation of the tests: crates/fixtures has the notation, its named programs, its records and their fields.
 """
-# Needs only Python 3.8 or later.
 
-import os
 import re
 import subprocess
-import sys
 import tempfile
-from concurrent.futures import ThreadPoolExecutor
+from collections.abc import Callable, Iterable, Iterator
 from pathlib import Path
-from typing import Callable, Dict, Iterable, Iterator, List, NamedTuple, Optional, Tuple
+from typing import NamedTuple
 
-TOP = Path(__file__).resolve().parent.parent
-ROWS = Path(__file__).with_name("rows")
+import pytest
+
+from harness.program import TOP
+from harness.tables import RowItem, rows_of
+
 FIXTURES = TOP / "crates" / "fixtures" / "src"
 COUNTY = "01001"
 # A limit that the run of no row reaches.
@@ -58,11 +53,11 @@ def constant(file: str, name: str) -> str:
     source = (FIXTURES / file).read_text(encoding="utf-8")
     literal = re.search(rf'const {name}: [^=]*=\s*b?"((?:[^"\\]|\\.|\\\n)*)"', source)
     if not literal:
-        sys.exit(f"{file} has no constant {name}")
+        raise ValueError(f"{file} has no constant {name}")
     return re.sub(r"\\\n\s*", "", literal[1])
 
 
-def cells_of(row: str) -> List[str]:
+def cells_of(row: str) -> list[str]:
     return [cell.strip() for cell in row.split(";")]
 
 
@@ -80,13 +75,13 @@ class Notation:
 
     def __init__(self, assemble: Callable[[str], bytes]) -> None:
         self.assemble = assemble
-        self.words: Dict[str, bytes] = {}
+        self.words: dict[str, bytes] = {}
         self.programs = dict(cells_of(row)[:2] for row in constant("programs.rt", "PROGRAMS").splitlines())
         self.records = {name.lower(): constant("records.rt", name).encode() for name in ("RT1", "RT4", "RT5", "RT6")}
         self.places = self.read_places()
 
     @staticmethod
-    def read_places() -> Dict[Tuple[str, str], slice]:
+    def read_places() -> dict[tuple[str, str], slice]:
         places = {}
         for row in constant("records.rt", "FIELDS").splitlines():
             record, *words = row.split()
@@ -156,12 +151,11 @@ class Notation:
 class Asked:
     """Runs the built program, in a new folder for each row."""
 
-    def __init__(self, program: str) -> None:
-        self.extractd = program
+    def __init__(self) -> None:
         self.notation = Notation(self.assemble)
 
     def run(self, folder: str, *words: str) -> Said:
-        ran = subprocess.run([self.extractd, *words], cwd=folder, stdin=subprocess.DEVNULL, stdout=subprocess.PIPE, stderr=subprocess.PIPE)
+        ran = subprocess.run(["extractd", *words], cwd=folder, stdin=subprocess.DEVNULL, stdout=subprocess.PIPE, stderr=subprocess.PIPE)
         return Said(ran.returncode, ran.stdout, ran.stderr.decode(errors="replace"))
 
     def asm(self, folder: str, text: bytes) -> Said:
@@ -175,14 +169,14 @@ class Asked:
             raise ValueError(f"{text}: {said.errors.strip()}")
         return said.output
 
-    def write_files(self, folder: str, cells: List[str]) -> None:
+    def write_files(self, folder: str, cells: list[str]) -> None:
         for number, cell in zip("1456", cells):
             Path(folder, f"TGR{COUNTY}.RT{number}").write_bytes(self.notation.bytes(cell))
 
     def write_program(self, folder: str, program: bytes) -> None:
         Path(folder, "p.bpf").write_bytes(program)
 
-    def words(self, folder: str, row: List[str]) -> Optional[str]:
+    def words(self, folder: str, row: list[str]) -> str | None:
         program, said = self.notation.program(row[0]), row[1]
         self.write_program(folder, program)
         shown = self.run(folder, "dis", "--program", "p.bpf")
@@ -193,13 +187,13 @@ class Asked:
         made = self.asm(folder, text)
         return None if shown == Said(0, text, "") and made == Said(0, program, "") else f"{shown} and {made}"
 
-    def sources(self, folder: str, row: List[str]) -> Optional[str]:
+    def sources(self, folder: str, row: list[str]) -> str | None:
         made = self.asm(folder, self.notation.bytes(row[0]))
         if row[1].startswith("refused"):
             return None if made.is_refused(row[1]) else str(made)
         return None if made == Said(0, self.notation.program(row[1]), "") else str(made)
 
-    def values(self, folder: str, row: List[str]) -> Optional[str]:
+    def values(self, folder: str, row: list[str]) -> str | None:
         """Checks all values of a row by one program. It returns the number of the first wrong one, counted from 1, or 0."""
         made = self.asm(folder, "\n".join([*value_lines(row[0], row[1].split()), ""]).encode())
         self.write_program(folder, made.output)
@@ -210,7 +204,7 @@ class Asked:
     def trace(self, folder: str, limit: str) -> Said:
         return self.run(folder, "trace", "--program", "p.bpf", "--data", ".", "--line", "1", "--limit", limit, COUNTY)
 
-    def answers(self, folder: str, row: List[str]) -> Optional[str]:
+    def answers(self, folder: str, row: list[str]) -> str | None:
         self.write_program(folder, self.notation.program(row[1]))
         self.write_files(folder, row[2:6] if len(row) > 2 else NAMED)
         said = self.trace(folder, row[6] if len(row) > 6 else STEPS)
@@ -224,7 +218,7 @@ class Asked:
         rows = self.run(folder, "run", "--program", "p.bpf", "--data", ".", COUNTY)
         return None if rows == Said(0, chosen, "") else str(rows)
 
-    def extracts(self, folder: str, row: List[str]) -> Optional[str]:
+    def extracts(self, folder: str, row: list[str]) -> str | None:
         self.write_program(folder, self.notation.program(row[0]))
         self.write_files(folder, row[1:5])
         said = self.run(folder, "run", "--program", "p.bpf", "--data", ".", COUNTY)
@@ -233,9 +227,9 @@ class Asked:
         ended = said.status == 0 and not said.errors if row[5].startswith("ok") else said.is_refused(row[5])
         return None if ended and said.output == rows and not is_counted else str(said)
 
-    def wrong(self, kind: str, row: str) -> Optional[str]:
+    def wrong(self, kind: str, row: str) -> str | None:
         """Returns what is wrong with a row, or None."""
-        ask: Dict[str, Callable[[str, List[str]], Optional[str]]] = {
+        ask: dict[str, Callable[[str, list[str]], str | None]] = {
             "words": self.words,
             "sources": self.sources,
             "values": self.values,
@@ -275,29 +269,19 @@ def traced(outcome: str) -> bytes:
     return f"exit {answer} score {score or 0}\n".encode()
 
 
-def rows_of(table: Path) -> List[str]:
-    text = re.sub(r"\n  +", " ", table.read_text(encoding="utf-8"))
-    return [line for line in text.splitlines() if line and not line.startswith("#")]
+class RowTable(pytest.File):
+    """A table of tests/rows. Lines of programs are assembled once for all of its rows."""
 
+    def collect(self) -> Iterator[pytest.Item]:
+        kind = re.split(r"[_.]", self.path.name)[0]
+        for line, row in rows_of(self.path):
+            item = RowItem.from_parent(self, name=f"line {line}", line=line, check=lambda row=row: self.difference(kind, row))  # type: ignore[misc]
+            item.add_marker(pytest.mark.xdist_group(str(self.path)))
+            yield item
 
-def main() -> int:
-    if len(sys.argv) < 2 or not os.access(sys.argv[1], os.X_OK):
-        print(f"usage: {sys.argv[0]} PATH_TO_extractd [TABLE..]", file=sys.stderr)
-        return 1
-    asked = Asked(os.path.realpath(sys.argv[1]))
-    tables = [Path(table) for table in sys.argv[2:]] or sorted(ROWS.glob("*.txt"))
-    tried = failed = 0
-    with ThreadPoolExecutor(os.cpu_count()) as pool:
-        for table in tables:
-            kind, rows = re.split(r"[_.]", table.name)[0], rows_of(table)
-            for row, wrong in zip(rows, pool.map(lambda row: asked.wrong(kind, row), rows)):
-                tried += 1
-                if wrong:
-                    failed += 1
-                    print(f"FAILED: {table.name}: {row[:300]}\nand it is {wrong[:600]}")
-    print(f"{tried - failed} passed, {failed} failed")
-    return 1 if failed or not tried else 0
+    def setup(self) -> None:
+        self.asked = Asked()
 
-
-if __name__ == "__main__":
-    sys.exit(main())
+    def difference(self, kind: str, row: str) -> str | None:
+        wrong = self.asked.wrong(kind, row)
+        return f"{row[:300]}\nand it is {wrong[:600]}" if wrong else None
