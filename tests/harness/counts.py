@@ -18,9 +18,16 @@ HEAD = """\
 # How many tests each file has; `tests/run --write-counts` writes this. Of a crate: its tests with the lines of their tables, and the
 # mutants that its prover must refuse.
 """
-COLLECTED = pytest.StashKey[Counter[str]]()
+COLLECTED = pytest.StashKey[dict[str, int]]()
 # These take longest, so they begin first.
-LONGEST = ("tests/exhaustion/", "tests/deploy/", "tests/test_clients.py", "tests/test_costs.py", "tests/test_waits.py", "python/tests/test_explorer.py")
+LONGEST = (
+    "tests/exhaustion/",
+    "tests/deploy/",
+    "tests/test_clients.py",
+    "tests/test_costs.py",
+    "tests/test_waits.py",
+    "python/tests/test_explorer.py",
+)
 
 _TEXT = re.compile(r'r#"(.*?)"#|r?"((?:[^"\\]|\\.)*)"', re.DOTALL)
 
@@ -36,7 +43,7 @@ def is_short(item: pytest.Item) -> int:
 
 def count(config: pytest.Config, items: list[pytest.Item]) -> None:
     """Keeps the number of tests of each file that was collected. The tests of the list itself don't count."""
-    config.stash[COLLECTED] = Counter(name_of(item.path) for item in items if item.path != LIST)
+    config.stash[COLLECTED] = dict(Counter(name_of(item.path) for item in items if item.path != LIST))
     if config.getoption("--write-counts"):
         rows = {**config.stash[COLLECTED], **in_crates()}
         LIST.write_text(HEAD + "".join(f"{name} {number}\n" for name, number in sorted(rows.items())))

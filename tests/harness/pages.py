@@ -94,7 +94,9 @@ class PageFile(pytest.File):
         if self.examples.shown and not self.installed:
             yield self.item(0, self.examples.fault, "the examples of crates/wire_tests")
 
-    def item(self, line: int, check: Callable[[], str | None], name: str = "", needs: tuple[str, ...] = ()) -> pytest.Item:
+    def item(
+        self, line: int, check: Callable[[], str | None], name: str = "", needs: tuple[str, ...] = ()
+    ) -> pytest.Item:
         item = RowItem.from_parent(self, name=name or f"line {line}", line=line, check=check)
         item.add_marker(pytest.mark.xdist_group(str(self.path)))
         item.add_marker(pytest.mark.needs(*needs))
@@ -137,7 +139,7 @@ class PageFile(pytest.File):
             instruction, words = match[1], match[2]
             yield self.item(line, lambda: self.conversion_fault(f"{instruction}\n", words))
         elif request := self.examples.add_row(text):
-            yield self.item(line, lambda: request.fault(self.plain_server()))
+            yield self.item(line, lambda request=request: request.fault(self.plain_server()))  # type: ignore[misc]
 
     def setup(self) -> None:
         self.folder = Path(tempfile.mkdtemp(prefix="page."))
@@ -169,7 +171,12 @@ class PageFile(pytest.File):
         """Runs a script, and returns its status and all that it writes."""
         command = ["env", "LC_ALL=C", f"HOME={self.folder}/home", "bash", option, script]
         done = subprocess.run(
-            command, cwd=self.clone, stdin=subprocess.DEVNULL, stdout=subprocess.PIPE, stderr=subprocess.STDOUT, timeout=SECONDS
+            command,
+            cwd=self.clone,
+            stdin=subprocess.DEVNULL,
+            stdout=subprocess.PIPE,
+            stderr=subprocess.STDOUT,
+            timeout=SECONDS,
         )
         return done.returncode, done.stdout.decode(errors="replace")
 
@@ -180,16 +187,24 @@ class PageFile(pytest.File):
 
     def quiet_fault(self, text: str) -> str | None:
         status, wrote = self.run(text, "-ec")
-        return None if (status, wrote) == (0, "") else f"should print nothing\n{text}\nand has status {status} and prints\n{wrote}"
+        return (
+            None
+            if (status, wrote) == (0, "")
+            else f"should print nothing\n{text}\nand has status {status} and prints\n{wrote}"
+        )
 
     def service_fault(self, text: str) -> str | None:
         """Runs commands next to a service over the examples."""
         command = ["tigerline", "serve", "--data", "examples", "--port", "0"]
-        with subprocess.Popen(command, cwd=self.clone, stdin=subprocess.DEVNULL, stdout=subprocess.PIPE, stderr=subprocess.PIPE, text=True) as service:
+        with subprocess.Popen(
+            command, cwd=self.clone, stdin=subprocess.DEVNULL, stdout=subprocess.PIPE, stderr=subprocess.PIPE, text=True
+        ) as service:
             assert service.stdout is not None
             listening = re.search(r"127\.0\.0\.1:\d+", service.stdout.readline())
             try:
-                return self.console_fault(text.replace(PORT, listening[0])) if listening else "the service doesn't start"
+                return (
+                    self.console_fault(text.replace(PORT, listening[0])) if listening else "the service doesn't start"
+                )
             finally:
                 service.terminate()
 
@@ -207,9 +222,15 @@ class PageFile(pytest.File):
     def conversion_fault(self, text: str, words: str) -> str | None:
         wanted, made = bytes.fromhex(words), self.words_of(text)
         (self.clone / "try.bpf").write_bytes(made)
-        shown = subprocess.run(["extractd", "dis", "--program", "try.bpf"], cwd=self.clone, capture_output=True, text=True)
+        shown = subprocess.run(
+            ["extractd", "dis", "--program", "try.bpf"], cwd=self.clone, capture_output=True, text=True
+        )
         again = self.words_of(shown.stdout)
-        return None if made == again == wanted else f"shows the words\n{words}\nand asm writes {made!r}, and of what dis writes {again!r}"
+        return (
+            None
+            if made == again == wanted
+            else f"shows the words\n{words}\nand asm writes {made!r}, and of what dis writes {again!r}"
+        )
 
     def answer_fault(self, row: str) -> str | None:
         program, _, value = row.rpartition(";")
@@ -222,7 +243,9 @@ class PageFile(pytest.File):
     def refusal_fault(self, program: bytes, line: str) -> str | None:
         (self.clone / "try.bpf").write_bytes(program)
         for command in (("verify",), ("run", "--data", str(TOP / "examples"), "01001")):
-            ran = subprocess.run(["extractd", *command, "--program", "try.bpf"], cwd=self.clone, capture_output=True, text=True)
+            ran = subprocess.run(
+                ["extractd", *command, "--program", "try.bpf"], cwd=self.clone, capture_output=True, text=True
+            )
             if (ran.returncode, ran.stdout, ran.stderr) != (1, "", f"{line}\n"):
                 return f"shows {line}, and {command[0]} says {ran.stdout}{ran.stderr}, with status {ran.returncode}"
         return None
@@ -237,7 +260,9 @@ def script_of(text: str) -> str:
         elif line.startswith("> ") and commands:
             shown, command = commands[-1]
             commands[-1] = (f"{shown}{line}\n", f"{command}{line[2:]}\n")
-    return "last=0\n" + "".join(f"printf %s {shlex.quote(shown)}\n(exit $last)\n{command}last=$?\n" for shown, command in commands)
+    return "last=0\n" + "".join(
+        f"printf %s {shlex.quote(shown)}\n(exit $last)\n{command}last=$?\n" for shown, command in commands
+    )
 
 
 def copy_clone(clone: Path) -> None:
@@ -247,7 +272,12 @@ def copy_clone(clone: Path) -> None:
     (clone / ".ci/run").chmod(0o755)
     for name in CLONED:
         if (TOP / name).is_dir():
-            shutil.copytree(TOP / name, clone / name, symlinks=True, ignore=shutil.ignore_patterns("__pycache__", ".hypothesis", ".mypy_cache"))
+            shutil.copytree(
+                TOP / name,
+                clone / name,
+                symlinks=True,
+                ignore=shutil.ignore_patterns("__pycache__", ".hypothesis", ".mypy_cache"),
+            )
         else:
             shutil.copy(TOP / name, clone / name)
     (clone / "crates/extractd/out").mkdir(parents=True)

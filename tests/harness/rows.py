@@ -114,7 +114,9 @@ class Notation:
             if is_text:
                 place = self.places[name, field]
                 width = place.stop - place.start
-                line = line[: place.start] + unescaped(text).replace(b"_", b" ").ljust(width)[:width] + line[place.stop :]
+                line = (
+                    line[: place.start] + unescaped(text).replace(b"_", b" ").ljust(width)[:width] + line[place.stop :]
+                )
             else:
                 first, _, last = change.partition("..")
                 line = line[int(first or "1") - 1 : int(last or len(line))]
@@ -155,7 +157,9 @@ class Asked:
         self.notation = Notation(self.assemble)
 
     def run(self, folder: str, *words: str) -> Said:
-        ran = subprocess.run(["extractd", *words], cwd=folder, stdin=subprocess.DEVNULL, stdout=subprocess.PIPE, stderr=subprocess.PIPE)
+        ran = subprocess.run(
+            ["extractd", *words], cwd=folder, stdin=subprocess.DEVNULL, stdout=subprocess.PIPE, stderr=subprocess.PIPE
+        )
         return Said(ran.returncode, ran.stdout, ran.stderr.decode(errors="replace"))
 
     def asm(self, folder: str, text: bytes) -> Said:
@@ -275,7 +279,9 @@ class RowTable(pytest.File):
     def collect(self) -> Iterator[pytest.Item]:
         kind = re.split(r"[_.]", self.path.name)[0]
         for line, row in rows_of(self.path):
-            item = RowItem.from_parent(self, name=f"line {line}", line=line, check=lambda row=row: self.difference(kind, row))  # type: ignore[misc]
+            item = RowItem.from_parent(
+                self, name=f"line {line}", line=line, check=lambda row=row: self.difference(kind, row)
+            )
             item.add_marker(pytest.mark.xdist_group(str(self.path)))
             yield item
 
