@@ -6,7 +6,7 @@ the prover must refuse.
 
 import re
 from collections import Counter
-from collections.abc import Iterator
+from collections.abc import Iterator, Mapping
 from pathlib import Path
 
 import pytest
@@ -18,7 +18,7 @@ HEAD = """\
 # How many tests each file has; `tests/run --write-counts` writes this. Of a crate: its tests with the lines of their tables, and the
 # mutants that its prover must refuse.
 """
-COLLECTED = pytest.StashKey[dict[str, int]]()
+COLLECTED = pytest.StashKey[Mapping[str, int]]()
 # These take longest, so they begin first.
 LONGEST = (
     "tests/exhaustion/",
