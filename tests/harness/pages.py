@@ -4,6 +4,7 @@
   print what is below it. Words after `console` name commands that the block needs: if one isn't here, the block is left out. `rt` is simulated: `rt try -- ..`
   and `rt run -- ..` run the program that is tested, and `.ci/run` does nothing. One with the word `tigerline-serve` is next to a service over examples, which
   is at port 8080 there and at a free one here.
+- Blocks ```pycon are one session of Python, also next to a service.
 - A block ```bash is commands that succeed and print nothing. Words after `bash` name commands as above.
 - A block ```asm that a block ```hex follows is a program and its words: `asm` makes these of it, and of what `dis` writes of them.
 - In a block ```verdicts each row is a program and its verdict, as in tests/verdicts.
@@ -40,7 +41,7 @@ SECONDS = 300
 # What a page's commands may use of a clone.
 CLONED = ("README.md", "deploy", "docs", "examples", "python", "quickstart.sh", "tools")
 # Blocks without a test.
-SHOWN = ("none", "pycon", "rust", "sh")
+SHOWN = ("none", "rust", "sh")
 PORT = "127.0.0.1:8080"
 # Ends a program with its r0 as the score.
 SCORED = "\nmov r1, r0\ncall 8\nmov r0, 1\nexit\n"
@@ -86,11 +87,13 @@ class PageFile(pytest.File):
 
     def collect(self) -> Iterator[pytest.Item]:
         self.examples = replies.Examples()
-        assembly = ""
+        assembly = session = ""
         for part in parts_of(self.path.read_text()):
             if part.kind == "asm":
                 assembly = part.text
-            yield from self.tests_of(part, assembly)
+            if part.kind == "pycon":
+                session += part.text
+            yield from self.tests_of(part, session if part.kind == "pycon" else assembly)
         if self.examples.shown and not self.installed:
             yield self.item(0, self.examples.fault, "the examples of crates/wire_tests")
 
@@ -102,24 +105,31 @@ class PageFile(pytest.File):
         item.add_marker(pytest.mark.needs(*needs))
         return item
 
-    def tests_of(self, part: Block, assembly: str) -> Iterator[pytest.Item]:
+    def tests_of(self, part: Block, before: str) -> Iterator[pytest.Item]:
+        """Yields the tests of a block. Before it are the text of a program, or the session up to its end."""
         line, kind, words, text = part
         needs = tuple(word.replace("tigerline-serve", "tigerline") for word in words)
         needs += ("ogr2ogr", "python3-geopandas") if "tigerline" in needs else ()
         match kind:
             case "line":
                 yield from self.tests_of_row(line, text)
+            case "pycon" if "tigerline-serve" in words:
+                yield self.item(
+                    line, lambda: self.beside_service(before, self.session_fault), needs=("python3-owslib",)
+                )
+            case "pycon":
+                yield self.item(line, lambda: self.session_fault(before), needs=("python3-geopandas",))
             case "bash":
                 yield self.item(line, lambda: self.quiet_fault(text), needs=needs)
             case "console" if "tigerline-serve" in words:
-                yield self.item(line, lambda: self.service_fault(text), needs=needs)
+                yield self.item(line, lambda: self.beside_service(text, self.console_fault), needs=needs)
             case "console":
                 yield self.item(line, lambda: self.console_fault(text), needs=needs)
             case "http":
                 self.examples.add_block(text)
                 yield self.item(line, lambda: self.http_fault(words[0], text), needs=("curl", *needs[1:]))
             case "hex":
-                yield self.item(line, lambda: self.conversion_fault(assembly, text))
+                yield self.item(line, lambda: self.conversion_fault(before, text))
             case "verdicts":
                 for number, program, verdict in verdicts.programs_of(part.numbered()):
                     yield self.item(number, lambda program=program, verdict=verdict: verdicts.difference(program, verdict, self.clone))  # type: ignore[misc]
@@ -193,8 +203,13 @@ class PageFile(pytest.File):
             else f"should print nothing\n{text}\nand has status {status} and prints\n{wrote}"
         )
 
-    def service_fault(self, text: str) -> str | None:
-        """Runs commands next to a service over the examples."""
+    def session_fault(self, text: str) -> str | None:
+        (self.clone / "session.txt").write_text(text)
+        status, wrote = self.run("python3 -m doctest -o NORMALIZE_WHITESPACE session.txt")
+        return wrote if status else None
+
+    def beside_service(self, text: str, fault: Callable[[str], str | None]) -> str | None:
+        """Looks for a fault of a text next to a service over the examples."""
         command = ["tigerline", "serve", "--data", "examples", "--port", "0"]
         with subprocess.Popen(
             command, cwd=self.clone, stdin=subprocess.DEVNULL, stdout=subprocess.PIPE, stderr=subprocess.PIPE, text=True
