@@ -5,9 +5,8 @@ use fixtures::{Refusing, Table, TableFault, cells, program, size};
 use std::alloc::{Allocator, Global};
 
 // A place; the index of the instruction that begins there, the place after it and the place that it jumps to, or `none`; and the program.
-const PLACES: Table = Table {
-    rows: 17,
-    text: "\
+const PLACES: Table = Table(
+    "\
 0; 0; 1; 3; jeq r0, r1, +2 | lddw r0, 0x1 | ja +0 | exit
 1; 1; 3; none; jeq r0, r1, +2 | lddw r0, 0x1 | ja +0 | exit
 2; none; none; none; jeq r0, r1, +2 | lddw r0, 0x1 | ja +0 | exit
@@ -25,7 +24,7 @@ const PLACES: Table = Table {
 65535; 33035; 65536; none; mov r0, 1 | ja32 +65000 | lddw r2, 0x1 *32500 | mov r3, 1 *533 | exit
 65536; none; none; none; mov r0, 1 | ja32 +65000 | lddw r2, 0x1 *32500 | mov r3, 1 *533 | exit
 65534; 65534; 65535; 65535; mov r0, 1 *65534 | jeq r0, 0, +0 | exit",
-};
+);
 
 /// What a row says about a place.
 #[derive(Clone, Copy)]

@@ -9,9 +9,8 @@ use fixtures::{Table, TableFault, cells, size};
 
 // The marks of two maps, as runs of a first offset and a length; whether the first map has the same marks as the second, more, fewer or others; and
 // the bytes that are written in both, as such runs.
-const MAPS: Table = Table {
-    rows: 32,
-    text: "\
+const MAPS: Table = Table(
+    "\
 60+8; 60+8; same; 60+8
 0+512; 0+512; same; 0+512
 511+1; 448+64; fewer; 511+1
@@ -44,7 +43,7 @@ const MAPS: Table = Table {
 448+1 511+1; 448+64; fewer; 448+1 511+1
 64+0 128+0 448+0; 511+0 512+0; same;
 363+1 505+0 294+3 407+63 82+7; 284+6 285+45 389+2 84+2 237+0; others; 84+2 294+3",
-};
+);
 
 /// Returns whether two maps compare as a row says, and have the row's bytes written in both.
 fn is_map(row: &str) -> Result<bool, TableFault> {

@@ -14,9 +14,8 @@ use std::alloc::Global;
 //
 // Computed by an independent implementation of the written rules, which was checked on all numbers of small intervals. Each operand of each case has
 // each of the numbers 0, 1, 2^31 - 1, 2^31, 2^32 - 1, 2^32, 2^63 - 1, 2^63 and 2^64 - 1 as an end, and each rule has its row.
-const RESULTS: Table = Table {
-    rows: 318,
-    text: "\
+const RESULTS: Table = Table(
+    "\
 add r1, r2; 80000000-ffffffff 0-1; 80000000-100000000
 add r1, r2; 8000000000000000-ffffffffffffffff 8000000000000000-ffffffffffffffff; 0-fffffffffffffffe
 add r1, r2; 7fffffff-100000000 7fffffff-80000000; fffffffe-180000000
@@ -335,15 +334,14 @@ ldxdw r1, [r2+0];; 0-ffffffffffffffff
 ldxsb r1, [r2+0];; 0-ffffffffffffffff
 ldxsh r1, [r2+0];; 0-ffffffffffffffff
 ldxsw r1, [r2+0];; 0-ffffffffffffffff",
-};
+);
 
 // A jump, the two intervals that it compares, and these intervals after the jump is taken and after it isn't: `same` if nothing is narrowed, `none`
 // if the edge isn't reached.
 //
 // At the ends of what 31, 32, 63 and 64 bits hold, computed elsewhere with unbounded integers.
-const EDGES: Table = Table {
-    rows: 179,
-    text: "\
+const EDGES: Table = Table(
+    "\
 jeq r1, r2, +0; 0-80000000 80000000; 80000000 80000000; 0-7fffffff 80000000
 jeq r1, r2, +0; 0-ffffffff 0; 0 0; 1-ffffffff 0
 jeq r1, r2, +0; ffffffffffffffff ffffffff-ffffffffffffffff; ffffffffffffffff ffffffffffffffff;
@@ -539,7 +537,7 @@ jsle32 r1, r2, +0; 1 1; same; none
 jsle32 r1, r2, +0; ffffffff ffffffffffffffff; same; none
 jsle32 r1, r2, +0; 7fffffff-ffffffff 80000000-ffffffff; same; same
 jsle32 r1, r2, +0; 80000000-100000000 ffffffff-100000000; same; same",
-};
+);
 
 /// Reads a number in hexadecimal digits.
 fn hexadecimal(text: &str) -> Result<u64, TableFault> {

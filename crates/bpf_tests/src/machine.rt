@@ -10,9 +10,7 @@ use std::alloc::{Allocator, Global};
 use tl_segments::Segment;
 
 // Register 0 at the program's end, with the score if it isn't 0, and the program, which reads the record alone.
-const ANSWERS: Table = Table {
-    rows: 44,
-    text: concat!(
+const ANSWERS: Table = Table(concat!(
         // Operations and jumps.
         "\
 0; mov r2, 0 | ldxb r3, [r1+55] | jeq r3, 65, +1 | mov r2, 1 | mov r0, r2 | exit
@@ -73,14 +71,11 @@ const ANSWERS: Table = Table {
 1; mov r0, 1 | ja32 +32768 | mov r0, 1 *32768 | exit
 533; mov r0, 0 | ja32 +65000 | lddw r2, 0x1 *32500 | add r0, 1 *533 | exit
 255; ldxb r0, [r1+55] | hex 25000100fe000000 0700000001000000 *32766 | jeq r0, 255, +1 | mov r0, r9 | exit"
-    ),
-};
+    ));
 
 // The same; the area of each instruction's base, R for the record, F for the frame and - for none; and `joined` if the program reads more than the
 // record, or else `alone`.
-const AREAS: Table = Table {
-    rows: 19,
-    text: concat!(
+const AREAS: Table = Table(concat!(
         // Operations and jumps.
         "\
 1; mov r0, 1 | exit; --; alone
@@ -111,8 +106,7 @@ const AREAS: Table = Table {
 1; mov r1, 0 | mov r2, 151 | call 5 | exit; ----; joined
 1; stw [r10-4], 0x6e69616d | mov r1, 0 | mov r2, r10 | add r2, -4 | mov r3, 4 | call 7 | exit; F------; joined
 1852399949; mov r1, 0 | mov r2, r10 | add r2, -4 | mov r3, 4 | call 6 | ldxw r0, [r10-4] | exit; -----F-; joined"
-    ),
-};
+    ));
 
 /// Returns the machine after at most `count` steps, and the answer if it's reached.
 fn stepped<A: Allocator, B: Allocator>(

@@ -8,9 +8,7 @@ use std::alloc::{Allocator, Global};
 use tl_segments::{County, Segment};
 
 // The outcome of a program, the program, the limit on its steps, and the county's only file, of type 1.
-const OUTCOMES: Table = Table {
-    rows: 38,
-    text: concat!(
+const OUTCOMES: Table = Table(concat!(
         // Steps and the limit on them.
         r"0; mov r0, 3 | add r0, -1 | jne r0, 0, -2 | exit; 8; {rt1}\n
 running; mov r0, 3 | add r0, -1 | jne r0, 0, -2 | exit; 7; {rt1}\n
@@ -58,16 +56,14 @@ refused 32 place 0 IntoWide; ja +1 | lddw r0, 0x1 | exit; 9; {rt1}\n
 1; stw [r10-4], 0x6e69616d | mov r1, 0 | mov r2, r10 | add r2, -4 | mov r3, 4 | call 7 | exit; 9; {rt1}\n
 0; stw [r10-4], 0x6e69616d | mov r1, 0 | mov r2, r10 | add r2, -4 | mov r3, 4 | call 7 | exit; 9; {rt1 FENAME=Maine}\n
 "
-    ),
-};
+    ));
 
 // The same, with the county's four files.
-const JOINED: Table = Table {
-    rows: 3,
-    text: r"3; call 4 | exit; 9; {rt1}\n;;; {rt6 RTSQ=1}\n{rt6 RTSQ=2}\n{rt6 TLID=5}\n
+const JOINED: Table = Table(
+    r"3; call 4 | exit; 9; {rt1}\n;;; {rt6 RTSQ=1}\n{rt6 RTSQ=2}\n{rt6 TLID=5}\n
 1; call 3 | exit; 9; {rt1}\n; {rt4 FEAT1=7 FEAT2=8}\n; {rt5 FEAT=7}\n;
 2; call 3 | exit; 9; {rt1}\n; {rt4 FEAT1=7 FEAT3=8}\n; {rt5 FEAT=8 FENAME=Elm}\n{rt5 FEAT=7}\n{rt5 FEAT=7 FENAME=Ash}\n;",
-};
+);
 
 // The files of a segment with two alternate names and one further range.
 pub const NAMED: &str = r"{rt1}\n; {rt4 FEAT2=8}\n; {rt5 FENAME=Elm}\n{rt5 FEAT=8}\n;

@@ -10,9 +10,7 @@ use refusals::Fault;
 use std::alloc::{AllocError, Global};
 
 // Calls, a text and a program, each of which the calls convert to the other.
-const CONVERSIONS: Table = Table {
-    rows: 9,
-    text: concat!(
+const CONVERSIONS: Table = Table(concat!(
         // Texts.
         r"assemble source; ldxb r2, [r1+55]\nmov r0, 0\njne r2, 65, out\nmov r0, 1\nout:\nexit\n;
   hex 7112370000000000 b700000000000000 5502010041000000 b700000001000000 9500000000000000
@@ -33,13 +31,11 @@ assemble source decode disassemble verify flatten; ldxb r2, [r1+55]\nmov r0, 1\n
 assemble source decode disassemble verify flatten; ldxb r2, [r1+55]\nmov r0, 1\njgt r2, 65, +2\njset r2, 3, +1\ncall 3\nexit\n;
   ldxb r2, [r1+55] | mov r0, 1 | jgt r2, 65, +2 | jset r2, 3, +1 | call 3 | exit
 "
-    ),
-};
+    ));
 
 // Calls, a text, and the refusal by each of the calls.
-const TEXTS: Table = Table {
-    rows: 13,
-    text: r"assemble source;; refused 26 line 1 CodeFault(10)
+const TEXTS: Table = Table(
+    r"assemble source;; refused 26 line 1 CodeFault(10)
 assemble source; frob r0; refused 21 line 1 UnknownMnemonic
 assemble source; mov r0; refused 20 line 1 Syntax
 assemble source; mov r11, 1; refused 20 line 1 Syntax
@@ -52,12 +48,10 @@ assemble source; a1:\na2:\na3:\na4:\na5:\na6:\na7:\na8:\na9:\na5:\n; refused 24 
 assemble source; {text mov r0, 1\n*300}ja nowhere; refused 23 line 301 UnknownLabel
 assemble source; {text mov r0, 1\n*300}frob; refused 21 line 301 UnknownMnemonic
 source; exit\n\xff\n; not UTF-8",
-};
+);
 
 // Calls, a program, and the result of each of the calls: `accepted` or the refusal.
-const WORDS: Table = Table {
-    rows: 46,
-    text: concat!(
+const WORDS: Table = Table(concat!(
         // Words: their number, a wide load without its second word, and an unused field that isn't 0.
         r"decode disassemble verify;; refused 10 Empty
 decode disassemble verify; hex b7000000010000; refused 11 NotWhole
@@ -124,28 +118,24 @@ verify; stxdw [r10-8], r1 | stb [r10-1], 0 | ldxdw r1, [r10-8] | exit; refused 4
 verify; ldxb r2, [r1+55] | stxdw [r10-8], r1 | jeq r2, 65, +1 | stxdw [r10-8], r10 | ldxdw r3, [r10-8] | mov r0, 1 |
   exit; refused 45 place 4 UnwrittenFrame
 "
-    ),
-};
+    ));
 
 // Long texts and programs. Most have the greatest length in words, or one word more.
-const LONG_CONVERSIONS: Table = Table {
-    rows: 4,
-    text: r"decode; {text exit\n*65536}; exit *65536
+const LONG_CONVERSIONS: Table = Table(
+    r"decode; {text exit\n*65536}; exit *65536
 disassemble; {text lddw r9, 0x1122334455667788\n*32768}; lddw r9, 0x1122334455667788 *32768
 source; mov r0, 1\nja far\n{text mov r0, 1\n*32767}far:\nexit; mov r0, 1 | hex 0500ff7f00000000 | mov r0, 1 *32767 | exit
 assemble; mov r0, 1\nja32 far\n{text mov r0, 1\n*32768}far:\nexit;
   mov r0, 1 | hex 0600000000800000 | mov r0, 1 *32768 | exit",
-};
+);
 
-const LONG_TEXTS: Table = Table {
-    rows: 2,
-    text: r"assemble; mov r0, 1\nja far\n{text mov r0, 1\n*32768}far:\nexit; refused 25 line 2 LabelTooFar
+const LONG_TEXTS: Table = Table(
+    r"assemble; mov r0, 1\nja far\n{text mov r0, 1\n*32768}far:\nexit; refused 25 line 2 LabelTooFar
 source; {text exit\n*65537}; refused 26 line 65537 CodeFault(12)",
-};
+);
 
-const LONG_WORDS: Table = Table {
-    rows: 11,
-    text: r"decode disassemble verify; exit *65537; refused 12 TooLong
+const LONG_WORDS: Table = Table(
+    r"decode disassemble verify; exit *65537; refused 12 TooLong
 decode disassemble verify; lddw r0, 0x1 *32768 | exit; refused 12 TooLong
 decode disassemble verify; exit *65535 | hex 1800000000000000; refused 17 place 65535 CutWide
 verify; exit *65535 | ja -32768; refused 30 place 65535 BackwardJump
@@ -156,7 +146,7 @@ verify; mov r0, 1 *65534 | mov r0, r9 | exit; refused 40 place 65534 ReadsNothin
 verify; stdw [r10-8], 1 *65534 | ldxdw r0, [r10-8] | exit; accepted
 verify; mov r0, 1 | lddw r2, 0x1122334455667788 *32767 | exit; accepted
 verify; ldxb r0, [r1+55] | jne r0, 65, +32767 | jne r0, 65, +0 *65533 | exit; accepted",
-};
+);
 
 /// A text and the words that it means.
 #[derive(Drop)]

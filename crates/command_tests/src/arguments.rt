@@ -7,9 +7,8 @@ use std::alloc::Global;
 use std::net::SocketAddr;
 
 // A command line, and the start of the text for the user.
-const STARTS: Table = Table {
-    rows: 121,
-    text: r#"
+const STARTS: Table = Table(
+    r#"
 extractd; error: 'extractd' requires a subcommand
 extractd run; error:
 extractd run --data d 01001; error:
@@ -145,12 +144,11 @@ extractd geocode --data d --number 151 --name main --zip 000000360670 01001;
 extractd geocode --data d --number 151 --name main --zip 3606x 01001; error: --zip is 1 to 11 digits, and "3606x" isn't
 extractd geocode --data d --number 151 --name main 010010; error: CODE is five digits, and "010010" isn't
 "#,
-};
+);
 
 // A command line, and a part of the text for the user: the program's name in a usage line, its version, or an example of each command.
-const PARTS: Table = Table {
-    rows: 39,
-    text: r#"
+const PARTS: Table = Table(
+    r#"
 extractd --help; extractd serve --data tiger --port 8080 01001
 extractd serve; Usage: extractd serve --data <DIR> <CODE>...
 extractd serve --help; extractd serve --data tiger --any-port --host ::1 01001
@@ -191,7 +189,7 @@ extractd verify --help; extractd verify --program street.bpf
 extractd asm --help; extractd asm --source street.s > street.bpf
 extractd dis --help; extractd dis --program street.bpf
 "#,
-};
+);
 
 /// Returns whether the text for the user starts as the row says.
 fn is_start(alloc: Global, row: &str) -> Result<bool, TableFault> {
@@ -232,9 +230,8 @@ fn usage(rt: HostRuntime) {
 }
 
 // The arguments of `serve`, the requested address and the number of counties.
-const SERVES: Table = Table {
-    rows: 13,
-    text: "\
+const SERVES: Table = Table(
+    "\
 serve --data d --port 8080 01001; 127.0.0.1:8080; 1
 serve --data d --port 1 01001 01003 01001; 127.0.0.1:1; 3
 serve --port 65535 01001 01003 --data d; 127.0.0.1:65535; 2
@@ -248,12 +245,11 @@ serve --data d --port 80 --public --host ::1 01001; [::1]:80; 1
 serve --data d --port 80 --host 0.0.0.0 01001 --public; 0.0.0.0:80; 1
 serve --data d --any-port --host :: --public 01001; [::]:0; 1
 serve --data d --port 80 --public --host 2001:db8::c000:201 01001; [2001:db8::c000:201]:80; 1",
-};
+);
 
 // Other arguments, and the status and text of the fault.
-const FAULTS: Table = Table {
-    rows: 27,
-    text: r#"
+const FAULTS: Table = Table(
+    r#"
 serve --data d --port 0 01001; 2; error: --port is 1 to 65535, and "0" isn't\n
 serve --data d --port 65536 01001; 2; error: --port is 1 to 65535, and "65536" isn't\n
 serve --data d --port +80 01001; 2; error: --port is 1 to 65535, and "+80" isn't\n
@@ -285,12 +281,11 @@ run --program p --data d --format csv --columns CFCC,cfcc 01001; 2; error: --col
 run --program p --data d --format csv --columns CFCC, 01001; 2; error: --columns has an empty name\n
 run --program p --data d --format csv --geometry wkt 01001; 2; error: --geometry is none, line or shape, and "wkt" isn't\n
 "#,
-};
+);
 
 // The ways in which standard error fails.
-const WAYS: Table = Table {
-    rows: 7,
-    text: "\
+const WAYS: Table = Table(
+    "\
 pipe
 interrupted
 full
@@ -298,7 +293,7 @@ nothing
 by 1 pipe
 by 1 interrupted
 by 1 nothing",
-};
+);
 
 /// Returns whether the arguments of a row request what the row says.
 fn is_serve(alloc: Global, row: &str) -> Result<bool, TableFault> {

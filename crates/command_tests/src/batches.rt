@@ -11,9 +11,8 @@ pub const WORDS: [(&str, &str); 2] = [
     ("EMPTY", ",,,,,,,,,,,"),
 ];
 
-pub const BATCHES: Table = Table {
-    rows: 42,
-    text: r#"
+pub const BATCHES: Table = Table(
+    r#"
 extractd geocode-batch --addresses a.csv --data d 01001 >
   a.csv d/TGR01001.RT1 d/TGR01001.RT4 d/TGR01001.RT5 d/TGR01001.RT6;
   HEADERm,match,,-86.494898,32.405102,123456789,L,,Main,,,36067,01001,101,199\n; 0;;
@@ -119,4 +118,4 @@ extractd geocode-batch --addresses a.csv --data d --shape 01001;; 3; error: d/TG
 extractd geocode-batch --addresses a.csv --data d --shape 01001;; 4; refused memory; a.csv: number,name\n;
   d/TGR01001.RT1: {rt1}\n; d/TGR01001.RT2: ! closed memory
 "#,
-};
+);

@@ -1,9 +1,8 @@
 //! Rows for the commands `run` and `trace` over a county's four files.
 use fixtures::Table;
 
-pub const COUNTIES: Table = Table {
-    rows: 26,
-    text: r"
+pub const COUNTIES: Table = Table(
+    r"
 extractd run --program p.bpf --data d 01001; 3\t{rt1}\n; 0;; p.bpf: {asm call 4 | mov r1, r0 | call 8 | mov r0, 1
   | exit}; d/TGR01001.RT1: {rt1}\n;
   d/TGR01001.RT6: {rt6 TLID=123456789 RTSQ=1 FRADDL= TOADDL= ZIPL=}\n{rt6 TLID=123456789 RTSQ=2 FRADDL= TOADDL=
@@ -68,12 +67,11 @@ extractd trace --line 0 --limit 1 --program p.bpf --data d 01001;; 1; refused 1 
 extractd trace --line 1 --limit 1 --program p.bpf --data d 01001;; 3; refused 5 rt1 line 1 Read; p.bpf: {asm exit};
   d/TGR01001.RT1: {rt1}\n ! call 1 pipe
 ",
-};
+);
 
 // The names of the files, in the order in which they are opened.
-pub const OPENINGS: Table = Table {
-    rows: 13,
-    text: r"
+pub const OPENINGS: Table = Table(
+    r"
 extractd run --program p.bpf --data d 01001 > p.bpf d/TGR01001.RT1 d/TGR01001.RT4 d/TGR01001.RT5 d/TGR01001.RT6;
   0\t{rt1}\n; 0;; p.bpf: {every}; d/TGR01001.RT1: {rt1}\n
 extractd run --program p.bpf --data d 01001 > p.bpf d/TGR01001.RT1 d/TGR01001.RT4;; 3;
@@ -108,4 +106,4 @@ extractd trace --line 0 --limit 0 --program p.bpf --data d 01001 > p.bpf;; 3; er
 extractd trace --line 1 --limit 2 --program p.bpf --data d 01001 > p.bpf d/TGR01001.RT1;; 4; refused memory;
   p.bpf: {every}; d/TGR01001.RT1: ! closed memory; d/TGR01001.RT4:; d/TGR01001.RT5:; d/TGR01001.RT6:
 ",
-};
+);

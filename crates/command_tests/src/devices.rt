@@ -2,9 +2,8 @@
 //! 1 file takes one.
 use fixtures::Table;
 
-pub const CASES: Table = Table {
-    rows: 11,
-    text: r"
+pub const CASES: Table = Table(
+    r"
 extractd run --program p.bpf --data d 01001; 0\t{rt1}\n ! call 2 full; 3;
   refused 2 rt1 line 2 WrongType\nerror: the output can't be written: no space left; p.bpf: {every};
   d/TGR01001.RT1: {rt1}\n{rt1 RT=4}\n
@@ -26,12 +25,11 @@ extractd run --program p.bpf --data d 01001;; 3; refused 5 rt1 line 1 Read; p.bp
 extractd run --program p.bpf --data d 01001;; 1; refused 1 rt1 line 1 WrongLength; p.bpf: {every};
   d/TGR01001.RT1: 1000\n ! call 6 pipe
 ",
-};
+);
 
 /// Programs close to the word limit.
-pub const LONG: Table = Table {
-    rows: 14,
-    text: r"
+pub const LONG: Table = Table(
+    r"
 extractd asm --source p.s; {asm exit *65536}; 0;; p.s: {text exit\n*65536}
 extractd asm --source p.s;; 1; refused 26 line 65537 CodeFault(12); p.s: {text exit\n*65537}
 extractd asm --source p.s; {asm mov r0, 1 | ja +32767 | mov r0, 1 *32767 | exit}; 0;;
@@ -53,4 +51,4 @@ extractd dis --program p.bpf; {text exit\n*65536}; 0;; p.bpf: {asm exit *65536}
 extractd dis --program p.bpf;; 1; refused 12 TooLong; p.bpf: {asm exit *65537}
 extractd dis --program p.bpf;; 3; error: p.bpf: broken pipe; p.bpf: {asm exit *65536} ! call 129 pipe
 ",
-};
+);

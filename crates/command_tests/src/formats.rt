@@ -1,9 +1,8 @@
 //! Rows for the formats of `run` and `select`, worked out by hand from the record layouts, RFC 4180 and RFC 7946.
 use fixtures::Table;
 
-pub const FORMATS: Table = Table {
-    rows: 12,
-    text: r#"
+pub const FORMATS: Table = Table(
+    r#"
 extractd select --where TRUE --format csv --columns TLID,fename --geometry none --data d 01001 01003; score,TLID,FENAME\n0,123456789,Main\n0,7,Main\n;
   0;; d/TGR01001.RT1: {rt1}\n; d/TGR01003.RT1: {rt1 TLID=7}\n
 extractd select --where TRUE --score ZIPL --format csv --columns ZIPL --data d 01001;
@@ -28,4 +27,4 @@ extractd select --where TRUE --format csv --columns TLID --geometry shape --data
 extractd run --program p.bpf --format csv --columns TLID --geometry none --data d 01001; score,TLID\n ! call 2 full; 3;
   refused 1 rt1 line 1 WrongLength\nerror: the output can't be written: no space left; p.bpf: {every}; d/TGR01001.RT1: {rt1 ..227}\n
 "#,
-};
+);

@@ -1,9 +1,8 @@
 //! Rows for the command `geocode`. Places are worked out by hand: house 151 is 50/98 of the way along Main Street's line.
 use fixtures::Table;
 
-pub const GEOCODES: Table = Table {
-    rows: 29,
-    text: r"
+pub const GEOCODES: Table = Table(
+    r"
 extractd geocode --data d --number 151 --name main --zip 36067 01001; 123456789\tL\t-86494898\t32405102\n; 0;;
   d/TGR01001.RT1: {rt1}\n
 extractd geocode --data d --number 150 --name main --zip 36067 01001; 123456789\tR\t-86494898\t32405102\n; 0;;
@@ -60,4 +59,4 @@ extractd geocode --data d --number 151 --name main 01001 01003;; 4; refused memo
 extractd geocode --data d --number 151 --name main 01001 01003;; 3; error: d/TGR01001.RT6: permission denied;
   d/TGR01001.RT1: {rt1}\n; d/TGR01003.RT1: {rt1}\n; d/TGR01001.RT6: ! closed denied
 ",
-};
+);

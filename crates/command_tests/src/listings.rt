@@ -1,9 +1,8 @@
 //! Rows for the command `explain`. The listings are worked out by hand.
 use fixtures::Table;
 
-pub const LISTINGS: Table = Table {
-    rows: 14,
-    text: r"
+pub const LISTINGS: Table = Table(
+    r"
 extractd explain --program p.bpf; 0: mov r0, 0                            \x3b r1 = record + 0, r10 = frame + 512\n1:
   exit                                 \x3b r0 = 0\naccepted\n; 0;; p.bpf: {asm mov r0, 0 | exit}
 extractd explain --program p.bpf; 0: mov r0, 0                            \x3b r1 = record + 0, r10 = frame + 512\n1:
@@ -48,4 +47,4 @@ extractd explain --program p.bpf --lines l; 1: 18 02 00 00 05 00 00 00  lddw r2,
 extractd explain --program p.bpf --lines l;; 3; error: l: not found; p.bpf: {asm mov r0, 0 | exit}
 extractd explain --program p.bpf;; 1; refused 10 Empty; p.bpf:
 ",
-};
+);

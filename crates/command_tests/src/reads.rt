@@ -8,9 +8,8 @@ use std::test::Fail;
 
 // How a file is read, its size in bytes, the outcome, the number of reads, including the one that finds the end, and the number of growths, or
 // `+` for at least one. A program longer than 65,536 words is read to its end and refused.
-const FILES: Table = Table {
-    rows: 15,
-    text: "\
+const FILES: Table = Table(
+    "\
 program; 0; kept; 1; 1
 program; 7; kept; 2; 1
 program; 4096; kept; 2; 1
@@ -26,20 +25,19 @@ file; 1; kept; 2; +
 file; 4096; kept; 2; +
 file; 4097; kept; 3; +
 file; 100001; kept; 26; +",
-};
+);
 
 // More bytes than any of the files has, in lines that don't end at the end of a read.
 const BYTES: &str = r"{text 0123456789\n*60000}";
 
 // The ways in which a read fails.
-const WAYS: Table = Table {
-    rows: 4,
-    text: "\
+const WAYS: Table = Table(
+    "\
 pipe
 interrupted
 blocked
 late",
-};
+);
 
 // If there are more reads, only this number of the last ones fail.
 const MAX_READS: u64 = 10;

@@ -1,9 +1,8 @@
 //! Rows for the command `run` over type 1 files, and one for `trace`.
 use fixtures::Table;
 
-pub const FILES: Table = Table {
-    rows: 13,
-    text: r"
+pub const FILES: Table = Table(
+    r"
 extractd run --program p.bpf --data d 01001; 0\t{rt1}\n0\t{rt1}\n; 0;; p.bpf: {every}; d/TGR01001.RT1: {rt1}\n{rt1}\n
 extractd run --program p.bpf --data d 01001;; 0;; p.bpf: {every}; d/TGR01001.RT1:
 extractd run --program p.bpf --data d 01001; 0\t{rt1}\n; 0;; p.bpf: {asm ldxb r0, [r1+227] | exit};
@@ -29,4 +28,4 @@ extractd run --program p.bpf --data d 01001; 0\t{rt1}\n; 1; refused 2 rt1 line 2
 extractd run --program p.bpf --data d 01001;; 1; refused 3 rt1 line 1 BadTlid; p.bpf: {every};
   d/TGR01001.RT1: {rt1 TLID=}\n
 ",
-};
+);

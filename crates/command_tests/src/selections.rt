@@ -1,9 +1,8 @@
 //! Rows for the commands `compile` and `select`. The filters' programs are written by hand.
 use fixtures::Table;
 
-pub const FILTERS: Table = Table {
-    rows: 24,
-    text: r"
+pub const FILTERS: Table = Table(
+    r"
 extractd compile --filter f.cql > f.cql; {asm mov r6, r1 | ldxb r0, [r6+55] | jne r0, 65, +4 | ldxb r0, [r6+56] |
   jne r0, 52, +2 | mov r0, 1 | exit | mov r0, 0 | exit}; 0;; f.cql: CFCC LIKE 'A4%'\n
 extractd compile --score TLID --filter f.cql; {asm mov r6, r1 | mov r1, 0 | call 1 | mov r1, r0 | call 8 | mov r0, 1 |
@@ -48,12 +47,11 @@ extractd select --where TRUE --data d 01001 01003; 0\t{rt1}\n; 3; refused 5 rt1 
 extractd select --where TRUE --data d 01001 01003; 0\t{rt1}\n; 4; refused memory\ncounty 01003;
   d/TGR01001.RT1: {rt1}\n; d/TGR01003.RT1: ! closed memory
 ",
-};
+);
 
 // Filters in JSON. A brace that is one of the JSON's is escaped.
-pub const JSON_FILTERS: Table = Table {
-    rows: 20,
-    text: r#"
+pub const JSON_FILTERS: Table = Table(
+    r#"
 extractd compile --filter f.json --filter-lang cql2-json; {asm mov r6, r1 | ldxb r0, [r6+55] | jne r0, 65, +4 | ldxb r0, [r6+56] |
   jne r0, 52, +2 | mov r0, 1 | exit | mov r0, 0 | exit}; 0;; f.json: \x7b"op":"like","args":[\x7b"property":"CFCC"\x7d,"A4%"]\x7d\n
 extractd compile --filter f.json --filter-lang cql2-json; {asm mov r6, r1 | mov r0, 1 | exit | mov r0, 0 | exit}; 0;; f.json: {text         *131071}    true
@@ -96,4 +94,4 @@ extractd select --where \x7b"op":"=","args":[\x7b"property":"ZIPL"\x7d,"36067"]\
   refused 92 pointer /args/1 WrongType\nthe column isn't of this type: write a number, without quotes; d/TGR01001.RT1: {rt1}\n
 extractd select --where ZIPL_=_36067 --filter-lang cql2-text --data d 01001; 0\t{rt1}\n; 0;; d/TGR01001.RT1: {rt1}\n
 "#,
-};
+);

@@ -9,9 +9,8 @@ use std::test::Fail;
 
 // Rows in the form of `Row`. After `reads` comes the number of reads of a file that isn't read to its end. Each type 1 line that `run` reads
 // yields a row.
-const REQUESTS: Table = Table {
-    rows: 52,
-    text: r#"
+const REQUESTS: Table = Table(
+    r#"
 extractd run --program p.bpf --data d 01001; 0\t{rt1}\n0\t{rt1}\n; 0;; p.bpf: {every}; d/TGR01001.RT1: {rt1\n*2}
 extractd run --program p.bpf --data d 01001;; 0;; p.bpf: {every}; d/TGR01001.RT1:
 extractd run --program p.bpf --data d 01001; 10002\t{rt1}\n; 0;; p.bpf: {counts}; d/TGR01001.RT1: {rt1}\n;
@@ -101,12 +100,11 @@ extractd dis --program p.bpf;; 1; refused 13 place 0 UnknownOpcode; p.bpf: {unkn
 extractd verify --program p.bpf; accepted\n ! call 2 full; 3; error: the output can't be written: no space left;
   p.bpf: {every}
 "#,
-};
+);
 
 // Command lines that don't form a request.
-const ARGUMENTS: Table = Table {
-    rows: 7,
-    text: r#"
+const ARGUMENTS: Table = Table(
+    r#"
 extractd run --program p.bpf --data d 0100;; 2; error: CODE is five digits, and "0100" isn't
 extractd trace --program p.bpf --data d --line 1a --limit 1 01001;; 2; error: --line is 1 to 19 digits, and "1a" isn't
 extractd trace --program p.bpf --data d --line \n1\t --limit 1 01001;; 2; error: --line is 1 to 19 digits, and
@@ -117,13 +115,12 @@ extractd run --program p.bpf 01001;; 2; error: the following required arguments 
   <DIR>\n\nUsage: extractd run --program <FILE> --data <DIR> <CODE>\n\nFor more information, try '--help'.
 extractd --version;; 2; extractd 1.1.0
 "#,
-};
+);
 
 // A call that fails, the kind of error and how many bytes a call moves, the status, the text on standard error, and the distance from one such call
 // to the next that fails. A failed write to standard error doesn't change the status.
-const INPUTS: Table = Table {
-    rows: 7,
-    text: "\
+const INPUTS: Table = Table(
+    "\
 open; denied; 3; error: FILE: permission denied; 1
 open; links; 3; error: FILE: too many links; 1
 open; memory; 4; refused memory; 1
@@ -131,13 +128,12 @@ read; interrupted; 3; error: FILE: operation interrupted; 1
 read; pipe; 3; error: FILE: broken pipe; 10
 read; blocked; 3; error: FILE: operation would block; 10
 read; late; 3; error: FILE: timed out; 10",
-};
+);
 
 // The same for a write that fails after some bytes, for a flush that fails after all of them, and for standard error. A failed flush is reported after
 // what the command reports without it.
-const OUTPUTS: Table = Table {
-    rows: 21,
-    text: "\
+const OUTPUTS: Table = Table(
+    "\
 write; interrupted; 3; refused 60 Write; 1
 write; pipe; 3; refused 60 Write; 10
 write; blocked; 3; refused 60 Write; 10
@@ -159,23 +155,21 @@ word; nothing;;; 1
 word; by 1 interrupted;;; 10
 word; by 1 full;;; 10
 word; by 1 nothing;;; 10",
-};
+);
 
 // The same for command lines, which make the same requests.
-const LINE_INPUTS: Table = Table {
-    rows: 2,
-    text: "\
+const LINE_INPUTS: Table = Table(
+    "\
 open; denied; 3; error: FILE: permission denied; 1
 read; interrupted; 3; error: FILE: operation interrupted; 1",
-};
+);
 
-const LINE_OUTPUTS: Table = Table {
-    rows: 3,
-    text: "\
+const LINE_OUTPUTS: Table = Table(
+    "\
 write; by 1 interrupted; 3; refused 60 Write; 1
 flush; by 1 interrupted; 3; error: the output can't be written: operation interrupted; 1
 word; by 1 interrupted;;; 1",
-};
+);
 
 // The text on standard error for a failed read of a county's file.
 const UNREAD: &str = "refused 5 rtTYPE line LINE Read";

@@ -7,9 +7,8 @@ use std::test::Fail;
 
 // A program that is refused, and the text on standard error: one or two programs for each kind of refusal. A rule's other rows are in
 // tests/verdicts.
-const REFUSED_PROGRAMS: Table = Table {
-    rows: 47,
-    text: r"
+const REFUSED_PROGRAMS: Table = Table(
+    r"
 ; refused 10 Empty
 hex 95000000000000; refused 11 NotWhole
 exit *65537; refused 12 TooLong
@@ -65,12 +64,11 @@ stxdw [r10-8], r1 | stb [r10-1], 0 | ldxdw r1, [r10-8] | exit; refused 45 place 
 ldxb r2, [r1+55] | stxdw [r10-8], r1 | jeq r2, 65, +1 | stxdw [r10-8], r10 | ldxdw r3, [r10-8] | mov r0, 1 | exit;
   refused 45 place 4 UnwrittenFrame
 ",
-};
+);
 
 // A program that is accepted, a type 1 file, and the rows that it selects.
-const ACCEPTED_PROGRAMS: Table = Table {
-    rows: 35,
-    text: r"
+const ACCEPTED_PROGRAMS: Table = Table(
+    r"
 mov r0, 1 | exit; {rt1}\n; 0\t{rt1}\n
 ldxb r0, [r1+227] | exit; {rt1}\n; 0\t{rt1}\n
 mov r2, 0 | ldxb r3, [r1+55] | jeq r3, 65, +1 | mov r2, 1 | mov r0, r2 | exit; {rt1}\n;
@@ -115,26 +113,24 @@ ldxb r2, [r1+55] | and r2, 15 | stxdw [r10-16], r2 | ldxdw r3, [r10-16] | add r1
   0\t{rt1}\n
 ldxb r2, [r1+55] | jne r2, 65, +0 *4000 | mov r0, 1 | exit; {rt1}\n; 0\t{rt1}\n
 ",
-};
+);
 
 // The rows for the two commands. With a refused program, every read of the type 1 file fails, and so does the first call on the output. The second
 // line shows that this call is the flush, so no read and no write is made.
-const ACCEPTED: Table = Table {
-    rows: 2,
-    text: r"
+const ACCEPTED: Table = Table(
+    r"
 extractd verify --program p.bpf; accepted\n; 0;; p.bpf: {asm PROGRAM}
 extractd run --program p.bpf --data d 01001; ROWS; 0;; p.bpf: {asm PROGRAM}; d/TGR01001.RT1: LINES
 ",
-};
+);
 
-const REFUSED: Table = Table {
-    rows: 2,
-    text: r"
+const REFUSED: Table = Table(
+    r"
 extractd verify --program p.bpf; ! call 1 full; 3; SAID\nerror: the output can't be written: no space left; p.bpf: {asm PROGRAM}
 extractd run --program p.bpf --data d 01001; ! call 1 full; 3; SAID\nerror: the output can't be written: no space left;
   p.bpf: {asm PROGRAM}; d/TGR01001.RT1: ! call 1 pipe
 ",
-};
+);
 
 /// Returns whether both commands refuse a program as a row says.
 fn is_refused(alloc: Global, row: &str) -> Result<bool, TableFault> {

@@ -5,9 +5,8 @@ use fixtures::{Refusing, Table, TableFault, bytes, cells, number};
 use std::alloc::Global;
 
 // JSON, and its text, or the fault: the line and column and what is expected there, or the pointer and what is expected there.
-const TEXTS: Table = Table {
-    rows: 73,
-    text: r##"
+const TEXTS: Table = Table(
+    r##"
 true; TRUE
  false ; FALSE
 -1.50e+03; -1.50e+03
@@ -83,12 +82,11 @@ null; /: expected true, false, a number, a string or an object
 {"op":"and", "args":[tru]}; 1 22: expected JSON
 true true; 1 6: expected JSON
 01; 1 1: expected JSON"##,
-};
+);
 
 // JSON, a column of its text, and the pointer to what writes the character there.
-const POINTERS: Table = Table {
-    rows: 17,
-    text: r##"
+const POINTERS: Table = Table(
+    r##"
 true; 1; /
 true; 4; /
 true; 5; /
@@ -106,12 +104,11 @@ true; 500; /
 {"op":"not","args":[{"op":"f","args":[]}]}; 6; /args/0
 {"op":"not","args":[{"op":"f","args":[]}]}; 7; /args/0/args
 {"type":"Point","coordinates":[1,2]}; 3; /"##,
-};
+);
 
 // JSON, and the pointer at which its text is refused, or `read`.
-const READ: Table = Table {
-    rows: 21,
-    text: r##"
+const READ: Table = Table(
+    r##"
 {"op":"and","args":[{"op":"=","args":[{"property":"CFCC"},"A41"]},{"op":"not","args":[{"op":"isNull","args":[{"property":"FENAME"}]}]}]}; read
 {"op":"in","args":[{"property":"CFCC"},["A41","A61"]]}; read
 {"op":"between","args":[{"property":"FRADDL"},1700,1799]}; read
@@ -133,16 +130,15 @@ const READ: Table = Table {
 {"op":"s_intersects","args":[{"property":"geometry"},{"type":"Polygon","coordinates":[[[0,0],[1,0],[1,1],[0,2]]]}]}; /args/1/coordinates/0/3/0
 {"op":"HAS_NAME","args":["Main",-1]}; /args/1
 "x"; /"##,
-};
+);
 
 // Long JSON, in the notation of `bytes`, and the fault.
-const LONG: Table = Table {
-    rows: 3,
-    text: r##"
+const LONG: Table = Table(
+    r##"
 "{text '*600000}"; /: the text of the filter has more than 1,048,576 bytes
 "'{text a*1048573}"; /: the text of the filter has more than 1,048,576 bytes
 {text \n*1048577}; 1048577 1: the JSON has more than 1,048,576 bytes"##,
-};
+);
 
 /// Returns a pointer as a text, `/` for the one to the whole value.
 fn shown(pointer: &[u8]) -> &str {

@@ -8,9 +8,8 @@ use std::alloc::{AllocError, Global};
 use tl_segments::County;
 
 // The sizes of the counties, a program, and whether its turns allocate.
-const TURNS: Table = Table {
-    rows: 8,
-    text: "\
+const TURNS: Table = Table(
+    "\
 none; every; false
 0 0; every; false
 1; scored_roads; true
@@ -19,7 +18,7 @@ none; every; false
 100 0 500; never; false
 255 1 1 255; roads; true
 257 256 0 255 600 1; tlids; true",
-};
+);
 
 /// Appends the rows of all turns, with a failure injected into each allocation once, and returns the number of failures. Returns `None` if a failed
 /// allocation changes the rows, or if a turn doesn't process the next 256 segments or all that are left.

@@ -11,9 +11,8 @@ use std::io::ErrorKind;
 use tl_segments::Segment;
 
 // A program, its refusal if it isn't accepted, and the row of the record if the program selects it.
-const PROGRAMS: Table = Table {
-    rows: 18,
-    text: r"
+const PROGRAMS: Table = Table(
+    r"
 every;; 0\t{rt1}\n
 two;; 0\t{rt1}\n
 never;;
@@ -32,7 +31,7 @@ unknown; refused 13 place 0 UnknownOpcode;
 backward; refused 30 place 1 BackwardJump;
 stuck; refused 40 place 0 ReadsNothing(0);
 argument; refused 50 place 5 BadArgument(3);",
-};
+);
 
 type Heap = Refusing<Global>;
 

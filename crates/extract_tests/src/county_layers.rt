@@ -7,16 +7,15 @@ use layers::{Layer, lay_out};
 use std::alloc::{AllocError, Global};
 
 // The form of a layer, its geometry and its column; the lines of type 1, and how many each county has; the text.
-const LAYERS: Table = Table {
-    rows: 4,
-    text: r#"
+const LAYERS: Table = Table(
+    r#"
 rows none TLID; {rt1}\n{rt1 TLID=5}\n; 1 1; 0\t{rt1}\n0\t{rt1 TLID=5}\n
 csv none TLID;; none; score,TLID\n
 csv shape ZIPL; {rt1}\n{rt1 TOLAT=}\n; 0 2;
   score,ZIPL,WKT\n0,36067,"LINESTRING (-86.500000 32.400000,-86.490000 32.410000)"\n0,36067,\n
 geojson none TLID; {rt1}\n; 1 0; \x7b"type":"Feature","properties":\x7b"score":0,"TLID":123456789\x7d,"geometry":null\x7d\n
 "#,
-};
+);
 
 /// Counties, the form of their layer, and its text.
 #[derive(Drop)]

@@ -8,14 +8,13 @@ use std::alloc::{Allocator, Global};
 use tl_segments::{CountyFiles, JoinedFiles, Segment};
 
 // A program, the files of types 1, 4 and 5, and the extract in the format `NameCount`. `every` and `roads` read the record alone.
-const EXTRACTS: Table = Table {
-    rows: 4,
-    text: r"
+const EXTRACTS: Table = Table(
+    r"
 every; {rt1}\n; {rt4 FEAT3=8}\n; {rt5 FEAT=8 FENAME=Elm}\n{rt5}\n; 2\n
 every; {rt1 TLID=5}\n{rt1}\n; {rt4}\n; {rt5}\n; 0\n1\n
 roads; {rt1 CFCC=H01}\n{rt1}\n{rt1 TLID=5}\n; {rt4}\n; {rt5}\n; 1\n0\n
 counts; {rt1}\n;;; 0\n",
-};
+);
 
 /// The format that writes the last digit of the number of a segment's alternate names.
 #[derive(Drop)]

@@ -6,9 +6,8 @@ use fixtures::{Refusing, Table, TableFault, cells, number};
 use std::alloc::Global;
 
 // The programs to draw from; nine of them are refused.
-const PROGRAMS: Table = Table {
-    rows: 19,
-    text: "\
+const PROGRAMS: Table = Table(
+    "\
 every
 two
 never
@@ -28,12 +27,11 @@ outside
 endless
 stuck
 pointer",
-};
+);
 
 // The seed; the sizes of the counties; the number of events; the ten words to draw from; and whether the table is full at the end.
-const LISTS: Table = Table {
-    rows: 7,
-    text: "\
+const LISTS: Table = Table(
+    "\
 1; 300 0 257 43; 400; submit submit drop fetch fetch turn turn turn turn turn; false
 2; 600; 400; submit submit submit drop fetch turn turn turn turn turn; false
 3; 0 1 255 0 256 1; 400; submit submit drop drop fetch fetch fetch turn turn turn; false
@@ -41,7 +39,7 @@ const LISTS: Table = Table {
 5; 0; 200; submit submit submit drop drop fetch fetch turn turn turn; false
 6; 256 256; 400; submit submit submit submit submit submit submit submit fetch turn; true
 7; 1000 100; 500; submit submit submit submit submit drop fetch turn turn turn; true",
-};
+);
 
 /// A row of the lists.
 #[derive(Drop)]

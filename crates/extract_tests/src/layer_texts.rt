@@ -16,9 +16,8 @@ use tl_segments::{CountyFiles, JoinedFiles, Segment};
 
 // The form of a layer, its geometry and its column; the files of types 1 and 2; the number of segments and the text. `\x7b` and `\x7d` are braces, and `\x5c` is a
 // backslash.
-const LAYERS: Table = Table {
-    rows: 23,
-    text: r#"
+const LAYERS: Table = Table(
+    r#"
 rows none TLID; {rt1}\n{rt1 TLID=5}\n; {rt2}\n; ok 2; 0\t{rt1}\n0\t{rt1 TLID=5}\n
 csv none TLID;; {rt2}\n; ok 0; score,TLID\n
 csv none TLID; {rt1}\n{rt1 TLID=0000000005}\n; {rt2}\n; ok 2; score,TLID\n0,123456789\n0,5\n
@@ -45,7 +44,7 @@ geojson none FENAME; {rt1 FENAME=\x01a}\n;; ok 1; \x7b"type":"Feature","properti
 geojson none FENAME; {rt1 FENAME=Pe\xf1a}\n;; ok 1; \x7b"type":"Feature","properties":\x7b"score":0,"FENAME":"Pe\xc3\xb1a"\x7d,"geometry":null\x7d\n
 geojson line FRLAT; {rt1}\n;; ok 1; \x7b"type":"Feature","properties":\x7b"score":0,"FRLAT":32.400000\x7d,"geometry":\x7b"type":"LineString","coordinates":[[-86.500000,32.400000],[-86.490000,32.410000]]\x7d\x7d\n
 geojson shape FRLAT; {rt1}\n; {rt2 LONG2=}\n; ok 1; \x7b"type":"Feature","properties":\x7b"score":0,"FRLAT":32.400000\x7d,"geometry":\x7b"type":"LineString","coordinates":[[-86.500000,32.400000],[-86.498000,32.403000],[-86.490000,32.410000]]\x7d\x7d\n"#,
-};
+);
 
 /// A layer, the files of types 1 and 2, the outcome, and what is written.
 #[derive(Drop)]

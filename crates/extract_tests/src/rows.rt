@@ -2,9 +2,8 @@
 use fixtures::Table;
 
 /// Extracts of type 1 files. `not_roads` and `roads` select by the first letter of the class.
-pub const EXTRACTS: Table = Table {
-    rows: 34,
-    text: r"
+pub const EXTRACTS: Table = Table(
+    r"
 every; {rt1\n*2};;;; ok 2; 0\t{rt1}\n0\t{rt1}\n
 every;;;;; ok 0;
 every; {rt1}\r\n{rt1}\n{rt1};;;; ok 3; 0\t{rt1}\n0\t{rt1}\n0\t{rt1}\n
@@ -40,13 +39,12 @@ mov r0, 0 | ldxb r2, [r1+55] | jgt r2, 227, +2 | add r1, r2 | ldxb r0, [r1+0] | 
 mov r0, 0 | ldxb r2, [r1+55] | jgt r2, 228, +2 | add r1, r2 | ldxb r0, [r1+0] | exit; {rt1}\n;;;;
   refused 44 place 4 OutOfBounds;
 mov r0, 0 | ldxb r2, [r1+55] | jsgt r2, 227, +2 | add r1, r2 | ldxb r0, [r1+0] | exit; {rt1}\n;;;; ok 1; 0\t{rt1}\n",
-};
+);
 
 /// Extracts of all four files. The score of `counts` is 10,000 times the number of alternate names, plus the number of ranges; `finds` looks for Oak
 /// among the first two alternate names.
-pub const COUNTIES: Table = Table {
-    rows: 12,
-    text: r"
+pub const COUNTIES: Table = Table(
+    r"
 counts; {rt1}\n; {rt4 FEAT2=8}\n; {rt5}\n; {rt6}\n{rt6 RTSQ=2}\n{rt6 TLID=5}\n; ok 1; 10003\t{rt1}\n
 counts; {rt1}\n; {rt4 FEAT3=8}\n; {rt5 FEAT=8 FENAME=Elm}\n{rt5}\n{rt5 FENAME=Ash}\n;; ok 1; 20001\t{rt1}\n
 finds; {rt1}\n; {rt4}\n; {rt5}\n;; ok 1; 0\t{rt1}\n
@@ -61,4 +59,4 @@ counts; {rt1 TLID=5}\n{rt1 TLID=6}\n{rt1}\n; {rt4 TLID=6}\n{rt4 TLID=6 FEAT3=8}\
   ok 3; 1\t{rt1 TLID=5}\n30001\t{rt1 TLID=6}\n3\t{rt1}\n
 counts; {rt1}\n; {rt4\n*100}{rt4 TLID=5\n*100}; {rt5\n*20}{rt5 FEAT=8}\n; {rt6\n*200}{rt6 TLID=7}\n; ok 1;
   1000201\t{rt1}\n",
-};
+);

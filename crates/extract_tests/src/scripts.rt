@@ -9,9 +9,8 @@ use std::alloc::Global;
 //
 // The scripts have two programs at the same time, with a refused one between them, and ids of no open job; a job among others and alone; refused
 // programs; the longest program; no segments; the greatest number of open jobs, and their next turns; and counties of many sizes.
-const SCRIPTS: Table = Table {
-    rows: 279,
-    text: "\
+const SCRIPTS: Table = Table(
+    "\
 600 | 300 0 300 | 0 0 300 0 0 0 300 0 0
 next; none
 fetch 1; refused 71 NoJob
@@ -307,14 +306,13 @@ turn next *4; 1369 1369
 next; none
 turn 3; 1369 1369
 fetch 2; 1369 1369 316239 of every",
-};
+);
 
 // The same with refused allocations, each once: `some`, `none`, or `any` number of them. If an event is `unswept`, no allocation is refused. The
 // scripts have submissions for which the table's map makes a first node, adds to a node, and splits one or several; turns; and events that don't
 // allocate.
-const SWEEPS: Table = Table {
-    rows: 80,
-    text: "\
+const SWEEPS: Table = Table(
+    "\
 3 0 2
 next; none; none
 submit stuck; refused 40 place 0 ReadsNothing(0); some
@@ -397,7 +395,7 @@ turn 2; refused 71 NoJob; none
 drop 2; refused 71 NoJob; none
 drop 1; dropped; none
 next; none; none",
-};
+);
 
 /// Which cells the rows of a script have below its first line.
 #[derive(Clone, Copy)]

@@ -12,9 +12,8 @@ use std::alloc::Global;
 // The first programs have the maximum number of words, or one more. Then come 70,000 type 1 lines in little memory, and joined files of 25,000 TLIDs
 // each. `every` reads the record alone, so these files are only checked for it. The score of `counts` is 10,000 times the number of alternate names,
 // plus the number of ranges.
-const LARGE: Table = Table {
-    rows: 8,
-    text: r"
+const LARGE: Table = Table(
+    r"
 mov r0, 1 *65535 | exit; {rt1\n*3};;;; ok 3; {0\trt1\n*3}; 16777216
 lddw r0, 0x1 *32767 | mov r0, 1 | exit; {rt1\n};;;; ok 1; 0\t{rt1}\n; 16777216
 mov r0, 1 | ja32 +65533 | mov r0, 0 *65533 | exit; {rt1\n*3};;;; ok 3; {0\trt1\n*3}; 16777216
@@ -27,7 +26,7 @@ counts; {rt1 TLID=1}\n{rt1 TLID=25000}\n{rt1 TLID=25001}\n{rt1 TLID=30001}\n{rt1
   {rt4\n#1..25000}; {rt5}\n; {rt6\n#30001..55000}; ok 5;
   {10001\trt1 TLID=1}\n{10001\trt1 TLID=25000}\n{1\trt1 TLID=25001}\n{2\trt1 TLID=30001}\n{2\trt1 TLID=55000}\n;
   16777216",
-};
+);
 
 /// Returns whether an extract through buffers, with so many bytes of memory, has the outcome and the rows of its case.
 fn is_extracted(alloc: Global, case: &Case<'_>, memory: usize) -> Option<bool> {

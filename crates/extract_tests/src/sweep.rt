@@ -14,9 +14,8 @@ const JOINED: &str =
 // What fails, a read of a file or a write, and in which ways; the first and last read, or the least and greatest number of bytes taken before; the
 // outcome; how many bytes are written, and how many reads and writes there are. `+3` is three more than the read or the bytes. A read or a byte after
 // the last one changes nothing.
-const FAILURES: Table = Table {
-    rows: 24,
-    text: "\
+const FAILURES: Table = Table(
+    "\
 rt4; pipe, interrupted, blocked, late; 1 1; refused 5 rt4 line 1 Read; 0; +0; 0
 rt5; pipe, interrupted, blocked, late; 1 1; refused 5 rt5 line 1 Read; 0; +1; 0
 rt6; pipe, interrupted, blocked, late; 1 1; refused 5 rt6 line 1 Read; 0; +2; 0
@@ -41,11 +40,10 @@ rows; by 1 nothing; 0 230; refused 61 WriteZero; +0; 232; +1
 rows; by 1 nothing; 231 461; refused 61 WriteZero; +0; 461; +1
 rows; pipe, nothing; 462 463; ok 2; 462; 462; 2
 rows; by 1 pipe, by 1 nothing; 462 463; ok 2; 462; 462; 462",
-};
+);
 
-const JOINED_FAILURES: Table = Table {
-    rows: 16,
-    text: "\
+const JOINED_FAILURES: Table = Table(
+    "\
 rt4; pipe, interrupted, blocked, late; 1 59; refused 5 rt4 line 1 Read; 0; +0; 0
 rt4; pipe, interrupted, blocked, late; 60 118; refused 5 rt4 line 2 Read; 0; +0; 0
 rt4; pipe, interrupted, blocked, late; 119 119; refused 5 rt4 line 3 Read; 0; +0; 0
@@ -62,7 +60,7 @@ rt4; pipe; 120 121; ok 2; 462; 848; 2
 rt5; pipe; 116 117; ok 2; 462; 848; 2
 rt6; pipe; 156 157; ok 2; 462; 848; 2
 rt1; pipe; 460 461; ok 2; 462; 848; 2",
-};
+);
 
 /// A number in a row, or one that is added to the read that fails or to the bytes that are taken before.
 #[derive(Clone, Copy)]

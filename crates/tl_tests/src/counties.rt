@@ -8,9 +8,8 @@ use std::alloc::{Allocator, Global};
 use tl_segments::{County, Index, LoadFault};
 
 // The files of types 1, 4, 5 and 6, and what is seen of the segments.
-pub const SEGMENTS: Table = Table {
-    rows: 21,
-    text: r"
+pub const SEGMENTS: Table = Table(
+    r"
 {rt1}\n;;;; 123456789
 {rt1}\n; {rt4}\n; {rt5}\n; {rt6}\n; 123456789+Oak/201
 {rt1}\n;;; {rt6}\n{rt6 RTSQ=2 FRADDL=301}\n{rt6 TLID=5 FRADDL=401}\n; 123456789/201/301
@@ -42,12 +41,11 @@ pub const SEGMENTS: Table = Table {
 {rt1}\n; {rt4\n#1..9}{rt4\n*9};
   {rt5 FEAT=1}\n{rt5 FEAT=2}\n{rt5 FEAT=3}\n{rt5 FEAT=4}\n{rt5 FEAT=5}\n{rt5}\n; {rt6\n#1..9}{rt6\n*9};
   123456789+Oak+Oak+Oak+Oak+Oak+Oak+Oak+Oak+Oak/201/201/201/201/201/201/201/201/201",
-};
+);
 
 // The same four files, and their first fault.
-pub const REFUSALS: Table = Table {
-    rows: 44,
-    text: r"
+pub const REFUSALS: Table = Table(
+    r"
 {rt1}\n{rt1 ..227}\n;;;; refused 1 rt1 line 2 WrongLength
 {rt1}x\n{rt1}\n; {rt4}\n; {rt5}\n; {rt6}\n; refused 1 rt1 line 1 WrongLength
 {rt1}\n\n{rt1}\n;;;; refused 1 rt1 line 2 WrongLength
@@ -92,25 +90,18 @@ pub const REFUSALS: Table = Table {
 {rt1}\n; {rt4\n*1001}; {rt5 FEAT=}\n; {rt6\n*1001}; refused 6 rt4 line 1001 TooManyNames
 {rt1 RT=4}\n; {rt4\n*1000}; {rt5 FEAT=}\n; {rt6\n*1001}; refused 4 rt5 line 1 BadFeature
 {rt1 RT=4}\n; {rt4\n*1000}; {rt5\n*1001}; {rt6\n*1001}; refused 7 rt6 line 1001 TooManyRanges",
-};
+);
 
 // Four empty files.
-pub const NOTHING: Table = Table {
-    rows: 1,
-    text: ";;;;",
-};
+pub const NOTHING: Table = Table(";;;;");
 
 // A segment that nothing is joined to, which doesn't allocate by itself.
-pub const ALONE: Table = Table {
-    rows: 1,
-    text: r"{rt1}\n;;;; 123456789",
-};
+pub const ALONE: Table = Table(r"{rt1}\n;;;; 123456789");
 
 // Files with many lines or other line ends, what is seen of them, and the ways of loading them. The last one has 55,000 segments, of which 25,000
 // have an alternate name, and 25,000 a further range.
-const OTHERS: Table = Table {
-    rows: 6,
-    text: r"
+const OTHERS: Table = Table(
+    r"
 {rt1}\r\n{rt1}\n{rt1}; {rt4}\r\n{rt4}; {rt5}\r\n{rt5}; {rt6}\r\n{rt6};
   123456789+Oak+Oak/201/201 123456789+Oak+Oak/201/201 123456789+Oak+Oak/201/201; county index check
 {rt1}\n; {rt4 FEAT2=7 FEAT3=7 FEAT4=7 FEAT5=7\n*1000}; {rt5}\n; {rt6\n*1000}; counts 1 5000 1001;
@@ -120,7 +111,7 @@ const OTHERS: Table = Table {
 {rt1 TLID=6}\n; {rt4\n*1000}; {rt5}\n; {rt6\n*1000}; counts 1 0 1; county index check plain
 {rt1\n*1001}{rt1 TLID=6\n*1001}; {rt4}\n; {rt5\n*1001}; {rt6}\n; counts 2002 1001 3003; county index check plain
 {rt1\n#1..55000}; {rt4\n#1..25000}; {rt5}\n; {rt6\n#30001..55000}; counts 55000 25000 80000; county index check",
-};
+);
 
 /// How a county is loaded: whole, line by line through an index, or line by line without the joined files, which are only checked.
 #[derive(Clone, Copy)]

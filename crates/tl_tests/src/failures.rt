@@ -12,9 +12,8 @@ use tl_segments::{CountyFile, LoadFault};
 const FILES: &str = r"{rt1\n*2}; {rt4\n*2}; {rt5\n*2}; {rt6\n*2}";
 
 // A file, the first and last of its reads that fail like this, the number of earlier reads of other files, and the refusal.
-const READS: Table = Table {
-    rows: 12,
-    text: "\
+const READS: Table = Table(
+    "\
 rt4; 1; 59; 0; refused 5 rt4 line 1 Read
 rt4; 60; 118; 0; refused 5 rt4 line 2 Read
 rt4; 119; 119; 0; refused 5 rt4 line 3 Read
@@ -27,19 +26,18 @@ rt6; 155; 155; 234; refused 5 rt6 line 3 Read
 rt1; 1; 229; 389; refused 5 rt1 line 1 Read
 rt1; 230; 458; 389; refused 5 rt1 line 2 Read
 rt1; 459; 459; 389; refused 5 rt1 line 3 Read",
-};
+);
 
 // How a county is loaded, and how a read fails.
-const WAYS: Table = Table {
-    rows: 6,
-    text: "\
+const WAYS: Table = Table(
+    "\
 county; interrupted
 county; blocked
 county; pipe
 index; late
 index; denied
 check; blocked",
-};
+);
 
 /// A row of `READS`.
 #[derive(Clone, Copy)]

@@ -4,9 +4,8 @@ use tl_fields::{blank, coordinate, field, number};
 use tl_segments::{NAME_LENGTH, lies_on, name_equals};
 
 // The first and last column of a field in the line of Main Street, and its text.
-const FIELDS: Table = Table {
-    rows: 9,
-    text: "\
+const FIELDS: Table = Table(
+    "\
 1; 1; '1'
 2; 5; '0006'
 6; 15; ' 123456789'
@@ -16,12 +15,11 @@ const FIELDS: Table = Table {
 107; 111; '36067'
 191; 200; '-086500000'
 220; 228; '+32410000'",
-};
+);
 
 // A call, its answer, and the text of the field.
-const VALUES: Table = Table {
-    rows: 38,
-    text: "\
+const VALUES: Table = Table(
+    "\
 number; none; ''
 number; none; '           '
 number; 101; '      101'
@@ -60,12 +58,11 @@ blank; yes; '           '
 blank; no; '     0     '
 blank; no; '          1'
 blank; no; '\t'",
-};
+);
 
 // Whether a number lies on the side of a range, the ends of the side, and the number.
-const SIDES: Table = Table {
-    rows: 32,
-    text: "\
+const SIDES: Table = Table(
+    "\
 yes; '        101'; '        199'; 101
 yes; '        101'; '        199'; 151
 yes; '        101'; '        199'; 199
@@ -98,12 +95,11 @@ yes; '00000000000'; '99999999999'; 99999999999
 no; '00000000000'; '99999999999'; 100000000000
 no; '00000000000'; '99999999999'; 18446744073709551615
 no; ''; ''; 5",
-};
+);
 
 // Whether a name in a record equals another one.
-const NAMES: Table = Table {
-    rows: 23,
-    text: "\
+const NAMES: Table = Table(
+    "\
 yes; 'Main                          '; 'Main'
 yes; 'Main                          '; 'MAIN'
 yes; 'mAIN                          '; 'Main'
@@ -127,7 +123,7 @@ no; 'Café                         '; 'CAFÉ'
 yes; 'Abcdefghijklmnopqrstuvwxyzabcd'; 'aBCDEFGHIJKLMNOPQRSTUVWXYZABCD'
 no; 'Abcdefghijklmnopqrstuvwxyzabcd'; 'abcdefghijklmnopqrstuvwxyzabce'
 no; 'Abcdefghijklmnopqrstuvwxyzabcd'; 'abcdefghijklmnopqrstuvwxyzabc'",
-};
+);
 
 /// Returns the text between the quotes of a cell.
 fn quoted(cell: &str) -> Result<&[u8], TableFault> {

@@ -6,9 +6,8 @@ use tl_segments::{County, LoadFault};
 
 // The house number, the name, and the ZIP code or `-` for none; the lines of the hits, or which of these texts is invalid; and the lines of all files
 // of one county, or of two, separated by `/`.
-pub const HITS: Table = Table {
-    rows: 83,
-    text: r"
+pub const HITS: Table = Table(
+    r"
 151; main; 36067; 123456789\tL\t-86494898\t32405102\n; {rt1}\n
 150; main; 36067; 123456789\tR\t-86494898\t32405102\n; {rt1}\n
 00000000150; MAIN; 00000036067; 123456789\tR\t-86494898\t32405102\n; {rt1}\n
@@ -103,7 +102,7 @@ pub const HITS: Table = Table {
 151; main; 000000036067; zip; {rt1}\n
 ;; x; number; {rt1}\n
 151;; x; name; {rt1}\n",
-};
+);
 
 /// The lines of all files of one county, or of two.
 #[derive(Drop)]

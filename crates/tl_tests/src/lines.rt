@@ -6,9 +6,8 @@ use std::io::BufReader;
 use tl_records::{Line, read_line};
 
 // A file, and the results of reading it, each followed by LF: a line, or a fault, after which reading continues where it stopped.
-const FILES: Table = Table {
-    rows: 19,
-    text: r"
+const FILES: Table = Table(
+    r"
 ;
 ab\ncd\n; ab\ncd\n
 ab\r\ncd\r\n; ab\ncd\n
@@ -28,7 +27,7 @@ a\rb\r\r\nc\r\n; a\rb\r\nc\n
 {text x*231}; WrongLength\n
 a\n{text x*233}\nab\n; a\nWrongLength\nxx\nab\n
 {text x*462}ab\n{text x*231}; WrongLength\nWrongLength\nab\nWrongLength\n",
-};
+);
 
 // The buffer sizes, with 0 for none: from one byte to more than a line has.
 const SIZES: [usize; 8] = [0, 1, 3, 100, 230, 231, 232, 8192];

@@ -8,9 +8,8 @@ use tl_segments::{County, LoadFault};
 // The house number and the street's name; the direction before the name, the type, and the direction after the name, each `-` if it may be any;
 // whether there is such a street; for each match the county's index, the fields of the name that matched, the side's FR and TO addresses and ZIP
 // code, and the line of its hit; and the lines of all files of one county, or of two, separated by `/`.
-pub const MATCHES: Table = Table {
-    rows: 16,
-    text: r"
+pub const MATCHES: Table = Table(
+    r"
 151; main; -; -; -; yes; 0,,Main,,,101,199,36067,123456789\tL\t-86494898\t32405102\n; {rt1}\n
 150; MAIN; -; -; -; yes; 0,,Main,,,100,198,36067,123456789\tR\t-86494898\t32405102\n; {rt1}\n
 1510; main; -; -; -; yes;; {rt1}\n
@@ -29,7 +28,7 @@ pub const MATCHES: Table = Table {
 151; main; -; -; -; yes; 0,,Main,St,,101,199,36067,123456789\tL\t-86494898\t32405102\n;
   {rt1 FETYPE=St}\n{rt4}\n{rt5 FENAME=Main FETYPE=Ave}\n
 151; main; E; -; -; yes; 1,E,Main,,,101,199,36067,7\tL\t-86494898\t32405102\n; {rt1}\n / {rt1 TLID=7 FEDIRP=E}\n",
-};
+);
 
 /// The texts of a query, the street's directions and type, the answers, and the counties.
 #[derive(Drop)]

@@ -13,9 +13,8 @@ const LENGTHS: [usize; 3] = [2, 3, 0];
 
 // How a line is read; the size of the buffer, 0 for none; how the reader fails; and how many lines are read if its first read fails, its second, and
 // so on up to the first that isn't made. In that last case both lines are read, and the end.
-const READS: Table = Table {
-    rows: 25,
-    text: "\
+const READS: Table = Table(
+    "\
 content; 0; interrupted; 0 0 0 1 1 1 1 2 3
 content; 1; blocked; 0 0 0 1 1 1 1 2 3
 content; 2; late; 0 0 1 1 2 3
@@ -41,7 +40,7 @@ read; 0; interrupted; 0 0 0 1 1 1 1 2 3
 read; 2; blocked; 0 0 1 1 2 3
 read; 6; pipe; 0 1 2 3
 read; 300; by 2 interrupted; 0 0 1 1 2 3",
-};
+);
 
 /// How a line is read: three calls that read it whole, and two that read it byte by byte.
 #[derive(Clone, Copy)]

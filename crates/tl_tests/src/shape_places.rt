@@ -8,9 +8,8 @@ use tl_segments::{LoadFault, Shapes};
 
 // The files of types 1 and 2, a house number on Main, and the coordinates in its line. The shape goes 1,000 millionths of a degree to the east on the
 // equator and then 3,000 to the north, or on the 60th parallel, where a degree of longitude is half as long, 2,000 to the east and 1,000 to the north.
-pub const PLACES: Table = Table {
-    rows: 12,
-    text: r"
+pub const PLACES: Table = Table(
+    r"
 {rt1 FRLONG=1000 FRLAT=0 TOLONG=2000 TOLAT=3000 TOADDR=200}; {rt2 LONG1=2000 LAT1=0 LONG2=}; 100; 0.001000,0.000000
 {rt1 FRLONG=1000 FRLAT=0 TOLONG=2000 TOLAT=3000 TOADDR=200}; {rt2 LONG1=2000 LAT1=0 LONG2=}; 110; 0.001400,0.000000
 {rt1 FRLONG=1000 FRLAT=0 TOLONG=2000 TOLAT=3000 TOADDR=180}; {rt2 LONG1=2000 LAT1=0 LONG2=}; 120; 0.002000,0.000000
@@ -24,7 +23,7 @@ pub const PLACES: Table = Table {
 {rt1 FRLONG=1000 FRLAT=0 TOLONG=1000 TOLAT=3000 TOADDR=200}; {rt2 TLID=5}; 150; 0.001000,0.001500
 {rt1 FRLONG=1000 FRLAT=0 TOLONG=1000 TOLAT=3000 TOADDR=200};; 150; 0.001000,0.001500
 {rt1 FRLONG=1000 FRLAT=0 TOLONG=2000 TOLAT= TOADDR=200}; {rt2 LONG1=2000 LAT1=0 LONG2=}; 150; ,",
-};
+);
 
 /// Files of types 1 and 2, a house number on Main, and the coordinates in its line.
 #[derive(Drop)]

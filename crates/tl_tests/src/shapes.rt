@@ -8,9 +8,8 @@ use std::alloc::{Allocator, Global};
 use tl_segments::{LoadFault, Point, ShapePart, Shapes};
 
 // A type 2 file, a TLID, and the parts of its shape: `none`, or the points of each part, or `counts` and the total numbers of parts and points.
-pub const SHAPES: Table = Table {
-    rows: 36,
-    text: r"
+pub const SHAPES: Table = Table(
+    r"
 ; 123456789; none
 {rt2}\n; 123456789; -86498000,32403000 -86495000,32406000
 {rt2}\r\n; 123456789; -86498000,32403000 -86495000,32406000
@@ -52,12 +51,11 @@ pub const SHAPES: Table = Table {
 {rt2\n@500..999}{rt2 TLID=5}\n{rt2\n@0..499}; 5; -86498000,32403000 -86495000,32406000
 {rt2\n#1..40}{rt2 RTSQ=2 LONG2=\n#1..40}; 40; -86498000,32403000 -86495000,32406000 / -86498000,32403000
 {rt2 RTSQ=2 LONG2=\n#1..40}{rt2\n#1..40}; 1; -86498000,32403000 -86495000,32406000 / -86498000,32403000",
-};
+);
 
 // A type 2 file, and its first fault.
-pub const SHAPE_REFUSALS: Table = Table {
-    rows: 29,
-    text: r"
+pub const SHAPE_REFUSALS: Table = Table(
+    r"
 {rt2 ..207}\n; refused 1 rt2 line 1 WrongLength
 {rt2}\n{rt2}x\n; refused 1 rt2 line 2 WrongLength
 {rt2}\n\n; refused 1 rt2 line 2 WrongLength
@@ -87,16 +85,15 @@ pub const SHAPE_REFUSALS: Table = Table {
 {rt2\n@0..999}{rt2 RTSQ=}\n; refused 120 rt2 line 1001 BadSequence
 {rt2\n@0..999}{rt2 TLID=}\n; refused 3 rt2 line 1001 BadTlid
 {rt2\n@0..999}{rt2 ..207}; refused 1 rt2 line 1001 WrongLength",
-};
+);
 
 // The first and last of the reads of a type 2 file that fail like this, and the refusal.
-const READS: Table = Table {
-    rows: 3,
-    text: "\
+const READS: Table = Table(
+    "\
 1; 209; refused 5 rt2 line 1 Read
 210; 418; refused 5 rt2 line 2 Read
 419; 419; refused 5 rt2 line 3 Read",
-};
+);
 
 /// A type 2 file, and what a row says about it.
 #[derive(Drop)]

@@ -75,15 +75,11 @@ fn bad_cells(rt: HostRuntime) {
 
 #[test]
 fn bad_tables(rt: HostRuntime) {
-    for rows in [2, 4] {
-        let table = Table { rows, text: CELLS };
-        assert_eq!(rt; table.joined(rt.alloc()).err(), Some(TableFault::Rows));
-    }
-    let table = Table {
-        rows: 3,
-        text: CELLS,
-    };
-    assert!(rt; table.joined(rt.alloc()).is_ok());
+    assert_eq!(rt;
+        Table("\n").joined(rt.alloc()).err(),
+        Some(TableFault::Rows)
+    );
+    assert!(rt; Table(CELLS).joined(rt.alloc()).is_ok());
     assert!(rt; Files::new(rt.alloc(), ("", "{rt4}", "{rt5 FEAT=7}", "{rt6}")).is_ok());
     assert!(rt; Files::new(rt.alloc(), ("", "{rt4}", "{rt5 FEAT=7}", "{rt6")).is_err());
 }

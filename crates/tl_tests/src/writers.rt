@@ -7,9 +7,8 @@ use std::io::Write;
 // How a writer fails, and a sequence of calls and checks: a write of a text, with the number of bytes that it takes, or `-` if the call fails; a
 // flush; the counts of failed calls, of writes that wrote 0 bytes and of flushes; the number of calls that its fuse counted; and everything that it
 // has taken.
-const WRITES: Table = Table {
-    rows: 19,
-    text: "\
+const WRITES: Table = Table(
+    "\
 call 2 pipe; write:abc=3 write:de=- write:=0 write:de=2 flush=0 failed=1 empty=0 flushes=1 calls=5 taken:abcde
 call 2 late; write_counted:abc=3 write_counted:de=- write_counted:=0 write_counted:de=2 flush_counted=0
   failed=1 empty=0 flushes=1 calls=5 taken:abcde
@@ -31,7 +30,7 @@ after 4 nothing; write_whole:abcde=0 failed=0 empty=1 calls=2 taken:abcd
 after 5 nothing; write_whole:abcde=5 failed=0 empty=0 calls=1 taken:abcde
 by 1 call 3 blocked; write_whole:abcde=- failed=1 calls=3 taken:ab
 by 1; write_whole:abcde=5 write_whole:=0 failed=0 empty=0 flushes=0 calls=5 taken:abcde",
-};
+);
 
 /// Returns how many bytes of a text a writer takes in one call, or `None` if it fails.
 fn given<W: CountedWrite>(

@@ -6,9 +6,8 @@ use fixtures::Table;
 // server makes after connections.
 //
 // In curl's requests, the version of curl is fixed, and the Content-Type of a body, which the server ignores, is left out.
-pub const BLOCKS: Table = Table {
-    rows: 36,
-    text: r"one
+pub const BLOCKS: Table = Table(
+    r"one
 POST /verify{curl} >> {every} => =200 OK; text/plain; 9; accepted\n
 POST /verify{curl} >> {stuck} => =422 Unprocessable Entity; text/plain; 35; refused 40 place 0 ReadsNothing(0)\n
 
@@ -55,13 +54,12 @@ POST /jobs{curl} >> => =503 Service Unavailable; text/plain; 16; refused 70 Full
 
 one
 PUT /jobs/1{curl} => =405 Method Not Allowed; text/plain; 19; method not allowed\n; GET, DELETE",
-};
+);
 
 // The block whose replies are shown in part, which is between the last two blocks above in the document. Any 400 segments stand in for the example
 // county.
-pub const TURNS: Table = Table {
-    rows: 9,
-    text: r"{rt1\n*400}
+pub const TURNS: Table = Table(
+    r"{rt1\n*400}
 POST /jobs{curl} >> {every} => 200 text 1\n
 turn => 256 400
 GET /jobs/1{curl} => 200 octets 256 400\n{0\trt1\n*256}
@@ -70,12 +68,11 @@ GET /jobs/1{curl} => 200 octets 400 400\n{0\trt1\n*400}
 turn => none
 GET /jobs/1{curl} => 200 octets 400 400\n{0\trt1\n*400}
 DELETE /jobs/1{curl} => 200 text dropped\n",
-};
+);
 
 // The requests that are shown byte for byte.
-pub const REQUESTS: Table = Table {
-    rows: 30,
-    text: r"{rt1}\n
+pub const REQUESTS: Table = Table(
+    r"{rt1}\n
 GET /geocode HTTP/2.0\r\n\r\n => 400
 GET  /geocode HTTP/1.1\r\n\r\n => 400
 GET /geocode HTTP/1.1\r\nHost : a\r\n\r\n => 400
@@ -105,12 +102,11 @@ GET /geocode?number=x&number=251&name=lantern HTTP/1.1\r\n\r\n => 400
 GET /jobs/0 HTTP/1.0\r\n\r\n => 404
 \r\n\nGET /jobs/x HTTP/1.1\nContent-Length: x\n\n => 404
 DELETE /jobs/18446744073709551616 HTTP/1.1\r\n\r\n => 404",
-};
+);
 
 // Requests with what comes next. A client that stays silent is covered by the tests of slow clients.
-pub const ENDS: Table = Table {
-    rows: 9,
-    text: r"{rt1}\n
+pub const ENDS: Table = Table(
+    r"{rt1}\n
  => 80
 \r\n\r\n => 400
 GET /jobs/0 HTTP/1.1\r\n => 400
@@ -119,4 +115,4 @@ GET /jobs/0 HTTP/1.1\r\n{text X: a\r\n*64}\r\n => 404
 GET /jobs/0 HTTP/1.1\r\n{text X: a\r\n*65}\r\n => 400
 POST /verify HTTP/1.1\r\nContent-Length: 16\r\n\r\n{asm mov r0, 1 | hex 95000000000000} => 400
 POST /verify HTTP/1.1\r\nContent-Length: 0016\r\n\r\n{every}any other bytes => 200 text accepted\n",
-};
+);

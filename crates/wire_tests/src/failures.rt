@@ -6,16 +6,14 @@ use fixtures::Table;
 use std::test::Fail;
 
 // A program to verify. The request has 61 bytes, and the reply 92.
-const VERIFY: Table = Table {
-    rows: 2,
-    text: r"{rt1}\n
+const VERIFY: Table = Table(
+    r"{rt1}\n
 POST /verify HTTP/1.1\r\nContent-Length: 16\r\n\r\n{every} => =200 OK; text/plain; 9; accepted\n",
-};
+);
 
 // A script in which each request is decided only by its last byte.
-const REQUESTS: Table = Table {
-    rows: 25,
-    text: r"{rt1\n*2}
+const REQUESTS: Table = Table(
+    r"{rt1\n*2}
 POST /verify HTTP/1.1 >> {stuck} => 422 refused 40 place 0 ReadsNothing(0)
 POST /assemble HTTP/1.1 >> mov r0, 1\nexit\n => 200 octets {every}
 POST /assemble HTTP/1.1 >> \xff => 400
@@ -41,13 +39,12 @@ PUT /jobs/2 HTTP/1.1\r\nContent-Length: 5\r\n\r\n => 405 GET, DELETE
 POST /jobs HTTP/1.1\r\nTransfer-Encoding: chunked\r\n\r\n => 411
 POST /jobs HTTP/1.1\r\nContent-Length: 16\r\nContent-Length: 16\r\n\r\n => 400
 POST /jobs HTTP/1.1\r\nContent-Length: 1048577\r\n\r\n => 413",
-};
+);
 
 // Requests that are decided before their body, or what should be a head, is complete. A head is refused at the first byte that no head can have
 // there.
-const DECIDED: Table = Table {
-    rows: 20,
-    text: r"-
+const DECIDED: Table = Table(
+    r"-
 GET /x HTTP/2 => 400
 GET /x HTTP/1.1x => 400
 GET /x HTTP/1.1\rx => 400
@@ -67,40 +64,34 @@ POST /verify/ HTTP/1.1\r\nContent-Length: 16\r\n\r\n => 404
 PATCH /verify HTTP/1.1\r\nContent-Length: 16\r\n\r\n => 405 POST
 GET /jobs/1 HTTP/1.1\r\nContent-Length: 16\r\n\r\n => 404
 DELETE /jobs/1 HTTP/1.1\r\nContent-Length: 16\r\n\r\n => 404",
-};
+);
 
 // Longer replies, in two writes.
-const REPLIES: Table = Table {
-    rows: 5,
-    text: r"{rt1\n*6}
+const REPLIES: Table = Table(
+    r"{rt1\n*6}
 POST /extract HTTP/1.1 >> {every} => 200 octets {0\trt1\n*6}
 POST /jobs HTTP/1.1 >> {scored} => 200 text 1\n
 turn => 6 6
 GET /jobs/1{end} => 200 octets 6 6\n{18446744073709551615\trt1\n*6}",
-};
+);
 
 // Requests that end early, and failing reads, when each read takes one byte: what ends or fails, the maximum number of bytes per call, and how.
-const TRIALS: Table = Table {
-    rows: 6,
-    text: "\
+const TRIALS: Table = Table(
+    "\
 end; all; none
 end; 1; none
 read; 1; pipe
 read; 1; interrupted
 read; 1; blocked
 read; 1; late",
-};
+);
 
 // The trial of requests that are decided early.
-const EARLY: Table = Table {
-    rows: 1,
-    text: "read; 1; pipe",
-};
+const EARLY: Table = Table("read; 1; pipe");
 
 // Ways in which writes fail, including replies written byte by byte.
-const WRITES: Table = Table {
-    rows: 8,
-    text: "\
+const WRITES: Table = Table(
+    "\
 write; all; pipe
 write; all; interrupted
 write; all; blocked
@@ -109,13 +100,12 @@ write; all; nothing
 write; 1; pipe
 write; 1; interrupted
 write; 1; nothing",
-};
+);
 
 // Scripts, separated by empty lines: the counties, then requests and turns, each with its result if no allocation fails. Rows marked `+` allocate,
 // and rows marked `-` don't.
-const GROWTHS: Table = Table {
-    rows: 42,
-    text: r"{rt1\n*2}
+const GROWTHS: Table = Table(
+    r"{rt1\n*2}
 + POST /verify HTTP/1.1 >> {every} => 200 text accepted\n
 + POST /verify HTTP/1.1 >> {roads} => 200 text accepted\n
 + POST /verify HTTP/1.1 >> {pointer} => 422 refused 51 place 1 ExitNotNumber
@@ -160,7 +150,7 @@ const GROWTHS: Table = Table {
 - GET /jobs/1{end} => 200 octets 256 300\n{0\trt1\n*256}
 + turn => 300 300
 - GET /jobs/1{end} => 200 octets 300 300\n{0\trt1\n*300}",
-};
+);
 
 #[test]
 fn requests_that_stop(rt: HostRuntime) -> Result<(), Fail> {

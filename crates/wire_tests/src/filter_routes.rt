@@ -2,9 +2,8 @@
 use fixtures::Table;
 
 // Filters over one segment. `\x7b` and `\x7d` are braces.
-pub const FILTERS: Table = Table {
-    rows: 35,
-    text: r#"{rt1}\n
+pub const FILTERS: Table = Table(
+    r#"{rt1}\n
 POST /select HTTP/1.1 >> FENAME = 'Main' => 200 octets 0\t{rt1}\n
 POST /select HTTP/1.1 >> FENAME = 'Oak' => 200 octets
 POST /select?score=ZIPL HTTP/1.1 >> CFCC LIKE 'A%' => 200 octets 36067\t{rt1}\n
@@ -42,23 +41,21 @@ GET /compile{end} => 405 POST
 GET /filter-jobs{end} => 405 POST
 GET /explain{end} => 405 POST
 GET /geocode-batch{end} => 405 POST"#,
-};
+);
 
 // Listings of programs.
-pub const LISTINGS: Table = Table {
-    rows: 6,
-    text: r"{rt1}\n
+pub const LISTINGS: Table = Table(
+    r"{rt1}\n
 POST /explain HTTP/1.1 >> {every} => 200 text 0: mov r0, 1                            ; r1 = record + 0, r10 = frame + 512\n1: exit                                 ; r0 = 1\naccepted\n
 POST /explain HTTP/1.1 >> {stuck} => 422 0: exit                                 ; r0 = ?, r1 = record + 0, r10 = frame + 512\nrefused: reads r0, of which nothing is known\nrefused 40 place 0 ReadsNothing(0)
 POST /explain HTTP/1.1 >> => 422 refused 10 Empty
 POST /explain HTTP/1.1 >> {unknown} => 422 refused 13 place 0 UnknownOpcode
 POST /explain HTTP/1.1 >> {backward} => 422 refused 30 place 1 BackwardJump",
-};
+);
 
 // Files of addresses, and jobs of filters. The servers' counties have the codes 01001 and 01003.
-pub const SCRIPTS: Table = Table {
-    rows: 23,
-    text: r"one
+pub const SCRIPTS: Table = Table(
+    r"one
 POST /geocode-batch HTTP/1.1 >> id,number,name\n7,251,Lantern\n8,252,Lantern\n
   => 200 csv id,status,reason,longitude,latitude,tlid,side,fedirp,fename,fetype,fedirs,zip,county,from,to\n7,match,,-86.629812,32.412161,107000725,L,,Lantern,Ct,,36067,01001,201,299\n8,no_match,no_such_number,,,,,,,,,,,,\n
 POST /geocode-batch HTTP/1.1 >> number,name
@@ -87,12 +84,11 @@ POST /select?format=rows HTTP/1.1 >> TRUE => 200 octets
 jobs => 64
 POST /filter-jobs HTTP/1.1 >> TRUE => 503 refused 70 Full
 POST /filter-jobs HTTP/1.1 >> TRUE AND => 422 refused 90 line 1 column 9 Syntax\nexpected a predicate, TRUE, FALSE or a parenthesis",
-};
+);
 
 // As `failures::GROWTHS`: rows marked `+` allocate.
-pub const GROWTHS: Table = Table {
-    rows: 16,
-    text: r"{rt1\n*2}
+pub const GROWTHS: Table = Table(
+    r"{rt1\n*2}
 + POST /select HTTP/1.1 >> FENAME = 'Main' => 200 octets {0\trt1\n*2}
 + POST /select?f%6frmat=r%6fws&sc%6fre=FR%41DDL HTTP/1.1 >> ZIPL = 1 => 200 octets
 + POST /select HTTP/1.1 >> ZIP = 36067
@@ -111,4 +107,4 @@ pub const GROWTHS: Table = Table {
 + turn => 2 2
 - GET /jobs/1{end} => 200 octets 2 2\n{0\trt1\n*2}
 + GET /open-jobs{end} => 200 text 1 2 2\n",
-};
+);

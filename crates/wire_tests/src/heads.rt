@@ -4,9 +4,8 @@ use fixtures::Table;
 // Each table begins with a job, and its rows assign no id, as the next job shows.
 //
 // Long heads, and bytes before a head.
-pub const LIMITS: Table = Table {
-    rows: 26,
-    text: r"{rt1}\n
+pub const LIMITS: Table = Table(
+    r"{rt1}\n
 jobs => 1
 turn => 1 1
 {text \r\n*4096} => 400
@@ -32,12 +31,11 @@ POST /verify?{text x*8000} HTTP/1.1 >> {every} => 200 text accepted\n
 GET /jobs/1 HTTP/1.1\r\n\r\n{text \xff*20000} => 200 octets 1 1\n0\t{rt1}\n
 turn => none
 job => 2",
-};
+);
 
 // Bytes before a head; its lines; methods; targets; versions; and headers.
-pub const HEADS: Table = Table {
-    rows: 205,
-    text: r"{rt1}\n
+pub const HEADS: Table = Table(
+    r"{rt1}\n
 jobs => 1
 turn => 1 1
 \r => 400
@@ -246,4 +244,4 @@ POST /verify HTTP/1.1\r\nExpect: x\r\nContent-Type: image/png\r\nContent-Encodin
 GET /jobs/1 HTTP/1.1\r\n\r\nGET /jobs/2 HTTP/1.1\r\n\r\n => 200 octets 1 1\n0\t{rt1}\n
 turn => none
 job => 2",
-};
+);

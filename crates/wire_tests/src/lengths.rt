@@ -5,9 +5,8 @@ use fixtures::Table;
 //
 // Lengths that are numbers, then other values; two lengths; the names of headers; transfer codings; bodies; other methods; and requests with more
 // than one fault.
-pub const LENGTHS: Table = Table {
-    rows: 113,
-    text: r"{rt1}\n
+pub const LENGTHS: Table = Table(
+    r"{rt1}\n
 jobs => 1
 turn => 1 1
 POST /verify HTTP/1.1\r\nContent-Length: 16\r\n\r\n{every}
@@ -125,12 +124,11 @@ POST /jobs HTTP/1.1\r\nContent-Length: 9\r\n\r\n{stuck} => 400
 POST /assemble HTTP/1.1\r\nContent-Length: 2\r\n\r\n\xff => 400
 turn => none
 job => 2",
-};
+);
 
 // Long bodies, and lengths of many digits.
-pub const LARGE: Table = Table {
-    rows: 8,
-    text: r"{rt1}\n
+pub const LARGE: Table = Table(
+    r"{rt1}\n
 POST /verify HTTP/1.1\r\nContent-Length: {text 0*4000}16\r\n\r\n{every} => 200 text accepted\n
 POST /verify HTTP/1.1\r\nContent-Length: 1048576\r\n\r\n{every*65536} => 422 refused 12 TooLong
 POST /verify HTTP/1.1\r\nContent-Length: 1048575\r\n\r\n{every*65536} => 422 refused 11 NotWhole
@@ -138,4 +136,4 @@ POST /verify HTTP/1.1\r\nContent-Length: {text 9*8000}\r\n\r\n{every} => 413
 POST /verify HTTP/1.1\r\nContent-Length: 1048576\r\n\r\n{every*65535}{stuck}\x00\x00\x00\x00\x00\x00\x00 => 400
 POST /verify HTTP/1.1\r\nContent-Length: 16\r\n\r\n{every*4000} => 200 text accepted\n
 POST /verify HTTP/1.1\r\nContent-Length: 524288\r\n\r\n{every*32768}{stuck} => 200 text accepted\n",
-};
+);

@@ -2,9 +2,8 @@
 use fixtures::Table;
 
 // Queries over Main Street, which has 101 to 199 on its left and 100 to 198 on its right.
-pub const QUERIES: Table = Table {
-    rows: 106,
-    text: r"{rt1}\n
+pub const QUERIES: Table = Table(
+    r"{rt1}\n
 GET /geocode?number=151&name=main&zip=36067{end}
   => 200 text 123456789\tL\t-86494898\t32405102\n
 GET /geocode?number=151&name=main{end} => 200 text 123456789\tL\t-86494898\t32405102\n
@@ -111,13 +110,12 @@ GET /geocode%3fnumber=151&name=main{end} => 404
 GET /geocode?number=151&name=main HTTP/1.0\r\n\r\n => 200 text 123456789\tL\t-86494898\t32405102\n
 POST /geocode?number=151&name=main HTTP/1.1 >> number=151&name=main => 405 GET
 HEAD /geocode?number=151&name=main{end} => 405 GET",
-};
+);
 
 // Counties, and the results of queries over them: addresses that descend; ends exchanged; an end without a latitude; a second range on the left,
 // without a ZIP code; an alternate name; a letter beyond ASCII; three counties; more than a thousand hits; no county.
-pub const COUNTIES: Table = Table {
-    rows: 34,
-    text: r"{rt1 FRADDL=________199 TOADDL=________101}\n
+pub const COUNTIES: Table = Table(
+    r"{rt1 FRADDL=________199 TOADDL=________101}\n
 GET /geocode?number=151&name=main{end} => 200 text 123456789\tL\t-86495103\t32404897\n
 GET /geocode?number=152&name=main{end} => 200 text 123456789\tR\t-86494694\t32405306\n
 
@@ -163,4 +161,4 @@ GET /geocode?number=151&name=main{end} => 200 text {text 123456789\tL\t-86494898
 -
 GET /geocode?number=151&name=main{end} => 200 text
 GET /geocode?number=151{end} => 400",
-};
+);

@@ -2,9 +2,8 @@
 use fixtures::Table;
 
 // Words are in hexadecimal if the test is about them.
-pub const PROGRAMS: Table = Table {
-    rows: 46,
-    text: r"{rt1}\n
+pub const PROGRAMS: Table = Table(
+    r"{rt1}\n
 POST /verify HTTP/1.1 >> {every} => 200 text accepted\n
 POST /verify HTTP/1.1 >> {roads} => 200 text accepted\n
 POST /verify HTTP/1.1 >> => 422 refused 10 Empty
@@ -50,24 +49,22 @@ POST /extract HTTP/1.1 >> => 422 refused 10 Empty
 POST /extract HTTP/1.1 >> {stuck}\x00 => 422 refused 11 NotWhole
 POST /extract HTTP/1.1 >> {backward} => 422 refused 30 place 1 BackwardJump
 POST /extract HTTP/1.1 >> {stuck} => 422 refused 40 place 0 ReadsNothing(0)",
-};
+);
 
 // Three programs have the greatest length, and the others are longer.
-pub const LONG: Table = Table {
-    rows: 7,
-    text: r"{rt1}\n
+pub const LONG: Table = Table(
+    r"{rt1}\n
 POST /verify HTTP/1.1 >> {asm mov r0, 1 *65535 | exit} => 200 text accepted\n
 POST /verify HTTP/1.1 >> {every*32768} => 200 text accepted\n
 POST /verify HTTP/1.1 >> {every*32768}\x00 => 422 refused 11 NotWhole
 POST /verify HTTP/1.1 >> {every*32768}{stuck} => 422 refused 12 TooLong
 POST /disassemble HTTP/1.1 >> {every*32768}{stuck} => 422 refused 12 TooLong
 POST /extract HTTP/1.1 >> {asm mov r0, 1 *65535 | exit} => 200 octets 0\t{rt1}\n",
-};
+);
 
 // Counties, and extracts over them. The last ones have the number of segments of a job's turn, and one more.
-pub const COUNTIES: Table = Table {
-    rows: 15,
-    text: r"-
+pub const COUNTIES: Table = Table(
+    r"-
 POST /extract HTTP/1.1 >> {every} => 200 octets
 POST /extract HTTP/1.1 >> {stuck} => 422 refused 40 place 0 ReadsNothing(0)
 
@@ -87,4 +84,4 @@ POST /extract HTTP/1.1 >> {every} => 200 octets {0\trt1\n*256}
 
 {rt1\n*200} | {rt1\n*57}
 POST /extract HTTP/1.1 >> {every} => 200 octets {0\trt1\n*257}",
-};
+);

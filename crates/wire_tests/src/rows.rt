@@ -20,9 +20,8 @@ pub struct Row<'a> {
 
 // The short forms of replies, with `@` for what follows, and what they stand for: the status and its phrase, the media type, the body, and the
 // methods that are allowed.
-const REPLIES: Table = Table {
-    rows: 11,
-    text: r"200 text @; 200 OK; text/plain; @;
+const REPLIES: Table = Table(
+    r"200 text @; 200 OK; text/plain; @;
 200 octets @; 200 OK; application/octet-stream; @;
 200 csv @; 200 OK; text/csv; @;
 200 features @; 200 OK; application/geo+json-seq; @;
@@ -33,7 +32,7 @@ const REPLIES: Table = Table {
 413; 413 Payload Too Large; text/plain; too large\n;
 422 @; 422 Unprocessable Entity; text/plain; @\n;
 503 @; 503 Service Unavailable; text/plain; @\n;",
-};
+);
 
 /// Returns the reply for a text in short form, or in full form after `=`. There is none for `80`.
 pub fn reply_of(alloc: Global, text: &str) -> Result<Vec<u8>, TableFault> {

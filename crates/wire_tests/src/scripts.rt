@@ -4,9 +4,8 @@ use fixtures::Table;
 // Scripts, separated by empty lines: the counties, then requests and turns, each with its result.
 //
 // The first script has valid and invalid ids. The others have jobs at the same time over two counties, and jobs over no segments.
-pub const SCRIPTS: Table = Table {
-    rows: 91,
-    text: r"{rt1\n*2}
+pub const SCRIPTS: Table = Table(
+    r"{rt1\n*2}
 turn => none
 GET /jobs/1{end} => 404
 DELETE /jobs/1{end} => 404
@@ -100,12 +99,11 @@ DELETE /jobs/1{end} => 200 text dropped\n
 GET /jobs/1{end} => 404
 GET /jobs/2{end} => 200 octets 0 0\n
 turn => none",
-};
+);
 
 // Two jobs at the same time over 600 segments, with a refused program between them.
-pub const TURNS: Table = Table {
-    rows: 24,
-    text: r"{rt1\n*600}
+pub const TURNS: Table = Table(
+    r"{rt1\n*600}
 POST /jobs HTTP/1.1 >> {every} => 200 text 1\n
 GET /jobs/1{end} => 200 octets 0 600\n
 GET /jobs/1{end} => 200 octets 0 600\n
@@ -129,12 +127,11 @@ turn => 600 600
 turn => none
 GET /jobs/2{end} => 200 octets 600 600\n{18446744073709551615\trt1\n*600}
 POST /extract HTTP/1.1 >> {every} => 200 octets {0\trt1\n*600}",
-};
+);
 
 // A job with more than a mebibyte of rows.
-pub const ROWS: Table = Table {
-    rows: 23,
-    text: r"{rt1\n*4608}
+pub const ROWS: Table = Table(
+    r"{rt1\n*4608}
 POST /jobs HTTP/1.1 >> {every} => 200 text 1\n
 turn => 256 4608
 turn => 512 4608
@@ -157,21 +154,19 @@ turn => 4608 4608
 turn => none
 GET /jobs/1{end} => 200 octets 4608 4608\n{0\trt1\n*4608}
 POST /extract HTTP/1.1 >> {every} => 200 octets {0\trt1\n*4608}",
-};
+);
 
 // A program of the greatest length in words.
-pub const LONG: Table = Table {
-    rows: 4,
-    text: r"{rt1\n*2}
+pub const LONG: Table = Table(
+    r"{rt1\n*2}
 POST /jobs HTTP/1.1 >> {asm mov r0, 1 *65535 | exit} => 200 text 1\n
 turn => 2 2
 GET /jobs/1{end} => 200 octets 2 2\n{0\trt1\n*2}",
-};
+);
 
 // Requests while the greatest number of jobs is open: the body is checked before that limit, and the program after it.
-pub const FULL: Table = Table {
-    rows: 28,
-    text: r"{rt1}\n
+pub const FULL: Table = Table(
+    r"{rt1}\n
 jobs => 64
 POST /jobs HTTP/1.1 >> {every} => 503 refused 70 Full
 POST /jobs HTTP/1.1 >> {stuck} => 503 refused 70 Full
@@ -199,4 +194,4 @@ turn => 1 1
 GET /jobs/1{end} => 200 octets 1 1\n0\t{rt1}\n
 GET /jobs/2{end} => 200 octets 0 1\n
 POST /jobs HTTP/1.1 >> {two} => 503 refused 70 Full",
-};
+);

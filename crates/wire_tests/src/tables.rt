@@ -129,9 +129,8 @@ fn rows_of_more_than_a_mebibyte(rt: HostRuntime) {
 }
 
 // What is read, and a text that it refuses.
-const REFUSED: Table = Table {
-    rows: 40,
-    text: r"row|GET /jobs/1{end}
+const REFUSED: Table = Table(
+    r"row|GET /jobs/1{end}
 row|GET /jobs/1{end} =>
 row|GET /jobs/1{end} =>404
 row|GET /jobs/1{end} => 404 => 404
@@ -171,7 +170,7 @@ trial|read; all; none
 trial|read; 1; nothing
 trial|write; one; pipe
 trial|cut; 1; none",
-};
+);
 
 /// Returns whether a text of a row is refused, and not because memory ran out.
 fn is_refused(alloc: Global, row: &str) -> bool {
@@ -195,6 +194,6 @@ fn malformed(rt: HostRuntime) {
         assert!(rt; is_refused(rt.alloc(), row), "{row}");
     }
     // A script without rows.
-    let script = Table { rows: 1, text: "-" };
+    let script = Table("-");
     assert_ne!(rt; wrong_in(rt.alloc(), script, Trial::cut(1), 1, 0), Ok(None));
 }

@@ -11,9 +11,8 @@ use std::test::Fail;
 
 // The number of bytes that a client sends, and what it does then; the numbers of bytes of the request and the reply, and how the service wants the
 // connection closed; the numbers of bytes that the service read and wrote, and its fault; the number of bytes that the client got, and its fault.
-const CLIENTS: Table = Table {
-    rows: 15,
-    text: "\
+const CLIENTS: Table = Table(
+    "\
 10; stays; 10; 50; at once; 10; 50; none; 50; none
 10; ends; 10; 50; at once; 10; 50; none; 50; none
 0; leaves; 10; 50; at once; 0; 0; end; 0; none
@@ -29,7 +28,7 @@ const CLIENTS: Table = Table {
 5; stays; 5; 50; lingering; 5; 50; none; 50; none
 5; ends; 5; 50; lingering; 5; 50; none; 50; none
 300000; leaves; 10; 50; at once; 10; 50; none; 0; none",
-};
+);
 
 /// A client, its exchange with the service, and the results of both.
 #[derive(Clone, Copy)]

@@ -12,16 +12,15 @@ use std::test::Fail;
 // The milliseconds by which the clock advances between two calls; the number of bytes of a request, all of which have arrived, and the number that
 // a read takes; the same for the reply and its writes, of which the client reads nothing; the numbers of bytes that the service read and wrote, and
 // its fault. The program's limits apply.
-const CLOCKS: Table = Table {
-    rows: 6,
-    text: "\
+const CLOCKS: Table = Table(
+    "\
 0; 10; 1; 50; 10; 10; 50; none
 9000; 10; 1; 50; 10; 4; 0; late
 7499; 5; 1; 50; 50; 5; 50; none
 7500; 5; 1; 50; 50; 4; 0; late
 10000; 10; 10; 50; 10; 10; 30; late
 9999; 10; 10; 40; 10; 10; 40; none",
-};
+);
 
 /// A client that sends a complete request and stays, and the limits and the clock of the server.
 #[derive(Clone, Copy)]

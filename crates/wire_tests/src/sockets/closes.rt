@@ -11,16 +11,15 @@ use std::time::{Clock, Duration, Instant};
 
 // The number of bytes that a client sends before it waits, and the number of bytes of the request; how the service wants the connection closed; the
 // limit on bytes after the request and the step of the clock, in milliseconds; and the time on the clock at the end, which is one step per call.
-const CLOSES: Table = Table {
-    rows: 6,
-    text: "\
+const CLOSES: Table = Table(
+    "\
 10; 10; at once; 3600000; 100; 200
 5; 5; lingering; 200; 0; 0
 300000; 5; lingering; 200; 100; 500
 300000; 5; lingering; 200; 199; 995
 300000; 5; lingering; 200; 200; 800
 300000; 5; at once; 200; 100; 500",
-};
+);
 
 /// A client that sends bytes and stays, the length of the request, and how the connection is closed.
 #[derive(Clone, Copy)]

@@ -11,9 +11,8 @@ use std::test::Fail;
 use wire::{State, serve_request};
 
 // Requests to a server of 600 segments, which makes a turn after each.
-const REQUESTS: Table = Table {
-    rows: 13,
-    text: r"GET /metrics HTTP/1.1\r\n\r\n
+const REQUESTS: Table = Table(
+    r"GET /metrics HTTP/1.1\r\n\r\n
 GET /health HTTP/1.1\r\n\r\n
 GET /x HTTP/1.1\r\n\r\n
 \r\n\r\n
@@ -26,7 +25,7 @@ POST /jobs HTTP/1.1\r\nContent-Length: 16\r\n\r\n{every}
 GET /jobs/1 HTTP/1.1\r\n\r\n
 POST /jobs HTTP/1.1\r\nContent-Length: 16\r\n\r\n{every}
 GET /jobs/1 HTTP/1.1\r\n\r\n",
-};
+);
 
 // The reply then. Four requests judged 600 segments each, and four turns 256 each. The jobs were fetched after one turn and after two.
 const COUNTS: &str =

@@ -60,16 +60,15 @@ pub const KINDS: [ErrorKind; 4] = [
 // The number of bytes that a client sends before it ends its side; the numbers of bytes of the request and the reply, each with the number that a
 // call moves; how the service wants the connection closed; the numbers of reads and writes, and of reads of bytes after the request, the last of
 // which finds the end.
-const EXCHANGES: Table = Table {
-    rows: 6,
-    text: "\
+const EXCHANGES: Table = Table(
+    "\
 10; 10; 1; 50; 7; at once; 10; 8; 0
 10; 10; 10; 50; 50; at once; 1; 1; 0
 10; 10; 4; 50; 1; at once; 3; 50; 0
 10; 10; 1; 50; 7; lingering; 10; 8; 1
 15; 10; 3; 50; 20; at once; 4; 3; 2
 15; 10; 10; 50; 50; lingering; 1; 1; 2",
-};
+);
 
 /// A client's exchange with the service, and the numbers of calls.
 #[derive(Clone, Copy)]

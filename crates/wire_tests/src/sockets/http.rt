@@ -15,9 +15,8 @@ use wire::{State, serve_one};
 
 // What a client does after its request, or `asks` if there is no connection; the request; the number of bytes of the reply, and its start. The
 // 20,000 bytes are more than the reads of a head take, so unread input is left when the connection is closed.
-const REQUESTS: Table = Table {
-    rows: 11,
-    text: r"ends; POST /jobs HTTP/1.1\r\nContent-Length: 16\r\n\r\n{every}; 85; HTTP/1.1 200
+const REQUESTS: Table = Table(
+    r"ends; POST /jobs HTTP/1.1\r\nContent-Length: 16\r\n\r\n{every}; 85; HTTP/1.1 200
   OK\r\nContent-Type: text/plain\r\nContent-Length: 2\r\nConnection: close\r\n\r\n1\n
 asks; GET /jobs/1 HTTP/1.1\r\n\r\n; 59245; HTTP/1.1 200
   OK\r\nContent-Type: application/octet-stream\r\nContent-Length: 59144\r\nConnection: close\r\n\r\n256 600\n
@@ -36,7 +35,7 @@ stays; ; 0;
 stays; POST /verify HTTP/1.1\r\nContent-Length: 16\r\n\r\n; 0;
 ends; POST /verify HTTP/1.1\r\nContent-Length: 16\r\n\r\n{every}; 92; HTTP/1.1 200
   OK\r\nContent-Type: text/plain\r\nContent-Length: 9\r\nConnection: close\r\n\r\naccepted\n",
-};
+);
 
 /// A request, and what its reply begins with.
 #[derive(Drop)]

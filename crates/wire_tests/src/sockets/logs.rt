@@ -14,9 +14,8 @@ use std::test::Fail;
 use std::time::{Clock, Duration};
 
 // What a client sends before it ends, and the end of the line after the date.
-const LINES: Table = Table {
-    rows: 12,
-    text: r#"GET /health HTTP/1.1\r\n\r\n; "GET /health HTTP/1.1" 200 3 24 1500
+const LINES: Table = Table(
+    r#"GET /health HTTP/1.1\r\n\r\n; "GET /health HTTP/1.1" 200 3 24 1500
 GET / HTTP/1.0\r\n\r\n; "GET / HTTP/1.1" 200 232 18 1500
 GET /jobs/1?%0A HTTP/1.1\r\n\r\n; "GET /jobs/{id} HTTP/1.1" 404 10 28 1500
 DELETE /jobs/no HTTP/1.1\r\n\r\n; "DELETE /jobs/{id} HTTP/1.1" 404 10 28 1500
@@ -28,7 +27,7 @@ POST /verify HTTP/1.1\r\nContent-Length: 9\r\n\r\nzero; "POST /verify HTTP/1.1" 
 POST /verify HTTP/1.1\r\n\r\n; "POST /verify HTTP/1.1" 411 16 25 1500
 \n127.0.0.1 - - [30/Nov/2026:11:39:00 +0000] "GET / HTTP/1.1" 200 1 1 1\n; "-" 400 12 71 1500
 ; "-" - - 0 1500"#,
-};
+);
 
 /// A clock that shows a fixed date, and advances by 1.5 milliseconds with each reading of the time.
 #[derive(Drop)]

@@ -11,9 +11,8 @@ use wire::State;
 
 // The requests, one connection each, over a county of one segment; the replies if each read of the first succeeds, and if a read of it fails. A
 // turn follows each connection.
-const SCRIPT: Table = Table {
-    rows: 3,
-    text: r"POST /jobs HTTP/1.1\r\nContent-Length: 16\r\n\r\n{every}; HTTP/1.1 200
+const SCRIPT: Table = Table(
+    r"POST /jobs HTTP/1.1\r\nContent-Length: 16\r\n\r\n{every}; HTTP/1.1 200
   OK\r\nContent-Type: text/plain\r\nContent-Length: 2\r\nConnection: close\r\n\r\n1\n;
 GET /jobs/1 HTTP/1.1\r\n\r\n; HTTP/1.1 200
   OK\r\nContent-Type: application/octet-stream\r\nContent-Length: 235\r\nConnection: close\r\n\r\n1 1\n{0\trt1\n};
@@ -21,7 +20,7 @@ GET /jobs/1 HTTP/1.1\r\n\r\n; HTTP/1.1 200
 POST /jobs HTTP/1.1\r\nContent-Length: 16\r\n\r\n{every}; HTTP/1.1 200
   OK\r\nContent-Type: text/plain\r\nContent-Length: 2\r\nConnection: close\r\n\r\n2\n; HTTP/1.1 200
   OK\r\nContent-Type: text/plain\r\nContent-Length: 2\r\nConnection: close\r\n\r\n1\n",
-};
+);
 
 // The submission arrives in one read, and its reply is sent in one write. The tests over memory have both byte by byte.
 const CALLS: usize = 2;

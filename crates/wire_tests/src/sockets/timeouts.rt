@@ -10,15 +10,14 @@ use std::time::Duration;
 // The limits for silence, for a request, for a reply and for bytes after the request, in seconds; the number of bytes that a read of the request of
 // 10 bytes takes; how the service wants the connection closed; and the timeouts of the last read and the last write, in seconds. The clock advances
 // by a second between two calls.
-const TIMEOUTS: Table = Table {
-    rows: 5,
-    text: "\
+const TIMEOUTS: Table = Table(
+    "\
 7; 9; 8; 5; 10; at once; 7; 8
 9; 7; 8; 5; 10; at once; 7; 8
 7; 9; 8; 5; 4; at once; 7; 8
 7; 9; 8; 5; 2; at once; 5; 8
 7; 9; 8; 5; 10; lingering; 5; 8",
-};
+);
 
 /// A listener that returns a further handle of one connection at each accept.
 #[derive(Drop)]

@@ -5,9 +5,8 @@ use std::time::Duration;
 
 // The call; the milliseconds that have elapsed; for a write, the number of bytes of the reply including this write; and the milliseconds that it may
 // wait.
-const WAITS: Table = Table {
-    rows: 20,
-    text: "\
+const WAITS: Table = Table(
+    "\
 read; 0; 0; 10000
 read; 19999; 0; 10000
 read; 20000; 0; 10000
@@ -28,7 +27,7 @@ write; 31000; 1048576; none
 linger; 0; 0; 5000
 linger; 4999; 0; 1
 linger; 5000; 0; none",
-};
+);
 
 /// Returns the time that a call may wait after this time. A write's reply has this number of bytes, including this write.
 fn wait_of(call: &str, elapsed: Duration, bytes: u64) -> Result<Option<Duration>, TableFault> {

@@ -4,16 +4,15 @@ use fixtures::{Refusing, Table, TableFault, bytes, cells};
 use std::alloc::{AllocError, Global};
 
 // The language of a filter, the filter and what is reported. `\x7b` and `\x7d` are braces.
-const FAILURES: Table = Table {
-    rows: 4,
-    text: r#"
+const FAILURES: Table = Table(
+    r#"
 text; ZIPL =; refused 90 line 1 column 7 Syntax\nexpected a number\n
 json; [tru; refused 90 line 1 column 2 Syntax\nexpected JSON\n
 json; null; refused 90 Syntax\nexpected true, false, a number, a string or an object\n
 json; \x7b"op":"=","args":[\x7b"property":"ZIP"\x7d,1]\x7d;
   refused 91 pointer /args/0/property UnknownColumn\nno column has this name, and the nearest is ZIPL\n
 "#,
-};
+);
 
 fn language_of(word: &str) -> Result<FilterLanguage, TableFault> {
     match word {

@@ -11,9 +11,8 @@ use std::test::Fail;
 
 // A text and the filter it is read as, in prefix notation. A coordinate is in millionths, and a text in Latin-1. In a pattern, `?` is any byte,
 // `~x` an x in either case, `^x` one with or without an accent, `~^x` both, and `*` any number of bytes.
-const READ: Table = Table {
-    rows: 201,
-    text: r#"
+const READ: Table = Table(
+    r#"
 ZIPL = 36067; (= ZIPL 36067)
 zipl=+36067; (= ZIPL 36067)
 "Fename" = 'Main'; (= FENAME Main)
@@ -217,7 +216,7 @@ ZIPL=5AND ZIPR=6; (and (= ZIPL 5) (= ZIPR 6))
 {text  *524286}TRUE{text  *524286}; (true)
 {text  *524287}TRUE{text  *524287}; 1 1048577 TooLong
 "#,
-};
+);
 
 // The columns of these filters.
 const COLUMNS: [&str; 28] = [
@@ -485,9 +484,8 @@ fn bad_bytes(rt: HostRuntime) {
 }
 
 // A text, and the column name near to the unknown one in it.
-const NEAREST: Table = Table {
-    rows: 13,
-    text: r#"
+const NEAREST: Table = Table(
+    r#"
 fenam = 1; FENAME
 NAME = 1; FENAME
 é = 1; none
@@ -502,7 +500,7 @@ STREET = 'x'; none
 FOO = 1; none
 ZIPL = 'x'; none
 "#,
-};
+);
 
 /// Returns the column name near to the unknown one in a text.
 fn nearest_in(alloc: Global, text: &[u8]) -> &'static str {
@@ -527,9 +525,8 @@ fn nearest_names(rt: HostRuntime) {
 }
 
 // A text as other query languages have it, and what to write.
-const HINTS: Table = Table {
-    rows: 14,
-    text: r#"
+const HINTS: Table = Table(
+    r#"
 S_CONTAINS(geometry, POINT(1 2)); write S_INTERSECTS, S_DISJOINT or S_WITHIN
 TRUE AND within(5); write S_WITHIN(geometry, BBOX(west, south, east, north))
 S_WITHIN(geometry, POLYGON((0 0, 1 0, 1 1, 0 0))); write S_WITHIN(geometry, BBOX(west, south, east, north))
@@ -545,7 +542,7 @@ FOO = 5; none
 FENAME = 5; none
 ZIPL = 5 OR; none
 "#,
-};
+);
 
 /// Returns whether the hint for a text is the one in the row.
 fn is_hinted(alloc: Global, row: &str) -> Result<bool, TableFault> {

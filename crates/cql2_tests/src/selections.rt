@@ -10,9 +10,8 @@ use std::alloc::{AllocError, Global};
 use tl_segments::{RECORD_LENGTH, Segment};
 
 // A filter, a segment's record, and whether the filter selects the segment, worked out by hand.
-const FILTERS: Table = Table {
-    rows: 110,
-    text: "\
+const FILTERS: Table = Table(
+    "\
 TRUE; {rt1}; 1
 FALSE; {rt1}; 0
 ZIPL = 36067; {rt1}; 1
@@ -123,17 +122,16 @@ HAS_NUMBER(99999999999); {rt1}; 0
 HAS_NAME('main'); {rt1}; 1
 HAS_NAME('mai'); {rt1}; 0
 NOT HAS_NAME('mai', 0); {rt1}; 1",
-};
+);
 
 // Filters, and the maximum number of words in their programs.
-const SHORT: Table = Table {
-    rows: 4,
-    text: "\
+const SHORT: Table = Table(
+    "\
 ZIPL = 36067; 8
 CFCC LIKE 'A4%'; 12
 FENAME = 'Main'; 25
 FENAME LIKE '%creek%'; 500",
-};
+);
 
 // The number of times a filter is repeated, that filter, and the last terms after it, all joined by OR; then the number of words in the program:
 // 5 plus those of the terms.
@@ -143,9 +141,8 @@ FENAME LIKE '%creek%'; 500",
 // - HAS_NAME takes 14 words per name and 2 per power of two: with 39 alternate names, 40 * 14 + 6 * 2 = 572. Before AND FALSE it takes one more:
 //   with 14, 15 * 14 + 4 * 2 + 1 = 219, and with the default of 63, 64 * 14 + 6 * 2 + 1 = 909.
 // - Each number of a ZIPL takes 3 words, and TRUE takes 1.
-const LONG: Table = Table {
-    rows: 8,
-    text: "\
+const LONG: Table = Table(
+    "\
 7; HAS_NUMBER(1); HAS_NUMBER(1); 32198
 8; HAS_NUMBER(1); HAS_NUMBER(1); 37079
 13; HAS_NUMBER(1); HAS_NUMBER(1); 62204
@@ -154,7 +151,7 @@ const LONG: Table = Table {
 7; HAS_NUMBER(1); HAS_NAME('a', 39) OR ZIPL IN (1, 2) OR TRUE OR HAS_NUMBER(1); 32778
 16; HAS_NUMBER(1) AND FALSE; HAS_NAME('a') AND FALSE OR HAS_NAME('a', 14) AND FALSE OR ZIPL = 1; 65536
 16; HAS_NUMBER(1) AND FALSE; HAS_NAME('a') AND FALSE OR HAS_NAME('a', 14) AND FALSE OR TRUE OR ZIPL = 1; too long",
-};
+);
 
 /// Returns whether the program of a row's filter is accepted and selects the segment, or doesn't, as the row says.
 fn is_right(alloc: Global, row: &str) -> Result<bool, TableFault> {

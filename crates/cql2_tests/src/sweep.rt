@@ -5,13 +5,12 @@ use fixtures::{Refusing, Table, TableFault, cells};
 use std::alloc::Global;
 
 // Filters that together contain every kind of node.
-const FILTERS: Table = Table {
-    rows: 3,
-    text: "\
+const FILTERS: Table = Table(
+    "\
 NOT (ZIPL = 36067 AND PLACEL IS NULL) OR CFCC LIKE 'A4%'
 FENAME < 'Main' OR CASEI(FENAME) = CASEI('Elm') OR HAS_NAME('Oak', 2)
 STARTS_IN(BBOX(-87, 32, -86, 33)) AND FRADDL IN (1, 2, 3)",
-};
+);
 
 /// Returns the number of words in a filter's program, or whether the filter has none because memory ran out.
 fn words(heap: &Refusing<Global>, text: &str) -> Result<usize, bool> {

@@ -9,9 +9,8 @@ use std::test::Fail;
 
 // A file, and what is read from it: each address as its line, its id in brackets if there is such a column, and the other cells in order, then the
 // end or the refusal.
-const FILES: Table = Table {
-    rows: 45,
-    text: r#"
+const FILES: Table = Table(
+    r#"
 number,name\n1,A; 2 1/A////. end
 number,name\n1,A\n2,B\n; 2 1/A////. 3 2/B////. end
 \x20Number ,"\tNAME"\n1,A; 2 1/A////. end
@@ -58,7 +57,7 @@ number,name\n1,A",",B\n2,C\n"3",D\r\n; 2 1/A"////. 3 2/C////. 4 3/D////. end
 number,name\n1,A\r\r\n\r2,B\n3,C\n; 2 1/A////. 3 2/B////. 4 3/C////. end
 number,name\r\n\n1,""\r\n\r\n2,"B\r\n"\r\n\n,C\n; 3 1/////. 5 2/B////. 8 /C////. end
 "#,
-};
+);
 
 /// Returns an address as it is in a row.
 fn written(alloc: Global, address: Address<'_>) -> Result<String, AllocError> {

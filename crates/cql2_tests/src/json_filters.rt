@@ -4,9 +4,8 @@ use fixtures::{Table, TableFault, cells};
 use std::alloc::Global;
 
 // A filter in JSON, and in text: each kind of predicate, expression and function.
-const SAME: Table = Table {
-    rows: 32,
-    text: r#"
+const SAME: Table = Table(
+    r#"
 true; TRUE
 false; FALSE
 {"op":"and","args":[{"op":"=","args":[{"property":"ZIPL"},1]},{"op":"=","args":[{"property":"ZIPR"},2]},{"op":"=","args":[{"property":"TLID"},3]}]};
@@ -49,7 +48,7 @@ false; FALSE
 {"op":"has_name","args":["Main",5]}; HAS_NAME('Main', 5)
 {"op":"STARTS_IN","args":[{"bbox":[-86.7,32.4,-86.6,32.5]}]}; STARTS_IN(BBOX(-86.7, 32.4, -86.6, 32.5))
 "#,
-};
+);
 
 /// Compiles a filter in a language.
 fn program(alloc: Global, language: FilterLanguage, text: &str) -> Option<Vec<u8>> {

@@ -4,9 +4,8 @@ use fixtures::Table;
 
 // A text and the filter it is read as, as in the table of other filters. Between the vertices of a shape there are commas, between rings `/`, and
 // between polygons `|`.
-const SHAPES: Table = Table {
-    rows: 57,
-    text: r#"
+const SHAPES: Table = Table(
+    r#"
 S_INTERSECTS(geometry, POINT(-86.5 32.25)); (meets point -86500000 32250000)
 S_INTERSECTS(POINT(-86.5 32.25), geometry); (meets point -86500000 32250000)
 s_Intersects("Geometry", Point(+1 -2)); (meets point 1000000 -2000000)
@@ -67,7 +66,7 @@ S_INTERSECTS(geometry, LINESTRING(0 0{text , 0 0*1000})); 1 24 TooLong
 S_INTERSECTS(geometry, POLYGON((0 0{text , 0 0*1000}))); (meets polygons 0 0{text ,0 0*999})
 S_INTERSECTS(geometry, POLYGON((0 0{text , 0 0*1000}), (0 0, 1 1, 2 2, 0 0))); 1 24 TooLong
 "#,
-};
+);
 
 #[test]
 fn reads_shapes(rt: HostRuntime) {
