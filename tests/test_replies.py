@@ -1,0 +1,37 @@
+"""Replies of `POST /select` whose texts are files of tests/replies, worked out by hand, over a county of one segment."""
+
+import subprocess
+from collections.abc import Iterator
+from pathlib import Path
+
+import pytest
+from harness.program import TOP
+from harness.rows import constant
+from harness.server import Server
+
+pytestmark = [pytest.mark.needs("curl"), pytest.mark.xdist_group("replies")]
+
+# The query; the filter; the media type and the file of the body.
+ROWS = """
+format=csv; TRUE; text/csv; select.csv
+format=csv&score=ZIPR; FALSE; text/csv; nothing.csv
+format=geojsonseq&score=ZIPR; TRUE; application/geo+json-seq; select.geojsonl
+"""
+
+
+@pytest.fixture(scope="module")
+def server(tmp_path_factory: pytest.TempPathFactory) -> Iterator[Server]:
+    folder = tmp_path_factory.mktemp("county")
+    (folder / "TGR01001.RT1").write_text(constant("records.rt", "RT1") + "\n")
+    with Server(folder) as server:
+        yield server
+
+
+@pytest.mark.parametrize("row", ROWS.strip().splitlines())
+def test_reply(server: Server, row: str, tmp_path: Path) -> None:
+    query, text, media, file = row.split("; ")
+    (tmp_path / "filter").write_text(text)
+    command = ["curl", "-s", "-w", "%{http_code} %{content_type}", "-o", "body", "--data-binary", "@filter"]
+    done = subprocess.run([*command, f"{server.url}/select?{query}"], cwd=tmp_path, capture_output=True, text=True)
+    assert done.stdout == f"200 {media}"
+    assert (tmp_path / "body").read_bytes() == (TOP / "tests/replies" / file).read_bytes()
