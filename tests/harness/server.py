@@ -1,5 +1,6 @@
 """Servers of the built program, each at a free port."""
 
+import os
 import re
 import subprocess
 import tempfile
@@ -31,19 +32,26 @@ class Server:
 
     def said(self) -> str:
         """Returns what it has written to standard error."""
-        self.errors.seek(0)
-        return self.errors.read().decode(errors="replace")
+        # The server writes at the file's offset, which must stay.
+        number = self.errors.fileno()
+        return os.pread(number, os.fstat(number).st_size, 0).decode(errors="replace")
 
     def addresses(self) -> set[str]:
-        """Returns where something listens at its port, as Linux writes it: in hexadecimal, an address's last byte first."""
-        found = set()
-        for name in ("/proc/net/tcp", "/proc/net/tcp6"):
-            # A line may come twice, as the kernel writes the file in pieces.
-            for line in Path(name).read_text().splitlines()[1:]:
-                _, address, _, state, *_ = line.split()
-                if state == "0A" and address.endswith(f":{self.port:04X}"):
-                    found.add(address)
-        return found
+        """Returns where it listens, as Linux writes it: in hexadecimal, an address's last byte first. Another process may have its port at another address."""
+        sockets = self._sockets()
+        rows = (line.split() for table in self._tables() for line in table.read_text().splitlines()[1:])
+        # The first cells of a row are its number, its address, that of the other end and its state. The tenth is the socket.
+        return {row[1] for row in rows if row[3] == "0A" and row[9] in sockets}
+
+    def _tables(self) -> list[Path]:
+        """Returns the tables of sockets. A machine may have no IPv6."""
+        network = Path("/proc", str(self.process.pid), "net")
+        return [table for table in (network / "tcp", network / "tcp6") if table.exists()]
+
+    def _sockets(self) -> set[str]:
+        """Returns the numbers of its sockets. Meanwhile it may have no clients, which open and close them."""
+        links = (os.readlink(file) for file in Path("/proc", str(self.process.pid), "fd").iterdir())
+        return {link.removeprefix("socket:[").removesuffix("]") for link in links if link.startswith("socket:[")}
 
     def close(self) -> None:
         self.process.kill()
