@@ -1,22 +1,24 @@
-# shellcheck shell=bash
-# Filters over one county and several, and their refusals.
-# shellcheck disable=SC2154 # ../cases.sh sets `county` and `rows`.
+"""Filters over one county and several, and their refusals."""
 
-while IFS='|' read -r arguments status size text; do
-    try_case "$status" "$size" "$text" "extractd $arguments"
-done <<END
-select --where TRUE --data $county 01001|0|$rows|
-select --where "CFCC = 'A41'" --score TLID --data $county 01001|0|$((110 * 239))|
-select --where "FRIADDL = '1'" --data $county 01001|0|$((13 * 231))|
-select --where "FRIADDL IS NULL" --format csv --columns friaddl,TOIADDR --geometry none --data $county 01001|0|$((22 + 228 * 4 + 14 * 5))|
-select --where "FRADDL_TEXT LIKE '17__'" --data $county 01001|0|$((4 * 231))|
-select --where "FRADDL_TEXT > '9'" --format csv --columns FRADDL,fraddl_text --geometry none --data $county 01001|0|$((25 + 2 * 10))|
+from pathlib import Path
+
+import pytest
+from harness import cases
+from harness.cases import Case
+
+FILTERS = r"""
+select --where TRUE --data $county 01001|0|400 * 231|
+select --where "CFCC = 'A41'" --score TLID --data $county 01001|0|110 * 239|
+select --where "FRIADDL = '1'" --data $county 01001|0|13 * 231|
+select --where "FRIADDL IS NULL" --format csv --columns friaddl,TOIADDR --geometry none --data $county 01001|0|22 + 228 * 4 + 14 * 5|
+select --where "FRADDL_TEXT LIKE '17__'" --data $county 01001|0|4 * 231|
+select --where "FRADDL_TEXT > '9'" --format csv --columns FRADDL,fraddl_text --geometry none --data $county 01001|0|25 + 2 * 10|
 select --where TRUE --data empty 01001|0|0|
-select --where TRUE --data faulty 01001 01003 01005|1|$rows|refused 1 rt1 line 1 WrongLength?county 01003
-select --where TRUE --data faulty 01001 01005|3|$rows|error: faulty/TGR01005.RT1: not found
+select --where TRUE --data faulty 01001 01003 01005|1|400 * 231|refused 1 rt1 line 1 WrongLength?county 01003
+select --where TRUE --data faulty 01001 01005|3|400 * 231|error: faulty/TGR01005.RT1: not found
 select --where TRUE --data folders 01001|3|0|refused 5 rt1 line 1 Read?county 01001
 select --where ZIPP=1 --data missing 01001|1|0|refused 91 line 1 column 1 UnknownColumn?no column has this name, and the nearest is ZIPL
-select --where '{"op":"in","args":[{"property":"CFCC"},["A41","A61"]]}' --filter-lang cql2-json --data $county 01001|0|$((122 * 231))|
+select --where '{"op":"in","args":[{"property":"CFCC"},["A41","A61"]]}' --filter-lang cql2-json --data $county 01001|0|122 * 231|
 select --where '{"op":"=","args":[{"property":"ZIPL"},""]}' --filter-lang cql2-json --data missing 01001|1|0|refused 92 pointer /args/1 WrongType?*
 select --where TRUE --filter-lang json --data missing 01001|2|0|error: --filter-lang is cql2-text or cql2-json, and "json" isn't
 select --where TRUE --score FENAME --data $county 01001|2|0|error: --score is a column with numbers, and "FENAME" isn't
@@ -34,12 +36,24 @@ compile --filter /dev/zero|1|0|refused 96 line 1 column 1048577 TooLong?the text
 compile --filter /dev/zero --filter-lang cql2-json|1|0|refused 96 line 1 column 1048577 TooLong?the text has more than 1,048,576 bytes
 compile --filter latin.s|1|0|refused 90 line 1 column 8 Syntax?expected UTF-8
 compile --filter -|1|0|refused 90 line 1 column 1 Syntax?expected a predicate, TRUE, FALSE or a parenthesis
-END
-try_shown 'error: --score is a column with numbers, and "FENAME" isn'\''t'
-try_shown 'error: --filter-lang is cql2-text or cql2-json, and "json" isn'\''t'
-try_shown 'error: --format is rows, csv or geojsonseq, and "json" isn'\''t'
-try_shown 'error: --columns needs --format csv or geojsonseq'
-try_shown 'error: --columns has "FRLATT", which isn'\''t a column, and the nearest is FRLAT'
-try_shown 'error: --columns has "TLID" twice'
-try_shown 'error: --columns has an empty name'
-try_shown 'error: --geometry is none, line or shape, and "point" isn'\''t'
+"""
+SHOWN = """
+error: --score is a column with numbers, and "FENAME" isn't
+error: --filter-lang is cql2-text or cql2-json, and "json" isn't
+error: --format is rows, csv or geojsonseq, and "json" isn't
+error: --columns needs --format csv or geojsonseq
+error: --columns has "FRLATT", which isn't a column, and the nearest is FRLAT
+error: --columns has "TLID" twice
+error: --columns has an empty name
+error: --geometry is none, line or shape, and "point" isn't
+"""
+
+
+@cases.rows(FILTERS, "extractd ")
+def test_filter(files: Path, case: Case) -> None:
+    cases.check(case)
+
+
+@pytest.mark.parametrize("text", SHOWN.strip().splitlines())
+def test_shown(text: str) -> None:
+    cases.check_shown(text)
