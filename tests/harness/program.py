@@ -18,7 +18,7 @@ case "$1 ${2-}" in "try --" | "run --") shift 2 && exec extractd "$@" ;; esac
 LIMITED = """#!/bin/sh
 case $1 in
 v) limit=--as=$(($2 * 1024)) ;;
-f) limit=--fsize=$(($2 * 1024)) ;;
+f) limit=--fsize=$(($2 * 1024)) && trap '' XFSZ ;;
 n) limit=--nofile=$2 ;;
 esac
 shift 2
