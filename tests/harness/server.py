@@ -4,26 +4,38 @@ import os
 import re
 import subprocess
 import tempfile
+from contextlib import suppress
 from pathlib import Path
 from types import TracebackType
 
-import pytest
+SECONDS = 60
+
+
+class NotListening(Exception):
+    """A server has ended before it listened, with a status and with this on standard output and on standard error."""
+
+    def __init__(self, status: int, said: str, errors: str) -> None:
+        super().__init__(f"no server listens: status {status}, {said!r} and {errors!r}")
+        self.status, self.said, self.errors = status, said, errors
 
 
 class Server:
-    """A server over the county 01001 of a folder, until it is closed."""
+    """A server over the county 01001 of a folder, until it is closed. `under` is a command that runs it, such as `limited v 4000`."""
 
-    def __init__(self, folder: Path, *options: str) -> None:
+    def __init__(self, folder: Path, *options: str, under: str = "") -> None:
         self.errors = tempfile.TemporaryFile()
-        command = ["extractd", "serve", "--data", str(folder), "--any-port", *options, "01001"]
+        command = [*under.split(), "extractd", "serve", "--data", str(folder), "--any-port", *options, "01001"]
         self.process = subprocess.Popen(command, stdin=subprocess.DEVNULL, stdout=subprocess.PIPE, stderr=self.errors)
         assert self.process.stdout is not None
         # A read waits for the end of the line, or that of the server.
         said = self.process.stdout.readline().decode()
         listening = re.fullmatch(r"listening (.+):(\d+)\n", said)
         if listening is None:
+            # Its output ends a moment before it does.
+            with suppress(subprocess.TimeoutExpired):
+                self.process.wait(0 if said else SECONDS)
             self.close()
-            pytest.fail(f"no server over {folder}: {said}{self.said()}")
+            raise NotListening(self.process.returncode, said, self.said())
         self.host, self.port = listening[1], int(listening[2])
 
     @property
