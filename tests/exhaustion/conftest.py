@@ -23,3 +23,10 @@ def among_inputs(inputs: Path, monkeypatch: pytest.MonkeyPatch) -> None:
     """Goes to the folder of inputs."""
     monkeypatch.chdir(inputs)
     monkeypatch.setenv("LC_ALL", "C")
+
+
+@pytest.fixture
+def folder() -> Iterator[Path]:
+    """Yields a new folder, which is removed afterwards."""
+    with tempfile.TemporaryDirectory() as name:
+        yield Path(name)

@@ -3,12 +3,14 @@
 import os
 import shutil
 import subprocess
+from collections.abc import Mapping
 from pathlib import Path
 
 from harness.program import TOP
 from make_county import JOINED_SEED, SEED, Dice, county, joined, write
 
-NAME = "TGR01001.RT"
+COUNTIES = ("small", "one", "large", "late")
+TYPE_1 = "TGR01001.RT1"
 HIT = b"107000151\tL\t-86475706\t32577369\n"
 LISTING = b"""\
 0: mov r0, 1                            ; r1 = record + 0, r10 = frame + 512
@@ -56,28 +58,45 @@ batch.places    geocode-batch --addresses batch.csv --data small 01001
 def make(folder: Path) -> None:
     """Makes all of them in a folder."""
     shutil.copytree(TOP / "examples/programs", folder, dirs_exist_ok=True)
+    shutil.copytree(TOP / "examples", folder / "small", ignore=lambda _, names: {n for n in names if n[:3] != "TGR"})
+    shutil.copytree(TOP / "examples/one", folder / "one")
     shutil.copy(TOP / "examples/addresses.csv", folder)
-    for name, data in FILES.items():
+    make_large_county(folder / "large")
+    write_all(folder, FILES)
+    write_all(folder, derived_counties(folder / "small"))
+    write_all(folder, {f"{name}.rows": rows_of((folder / name / TYPE_1).read_bytes()) for name in COUNTIES})
+    make_outputs(folder)
+    make_long_programs(folder)
+
+
+def write_all(folder: Path, files: Mapping[str, bytes]) -> None:
+    for name, data in files.items():
+        (folder / name).parent.mkdir(exist_ok=True)
         (folder / name).write_bytes(data)
-    make_counties(folder)
-    for line in OUTPUTS.split("\n")[1:-1]:
+
+
+def make_outputs(folder: Path) -> None:
+    for line in OUTPUTS.strip().splitlines():
         name, *arguments = line.split()
         with (folder / name).open("wb") as output:
             subprocess.run(["extractd", *arguments], cwd=folder, stdout=output, check=True)
-    make_long_programs(folder, (folder / "longest.bpf").read_bytes())
 
 
-def make_counties(folder: Path) -> None:
-    for name in ("small", "one", "late", "cut"):
-        (folder / name).mkdir()
-    for file in (TOP / "examples").glob(f"{NAME}?"):
-        shutil.copy(file, folder / "small")
-        shutil.copy(TOP / "examples/one" / file.name, folder / "one")
-    make_large_county(folder / "large")
-    make_late_county(folder / "small", folder / "late")
-    make_cut_counties((folder / f"small/{NAME}1").read_bytes(), folder / "cut")
-    for name in ("small", "one", "large", "late"):
-        (folder / f"{name}.rows").write_bytes(rows_of((folder / name / f"{NAME}1").read_bytes()))
+def derived_counties(small: Path) -> dict[str, bytes]:
+    """Returns files of counties with parts of the small one."""
+    lines = (small / TYPE_1).read_bytes()
+    last = lines.splitlines()[-1][5:15].decode()
+    names = (f"40006{last}{sequence:3}{5 * '       5'}\r\n" for sequence in range(1, 1000))
+    return {
+        # The last segment has 4,995 alternate names. Its row takes memory for each.
+        "late/TGR01001.RT1": lines,
+        "late/TGR01001.RT4": "".join(names).encode(),
+        "late/TGR01001.RT5": (small / "TGR01001.RT5").read_bytes(),
+        # Lines 100 and 1 are too short.
+        "cut/TGR01001.RT1": b"".join(lines.splitlines(keepends=True)[:99]) + b"x\n",
+        "cut/TGR01003.RT1": lines,
+        "cut/TGR01005.RT1": b"x\n",
+    }
 
 
 def rows_of(lines: bytes) -> bytes:
@@ -95,27 +114,10 @@ def make_large_county(folder: Path) -> None:
     write(folder, (segments, *joined(Dice(JOINED_SEED), chains)))
 
 
-def make_late_county(small: Path, folder: Path) -> None:
-    """Makes a county whose last segment has 4,995 alternate names. Its row takes memory for each."""
-    for kind in "15":
-        shutil.copy(small / f"{NAME}{kind}", folder)
-    number = (small / f"{NAME}1").read_text().splitlines()[-1][5:15]
-    lines = (f"40006{number}{sequence:3}{5 * '       5'}\r\n" for sequence in range(1, 1000))
-    (folder / f"{NAME}4").write_bytes("".join(lines).encode())
-
-
-def make_cut_counties(lines: bytes, folder: Path) -> None:
-    """Makes counties with a short line: 01001 as line 100, 01005 as line 1. 01003 has none."""
-    (folder / f"{NAME}1").write_bytes(b"".join(lines.splitlines(keepends=True)[:99]) + b"x\n")
-    (folder / "TGR01003.RT1").write_bytes(lines)
-    (folder / "TGR01005.RT1").write_bytes(b"x\n")
-
-
-def make_long_programs(folder: Path, longest: bytes) -> None:
+def make_long_programs(folder: Path) -> None:
     """Makes programs of a byte and of a word more than the greatest length, of 16 MiB, and of a gibibyte and a byte more."""
-    (folder / "byte_more.bpf").write_bytes(longest + b"\0")
-    (folder / "word_more.bpf").write_bytes(longest + longest[-8:])
-    (folder / "many.bpf").write_bytes(32 * longest)
-    for name, size in (("gibibyte.bpf", 2**30), ("uneven.bpf", 2**30 + 1)):
-        (folder / name).touch()
-        os.truncate(folder / name, size)
+    longest = (folder / "longest.bpf").read_bytes()
+    long = {"byte_more.bpf": longest + b"\0", "word_more.bpf": longest + longest[-8:], "many.bpf": 32 * longest}
+    write_all(folder, long | {"gibibyte.bpf": b"", "uneven.bpf": b""})
+    os.truncate(folder / "gibibyte.bpf", 2**30)
+    os.truncate(folder / "uneven.bpf", 2**30 + 1)

@@ -78,8 +78,9 @@ class Case(NamedTuple):
 
 
 def table(text: str, columns: int) -> list[list[str]]:
-    """Returns the cells of each row of a table. `|` is between them, and the last one may have some."""
-    return [[cell.strip() for cell in line.split("|", columns - 1)] for line in text.strip().splitlines()]
+    """Returns the cells of each row of a table. `|` is between them, and the last one may have some. `#` begins a comment."""
+    rows = (line for line in text.strip().splitlines() if not line.startswith("#"))
+    return [[cell.strip() for cell in row.split("|", columns - 1)] for row in rows]
 
 
 def cases(text: str) -> list[Case]:

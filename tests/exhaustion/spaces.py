@@ -2,19 +2,11 @@
 
 from collections.abc import Callable
 from functools import cache
-from typing import NamedTuple
 
 from exhaustion.observed import observe
 
 # How much larger than the start the spaces are in which a command is tried.
 EXTRAS = tuple(8 << step for step in range(15))
-
-
-class Space(NamedTuple):
-    """The largest space in which a command was refused, and the smallest in which it succeeded."""
-
-    refused: int
-    least: int
 
 
 @cache
@@ -39,8 +31,8 @@ def limits() -> list[int]:
     return [start() + extra for extra in EXTRAS]
 
 
-def narrowed(suffices: Callable[[int], bool], step: int) -> Space:
-    """Returns the space of a command, to within a step. Spaces double until one suffices, and it must be refused in one before."""
+def narrowed(suffices: Callable[[int], bool], step: int) -> int:
+    """Returns the smallest space that suffices, to within a step. Spaces double until one does, and at least one before must not."""
     tried = limits()
     least = next((limit for limit in tried if suffices(limit)), 0)
     assert least > tried[0], f"should be refused in {tried[0]} KiB and succeed in some space up to {tried[-1]} KiB"
@@ -51,4 +43,4 @@ def narrowed(suffices: Callable[[int], bool], step: int) -> Space:
             least = middle
         else:
             refused = middle
-    return Space(refused, least)
+    return least

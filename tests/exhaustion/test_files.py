@@ -7,7 +7,7 @@ read or a write that fails half-way without a limit, which crates/command_tests 
 import os
 import shutil
 import subprocess
-from collections.abc import Callable
+from collections.abc import Callable, Iterator
 from pathlib import Path
 
 import pytest
@@ -18,6 +18,7 @@ CANT = "error: the output can't be written:"
 FULL = f"{CANT} no space left"
 BROKEN = f"{CANT} broken pipe"
 RUN = "extractd run --program all.bpf --data"
+SERVE = "extractd serve --data small --any-port 01001"
 TYPE_1 = "TGR01001.RT1"
 
 # Outputs without space, or whose reader has exited. Of the last, the first file that the program opens gets the descriptor, and is opened for reading.
@@ -42,8 +43,8 @@ COMMANDS = f"""
 3 | | | extractd geocode-batch --addresses addresses.csv --data small 01001
 3 | | | extractd select --where TRUE --data one 01001
 """
+CASES = rf"""
 # What a refused request has written before is lost too, so the refusal is reported first, and then the output.
-REFUSED = rf"""
 1 | refused 1 rt1 line 100 WrongLength | small.rows {99 * ROW} | {RUN} cut 01001
 3 | refused 1 rt1 line 100 WrongLength\n{FULL} | | {RUN} cut 01001 > /dev/full
 3 | refused 1 rt1 line 1 WrongLength\ncounty 01005\n{FULL} | | extractd select --where "CFCC = 'A41'" --data cut 01003 01005 > /dev/full
@@ -51,9 +52,7 @@ REFUSED = rf"""
 1 | | | extractd dis --program nothing 2> /dev/full
 2 | | | extractd dis 2> /dev/full
 3 | | | {RUN} small 01001 > /dev/full 2> /dev/full
-"""
 # A file takes output up to the exact byte. Where it is too large, the bytes that don't fit are fewer than the buffer holds.
-SIZES = f"""
 3 | refused 60 Write | large.rows 1024 | limited f 1 {RUN} large 01001
 3 | refused 60 Write | large.rows 64512 | limited f 63 {RUN} large 01001
 3 | refused 60 Write | large.rows 65536 | limited f 64 {RUN} large 01001
@@ -66,6 +65,16 @@ SIZES = f"""
 3 | refused 60 Write | longest.bpf 1024 | limited f 1 extractd asm --source longest.s
 3 | {CANT} File too large (os error 27) | longest.bpf 523264 | limited f 511 extractd asm --source longest.s
 0 | | longest.bpf | limited f 512 extractd asm --source longest.s
+# A program from a pipe.
+1 | refused 11 NotWhole | | extractd run --program <(cat half_word.bpf) --data small 01001
+1 | refused 33 place 0 LastNotExit | | extractd run --program <(cat no_exit.bpf) --data small 01001
+0 | | small.rows | extractd run --program <(cat all.bpf) --data small 01001
+# Unusable standard output and standard error of a server.
+3 | {FULL} | | {SERVE} > /dev/full
+3 | | | {SERVE} > /dev/full 2> /dev/full
+3 | {BROKEN} | | exec 9> >(exec true); wait $!; {SERVE} >&9 9>&-
+# A county's files are closed before those of the next county are opened.
+0 | | twice.hits | limited n 7 extractd geocode --data small --number 1785 --name persimmon 01001 01001
 """
 # The type of a county's file, how many bytes of it a FIFO delivers, and the status, the rows and the text of `run`. A CR without LF is a byte of its line.
 FIFOS = """
@@ -90,46 +99,20 @@ FIFOS = """
 6|78|0|400|
 6|100|1|0|refused 1 rt6 line 2 WrongLength
 """
-PROGRAMS = """
-1 | refused 11 NotWhole | | extractd run --program <(cat half_word.bpf) --data small 01001
-1 | refused 33 place 0 LastNotExit | | extractd run --program <(cat no_exit.bpf) --data small 01001
-0 | | small.rows | extractd run --program <(cat all.bpf) --data small 01001
-"""
-LIMITED = {
-    "verify": "extractd verify --program all.bpf",
-    "asm": "extractd asm --source all.text",
-    "dis": "extractd dis --program all.bpf",
-    "run": f"{RUN} small 01001",
-    "trace": "extractd trace --program all.bpf --data small --line 400 --limit 2 01001",
-    "geocode": "extractd geocode --data small --number 1785 --name persimmon 01001",
-    "serve": "extractd serve --data small --any-port 01001",
-}
-# Descriptors that a command may use, and its output or the file that it can't open. The loader needs the fourth before `main`.
-DESCRIPTORS = """
-4|verify|accepted
-4|asm|all.words
-4|dis|all.text
-4|run|RT1
-5|run|RT4
-6|run|RT5
-7|run|RT6
-8|run|small.rows
-4|trace|RT1
-5|trace|RT4
-6|trace|RT5
-7|trace|RT6
-8|trace|traced
-4|geocode|RT4
-5|geocode|RT5
-6|geocode|RT6
-7|geocode|small.hits
-4|serve|RT4
-5|serve|RT5
-6|serve|RT6
+READERS = ("extractd trace --program all.bpf --line 1 --limit 1", "extractd geocode --number 1785 --name persimmon")
+# What a command does with three descriptors, four and so on: its output, or the file that it can't open. The loader needs the fourth before `main`.
+DESCRIPTORS = f"""
+unstarted accepted | extractd verify --program all.bpf
+unstarted all.words | extractd asm --source all.text
+unstarted all.text | extractd dis --program all.bpf
+unstarted RT1 RT4 RT5 RT6 small.rows | {RUN} small 01001
+unstarted RT1 RT4 RT5 RT6 traced | extractd trace --program all.bpf --data small --line 400 --limit 2 01001
+unstarted RT4 RT5 RT6 small.hits | extractd geocode --data small --number 1785 --name persimmon 01001
+unstarted RT4 RT5 RT6 | {SERVE}
 """
 
 
-@pytest.mark.parametrize("text", (FULL, BROKEN))
+@pytest.mark.parametrize("text", (FULL, BROKEN, "error: no connection can be taken: REASON"))
 def test_shown(text: str) -> None:
     assert f"`{text}`" in (TOP / "docs/refusals.md").read_text()
 
@@ -142,8 +125,8 @@ def test_output(case: Case, way: str) -> None:
     assert Path("all.bpf").read_bytes() == content("all.words")
 
 
-@pytest.mark.parametrize("case", cases(REFUSED), ids=str)
-def test_refused_output(case: Case) -> None:
+@pytest.mark.parametrize("case", cases(CASES), ids=str)
+def test_case(case: Case) -> None:
     case.check()
 
 
@@ -151,11 +134,6 @@ def test_refused_listing() -> None:
     refused = observe("extractd explain --program bad.bpf").text
     assert refused
     Case(3, refused + FULL, "", "extractd explain --program bad.bpf > /dev/full").check()
-
-
-@pytest.mark.parametrize("case", cases(SIZES), ids=str)
-def test_file_size(case: Case) -> None:
-    case.check()
 
 
 @pytest.mark.parametrize("size", (0, 1, 230, 231, 65536, 65537, 1000000, 4000000))
@@ -166,27 +144,16 @@ def test_reader(size: int) -> None:
 
 
 @pytest.mark.parametrize("kind, size, status, rows, text", table(FIFOS, 5))
-def test_fifo(kind: str, size: str, status: str, rows: str, text: str, tmp_path: Path) -> None:
+def test_fifo(kind: str, size: str, status: str, rows: str, text: str, folder: Path) -> None:
     """What `run` refuses must also be refused by `trace` and `geocode`, without output."""
-    for file in Path("small").iterdir():
-        (tmp_path / file.name).symlink_to(file.resolve())
-    fifo = tmp_path / f"TGR01001.RT{kind}"
+    shutil.copytree("small", folder, dirs_exist_ok=True)
+    fifo = folder / f"TGR01001.RT{kind}"
     fifo.unlink()
     os.mkfifo(fifo)
-    run = Case(int(status), text, f"small.rows {int(rows) * ROW}", f"{RUN} {tmp_path} 01001")
-    trace = run._replace(
-        output="", command=f"extractd trace --program all.bpf --data {tmp_path} --line 1 --limit 1 01001"
-    )
-    geocode = run._replace(
-        output="", command=f"extractd geocode --data {tmp_path} --number 1785 --name persimmon 01001"
-    )
-    for case in (run, trace, geocode) if run.status else (run,):
-        case._replace(command=f"head -c {size} small/{fifo.name} > {fifo} & {case.command}").check()
-
-
-@pytest.mark.parametrize("case", cases(PROGRAMS), ids=str)
-def test_program_from_pipe(case: Case) -> None:
-    case.check()
+    writer = f"head -c {size} small/{fifo.name} > {fifo} &"
+    Case(int(status), text, f"small.rows {int(rows) * ROW}", f"{writer} {RUN} {folder} 01001").check()
+    for reader in READERS if int(status) else ():
+        Case(int(status), text, "", f"{writer} {reader} --data {folder} 01001").check()
 
 
 def while_held(file: Path, change: Callable[[], object]) -> Ended:
@@ -208,9 +175,9 @@ def while_held(file: Path, change: Callable[[], object]) -> Ended:
 
 
 @pytest.fixture
-def held(tmp_path: Path) -> Path:
+def held(folder: Path) -> Path:
     """Returns a copy of the large county's file of type 1."""
-    return Path(shutil.copy(f"large/{TYPE_1}", tmp_path))
+    return Path(shutil.copy(f"large/{TYPE_1}", folder))
 
 
 @pytest.mark.parametrize("size, status, text", ((1000000, 1, "refused 1 rt1 line 4348 WrongLength"), (999810, 0, "")))
@@ -237,22 +204,20 @@ def test_file_shorter_than_read(held: Path) -> None:
     ended.check(1, text, content("large.rows")[: rows * ROW], "run while its file shrinks to what is already read")
 
 
-@pytest.mark.parametrize("command", LIMITED)
-def test_too_few_descriptors(command: str) -> None:
-    """The loader ends the command."""
-    ended = observe(f"limited n 3 {LIMITED[command]}")
-    assert (ended.status, ended.output) == (127, b""), ended
+def described() -> Iterator[tuple[int, str, str]]:
+    """Yields a number of descriptors, the result, and the command."""
+    for results, command in table(DESCRIPTORS, 2):
+        yield from ((number, result, command) for number, result in enumerate(results.split(), 3))
 
 
-@pytest.mark.parametrize("number, command, result", table(DESCRIPTORS, 3))
-def test_descriptors(number: str, command: str, result: str) -> None:
-    case = Case(0, "", result, f"limited n {number} {LIMITED[command]}")
-    if result.startswith("RT"):
+@pytest.mark.parametrize("number, result, command", described())
+def test_descriptors(number: int, result: str, command: str) -> None:
+    case = Case(0, "", result, f"limited n {number} {command}")
+    if result == "unstarted":
+        ended = observe(case.command)
+        assert (ended.status, ended.output) == (127, b""), ended
+    elif result.startswith("RT"):
         text = f"error: small/TGR01001.{result}: Too many open files (os error 24)"
-        case = case._replace(status=3, text=text, output="")
-    case.check()
-
-
-def test_descriptors_of_two_counties() -> None:
-    """A county's files are closed before those of the next county are opened."""
-    Case(0, "", "twice.hits", f"limited n 7 {LIMITED['geocode']} 01001").check()
+        case._replace(status=3, text=text, output="").check()
+    else:
+        case.check()

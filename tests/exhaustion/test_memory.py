@@ -12,7 +12,7 @@ from pathlib import Path
 import pytest
 from exhaustion.inputs import rows_of
 from exhaustion.observed import ROW, Case, cases, content, observe, table
-from exhaustion.spaces import Space, limits, narrowed, start
+from exhaustion.spaces import limits, narrowed, start
 
 # A name, the file that the output equals, what the output may be if the command is refused, and the command.
 COMMANDS = """
@@ -33,12 +33,7 @@ late_run      | late.rows       | rows    | extractd run --program asking.bpf --
 """
 # Programs that are too long or no words, in the space that a small one needs and 768 KiB, which is less than two copies of the longest program.
 LONG_PROGRAMS = "word_more many gibibyte byte_more uneven".split()
-READERS = {
-    "run": " --data small 01001",
-    "verify": "",
-    "dis": "",
-    "trace": " --data small --line 1 --limit 65536 01001",
-}
+READERS = {"run": "--data small 01001", "verify": "", "dis": "", "trace": "--data small --line 1 --limit 65536 01001"}
 # The longest program, and sources. One of up to 16 MiB is read into memory. `{asm+128}` is the space that `asm` needs and 128 KiB.
 LONGEST = """
 0 | | small.rows | extractd run --program longest.bpf --data small 01001
@@ -78,7 +73,8 @@ class Command:
         return False
 
     @cache
-    def space(self) -> Space:
+    def least(self) -> int:
+        """Returns the smallest space in which it succeeds."""
         return narrowed(self.suffices, 4)
 
 
@@ -101,9 +97,8 @@ def test_unstarted(name: str) -> None:
 
 @pytest.mark.parametrize("name", SWEPT)
 def test_space(name: str) -> None:
-    """There is a space below which the command is refused."""
-    space = SWEPT[name].space()
-    assert start() < space.refused < space.least
+    """Below the smallest sufficient space the command is refused, or isn't started."""
+    assert SWEPT[name].least() > start()
 
 
 @pytest.mark.parametrize("name", SWEPT)
@@ -115,7 +110,7 @@ def test_growing_space(name: str) -> None:
 
 def test_late_refusal() -> None:
     """Memory runs out only at the last segment, after 399 rows."""
-    SWEPT["late_run"].space()
+    SWEPT["late_run"].least()
     assert SWEPT["late_run"].written == 399 * ROW
 
 
@@ -124,14 +119,14 @@ def test_first_hit() -> None:
     assert content("large.hits").startswith(content("small.hits"))
 
 
-def test_long_county(tmp_path: Path) -> None:
+def test_long_county(folder: Path) -> None:
     """80,000 lines of type 1, 18 MB, need little more space than 400."""
     for kind in "456":
-        shutil.copy(f"small/TGR01001.RT{kind}", tmp_path)
+        shutil.copy(f"small/TGR01001.RT{kind}", folder)
     lines = 200 * content("small/TGR01001.RT1")
-    (tmp_path / "TGR01001.RT1").write_bytes(lines)
-    limit = SWEPT["run"].space().least + 256
-    ended = observe(f"limited v {limit} extractd run --program all.bpf --data {tmp_path} 01001")
+    (folder / "TGR01001.RT1").write_bytes(lines)
+    limit = SWEPT["run"].least() + 256
+    ended = observe(f"limited v {limit} extractd run --program all.bpf --data {folder} 01001")
     ended.check(0, "", rows_of(lines), f"run over 80,000 lines in {limit} KiB")
 
 
@@ -139,13 +134,13 @@ def test_long_county(tmp_path: Path) -> None:
 @pytest.mark.parametrize("command", READERS)
 def test_long_program(command: str, file: str) -> None:
     text = "refused 11 NotWhole" if file in ("byte_more", "uneven") else "refused 12 TooLong"
-    limit = SWEPT[command].space().least + 768
-    Case(1, text, "", f"limited v {limit} extractd {command} --program {file}.bpf{READERS[command]}").check()
+    limit = SWEPT[command].least() + 768
+    Case(1, text, "", f"limited v {limit} extractd {command} --program {file}.bpf {READERS[command]}").check()
 
 
 @pytest.mark.parametrize("case", cases(LONGEST), ids=str)
 def test_longest(case: Case) -> None:
     def space(match: re.Match[str]) -> str:
-        return str(SWEPT[match[1]].space().least + int(match[2]))
+        return str(SWEPT[match[1]].least() + int(match[2]))
 
     case._replace(command=re.sub(r"{(\w+)\+(\d+)}", space, case.command)).check()

@@ -6,27 +6,18 @@ A refused or incomplete request must change nothing, and the next request must g
 import http.client
 import resource
 import socket
-from collections.abc import Iterator
+from collections.abc import Iterator, Mapping
 from contextlib import suppress
 from functools import cache, partial
 from pathlib import Path
 
 import pytest
-from exhaustion.observed import ROW, Case, Ended, cases, content
+from exhaustion.observed import ROW, Ended, content
 from exhaustion.spaces import narrowed
-from harness.program import TOP
 from harness.server import NotListening, Server
 
 SECONDS = 60
 MEBIBYTE = 1 << 20
-SERVE = "extractd serve --data small --any-port 01001"
-NO_CONNECTION = "error: no connection can be taken:"
-# Unusable standard output and standard error.
-ANNOUNCED = f"""
-3 | error: the output can't be written: no space left | | {SERVE} > /dev/full
-3 | | | {SERVE} > /dev/full 2> /dev/full
-3 | error: the output can't be written: broken pipe | | exec 9> >(exec true); wait $!; {SERVE} >&9 9>&-
-"""
 # What a client sends before it leaves: parts of requests, a whole one, and those with a reply of 4.6 MB.
 POST = b"POST /jobs HTTP/1.1\r\nContent-Length: 16\r\n\r\n"
 WORDS = bytes.fromhex("b700000001000000 9500000000000000")
@@ -39,6 +30,8 @@ INCOMPLETE = {
     "16 of 17 bytes": POST.replace(b"16", b"17") + WORDS,
     "a line of DELETE": b"DELETE /jobs/1 HTTP/1.1\r\n",
 }
+# What the server of these clients has: jobs of few rows and of all.
+JOBS = {1: "house.rows", 2: "large.rows"}
 LONG = {"a job": b"GET /jobs/2 HTTP/1.1\r\n\r\n", "an extract": POST.replace(b"jobs", b"extract") + WORDS}
 
 
@@ -70,12 +63,13 @@ def turns(server: Server, count: int) -> None:
         ask(server, "GET /jobs/0")
 
 
-def check_well(server: Server, county: str, **jobs: bytes) -> None:
-    """Checks that the server over a county still returns a verdict, hits, and these jobs."""
+def check_well(server: Server, county: str, jobs: Mapping[int, str] = {}) -> None:
+    """Checks that the server over a county still returns a verdict, hits, and jobs that have gone over all segments, with the rows in these files."""
     says(server, "POST /verify", 200, "accepted", content("all.bpf"))
     says(server, "GET /geocode?number=1785&name=persimmon", 200, content(f"{county}.hits"))
-    for job, reply in jobs.items():
-        says(server, f"GET /jobs/{job.removeprefix('job_')}", 200, reply)
+    total = len(content(f"{county}.rows")) // ROW
+    for job, rows in jobs.items():
+        says(server, f"GET /jobs/{job}", 200, f"{total} {total}\n".encode() + content(rows))
 
 
 def progress_of(server: Server, county: str, job: int) -> int:
@@ -87,17 +81,6 @@ def progress_of(server: Server, county: str, job: int) -> int:
     if rows != content(f"{county}.rows")[: progress * ROW]:
         pytest.fail(f"job {job} should have the rows of {progress} segments, and has {len(rows)} bytes")
     return progress
-
-
-def finished(county: str, rows: str) -> bytes:
-    """Returns the reply to a GET of a job that has gone over all segments."""
-    total = len(content(f"{county}.rows")) // ROW
-    return f"{total} {total}\n".encode() + content(rows)
-
-
-@pytest.mark.parametrize("case", cases(ANNOUNCED), ids=str)
-def test_announcing(case: Case) -> None:
-    case.check()
 
 
 def listens(county: str, limit: int) -> bool:
@@ -113,7 +96,7 @@ def listens(county: str, limit: int) -> bool:
 
 @cache
 def least_of(county: str) -> int:
-    return narrowed(partial(listens, county), 16).least
+    return narrowed(partial(listens, county), 16)
 
 
 @pytest.mark.parametrize("county", ("small", "large"))
@@ -151,12 +134,6 @@ def opened_jobs(server: Server) -> int:
     return jobs
 
 
-def show_jobs(server: Server, jobs: range) -> None:
-    assert jobs
-    for job in jobs:
-        progress_of(server, "small", job)
-
-
 def drop_jobs(server: Server, jobs: range) -> None:
     assert jobs
     for job in jobs:
@@ -172,7 +149,7 @@ def test_many_jobs() -> None:
     with server_in("small", 4096) as server:
         jobs = opened_jobs(server)
         says(server, "POST /jobs", 503, "refused memory", content("longest.bpf"))
-        show_jobs(server, range(1, jobs + 1))
+        assert [progress_of(server, "small", job) for job in range(1, jobs + 1)]
         half = jobs // 2
         drop_jobs(server, range(1, half + 1))
         check_well(server, "small")
@@ -180,11 +157,11 @@ def test_many_jobs() -> None:
         says(server, "POST /jobs", 200, f"{jobs + 1}", content("long.bpf"))
         says(server, f"GET /jobs/{half}", 404, "not found")
         says(server, f"GET /jobs/{jobs + 2}", 404, "not found")
-        show_jobs(server, range(half + 1, jobs + 2))
+        assert [progress_of(server, "small", job) for job in range(half + 1, jobs + 2)]
         drop_jobs(server, range(half + 1, jobs + 2))
         says(server, "POST /jobs", 200, f"{jobs + 2}", content("all.bpf"))
         turns(server, 2)
-        check_well(server, "small", **{f"job_{jobs + 2}": finished("small", "small.rows")})
+        check_well(server, "small", {jobs + 2: "small.rows"})
 
 
 def test_long_extracts() -> None:
@@ -208,7 +185,7 @@ def test_long_extracts() -> None:
         says(server, "DELETE /jobs/1", 200, "dropped")
         says(server, "POST /jobs", 200, "2", content("house.bpf"))
         turns(server, 80)
-        check_well(server, "large", job_2=finished("large", "house.rows"))
+        check_well(server, "large", {2: "house.rows"})
 
 
 def posted(server: Server) -> int:
@@ -219,14 +196,9 @@ def posted(server: Server) -> int:
     return int(body)
 
 
-def check_jobs(server: Server) -> None:
-    """Checks that the server is well, with both of its jobs."""
-    check_well(server, "large", job_1=finished("large", "house.rows"), job_2=finished("large", "large.rows"))
-
-
 @pytest.fixture(scope="module")
 def server(inputs: Path) -> Iterator[Server]:
-    """Yields a server over the large county, with two jobs that have gone over all segments: one of few rows, and one of all."""
+    """Yields a server over the large county, with the jobs after their last turn."""
     with Server(inputs / "large") as server:
         for job, program in ((1, "house.bpf"), (2, "all.bpf")):
             says(server, "POST /jobs", 200, str(job), (inputs / program).read_bytes())
@@ -236,9 +208,9 @@ def server(inputs: Path) -> Iterator[Server]:
 
 def leave(server: Server, sent: bytes, size: int = 0) -> bytes:
     """A client sends this and leaves. Returns the first bytes of the reply."""
-    with socket.create_connection((server.host, server.port), SECONDS) as client:
+    with socket.create_connection((server.host, server.port), SECONDS) as client, client.makefile("rb") as reply:
         client.sendall(sent)
-        return client.recv(size, socket.MSG_WAITALL) if size else b""
+        return reply.read(size)
 
 
 @pytest.mark.xdist_group("a server with jobs")
@@ -246,7 +218,7 @@ def leave(server: Server, sent: bytes, size: int = 0) -> bytes:
 def test_incomplete_request(server: Server, sent: bytes) -> None:
     before = posted(server)
     leave(server, sent)
-    check_jobs(server)
+    check_well(server, "large", JOBS)
     # No job was opened.
     assert posted(server) == before + 1
 
@@ -260,7 +232,7 @@ def test_complete_request(server: Server) -> None:
     progress_of(server, "large", job)
     leave(server, f"DELETE /jobs/{job} HTTP/1.1\r\n\r\n".encode())
     says(server, f"GET /jobs/{job}", 404, "not found")
-    check_jobs(server)
+    check_well(server, "large", JOBS)
 
 
 @pytest.mark.xdist_group("a server with jobs")
@@ -268,18 +240,8 @@ def test_complete_request(server: Server) -> None:
 def test_long_reply(server: Server, sent: bytes) -> None:
     """A client leaves within its reply. 4.6 MB exceed the socket buffers, so the server is still writing."""
     assert leave(server, sent, 15) == b"HTTP/1.1 200 OK"
-    check_jobs(server)
+    check_well(server, "large", JOBS)
     says(server, "POST /extract", 200, content("large.rows"), content("all.bpf"))
-
-
-def received(server: Server, sent: bytes) -> bytes:
-    """Returns the whole reply, or what there is of one if the server breaks off or doesn't listen."""
-    pieces = []
-    with suppress(ConnectionError), socket.create_connection((server.host, server.port), SECONDS) as client:
-        client.sendall(sent)
-        while piece := client.recv(65536):
-            pieces.append(piece)
-    return b"".join(pieces)
 
 
 def test_descriptors() -> None:
@@ -290,13 +252,10 @@ def test_descriptors() -> None:
         check_well(server, "small")
         resource.prlimit(server.process.pid, resource.RLIMIT_NOFILE, (4, 4))
         # The waiting call has already taken its descriptor: it still gets a client, and the next call fails.
-        reply = received(server, b"GET /jobs/0 HTTP/1.1\r\n\r\n")
-        assert not reply or reply.partition(b"\r\n\r\n")[2] == b"not found\n"
+        with suppress(ConnectionError):
+            says(server, "GET /jobs/0", 404, "not found")
         status = server.process.wait(SECONDS)
         assert server.process.stdout is not None
         ended = Ended(status, server.said(), server.process.stdout.read())
-        ended.check(3, f"{NO_CONNECTION} Too many open files (os error 24)", b"", "serve with 4 descriptors")
-
-
-def test_shown() -> None:
-    assert f"`{NO_CONNECTION} REASON`" in (TOP / "docs/refusals.md").read_text()
+        text = "error: no connection can be taken: Too many open files (os error 24)"
+        ended.check(3, text, b"", "serve with 4 descriptors")
