@@ -32,6 +32,7 @@ FILES = [
     ("\n\nStreet Address\tPostcode\n8 Oak St\t35042\n", "utf-8", "header", Address("4", "8 Oak St", zip="35042")),
     ("ID;Address;Address 2;City/Town;ST;ZIP Code\n1;8 Oak St;x;Milford;AL;35042\n", "utf-8", "header", STREET),
     ("Address,Street,Zip\nx,8 Oak St,35042\n", "utf-8", "header", Address("2", "8 Oak St", zip="35042")),
+    ("Street,City|Town\n8 Oak St,Milford\n", "utf-8", "header", Address("2", "8 Oak St", "Milford")),
     ("No,Wo,PLZ\n1,8 Oak St,35042\n", "utf-8", "header id=No street=wo zip=PLZ", Address("1", "8 Oak St", zip="35042")),
     ("street,other\nx,8 Oak St\n", "utf-8", "header street=Other", Address("2", "8 Oak St")),
     ("8 Oak St, Milford, AL 35042", "utf-8", "one-line", STREET),
