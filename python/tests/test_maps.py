@@ -7,6 +7,7 @@ import shutil
 import subprocess
 import sys
 import time
+import warnings
 from collections.abc import Iterator
 from math import cos, radians, sin
 from pathlib import Path
@@ -193,8 +194,9 @@ def test_small_selections(segments: list[MapSegment], score: str | None) -> None
     assert "few" in texts_of(picture)
     assert sum(map(int, legend_of(picture).values())) == len(segments)
     assert "nan" not in picture and "inf" not in picture
-    for _, found in lines_of(picture):
-        assert all(MARGIN <= x <= 400 + MARGIN for points in found for x, _ in points)
+    places = [x for _, found in lines_of(picture) for points in found for x, _ in points]
+    assert bool(places) == any(len(segment.points) > 1 for segment in segments)
+    assert all(MARGIN <= x <= 400 + MARGIN for x in places)
 
 
 @pytest.mark.parametrize("kind", [".svg", ".png", ".pdf", ".html"])
@@ -294,6 +296,21 @@ def test_map_shows_the_selection_and_what_is_around() -> None:
         assert nothing.drawing("", None, interrupts).rest == 1
     assert (drawing.rest, drawing.title) == (1, "1 segment by class")
     assert [segment.points[0] for segment in drawing.background[0].segments] == [(-86.99, 33)]
+
+
+@pytest.mark.parametrize(("most", "rest"), [(6, 6), (5, 0)])
+def test_most_segments_around(monkeypatch: pytest.MonkeyPatch, most: int, rest: int) -> None:
+    """Up to the limit the other segments of all counties are drawn, and above it none, with a warning."""
+    monkeypatch.setattr("tigerline.maps.content.MOST_SEGMENTS", most)
+    header = "score,TLID,FEDIRP,FENAME,FETYPE,FEDIRS,CFCC,WKT\n"
+    content = MapContent()
+    for county in range(3):
+        own, *others = (f'0,{county}{place},,Oak,St,,A41,"LINESTRING (-87 33,-86 34)"\n' for place in range(3))
+        content.add_county((header + own).encode(), (header + own + "".join(others)).encode())
+    with Interrupts() as interrupts, warnings.catch_warnings(record=True) as said:
+        assert content.drawing("", None, interrupts).rest == rest
+    warning = "the map shows the selection alone: its counties have more than 5 other segments"
+    assert [str(one.message) for one in said] == ([] if rest else [warning])
 
 
 def town(extent: float) -> list[MapSegment]:
