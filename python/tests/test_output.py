@@ -42,6 +42,20 @@ def test_file_that_appears_meanwhile(tmp_path: Path, monkeypatch: pytest.MonkeyP
     assert final.read_text() == "other" and list(tmp_path.iterdir()) == [final]
 
 
+@pytest.mark.parametrize("is_late", [True, False])
+@pytest.mark.parametrize("overwrite", [True, False])
+def test_pipe_is_kept(tmp_path: Path, overwrite: bool, is_late: bool) -> None:
+    """It is never replaced, whether it is there from the start or appears meanwhile."""
+    final = tmp_path / "a.csv"
+    if not is_late:
+        os.mkfifo(final)
+    with pytest.raises(OSError, match="a.csv is a device or a pipe"), pending_file(final, overwrite) as file:
+        file.path.write_text("new")
+        os.mkfifo(final)
+        file.publish(Interrupts())
+    assert list(tmp_path.iterdir()) == [final] and final.is_fifo()
+
+
 @pytest.mark.parametrize("overwrite", [True, False])
 def test_files_of_a_shapefile(tmp_path: Path, overwrite: bool) -> None:
     """The one with the output's name comes last."""
