@@ -22,11 +22,12 @@ import subprocess
 import sys
 import tempfile
 from collections import Counter
-from collections.abc import Iterable, Iterator, Sequence
+from collections.abc import Iterable, Iterator, Mapping, Sequence
 from concurrent.futures import ThreadPoolExecutor
 from contextlib import contextmanager
 from dataclasses import replace
 from functools import partial
+from itertools import pairwise
 from pathlib import Path
 from typing import NamedTuple
 
@@ -35,7 +36,6 @@ from noise import Drawn, cut_parts, draw_addresses, draw_counties, measure, meas
 from test_geocoding_index import Index, Segment
 from test_reversing import METERS, House, beside, houses
 from tigerline.layout import FIELDS
-from tigerline.geocoding.nearest import foot_of
 
 PACKAGES = ["postgresql-15", "postgresql-15-postgis-3", "postgresql-15-postgis-3-scripts"]
 PROGRAMS = Path("/usr/lib/postgresql/15/bin")
@@ -236,6 +236,16 @@ def in_meters(point: Point) -> Point:
     return point[0] * METERS[0], point[1] * METERS[1]
 
 
+def distance_from(line: Sequence[Point]) -> float:
+    """Returns how far a line is from the origin."""
+    distances = []
+    for (x, y), (to_x, to_y) in pairwise(line):
+        east, north = to_x - x, to_y - y
+        share = min(max(-(x * east + y * north) / (east * east + north * north), 0), 1)
+        distances.append(math.hypot(x + share * east, y + share * north))
+    return min(distances)
+
+
 # The measurements
 
 
@@ -263,7 +273,7 @@ def outcome(drawn: Drawn, found: Found | None, lines: Lines) -> str:
     if found is None or not drawn.places:
         return "wrong" if found else "none"
     line, (x, y) = lines[drawn.spot.tlid], in_meters(found.place)
-    off_line = foot_of([(to_x - x, to_y - y) for to_x, to_y in line]).distance
+    off_line = distance_from([(to_x - x, to_y - y) for to_x, to_y in line])
     off_place = math.dist((x, y), beside(line, drawn.spot.share, 0))
     return "right" if off_line <= OFF_LINE and off_place <= OFF_PLACE else "wrong"
 

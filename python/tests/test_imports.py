@@ -128,3 +128,9 @@ def test_names(sources: Sources) -> None:
         if name in PACKAGES:
             module = importlib.import_module(name)
             assert [public for public in module.__all__ if not hasattr(module, public)] == []
+
+
+def test_comparison_can_be_imported() -> None:
+    """No test runs postgis.py, which installs PostgreSQL."""
+    pytest.importorskip("shapely", reason="no shapely")
+    assert importlib.import_module("postgis").EXTENSIONS
