@@ -10,16 +10,19 @@ from towns import write_cities
 
 pytestmark = pytest.mark.usefixtures("extractd", "scratch")
 
-# Segments 1, 2, ...: the name, the ZIP Code, the codes of the place and the county subdivision. All have houses 1 to 99.
+GEORGIA = "13001"  # a county in another state
+# Segments 1, 2, ...: the county, the name, the ZIP Code, the codes of the place and the county subdivision. All have
+# houses 1 to 99.
 SEGMENTS = """
-Oak   | 36001 | 10001 | 20001
-Oak   | 36002 | 10002 | 20001
-Elm   | 36002 |       | 20001
-Elm   | 36003 |       | 20009
-Pine  |       | 10002 | 20001
-Pine  |       |       | 20009
-Ash   | 36003 | 10003 | 20001
-La Cañada | 36003 | 10003 | 20001
+01001 | Oak   | 36001 | 10001 | 20001
+01001 | Oak   | 36002 | 10002 | 20001
+01001 | Elm   | 36002 |       | 20001
+01001 | Elm   | 36003 |       | 20009
+01001 | Pine  |       | 10002 | 20001
+01001 | Pine  |       |       | 20009
+01001 | Ash   | 36003 | 10003 | 20001
+01001 | La Cañada | 36003 | 10003 | 20001
+13001 | Gum   | 31501 | 10002 | 20001
 """
 CITIES = [
     ("10001", "P", "Saint Paul"),
@@ -54,6 +57,10 @@ ADDRESSES = """
 5 La €añada St  |            |    | 36003 | Match    | spelling   | 5 LA CAÑADA ST, LA CAÑADA, AL, 36003
 5 La €€ada St   |            |    | 36003 | No_Match | no_such_street |
 9 Fig St  | Kelso           | AL      | 36001 | No_Match | no_such_street |
+5 Gum St  | Mayhew          | GA      | 31501 | Match    |            | 5 GUM ST, MAYHEW, GA, 31501
+5 Gum St  | Mayhew          | AL      | 31501 | No_Match | other_state | 9
+500 Ash St |                | AL      |       | No_Match | no_such_number_on_street |
+500 Ash St |                | GA      |       | No_Match | no_such_street |
 """.replace(
     "\\xf1", "\xf1"
 )
@@ -63,18 +70,19 @@ def rows(text: str) -> list[list[str]]:
     return [[cell.strip() for cell in row.split("|")] for row in text.strip().splitlines()]
 
 
-def write_county(folder: Path, with_cities: bool = True) -> Path:
-    lines = []
-    for tlid, (name, zip_code, place, subdivision) in enumerate(rows(SEGMENTS), start=1):
+def write_counties(folder: Path, with_cities: bool = True) -> Path:
+    lines: dict[str, list[str]] = {CODE: [], GEORGIA: []}
+    for tlid, (code, name, zip_code, place, subdivision) in enumerate(rows(SEGMENTS), start=1):
         head = f"10006{tlid:10}{'':4}{name:30}St    A41{1:>11}{99:>11}{'':22}0000{zip_code:5}".ljust(140)
         areas = f"{subdivision:5}".ljust(20) + f"{place:5}"
         ends = f"{-86_000_000 - tlid:+010}{32_000_000:+09}" * 2
-        lines.append((head + areas).ljust(190) + ends + "\n")
-    (folder / f"TGR{CODE}.RT1").write_text("".join(lines), encoding="latin-1")
-    for record_type in "456":
-        (folder / f"TGR{CODE}.RT{record_type}").touch()
-    if with_cities:
-        write_cities(folder / f"tgr{CODE}.rtc", CODE, CITIES)
+        lines[code].append((head + areas).ljust(190) + ends + "\n")
+    for code, records in lines.items():
+        (folder / f"TGR{code}.RT1").write_text("".join(records), encoding="latin-1")
+        for record_type in "456":
+            (folder / f"TGR{code}.RT{record_type}").touch()
+        if with_cities:
+            write_cities(folder / f"tgr{code}.rtc", code, CITIES)
     return folder
 
 
@@ -84,7 +92,7 @@ def found(match: tigerline.Match) -> list[str]:
 
 
 def test_towns(tmp_path: Path) -> None:
-    write_county(tmp_path)
+    write_counties(tmp_path)
     given = rows(ADDRESSES)
     matches = tigerline.geocode([("", *row[:4]) for row in given], tmp_path)
     assert [[*row[:4], *map(str.strip, found(match))] for row, match in zip(given, matches)] == given
@@ -92,7 +100,7 @@ def test_towns(tmp_path: Path) -> None:
 
 def test_without_cities(tmp_path: Path) -> None:
     """Without the file, a warning comes once, and only ZIP Codes count."""
-    write_county(tmp_path, with_cities=False)
+    write_counties(tmp_path, with_cities=False)
     addresses = [("", "5 Oak St", "Mayhew", "AL", code) for code in ("36001", "36009", "")]
     with pytest.warns(UserWarning, match="TGR01001.RTC is missing: cities can't be compared") as warned:
         matches = [found(match) for match in tigerline.geocode(addresses, tmp_path)]
@@ -105,7 +113,7 @@ def test_without_cities(tmp_path: Path) -> None:
 
 
 def test_faulty_cities(tmp_path: Path) -> None:
-    path = write_county(tmp_path) / f"tgr{CODE}.rtc"
+    path = write_counties(tmp_path) / f"tgr{CODE}.rtc"
     path.write_bytes(path.read_bytes() + b"C0006\n")
     with pytest.raises(OSError, match=f"{path}: line 5 isn't a record of type C"):
         list(tigerline.geocode([("", "5 Oak St", "Mayhew", "AL", "")], tmp_path))
