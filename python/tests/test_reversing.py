@@ -22,7 +22,8 @@ pytestmark = pytest.mark.usefixtures("extractd", "scratch")
 # A degree of latitude has about 111,000 m, so 0.0001 degrees are 11 m; of longitude it has about 93,600 m here.
 # Each segment: TLID, CFCC, name, type, the ends, left numbers, right numbers, ZIP Codes, and the points between the ends.
 # Longitudes and latitudes are in millionths of a degree east of -87 and north of 33. Main goes to the east and Oak to the
-# north; they meet at 0 0, and there the point lies beside the one that it is further from if both went on. Bend goes to the east and turns back on itself.
+# north; they meet at 0 0, and there the point lies beside the one that it is further from if both went on. Bend goes to the
+# east and turns back on itself. Polar is at 60 degrees north, where a degree of longitude has 55,800 m.
 SEGMENTS = """
 1 | A41 | Main  | St  | -2000 0 0 0     | 101 199 | 100 198 | 35001 35002 |
 2 | A41 | Oak   | Ave | 0 0 0 2000      | 250 200 | 251 201 | 35001 35001 |
@@ -31,6 +32,9 @@ SEGMENTS = """
 5 | A41 | -     | -   | 0 -200 900 -200 | 1 99    | 2 98    | 35001 35001 |
 6 | A31 | Both  | Rd  | 9000 0 9000 999 | 10 20   | 1 8     | 35004 35004 |
 7 | A41 | Queen | St  | 9999 0 9999 999 | 1-1 1-9 | 2 2     | 35005 35005 |
+8 | A41 | Far   | Rd  | 20000 0 20000 999 | 1 9   | 2 8     | 35006 35006 |
+9 | A41 | Near  | Rd  | 20220 0 20220 999 | 11 19 | 12 18   | 35006 35006 |
+10 | A41 | Polar | Rd | 30000 27000000 30000 27000999 | 1 9 | 2 8 | 35007 35007 |
 """.strip().splitlines()
 # The ranges of record type 6: the TLID, left numbers, right numbers, and ZIP Codes.
 FURTHER = """
@@ -38,9 +42,11 @@ FURTHER = """
 1 | 1 9   | -     | 35009 -
 """.strip().splitlines()
 
-# A point, and the street, the house number, the ZIP Code and the side, or nothing.
+# A point, and the street, the house number, the ZIP Code and the side, or nothing. A point on a street counts as on its
+# left. Near Rd is 37 cm nearer than Far Rd, and the points of the last rows are up to 100 m outside of the county's box.
 POINTS = """
 -990 100    | Main St 151  35001 L
+-990 0      | Main St 151  35001 L
 -990 -100   | Main St 150  35002 R
 -2000 100   | Main St 101  35001 L
 -2500 -50   | Main St 100  35002 R
@@ -60,6 +66,10 @@ POINTS = """
 9010 500    | Both Rd 5    35004 R
 9990 500    | Queen St -   35005 L
 10009 500   | Queen St 2   35005 R
+20112 500   | Near Rd 15   35006 L
+-500 -800   | Main St 174  35002 R
+30010 27001799 | Polar Rd 8 35007 R
+31401 27000500 | Polar Rd 6 35007 R
 """.strip().splitlines()
 
 
@@ -76,7 +86,7 @@ def place(words: Sequence[str]) -> str:
     return f"{-87_000_000 + int(words[0]):+010}{33_000_000 + int(words[1]):+09}"
 
 
-def write_streets(folder: Path) -> Path:
+def write_streets(folder: Path, code: str = CODE) -> Path:
     lines: dict[str, list[str]] = {record_type: [] for record_type in "12456"}
     for tlid, cfcc, name, kind, ends, left, right, codes, shape in (
         [*map(str.strip, row.split("|"))] for row in SEGMENTS
@@ -92,7 +102,7 @@ def write_streets(folder: Path) -> Path:
         lines["6"].append(f"60006{tlid:>10}  1{numbers(left)}{numbers(right)}0000{zips(codes)}")
     folder.mkdir(exist_ok=True)
     for record_type, records in lines.items():
-        (folder / f"TGR{CODE}.RT{record_type}").write_text("".join(line + "\n" for line in records))
+        (folder / f"TGR{code}.RT{record_type}").write_text("".join(line + "\n" for line in records))
     return folder
 
 
@@ -173,10 +183,10 @@ def test_formats(tmp_path: Path, suffix: str) -> None:
 
 
 def test_counties(tmp_path: Path) -> None:
-    """The nearest street of all counties counts, and shape points may be missing."""
-    write_streets(tmp_path)
+    """The nearest street of all counties counts, the first of one in several files. Shape points may be missing."""
     copy_county(tmp_path, code="01003")
-    (tmp_path / f"TGR{CODE}.RT2").unlink()
+    for code in (CODE, "01005"):
+        (write_streets(tmp_path, code) / f"TGR{code}.RT2").unlink()
     places = [degrees("-990 100"), (-86.62576, 32.566932), degrees("7000 30")]
     found = list(tigerline.reverse(places, tmp_path, distance=20))
     assert [street and (street.county, street.tlid) for street in found] == [(CODE, 1), ("01003", 107000006), None]
