@@ -88,6 +88,11 @@ def resolved(document: dict[str, Any], item: dict[str, Any]) -> dict[str, Any]:
     return found
 
 
+def parts_of(numbers: list[int], size: int) -> list[list[int]]:
+    """Returns a list in parts of a size. The last part has the rest."""
+    return [numbers[place : place + size] for place in range(0, len(numbers), size)]
+
+
 def ids(document: dict[str, Any]) -> list[int]:
     return [feature["id"] for feature in document["features"]]
 
@@ -229,21 +234,28 @@ class TestFeatures:
         for line, feature in zip(lines, features, strict=True):
             assert feature["properties"]["FENAME"] == line[19:49].decode("latin-1").strip(" ")
 
-    @pytest.mark.parametrize("limit", [1, 7, 100, 399, 400, 401, 10**30])
-    def test_each_page_once(self, service: Service, limit: int) -> None:
+    @pytest.mark.parametrize(
+        ("limit", "largest"),
+        [(1, 500), (7, 500), (100, 500), (200, 500), (399, 500), (400, 500), (401, 500), (10**30, 500), (401, 150)],
+    )
+    def test_each_page_once(self, make: Make, extractd: str, limit: int, largest: int) -> None:
+        """All pages but the last have as many features as the limit says, or as the largest page has. None is empty."""
         expected = [int(record[5:15]) for record in records(EXAMPLES / "TGR01001.RT1")]
-        found = list(pages(service, query(limit=limit)))
-        assert [tlid for page in found for tlid in tlids(page)] == expected
+        found = list(pages(make(limits=Limits(page=largest)), query(limit=limit)))
+        assert [tlids(page) for page in found] == parts_of(expected, min(limit, largest))
         assert {page["numberMatched"] for page in found} == {SEGMENTS}
-        assert all(page["numberReturned"] == len(page["features"]) for page in found)
+        assert [page["numberReturned"] for page in found] == [len(page["features"]) for page in found]
 
-    @pytest.mark.parametrize("offset", [0, 1, 399, 400, 401, 5000, 10**30])
-    def test_pages_back(self, service: Service, offset: int) -> None:
-        """The pages before one have all features before it, each once."""
-        back = list(pages(service, query(limit=70, offset=offset), "prev"))
+    @pytest.mark.parametrize(
+        ("offset", "limit"),
+        [(0, 70), (1, 70), (140, 70), (399, 70), (400, 70), (401, 70), (5000, 70), (10**30, 70), (5, 1)],
+    )
+    def test_pages_back(self, service: Service, offset: int, limit: int) -> None:
+        """The pages before one have all features before it, each once. All but the first have as many as the limit says."""
         expected = [int(record[5:15]) for record in records(EXAMPLES / "TGR01001.RT1")]
-        assert [tlid for page in back[:0:-1] for tlid in tlids(page)] == expected[:offset]
-        assert tlids(back[0]) == expected[offset : offset + 70]
+        page, *back = pages(service, query(limit=limit, offset=offset), "prev")
+        assert tlids(page) == expected[offset : offset + limit]
+        assert [tlids(page)[::-1] for page in back] == parts_of(expected[:offset][::-1], limit)
 
     def test_links_repeat_the_request(self, service: Service) -> None:
         given = {"filter": "FENAME LIKE 'M%'", "bbox": "-87,32,-86,33", "limit": "2", "filter-lang": "cql2-text"}
