@@ -180,9 +180,11 @@ class TestDocuments:
                 assert ask(service, query(**{name: values.get(name, default)})).status == 200, name
 
     def test_queryables_are_of_their_types(self, service: Service) -> None:
-        """A filter accepts a feature's values in all listed columns, and the geometry."""
+        """A filter accepts a feature's values in all listed columns, and the geometry. Codes aren't listed."""
         columns = ask(service, f"/collections/{CODE}/queryables").document["properties"]
         assert columns.pop("geometry")["format"] == "geometry-linestring"
+        house_numbers = {f"{end}ADD{side}_TEXT" for end in ("FR", "TO") for side in "LR"}
+        assert columns.keys() == {field.name for field in FIELDS if field.kind is not Kind.CODE} | house_numbers
         for column in columns:
             feature = ask(service, query(filter=f"{column} IS NOT NULL", limit=1)).document["features"]
             value = feature[0]["properties"][column.removesuffix("_TEXT")] if feature else "A"
@@ -192,8 +194,10 @@ class TestDocuments:
 
     def test_public_address(self, make: Make, extractd: str) -> None:
         service = make(url="https://example.org/tiger/")
-        for link in ask(service, query(limit=1)).document["links"]:
-            assert link["href"].startswith("https://example.org/tiger/collections/01001")
+        links = {link["rel"]: link["href"] for link in ask(service, query(limit=1, offset=1)).document["links"]}
+        assert links.keys() == {"self", "alternate", "next", "prev", "collection"}
+        for target in links.values():
+            assert target.startswith("https://example.org/tiger/collections/01001")
         for url in ("example.org", "ftp://example.org", "https://example.org/?a"):
             with pytest.raises(ValueError, match="is no address"):
                 make(url=url)
