@@ -692,9 +692,10 @@ class TestRuns:
         ask(service, first)
         assert program.calls() == ["select"] * 2
 
-    def test_single_segments_take_no_room(
+    def test_number_of_buffers_is_bounded(
         self, make: Make, extractd: str, tmp_path: Path, monkeypatch: pytest.MonkeyPatch
     ) -> None:
+        """Single segments take no room, and a further selection that of the one requested longest ago."""
         monkeypatch.setattr("tigerline.service.selections.MOST_BUFFERS", 2)
         program = Counting(tmp_path, extractd)
         service = make(extractd=program.path)
@@ -706,6 +707,9 @@ class TestRuns:
         ask(service, query(filter="CFCC = 'A41'", offset=10))
         ask(service, ITEMS)
         assert program.calls() == []
+        for where in ("CFCC = 'A61'", "CFCC = 'A41'"):
+            ask(service, query(filter=where))
+            assert program.calls() == ["select"]
 
     def test_same_request_at_once(self, make: Make, extractd: str, tmp_path: Path) -> None:
         program = Counting(tmp_path, extractd, "sleep 0.3")
