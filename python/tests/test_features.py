@@ -4,6 +4,7 @@ import json
 import threading
 import time
 from collections.abc import Callable, Iterator
+from concurrent.futures import ThreadPoolExecutor, as_completed
 from pathlib import Path
 from typing import Any, NamedTuple
 from urllib.parse import parse_qsl, urlencode, urlsplit
@@ -731,23 +732,22 @@ class TestRuns:
         assert not processes_with(program) and not processes_with(HANGING)
 
     def test_too_many_wait(self, make: Make, tmp_path: Path) -> None:
-        program = program_of(tmp_path / "hanging", f"{HANGING}; true")
-        service = make(extractd=program, limits=Limits(processes=1, waiting=1, seconds=2))
-        found: list[str] = []
-
-        def request(number: int) -> None:
-            answer = ask(service, f"{ITEMS}/{number}")
-            found.append(answer.document["type"].partition("#")[2])
-
-        threads = [threading.Thread(target=request, args=(number,)) for number in range(5)]
-        for thread in threads:
-            thread.start()
-        time.sleep(0.5)
-        assert found == ["busy"] * 3
-        for thread in threads:
-            thread.join(60)
-        assert found[3:] == ["time-limit", "busy"] or set(found[3:]) <= {"time-limit", "busy"}
-        assert not processes_with(program)
+        """One request runs and one waits, until their clients leave. The others are refused at once."""
+        program = program_of(tmp_path / "hanging", f"exec {HANGING}")
+        service = make(extractd=program, limits=Limits(processes=1, waiting=1, seconds=10))
+        have_left = threading.Event()
+        environ: dict[str, Any] = {"waitress.client_disconnected": have_left.is_set}
+        with ThreadPoolExecutor(5) as threads:
+            pending = [threads.submit(ask, service, f"{ITEMS}/{number}", **environ) for number in range(5)]
+            answers = (answer.result() for answer in as_completed(pending))
+            found = [next(answers) for _ in range(3)]
+            wait_until(lambda: processes_with(HANGING))
+            assert len(processes_with(HANGING)) == 1
+            have_left.set()
+            found += answers
+        kinds = [answer.document["type"].partition("#")[2] for answer in found]
+        assert kinds == ["busy"] * 3 + ["client-left"] * 2
+        assert {answer.status for answer in found} == {503} and not processes_with(HANGING)
 
     def test_client_that_left(self, make: Make, tmp_path: Path) -> None:
         program = program_of(tmp_path / "hanging", f"{HANGING}; true")
