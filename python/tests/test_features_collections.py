@@ -3,16 +3,20 @@
 import gzip
 import json
 import sqlite3
-import time
 from pathlib import Path
+from types import SimpleNamespace
 from urllib.parse import quote, urlencode
 
 import pytest
-from counties import CODE, EXAMPLES, SEGMENTS, copy_county, program_of, records
+from counties import CODE, EXAMPLES, SEGMENTS, copy_county, records
 from test_features import Make, ask, make, pages, points, service, value_of  # noqa: F401 (two are fixtures)
 from tigerline.layout import FIELDS, NAMES
-from tigerline.service.application import Limits, Service
+from tigerline.service.application import Service
 from tigerline.service.axes import exchanged
+from tigerline.service.lines import Lines
+from tigerline.service.query import FeatureSelection
+from tigerline.service.selections import Processes, Watch
+from tigerline.sources import County
 
 OTHER, FAR = "01003", "02016"
 STATE = "/collections/al/items"
@@ -29,6 +33,18 @@ def counties(make: Make, extractd: str, tmp_path: Path) -> Service:  # noqa: F81
     for code, chosen in ((CODE, lines[:7]), (OTHER, [*lines[6:9], lines[6]]), (FAR, lines[20:25])):
         (copy_county(tmp_path, code=code) / f"TGR{code}.RT1").write_bytes(b"\n".join(chosen) + b"\n")
     return make(tmp_path, [FAR, OTHER, CODE])
+
+
+def slow_down(monkeypatch: pytest.MonkeyPatch, seconds: float) -> None:
+    """Has each selection take this time, by a clock that otherwise stands still."""
+    select, now = Processes.select, [0.0]
+
+    def slow(processes: Processes, county: County, selection: FeatureSelection, watch: Watch) -> Lines:
+        now[0] += seconds
+        return select(processes, county, selection, watch)
+
+    monkeypatch.setattr(Processes, "select", slow)
+    monkeypatch.setattr("tigerline.service.selections.time", SimpleNamespace(monotonic=lambda: now[0]))
 
 
 class TestCollections:
@@ -62,18 +78,16 @@ class TestCollections:
     def test_unknown(self, counties: Service, name: str) -> None:
         assert ask(counties, f"{STATE}/{name}").status == 404
 
-    def test_time_limit(self, make: Make, extractd: str, tmp_path: Path) -> None:  # noqa: F811
-        """It is that of each county, and a request over several may take longer."""
-        for code in (CODE, OTHER, FAR):
-            copy_county(tmp_path, code=code)
-        slow = program_of(tmp_path / "slow", f'sleep 1.5\nexec {extractd} "$@"')
-        served = make(tmp_path, [CODE, OTHER, FAR], extractd=slow, limits=Limits(seconds=4))
-        for target in ("limit=1", "sortby=TLID&limit=1"):
-            started = time.monotonic()
-            assert ask(served, f"{ALL}?{target}&filter=TRUE").document["numberMatched"] == 3 * SEGMENTS
-            assert time.monotonic() - started > 4 or target.startswith("sortby")
-        short = make(tmp_path, [CODE, OTHER, FAR], extractd=slow, limits=Limits(seconds=1))
-        assert ask(short, ALL).document["type"].endswith("#time-limit")
+    @pytest.mark.parametrize("target", [f"{ALL}?filter=TRUE", f"{ALL}?sortby=TLID", "/collections/us"])
+    @pytest.mark.parametrize(("seconds", "is_late"), [(20, False), (31, True)])
+    def test_time_limit(
+        self, counties: Service, monkeypatch: pytest.MonkeyPatch, target: str, seconds: float, is_late: bool
+    ) -> None:
+        """It is 30 seconds for each county, and a request over several may take longer."""
+        slow_down(monkeypatch, seconds)
+        found = ask(counties, target).document
+        assert (found.get("numberMatched") == 16 or "extent" in found) != is_late
+        assert found.get("type", "").endswith("#time-limit") == (is_late and target.startswith(ALL))
 
     def test_extent(self, counties: Service) -> None:
         """It is the box around the extents of the counties."""
