@@ -29,6 +29,7 @@ pytest.importorskip("jinja2", reason="no jinja2")
 
 TOWN = "01007"
 MARKUP = "<img src=x onerror=alert(1)>"
+FORMULA = "=1+1"
 ITEMS = f"/collections/{TOWN}/items"
 BROWSER = "text/html,application/xhtml+xml,application/xml;q=0.9,*/*;q=0.8"
 PLACES = {field.name: field.bytes for field in FIELDS}
@@ -37,18 +38,20 @@ pytestmark = pytest.mark.usefixtures("scratch")
 
 
 def write_data(folder: Path) -> Path:
-    """Writes the town, and a county whose streets and cities have markup as names."""
+    """Writes the town, and a county whose streets and cities have markup as names, and one a formula."""
     shutil.copytree(EXAMPLES / "town", folder)
     write_cities(folder / f"TGR{TOWN}.RTC", TOWN, [("13264", "P", "Milford"), ("90315", "M", "Milford")])
     for path in EXAMPLES.glob(f"TGR{CODE}.RT?"):
         shutil.copy(path, folder)
     codes = set()
-    lines = []
+    lines: list[bytes] = []
     for record in records(folder / f"TGR{CODE}.RT1"):
         codes |= {(field_of(record, f"PLACE{side}"), "P") for side in "LR"}
         codes |= {(field_of(record, f"COUSUB{side}"), "M") for side in "LR"}
         if field_of(record, "FENAME") == "Main":
             record = record[:19] + MARKUP.ljust(30).encode() + b'<b>"&i>' + record[56:]
+        elif not lines:
+            record = record[:19] + FORMULA.ljust(30).encode() + record[49:]
         lines.append(record + b"\r\n")
     (folder / f"TGR{CODE}.RT1").write_bytes(b"".join(lines))
     write_cities(folder / f"TGR{CODE}.RTC", CODE, [(code, kind, MARKUP) for code, kind in sorted(codes) if code])
@@ -57,6 +60,11 @@ def write_data(folder: Path) -> Path:
 
 def field_of(record: bytes, name: str) -> str:
     return record[PLACES[name]].decode("latin-1").strip(" ")
+
+
+def varies_by(headers: Any) -> set[str]:
+    """Returns the headers of a request that its reply depends on."""
+    return {name.strip() for line in headers.get_all("Vary", []) for name in line.split(",")}
 
 
 def town_rows(chosen: Callable[[dict[str, str]], bool]) -> list[dict[str, str]]:
@@ -140,7 +148,7 @@ def test_negotiation(service: Running, target: str, accept: str, media_type: str
     """Pages run only files of the service, and caches keep a page and a document apart."""
     status, headers, text = ask(service, target, accept)
     assert (status, headers.get_content_type()) == (200, media_type)
-    assert "Accept" in ", ".join(headers.get_all("Vary")) or "static" in target
+    assert varies_by(headers) == {"Accept-Encoding"} | ({"Accept"} if "/static/" not in target else set())
     if media_type == "text/html":
         assert headers["Content-Security-Policy"].startswith(
             "default-src 'none'; script-src 'self'; style-src 'self'; "
@@ -174,8 +182,10 @@ def test_negotiation(service: Running, target: str, accept: str, media_type: str
     ],
 )
 def test_problems(service: Running, target: str, status: int, text: str) -> None:
+    """A problem is a document or a page, which caches keep apart, too."""
     found = ask(service, target)
     assert found.status == status and text in found.text
+    assert varies_by(found.headers) == {"Accept-Encoding", "Accept"}
 
 
 def test_pages_have_all_segments(service: Running) -> None:
@@ -236,7 +246,7 @@ def test_markup(service: Running) -> None:
 
 
 def test_csv(service: Running) -> None:
-    """A table has all segments, in the order of the file, with shape points."""
+    """A table has all segments, in the order of the file, with shape points. No text in it is a formula."""
     reply = ask(service, f"{ITEMS}?f=csv&filter=CFCC%20LIKE%20%27A2%25%27")
     assert reply.headers["Content-Disposition"] == f'attachment; filename="{TOWN}.csv"'
     rows = list(csv.DictReader(io.StringIO(reply.text, newline="")))
@@ -252,6 +262,8 @@ def test_csv(service: Running) -> None:
     assert len(ask(service, f"{ITEMS}?f=csv").text.splitlines()) == 1 + len(town_rows(lambda row: True))
     assert len(ask(service, f"{ITEMS}?f=csv&limit=3&offset=5").text.splitlines()) == 4
     assert ask(service, f"{ITEMS}?f=csv&filter=FALSE").text.splitlines()[0].startswith("id,RT,VERSION,TLID,")
+    table = ask(service, f"/collections/{CODE}/items?f=csv&properties=FENAME,FRLONG&limit=1").text
+    assert [row["FENAME"] for row in csv.DictReader(io.StringIO(table, newline=""))] == [f"'{FORMULA}"]
 
 
 def test_all_pages_are_downloaded(start: Callable[..., Running]) -> None:  # noqa: F811
