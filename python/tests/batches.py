@@ -53,11 +53,14 @@ def run(*arguments: object, **further: str) -> tuple[int, str, str]:
     return process.returncode, output, said
 
 
-def wait_for(condition: Callable[[], object], seconds: float = 120) -> None:
-    """Waits until a condition holds."""
+def wait_for(
+    condition: Callable[[], object], seconds: float = 120, process: subprocess.Popen[str] | None = None
+) -> None:
+    """Waits until a condition holds. Fails at once if the process that is to bring it about has ended."""
     deadline = time.monotonic() + seconds
     while not condition():
         assert time.monotonic() < deadline
+        assert process is None or process.poll() is None, process.communicate()
         time.sleep(0.02)
 
 

@@ -146,7 +146,7 @@ def test_warnings(data: Path, out: Path) -> None:
     options = ("--where", "TRUE", "--extractd", disturbed(out.parent / "stop", os.environ["EXTRACTD"], WAIT))
     warning = f"warning: {data} has no TGR01003.RT4: names or address ranges may be missing\n"
     process = start(data, out / "a.csv", *options, "--resume")
-    wait_for(lambda: (out.parent / "stop.state/waits").exists())
+    wait_for(lambda: (out.parent / "stop.state/waits").exists(), process=process)
     process.send_signal(signal.SIGINT)
     process.communicate(timeout=30)
     (out.parent / "stop.state/go").touch()
@@ -162,7 +162,7 @@ class TestResume:
         options = (data, out / "a.csv", "--where", ROADS, "--extractd", program)
         process = start(*options, "--workers", "2", "--resume")
         parts = out / "a.csv.parts"
-        wait_for(lambda: len(list(parts.glob("*.part"))) == 4)
+        wait_for(lambda: len(list(parts.glob("*.part"))) == 4, seconds=30, process=process)
         os.kill(process.pid, number)
         process.communicate(timeout=30)
         assert process.returncode == -number
@@ -186,7 +186,7 @@ class TestResume:
         (out / "a.csv.parts/notes.txt").write_text("mine")
         options = (data, out / "a.csv", "--where", "TRUE", "--extractd", program, "--resume")
         process = start(*options)
-        wait_for(lambda: (out.parent / "stop.state/waits").exists())
+        wait_for(lambda: (out.parent / "stop.state/waits").exists(), process=process)
         assert run(*options) == (3, "", f"error: {out}/a.csv.parts is in use by another run\n")
         (out.parent / "stop.state/go").touch()
         process.communicate(timeout=30)
@@ -312,6 +312,20 @@ class TestTasks:
         self.refused(task, "county 01001: .*/TGR01001.RT4 isn't the same file on .*: its size or time differs")
         (data / "TGR01001.RT1").unlink()
         self.refused(task, "TGR01001.RT1: No such file or directory on .*: DATA has to be in a file system that all")
+
+    def test_files_that_change(self, data: Path, tmp_path: Path, extractd: str) -> None:
+        """What the program has read of a file isn't used if the file changes meanwhile."""
+        changing = disturbed(tmp_path / "changing", extractd, f'touch -d @0 "{data}/TGR01001.RT4"')
+        task = self.task(data, tmp_path / "store", Request("TRUE", extractd=changing))
+        self.refused(task, "county 01001: .*/TGR01001.RT4 has changed on .*: its size or time differs")
+        assert counties_run(changing) == ["01001"] and not list((tmp_path / "store").iterdir())
+
+    def test_part_that_cannot_be_written(self, data: Path, tmp_path: Path) -> None:
+        """Its temporary file doesn't stay."""
+        task = self.task(data, tmp_path / "store")
+        task.path.mkdir()
+        self.refused(task, f"Is a directory: .*{task.path}")
+        assert list((tmp_path / "store").iterdir()) == [task.path]
 
     def test_no_folder_for_output(self, data: Path, tmp_path: Path) -> None:
         task = self.task(data, tmp_path / "store")

@@ -152,7 +152,7 @@ def test_worker_killed(data: Path, out: Path, address: str) -> None:
 def test_interrupted(data: Path, out: Path, address: str) -> None:
     program = disturbed(out.parent / "stop", os.environ["EXTRACTD"], WAIT)
     process = start(data, out / "a.csv", "--where", "TRUE", "--extractd", program, "--scheduler", address)
-    wait_for(lambda: (out.parent / "stop.state/waits").exists())
+    wait_for(lambda: (out.parent / "stop.state/waits").exists(), process=process)
     os.killpg(process.pid, signal.SIGINT)
     assert process.communicate(timeout=20) == ("", "") and process.returncode == -signal.SIGINT
     assert not list(out.iterdir())
@@ -202,7 +202,7 @@ class TestScheduler:
         options = (data, out / "a.csv", "--where", ROADS, "--extractd", program, "--resume")
         with running_cluster(tmp_path / "cluster", 1, "--nthreads", 2, "--no-nanny") as (address, scheduler):
             process = start(*options, "--scheduler", address)
-            wait_for(lambda: len(list(out.glob("a.csv.parts/*.part"))) == 4)
+            wait_for(lambda: len(list(out.glob("a.csv.parts/*.part"))) == 4, seconds=60, process=process)
             scheduler.kill()
             output, said = process.communicate(timeout=120)
         assert (process.returncode, output) == (3, "") and said.count("\n") == 1
