@@ -36,7 +36,7 @@ def test_chosen_columns_without_geometry() -> None:
 
 def test_scores() -> None:
     frame = tigerline.select("TRUE", EXAMPLES, CODE, score="FRLONG", signed=True, columns=["FRLONG"])
-    assert (frame.score == (frame.FRLONG * 1e6).round()).all() and (frame.score < 0).all()
+    assert len(frame) == SEGMENTS and (frame.score == (frame.FRLONG * 1e6).round()).all() and (frame.score < 0).all()
     unsigned = tigerline.select("TRUE", EXAMPLES, CODE, score="FRLONG", columns=[])
     assert [int(score) - 2**64 for score in unsigned.score] == frame.score.tolist()
 
