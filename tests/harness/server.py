@@ -20,11 +20,12 @@ class NotListening(Exception):
 
 
 class Server:
-    """A server over the county 01001 of a folder, until it is closed. `under` is a command that runs it, such as `limited v 4000`."""
+    """A server over counties of a folder, until it is closed. `under` is a command that runs it, such as `limited v 4000`."""
 
-    def __init__(self, folder: Path, *options: str, under: str = "") -> None:
+    def __init__(self, folder: Path, *options: str, counties: tuple[str, ...] = ("01001",), under: str = "") -> None:
         self.errors = tempfile.TemporaryFile()
-        command = [*under.split(), "extractd", "serve", "--data", str(folder), "--any-port", *options, "01001"]
+        served = ["serve", "--data", str(folder), "--any-port", *options, *counties]
+        command = [*under.split(), "extractd", *served]
         self.process = subprocess.Popen(command, stdin=subprocess.DEVNULL, stdout=subprocess.PIPE, stderr=self.errors)
         assert self.process.stdout is not None
         # A read waits for the end of the line, or that of the server.
