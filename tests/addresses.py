@@ -28,10 +28,49 @@ from typing import NamedTuple
 CODES = ("00001", "00002")
 ADDRESSES_OF_COUNTIES = 200
 SEGMENTS = 60
-HEADER = ["id", "status", "reason", "longitude", "latitude", "tlid", "side", "fedirp", "fename", "fetype", "fedirs", "zip", "county", "from", "to"]
+HEADER = [
+    "id",
+    "status",
+    "reason",
+    "longitude",
+    "latitude",
+    "tlid",
+    "side",
+    "fedirp",
+    "fename",
+    "fetype",
+    "fedirs",
+    "zip",
+    "county",
+    "from",
+    "to",
+]
 COLUMNS = ["number", "name", "id", "zip", "predir", "type", "sufdir"]
-NAMES = ["La Cañada", "Main", "Maine", "Oak", "Oak Hill", "County Road 70", "St. John's", "Old \"Mill\"", "A, B", "", "Abcdefghijklmnopqrstuvwxyzabcd"]
-ODD_CELLS = ["", "12-34", "123456789012", "x" * 31, "No Street", "1" * 11, "é" * 30, "é" * 31, "La Can\u0303ada", "La Ca€ada"]
+NAMES = [
+    "La Cañada",
+    "Main",
+    "Maine",
+    "Oak",
+    "Oak Hill",
+    "County Road 70",
+    "St. John's",
+    'Old "Mill"',
+    "A, B",
+    "",
+    "Abcdefghijklmnopqrstuvwxyzabcd",
+]
+ODD_CELLS = [
+    "",
+    "12-34",
+    "123456789012",
+    "x" * 31,
+    "No Street",
+    "1" * 11,
+    "é" * 30,
+    "é" * 31,
+    "La Can\u0303ada",
+    "La Ca€ada",
+]
 DIRECTIONS = ["", "", "", "N", "S", "NE"]
 TYPES = ["St", "Rd", "Ave", "Blvd", ""]
 ZIPS = ["36066", "36067", "07001", "", "36067"]
@@ -131,9 +170,16 @@ def read_county(folder: Path, code: str, shaped: bool) -> list[Segment]:
     for line in lines(stem.with_suffix(".RT1")):
         tlid = int(line[5:15])
         own = FullName(line[17:19], line[19:49], line[49:53], line[53:55])
-        coordinates = [coordinate_of(line[190:200]), coordinate_of(line[200:209]), coordinate_of(line[209:219]), coordinate_of(line[219:228])]
+        coordinates = [
+            coordinate_of(line[190:200]),
+            coordinate_of(line[200:209]),
+            coordinate_of(line[209:219]),
+            coordinate_of(line[219:228]),
+        ]
         sides = sides_of(line[58:102], line[106:116]) + ranges.get(tlid, [])
-        segments.append(Segment(tlid, [own, *names.get(tlid, [])], sides, coordinates, shapes.get(tlid, []) if shaped else None))
+        segments.append(
+            Segment(tlid, [own, *names.get(tlid, [])], sides, coordinates, shapes.get(tlid, []) if shaped else None)
+        )
     return segments
 
 
@@ -155,7 +201,9 @@ def length(start: Point, end: Point) -> int:
     """Returns the length of a straight line, in 1/32,768 of a millionth of a degree of latitude."""
     degree, rest = divmod(abs(start.latitude + end.latitude) // 2, 1_000_000)
     cosine = (COSINES[degree] * (1_000_000 - rest) + COSINES[degree + 1] * rest) // 1_000_000
-    return isqrt((abs(start.longitude - end.longitude) * cosine) ** 2 + (abs(start.latitude - end.latitude) * 2**15) ** 2)
+    return isqrt(
+        (abs(start.longitude - end.longitude) * cosine) ** 2 + (abs(start.latitude - end.latitude) * 2**15) ** 2
+    )
 
 
 def place_along(points: list[Point], part: int, whole: int) -> Point:
@@ -169,7 +217,9 @@ def place_along(points: list[Point], part: int, whole: int) -> Point:
 
 
 def place_between(start: Point, end: Point, part: int, whole: int) -> Point:
-    return Point(between(start.longitude, end.longitude, part, whole), between(start.latitude, end.latitude, part, whole))
+    return Point(
+        between(start.longitude, end.longitude, part, whole), between(start.latitude, end.latitude, part, whole)
+    )
 
 
 def place_of(segment: Segment, number: int, side: Side) -> Point | None:
@@ -229,7 +279,12 @@ def answer(counties: list[tuple[str, list[Segment]]], cells: dict[str, str]) -> 
         return none("name_too_long")
     if cells["zip"] and wanted_zip is None:
         return none("not_a_number")
-    matches = [(code, segment, name) for code, segments in counties for segment in segments if (name := first_match(segment, cells))]
+    matches = [
+        (code, segment, name)
+        for code, segments in counties
+        for segment in segments
+        if (name := first_match(segment, cells))
+    ]
     hits = [hit for code, segment, name in matches for hit in hits_on(segment, name, code, number, wanted_zip)]
     if hits:
         one_place = all(hit.place is not None and hit.place == hits[0].place for hit in hits[1:])
@@ -304,7 +359,8 @@ def write_county(random: Random, folder: Path, code: str) -> None:
         rt4.append(f"40006{tlid:10}  1" + "".join(f"{random.choice((*features, 99, '')):>8}" for _ in range(5)))
     rt5 = [f"50006{code}{feature:8}{draw_full_name(random).field()}" for feature in (*features, 1, 2)]
     rt6 = [
-        f"60006{tlid:10}  1{draw_addresses(random)}0000{random.choice(ZIPS):5}{random.choice(ZIPS):5}" for tlid in random.choices(tlids, k=20)
+        f"60006{tlid:10}  1{draw_addresses(random)}0000{random.choice(ZIPS):5}{random.choice(ZIPS):5}"
+        for tlid in random.choices(tlids, k=20)
     ]
     for end, file in ((".RT1", rt1), (".RT2", rt2), (".RT4", rt4), (".RT5", rt5), (".RT6", rt6)):
         stem.with_suffix(end).write_text("".join(line + "\n" for line in file), "latin-1", newline="")
@@ -316,7 +372,15 @@ def draw_cells(random: Random, segments: list[Segment], at: int) -> dict[str, st
     side = random.choice(segment.sides)
     start = number_of(side.start)
     number = str(start + random.choice((0, 1, 2, 10, 20, -1))) if start is not None else str(random.randint(0, 500))
-    cells = {"number": number, "name": name.fename.strip(), "id": f"a{at}", "zip": "", "predir": "", "type": "", "sufdir": ""}
+    cells = {
+        "number": number,
+        "name": name.fename.strip(),
+        "id": f"a{at}",
+        "zip": "",
+        "predir": "",
+        "type": "",
+        "sufdir": "",
+    }
     for column, field in (("zip", side.zip), ("predir", name.fedirp), ("type", name.fetype), ("sufdir", name.fedirs)):
         if random.random() < 0.5:
             cells[column] = field.strip()
@@ -351,7 +415,10 @@ def write_file(random: Random, rows: list[dict[str, str]]) -> tuple[str, list[st
         ids.append(row["id"] if "id" in columns else str(text.getvalue().count("\n") + 1))
         cells = [row.get(column, random.choice(("", "a note", "two\nlines", 'a "quote"'))) for column in columns]
         if random.random() < 0.3:
-            cells = [f" {cell} " if column in ("number", "type", "zip") and cell else cell for column, cell in zip(columns, cells)]
+            cells = [
+                f" {cell} " if column in ("number", "type", "zip") and cell else cell
+                for column, cell in zip(columns, cells)
+            ]
         writer.writerow(cells)
     file = text.getvalue()
     if random.random() < 0.3:
@@ -368,7 +435,16 @@ def compare(random: Random, folder: Path, count: int, shaped: bool) -> int:
     rows = [draw_cells(random, segments, at) for at in range(count)]
     file, ids = write_file(random, rows)
     (folder / "addresses.csv").write_text(file, "utf-8", newline="")
-    arguments = ["extractd", "geocode-batch", "--addresses", str(folder / "addresses.csv"), "--data", str(folder), *(["--shape"] if shaped else []), *CODES]
+    arguments = [
+        "extractd",
+        "geocode-batch",
+        "--addresses",
+        str(folder / "addresses.csv"),
+        "--data",
+        str(folder),
+        *(["--shape"] if shaped else []),
+        *CODES,
+    ]
     done = subprocess.run(arguments, capture_output=True)
     if done.returncode != 0 or done.stderr:
         print(f"status {done.returncode}: {done.stderr.decode()}")
@@ -376,7 +452,9 @@ def compare(random: Random, folder: Path, count: int, shaped: bool) -> int:
     return compare_output(list(zip(rows, ids)), counties, done.stdout.decode("utf-8"))
 
 
-def compare_output(rows: list[tuple[dict[str, str], str]], counties: list[tuple[str, list[Segment]]], output: str) -> int:
+def compare_output(
+    rows: list[tuple[dict[str, str], str]], counties: list[tuple[str, list[Segment]]], output: str
+) -> int:
     differing = 0
     expected = csv_text([HEADER])
     left = output.removeprefix(expected)
@@ -407,7 +485,9 @@ def main() -> None:
     differing = 0
     for batch, start in enumerate(range(0, count, ADDRESSES_OF_COUNTIES)):
         with tempfile.TemporaryDirectory() as folder:
-            differing += compare(Random(f"{seed} {batch}"), Path(folder), min(ADDRESSES_OF_COUNTIES, count - start), batch % 2 == 1)
+            differing += compare(
+                Random(f"{seed} {batch}"), Path(folder), min(ADDRESSES_OF_COUNTIES, count - start), batch % 2 == 1
+            )
     print(f"{count - differing} addresses agree, {differing} differ")
     sys.exit(differing != 0)
 

@@ -30,7 +30,9 @@ except ImportError:
 FOLDERS = {"01001": Path(__file__).parents[1] / "examples", "01007": Path(__file__).parents[1] / "examples/town"}
 
 SHAPE = r"[A-Z]+\([-0-9., ()]*\)"
-SPATIAL = re.compile(rf'(S_INTERSECTS|S_DISJOINT|S_WITHIN|STARTS_IN)\((?:"?geometry"?, )?({SHAPE})(?:, "?geometry"?)?\)')
+SPATIAL = re.compile(
+    rf'(S_INTERSECTS|S_DISJOINT|S_WITHIN|STARTS_IN)\((?:"?geometry"?, )?({SHAPE})(?:, "?geometry"?)?\)'
+)
 PATTERN = re.compile(r"LIKE (?:\w+\()*'(?:[^']|'')*'\)*")
 
 # ---- Geometries, in millionths of a degree
@@ -100,7 +102,15 @@ class Row(NamedTuple):
         if counted != self.segments:
             return f"SQLite finds {counted}"
         language = ["--filter-lang", "cql2-json"] if self.filter.startswith("{") else []
-        command = ["extractd", "select", f"--where={self.filter}", *language, "--data", str(FOLDERS[self.county]), self.county]
+        command = [
+            "extractd",
+            "select",
+            f"--where={self.filter}",
+            *language,
+            "--data",
+            str(FOLDERS[self.county]),
+            self.county,
+        ]
         ran = subprocess.run(command, stdin=subprocess.DEVNULL, capture_output=True)
         if ran.returncode != 0 or ran.stderr:
             return f"status {ran.returncode}: {ran.stderr.decode(errors='replace').strip()}"

@@ -65,7 +65,9 @@ class Item(NamedTuple):
 
     def owner(self):
         """Returns the type or the trait that it is a method of."""
-        named = re.match(r"pub trait (\w+)", self.header) or re.search(r"(?:\bfor\s+|^impl(?:<.*?>)?\s+)(?:\w+::)*(\w+)", self.header)
+        named = re.match(r"pub trait (\w+)", self.header) or re.search(
+            r"(?:\bfor\s+|^impl(?:<.*?>)?\s+)(?:\w+::)*(\w+)", self.header
+        )
         for_type = re.search(r"\bfor (?:\w+::)*(\w+)", self.header)
         return (for_type or named)[1] if self.header else None
 
@@ -101,7 +103,9 @@ def items(module, text):
             header = head_of(line, lines)
         elif line == "}":
             header = ""
-        elif re.match(r"( {4})?(pub(\(\w+\))? )?(unsafe |const )*fn \w", line) and line.startswith("    ") == bool(header):
+        elif re.match(r"( {4})?(pub(\(\w+\))? )?(unsafe |const )*fn \w", line) and line.startswith("    ") == bool(
+            header
+        ):
             yield Item(module, header, head_of(line.strip(), lines))
 
 
@@ -171,7 +175,9 @@ def kinds_of(item, wanting):
     """Returns what the types of a function let it do."""
     types = f"{item.header} {item.signature}"
     result = item.signature.partition("->")[2]
-    return tuple(kind for kind in KINDS if re.search(BOUNDS[kind], types) or kind == "memory" and re.search(wanting, result))
+    return tuple(
+        kind for kind in KINDS if re.search(BOUNDS[kind], types) or kind == "memory" and re.search(wanting, result)
+    )
 
 
 def trait_of(item):

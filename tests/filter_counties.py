@@ -129,7 +129,9 @@ def swapped(text: str) -> str:
 
 def reaccented(dice: Random, text: str) -> str:
     """Draws other diacritics, or none, for some letters."""
-    return "".join(dice.choice(FAMILIES.get(character, character)) if chance(dice, 60) else character for character in text)
+    return "".join(
+        dice.choice(FAMILIES.get(character, character)) if chance(dice, 60) else character for character in text
+    )
 
 
 def mistaken(character: str) -> str:
@@ -237,7 +239,9 @@ class Pools:
         if column.kind is Kind.COORDINATE:
             return [draw_coordinate(self.dice, column) for _ in range(count)]
         shared = self.dice.sample(self.numbers, 2)
-        return [draw_number(self.dice, column.width) for _ in range(count)] + [digits.rjust(column.width) for digits in shared]
+        return [draw_number(self.dice, column.width) for _ in range(count)] + [
+            digits.rjust(column.width) for digits in shared
+        ]
 
     def record(self, tlid: int) -> bytes:
         line = [" "] * 228
@@ -320,7 +324,9 @@ def database_of(segments: list[Segment]) -> sqlite3.Connection:
         values = [identity, *(column.value(segment.line) for column in COLUMNS)]
         database.execute(f"INSERT INTO segments VALUES ({', '.join('?' * len(values))})", values)
         names = [BY_NAME["FENAME"].value(segment.line), *(name.rstrip(" ") for name in segment.names)]
-        database.executemany("INSERT INTO names VALUES (?, ?, ?)", ((identity, number, name) for number, name in enumerate(names)))
+        database.executemany(
+            "INSERT INTO names VALUES (?, ?, ?)", ((identity, number, name) for number, name in enumerate(names))
+        )
         own = [BY_NAME[name].field(segment.line) for name in RANGE_FIELDS]
         further = (field.encode() for fields in segment.ranges for field in fields)
         numbers = [number_of(field) for field in (*own, *further)]

@@ -59,11 +59,15 @@ def joined(level: Level, terms: list[Filter]) -> Filter:
     tokens = [token for term in terms for token in (level.name, *term.tokens)]
     sql = f"({f' {level.name} '.join(term.sql for term in terms)})"
     refusals = frozenset[int]().union(*(term.refusals for term in terms))
-    return Filter(tokens[1:], sql, sum(term.words for term in terms), level, max(term.depth for term in terms), refusals)
+    return Filter(
+        tokens[1:], sql, sum(term.words for term in terms), level, max(term.depth for term in terms), refusals
+    )
 
 
 def compared(first: Term, operator: str, second: Term) -> Filter:
-    return Filter([*first.tokens, operator, *second.tokens], f"({first.sql} {operator} {second.sql})", first.words + second.words)
+    return Filter(
+        [*first.tokens, operator, *second.tokens], f"({first.sql} {operator} {second.sql})", first.words + second.words
+    )
 
 
 def listed(subject: Term, negation: list[str], members: list[Term]) -> Filter:
@@ -182,7 +186,9 @@ class FilterDice(ShapeDice):
         else:
             column, subject = self.column(TEXTS)
             members = [self.member(column, folding) for _ in range(self.dice.randint(1, 4))]
-        return listed(folded(subject, folding), self.negation(), [folded(member, self.reordered(folding)) for member in members])
+        return listed(
+            folded(subject, folding), self.negation(), [folded(member, self.reordered(folding)) for member in members]
+        )
 
     def member(self, column: Column, folding: Folding) -> Term:
         """Draws a literal to compare with this column, or now and then another column if nothing is ignored."""

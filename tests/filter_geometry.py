@@ -116,7 +116,11 @@ class Shape:
     def __init__(self, path: list[Point], polygons: list[list[Ring]], scale: int = 1) -> None:
         self.scale = scale
         self.polygons = polygons
-        self.edges = [(path[0], path[0]), *pairwise(path)] if path else [edge for rings in polygons for edge in ring_edges(rings)]
+        self.edges = (
+            [(path[0], path[0]), *pairwise(path)]
+            if path
+            else [edge for rings in polygons for edge in ring_edges(rings)]
+        )
         self.path = path
 
     def meets(self, line: Edge) -> bool:
@@ -125,7 +129,9 @@ class Shape:
         return any(is_inside(line[0], rings) for rings in self.polygons)
 
     def has(self, at: Place) -> bool:
-        return any(has_place(edge, at) for edge in self.edges) or any(is_place_inside(at, rings) for rings in self.polygons)
+        return any(has_place(edge, at) for edge in self.edges) or any(
+            is_place_inside(at, rings) for rings in self.polygons
+        )
 
     def meets_by_fractions(self, line: Edge) -> bool:
         """Looks at the places of the line where it can begin or end to meet the shape, and at one between each two of them."""

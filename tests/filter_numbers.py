@@ -70,7 +70,9 @@ def negated(inner: Number) -> Number:
         # It is the sign of the literal.
         return inner._replace(tokens=tokens, sql=sql, level=Level.FACTOR)
     operators, nested = inner.operators + 1, inner.nested + 1
-    return inner._replace(tokens=tokens, sql=sql, level=Level.FACTOR, operators=operators, is_literal=False, nested=nested)
+    return inner._replace(
+        tokens=tokens, sql=sql, level=Level.FACTOR, operators=operators, is_literal=False, nested=nested
+    )
 
 
 def bound_of(operator: str, first: int, second: int) -> int:
@@ -149,7 +151,27 @@ class NumberDice(TermDice):
 
     def size(self) -> int:
         """Draws a number of operators."""
-        return self.dice.choice((1, 1, 1, 1, 2, 2, 2, 2, 3, 3, 3, 4, 5, 6, self.dice.randint(7, 20), self.dice.randint(20, 63), MOST_OPERATORS))
+        return self.dice.choice(
+            (
+                1,
+                1,
+                1,
+                1,
+                2,
+                2,
+                2,
+                2,
+                3,
+                3,
+                3,
+                4,
+                5,
+                6,
+                self.dice.randint(7, 20),
+                self.dice.randint(20, 63),
+                MOST_OPERATORS,
+            )
+        )
 
     def deep(self, kind: Kind, kept: int) -> Number:
         """Draws an expression that needs exactly this many kept values."""
@@ -175,7 +197,11 @@ class NumberDice(TermDice):
         if self.chance(50):
             return self.operand(kind)
         if self.chance(40 if self.oversteps else 15):
-            return self.at_the_bound() if kind is Kind.NUMBER and self.chance(60) else self.deep(kind, MOST_KEPT + self.oversteps)
+            return (
+                self.at_the_bound()
+                if kind is Kind.NUMBER and self.chance(60)
+                else self.deep(kind, MOST_KEPT + self.oversteps)
+            )
         return self.expression(kind, self.size(), MOST_KEPT)
 
     # Numbers that meet others

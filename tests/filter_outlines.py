@@ -94,7 +94,9 @@ class ShapeDice(NumberDice):
         line = self.dice.choice(self.lines)
         x, y = self.dice.choice((*line, line[0])) if self.chance(45) else self.point_along(line)
         if self.chance(20):
-            x, y = x + self.dice.randrange(-9, 10) * 10 ** self.dice.randrange(6), y + self.dice.randrange(-9, 10) * 10 ** self.dice.randrange(6)
+            x, y = x + self.dice.randrange(-9, 10) * 10 ** self.dice.randrange(6), y + self.dice.randrange(
+                -9, 10
+            ) * 10 ** self.dice.randrange(6)
         if self.chance(12):
             x, y = x + self.dice.randint(-1, 1), y + self.dice.randint(-1, 1)
         if self.chance(1):
@@ -119,7 +121,15 @@ class ShapeDice(NumberDice):
     def ring(self) -> Ring:
         """Draws a ring, now and then with a vertex that is there twice, or with one on an edge."""
         drawn = self.dice.randrange(100)
-        ring = self.star() if drawn < 50 else self.points(3, 3) if drawn < 65 else self.rectangle() if drawn < 80 else self.points(4, 8)
+        ring = (
+            self.star()
+            if drawn < 50
+            else self.points(3, 3)
+            if drawn < 65
+            else self.rectangle()
+            if drawn < 80
+            else self.points(4, 8)
+        )
         at = self.dice.randrange(len(ring))
         if self.chance(12):
             ring.insert(at, ring[at])
@@ -198,7 +208,9 @@ class ShapeDice(NumberDice):
     def line(self) -> list[Point]:
         """Draws a line through points, now and then along a segment's line, or with a point that is there twice."""
         along = self.dice.choice(self.lines)
-        points = [self.point_along(along) for _ in range(self.dice.randint(2, 3))] if self.chance(25) else self.points(2, 6)
+        points = (
+            [self.point_along(along) for _ in range(self.dice.randint(2, 3))] if self.chance(25) else self.points(2, 6)
+        )
         return [points[0], *points] if self.chance(10) else points
 
     def shape(self) -> tuple[list[str], Shape]:

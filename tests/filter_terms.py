@@ -119,7 +119,9 @@ class TermDice:
         if self.chance(20):
             text = text[: self.dice.randint(1, width)]
         if self.chance(25 if folding else 10):
-            at = self.dice.choice([at for at, character in enumerate(text) if character in MISTAKABLE] or range(len(text)))
+            at = self.dice.choice(
+                [at for at, character in enumerate(text) if character in MISTAKABLE] or range(len(text))
+            )
             text = text[:at] + (self.dice.choice(USUAL) if self.chance(40) else mistaken(text[at])) + text[at + 1 :]
         if self.chance(60 if "CASEI" in folding else 10):
             text = swapped(text)

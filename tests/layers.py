@@ -55,7 +55,9 @@ def segments_with(random: Random, tlids: range) -> Iterator[bytes]:
 def shape(random: Random, tlid: int) -> Iterator[bytes]:
     """Yields the lines of type 2 of a segment."""
     count = random.randrange(MOST_POINTS + 1)
-    points = [(random.randint(-179_999_999, 179_999_999), random.randint(-89_999_999, 89_999_999)) for _ in range(count)]
+    points = [
+        (random.randint(-179_999_999, 179_999_999), random.randint(-89_999_999, 89_999_999)) for _ in range(count)
+    ]
     for sequence, first in enumerate(range(0, count, POINTS_OF_A_LINE), start=1):
         used = points[first : first + POINTS_OF_A_LINE]
         unused = [(0, 0)] * (POINTS_OF_A_LINE - len(used))

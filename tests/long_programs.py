@@ -34,7 +34,7 @@ COMMANDS = {"verify": "--program", "asm": "--source", "dis": "--program"}
 LEAST_RUNS, LEAST_SECONDS = 7, 0.5
 PEAK_RUNS = 3
 
-FARTHEST = 32767        # the most words that a jump of 16 bits passes over
+FARTHEST = 32767  # the most words that a jump of 16 bits passes over
 START = ["mov r0, 1", "exit"]
 LOADED = ["mov r0, 1", "ldxb r2, [r1+55]"]
 
@@ -118,7 +118,9 @@ def made(extractd, folder, name, lines):
     def output(*arguments):
         ran = subprocess.run([extractd, *arguments], stdin=subprocess.DEVNULL, capture_output=True)
         if ran.returncode != 0:
-            raise Failed("%s: %s gives status %d: %s" % (name, arguments[0], ran.returncode, ran.stderr.decode().strip()))
+            raise Failed(
+                "%s: %s gives status %d: %s" % (name, arguments[0], ran.returncode, ran.stderr.decode().strip())
+            )
         return ran.stdout
 
     program.write_bytes(output("asm", "--source", str(source)))
@@ -137,7 +139,9 @@ def made(extractd, folder, name, lines):
 def run_once(arguments, nowhere):
     """Returns the seconds from the start of a process to its end."""
     began = time.perf_counter()
-    process = os.posix_spawn(arguments[0], arguments, os.environ, file_actions=[(os.POSIX_SPAWN_DUP2, nowhere, to) for to in (0, 1)])
+    process = os.posix_spawn(
+        arguments[0], arguments, os.environ, file_actions=[(os.POSIX_SPAWN_DUP2, nowhere, to) for to in (0, 1)]
+    )
     status = os.wait4(process, 0)[1]
     seconds = time.perf_counter() - began
     if status != 0:
@@ -167,7 +171,9 @@ def peak_once(arguments):
     A direct child would start with the resident set of this process, which is larger than its own. So a shell starts it and exits. This process
     adopts the orphan and waits for it.
     """
-    shell = subprocess.Popen(["sh", "-c", '"$@" > /dev/null & echo $!', "sh", *arguments], stdin=subprocess.DEVNULL, stdout=subprocess.PIPE)
+    shell = subprocess.Popen(
+        ["sh", "-c", '"$@" > /dev/null & echo $!', "sh", *arguments], stdin=subprocess.DEVNULL, stdout=subprocess.PIPE
+    )
     process = int(shell.communicate()[0])
     usage = os.wait4(process, 0)
     if usage[1] != 0:
@@ -222,7 +228,13 @@ def broken(name, times, held):
         for command, each in times.items():
             for which, ratio in zip(("", " without the start"), each.ratios()):
                 if ratio > MOST_RATIO:
-                    yield "%s: %s takes %.1f times as long%s, and at most %d are promised" % (name, command, ratio, which, MOST_RATIO)
+                    yield "%s: %s takes %.1f times as long%s, and at most %d are promised" % (
+                        name,
+                        command,
+                        ratio,
+                        which,
+                        MOST_RATIO,
+                    )
     if name == "straight" and held > MOST_PEAK:
         yield "%s: verify holds %d KiB, and at most %d are promised" % (name, held // 1024, MOST_PEAK // 1024)
 
@@ -240,7 +252,11 @@ def measure(extractd, words, folder):
         for name, program in PROGRAMS.items():
             short, long = (made(extractd, folder, "%s %d" % (name, count), program(count)) for count in (SHORT, words))
             times = {
-                command: Times(*least_times([arguments_of(extractd, command, files) for files in (two, short, long)], nowhere.fileno()))
+                command: Times(
+                    *least_times(
+                        [arguments_of(extractd, command, files) for files in (two, short, long)], nowhere.fileno()
+                    )
+                )
                 for command in COMMANDS
             }
             held = peak(arguments_of(extractd, "verify", long)) - verify_two
@@ -250,9 +266,16 @@ def measure(extractd, words, folder):
 
 
 def main():
-    parser = argparse.ArgumentParser(description="Measures how long the program takes for long programs, and how much memory.")
+    parser = argparse.ArgumentParser(
+        description="Measures how long the program takes for long programs, and how much memory."
+    )
     parser.add_argument("extractd", metavar="PATH_TO_extractd")
-    parser.add_argument("--words", type=int, default=LONG, help="how many words the long programs have, %d where this isn't given" % LONG)
+    parser.add_argument(
+        "--words",
+        type=int,
+        default=LONG,
+        help="how many words the long programs have, %d where this isn't given" % LONG,
+    )
     given = parser.parse_args()
     if not SHORT <= given.words <= LONG:
         parser.error("--words is from %d to %d" % (SHORT, LONG))

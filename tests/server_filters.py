@@ -46,7 +46,13 @@ PHRASES = {
     422: b"Unprocessable Entity",
     503: b"Service Unavailable",
 }
-TEXTS = {400: b"bad request\n", 404: b"not found\n", 405: b"method not allowed\n", 411: b"length required\n", 413: b"too large\n"}
+TEXTS = {
+    400: b"bad request\n",
+    404: b"not found\n",
+    405: b"method not allowed\n",
+    411: b"length required\n",
+    413: b"too large\n",
+}
 JSON = (
     '{"op":"=","args":[{"property":"CFCC"},"A41"]}',
     '{"op":"in","args":[{"property":"CFCC"},["A41","A61"]]}',
@@ -97,7 +103,9 @@ class Request(NamedTuple):
     def bytes(self, dice: Random) -> bytes:
         pairs = [f"{encoded(dice, key)}={encoded(dice, value)}" for key, value in self.query]
         target = self.path + ("?" + "&".join(pairs) if pairs else "")
-        head = "\r\n".join([f"{self.method} {target} HTTP/1.1", *(f"Content-Length: {length}" for length in self.lengths), "", ""])
+        head = "\r\n".join(
+            [f"{self.method} {target} HTTP/1.1", *(f"Content-Length: {length}" for length in self.lengths), "", ""]
+        )
         return head.encode() + (self.body[:-1] if self.is_short else self.body)
 
     def value(self, key: str) -> str | None:
@@ -107,7 +115,9 @@ class Request(NamedTuple):
 
 def encoded(dice: Random, text: str) -> str:
     """Encodes a text for a query, some of its characters without need."""
-    return "".join(f"%{ord(character):02X}" if chance(dice, 10) and character.isascii() else quote(character) for character in text)
+    return "".join(
+        f"%{ord(character):02X}" if chance(dice, 10) and character.isascii() else quote(character) for character in text
+    )
 
 
 class Commands:
@@ -125,7 +135,9 @@ class Commands:
         return self.run("compile", "--filter", "-", *options, given=filter_bytes)
 
     def selected(self, filter_text: str, options: tuple[str, ...]) -> bytes:
-        status, rows, errors = self.run("select", f"--where={filter_text}", *options, "--data", str(self.folder), *CODES)
+        status, rows, errors = self.run(
+            "select", f"--where={filter_text}", *options, "--data", str(self.folder), *CODES
+        )
         assert status == 0, errors
         return rows
 
@@ -193,7 +205,10 @@ class Reading:
             return None
         if request.path == "/select" and form is not None and form not in FORMATS:
             return None
-        return (*(("--score", score) if score is not None else ()), *(("--filter-lang", language) if language is not None else ()))
+        return (
+            *(("--score", score) if score is not None else ()),
+            *(("--filter-lang", language) if language is not None else ()),
+        )
 
     def explained(self, request: Request) -> Reply:
         """The command also lists the words around one whose bytes or jumps are refused, the server doesn't."""
@@ -215,7 +230,8 @@ class RequestDice:
         self.programs = [commands.compiled(dice.choice(self.filters).encode(), ())[1] for _ in range(PROGRAMS)]
         segments = [segment for county in counties for segment in county.segments]
         self.cells = {
-            "number": [BY_NAME["FRADDL"].field(segment.line).decode("latin-1") for segment in segments] + ["164-20", "1" * 12, ""],
+            "number": [BY_NAME["FRADDL"].field(segment.line).decode("latin-1") for segment in segments]
+            + ["164-20", "1" * 12, ""],
             "name": [name for county in counties for name in county.pools.names] + ["Maine", "x" * 31, ""],
             "zip": [BY_NAME["ZIPL"].field(segment.line).decode("latin-1") for segment in segments] + ["x", ""],
         }
@@ -240,7 +256,10 @@ class RequestDice:
 
     def addresses(self) -> bytes:
         names = self.dice.sample(ADDRESSES, self.dice.randint(2, len(ADDRESSES)))
-        rows = [[self.dice.choice(self.cells.get(name, ["", "N", "St", "a, b", "é"])) for name in names] for _ in range(self.dice.randint(0, 4))]
+        rows = [
+            [self.dice.choice(self.cells.get(name, ["", "N", "St", "a, b", "é"])) for name in names]
+            for _ in range(self.dice.randint(0, 4))
+        ]
         text = io.StringIO()
         csv.writer(text, lineterminator=self.dice.choice(("\n", "\r\n"))).writerows([names, *rows])
         return text.getvalue().encode()
@@ -248,11 +267,15 @@ class RequestDice:
     def query(self, language: str | None) -> list[tuple[str, str]]:
         pairs = [("filter-lang", language)] if language is not None else []
         if chance(self.dice, 40):
-            pairs.append(("score", self.dice.choice((*[column.name for column in NUMERIC], "fraddl", "FENAME", "", "ZIP"))))
+            pairs.append(
+                ("score", self.dice.choice((*[column.name for column in NUMERIC], "fraddl", "FENAME", "", "ZIP")))
+            )
         if chance(self.dice, 50):
             pairs.append(("format", self.dice.choice((*FORMATS, *FORMATS, "CSV", "json", ""))))
         if chance(self.dice, 10):
-            pairs.append(self.dice.choice((("filter-lang", "cql2-json"), ("format", "csv"), ("score", "TLID"), ("other", "é&="))))
+            pairs.append(
+                self.dice.choice((("filter-lang", "cql2-json"), ("format", "csv"), ("score", "TLID"), ("other", "é&=")))
+            )
         self.dice.shuffle(pairs)
         return pairs
 
@@ -264,9 +287,16 @@ class RequestDice:
         request = Request("POST", path, query, body, [str(len(body))])
         if chance(self.dice, 88):
             return request
-        return self.dice.choice((self.of_other_method, self.without_length, self.of_two_lengths, self.of_bad_length, self.too_long, self.cut))(
-            request
-        )
+        return self.dice.choice(
+            (
+                self.of_other_method,
+                self.without_length,
+                self.of_two_lengths,
+                self.of_bad_length,
+                self.too_long,
+                self.cut,
+            )
+        )(request)
 
     def of_other_method(self, request: Request) -> Request:
         return request._replace(method=self.dice.choice(("GET", "PUT", "DELETE", "HEAD", "post")))
@@ -321,7 +351,9 @@ def difference(client: Client, reading: Reading, dice: Random, request: Request)
         wanted = Reply(200, b"%d\n" % client.jobs)
         options = reading.options(request)
         assert options is not None
-        if replied == wanted.bytes() and client.job_rows(client.jobs) != reading.commands.selected(request.body.decode(), options):
+        if replied == wanted.bytes() and client.job_rows(client.jobs) != reading.commands.selected(
+            request.body.decode(), options
+        ):
             return f"FAILED: {request}\n    has other rows as a job"
     if replied == wanted.bytes():
         return None
@@ -352,7 +384,9 @@ def main() -> int:
         return 1
     count = int(sys.argv[1])
     with tempfile.TemporaryDirectory() as folder:
-        differ = compare(count, int(sys.argv[2]) if len(sys.argv) == 3 else 1, Path(folder), functools.partial(print, flush=True))
+        differ = compare(
+            count, int(sys.argv[2]) if len(sys.argv) == 3 else 1, Path(folder), functools.partial(print, flush=True)
+        )
     print(f"{count - differ} replies agree, {differ} differ")
     return 1 if differ or not count else 0
 

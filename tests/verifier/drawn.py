@@ -112,8 +112,18 @@ def jump_drawn(draw: Draw, state: State, label: str) -> list[str]:
 
 
 IDIOMS: tuple[Idiom, ...] = (
-    arithmetic_drawn, arithmetic_drawn, unary_drawn, pointer_drawn, pointer_drawn, number_drawn, load_drawn, load_drawn,
-    store_drawn, store_drawn, slot_drawn, call_drawn,
+    arithmetic_drawn,
+    arithmetic_drawn,
+    unary_drawn,
+    pointer_drawn,
+    pointer_drawn,
+    number_drawn,
+    load_drawn,
+    load_drawn,
+    store_drawn,
+    store_drawn,
+    slot_drawn,
+    call_drawn,
 )
 EVENTUALLY = ["mov r0, 1", "exit"]
 

@@ -9,7 +9,16 @@ import itertools
 
 from verifier.helpers import HELPERS, NAME_IS
 from verifier.kinds import (
-    FRAME_BYTES, GREATEST_OFFSET, LEAST_OFFSET, NOTHING, RECORD_BYTES, UNREACHED, WORD, Kind, index, number,
+    FRAME_BYTES,
+    GREATEST_OFFSET,
+    LEAST_OFFSET,
+    NOTHING,
+    RECORD_BYTES,
+    UNREACHED,
+    WORD,
+    Kind,
+    index,
+    number,
 )
 from verifier.program_text import CONDITIONS, OPERATIONS, SIZES, read_program
 from verifier.results import holds, signed
@@ -33,7 +42,12 @@ def loaded(draw, to, sizes="b b h w dw sb sh sw"):
 FAULTS = (
     (("mov r0, r9",), ("neg r9",), ("add r9, 1",), ("movsx8 r0, r9",), ("stxb [r10-1], r9",)),
     (("add32 r0, r10",), ("and r0, r10",), ("sub r0, r10",), ("mov32 r0, r10",), ("movsx8 r0, r10",)),
-    (("mov r9, r10", "neg r9"), ("mov r9, r10", "be16 r9"), ("mov r9, r10", "mul r9, 2"), ("mov r9, r10", "add r9, 32768")),
+    (
+        ("mov r9, r10", "neg r9"),
+        ("mov r9, r10", "be16 r9"),
+        ("mov r9, r10", "mul r9, 2"),
+        ("mov r9, r10", "add r9, 32768"),
+    ),
     (("mov r0, r10", "add r0, 32767"), ("mov r0, r10", "sub r0, -32768")),
     (("ldxb r0, [r0+0]",), ("stb [r0+0], 1",), ("stxw [r0-4], r10",)),
     (("ldxb r0, [r10+0]",), ("sth [r10-1], 1",), ("ldxw r0, [r10-513]",), ("ldxb r0, [r1+228]",)),
@@ -104,8 +118,17 @@ def access(draw, name, kind, exactly):
 
 # Uses of a register. If nothing is known of it, only those that don't read it pass.
 UNKNOWN_USED = (
-    "mov r0, %s", "add r0, %s", "neg %s", "ldxb r0, [%s+0]", "stb [%s+0], 1", "jeq %s, 1, +0", "jne r0, %s, +0", "movsx8 r0, %s",
-    "mov %s, r0", "lddw %s, 7", "mov32 %s, 3",
+    "mov r0, %s",
+    "add r0, %s",
+    "neg %s",
+    "ldxb r0, [%s+0]",
+    "stb [%s+0], 1",
+    "jeq %s, 1, +0",
+    "jne r0, %s, +0",
+    "movsx8 r0, %s",
+    "mov %s, r0",
+    "lddw %s, 7",
+    "mov32 %s, 3",
 )
 EVERYTHING = number(0, WORD - 1)
 
@@ -155,20 +178,45 @@ def finished(draw, body, name, ask):
 # The rows for results, by operands and by what the probe needs. A is a number from 1 to 1001, B a byte, D any number of the width, N a
 # negative number. A pair gives the bounds of an immediate.
 CASES = (
-    ("add", "A", (1, 5000), "low high"), ("add", "A", (-1, -1), "high beyond"), ("add", "B", (-255, -1), "beyond"),
+    ("add", "A", (1, 5000), "low high"),
+    ("add", "A", (-1, -1), "high beyond"),
+    ("add", "B", (-255, -1), "beyond"),
     ("add", "A", "B", "high"),
-    ("sub", "A", (1, 1), "high beyond"), ("sub", "B", (256, 5000), "low high"), ("sub", "B", (1, 255), "beyond"),
+    ("sub", "A", (1, 1), "high beyond"),
+    ("sub", "B", (256, 5000), "low high"),
+    ("sub", "B", (1, 255), "beyond"),
     ("sub", "B", "A", "beyond"),
-    ("mul", "A", (2, 9), "low high"), ("mul", "D", (2, 9), "beyond"), ("mul", "B", "A", "high"),
-    ("div", "A", (2, 9), "high beyond"), ("div", "B", "A", "high"), ("div", "A", "B", "high beyond"), ("div", "A", (0, 0), "high"),
-    ("mod", "A", (2, 9), "high beyond"), ("mod", "A", (1002, 5000), "high beyond"), ("mod", "A", "B", "high"), ("mod", "A", (0, 0), "high"),
-    ("and", "A", (2, 100), "high beyond"), ("and", "A", (1024, 5000), "high"), ("and", "A", "B", "high"),
-    ("or", "A", (16, 100), "low high beyond"), ("or", "A", "B", "low high"),
-    ("xor", "A", (16, 100), "high beyond"), ("xor", "A", "B", "high"),
-    ("lsh", "A", (1, 3), "low high"), ("lsh", "A", (65, 67), "high"), ("lsh", "A", (62, 63), "beyond"), ("lsh", "A", "B", "beyond"),
-    ("rsh", "A", (1, 3), "high beyond"), ("rsh", "A", (65, 67), "high"), ("rsh", "A", "B", "high beyond"),
-    ("arsh", "A", (1, 3), "high"), ("arsh", "N", (1, 3), "low high"), ("arsh", "D", (1, 3), "beyond"), ("arsh", "A", "B", "beyond"),
-    ("sdiv", "A", (2, 9), "beyond"), ("smod", "A", (2, 9), "beyond"),
+    ("mul", "A", (2, 9), "low high"),
+    ("mul", "D", (2, 9), "beyond"),
+    ("mul", "B", "A", "high"),
+    ("div", "A", (2, 9), "high beyond"),
+    ("div", "B", "A", "high"),
+    ("div", "A", "B", "high beyond"),
+    ("div", "A", (0, 0), "high"),
+    ("mod", "A", (2, 9), "high beyond"),
+    ("mod", "A", (1002, 5000), "high beyond"),
+    ("mod", "A", "B", "high"),
+    ("mod", "A", (0, 0), "high"),
+    ("and", "A", (2, 100), "high beyond"),
+    ("and", "A", (1024, 5000), "high"),
+    ("and", "A", "B", "high"),
+    ("or", "A", (16, 100), "low high beyond"),
+    ("or", "A", "B", "low high"),
+    ("xor", "A", (16, 100), "high beyond"),
+    ("xor", "A", "B", "high"),
+    ("lsh", "A", (1, 3), "low high"),
+    ("lsh", "A", (65, 67), "high"),
+    ("lsh", "A", (62, 63), "beyond"),
+    ("lsh", "A", "B", "beyond"),
+    ("rsh", "A", (1, 3), "high beyond"),
+    ("rsh", "A", (65, 67), "high"),
+    ("rsh", "A", "B", "high beyond"),
+    ("arsh", "A", (1, 3), "high"),
+    ("arsh", "N", (1, 3), "low high"),
+    ("arsh", "D", (1, 3), "beyond"),
+    ("arsh", "A", "B", "beyond"),
+    ("sdiv", "A", (2, 9), "beyond"),
+    ("smod", "A", (2, 9), "beyond"),
 )
 
 
@@ -188,7 +236,11 @@ def with_numbers(draw, operation):
     """Draws an operation on two single numbers. If a computation with interval ends gives the same result, the probe needs one more."""
     start = draw.one_of(("mov r0, %d", "mov32 r0, %d")) % draw.one_of(IMMEDIATES[2:])
     line = "%s r0, %d" % (operation, draw.one_of((3, 5, 7, 15, 100, 255, -3, -8, -255)))
-    return [start, line], "r0", "ends" if operation.startswith(("and", "or", "xor", "mod", "sdiv", "smod")) else "beyond"
+    return (
+        [start, line],
+        "r0",
+        "ends" if operation.startswith(("and", "or", "xor", "mod", "sdiv", "smod")) else "beyond",
+    )
 
 
 def of_one(draw, subject):
@@ -269,13 +321,24 @@ def moved_pointer(draw, _):
     moves = ("add %s, %d" % (to, distance), "sub %s, %d" % (to, -distance))
     shape = draw.between(1, 4)
     if shape == 1:
-        return lines + [draw.one_of(moves), "%s %s, %d" % (draw.one_of(("add", "sub")), to, draw.one_of((1, -1, 100, -512)))], to
+        return (
+            lines
+            + [draw.one_of(moves), "%s %s, %d" % (draw.one_of(("add", "sub")), to, draw.one_of((1, -1, 100, -512)))],
+            to,
+        )
     if shape == 2:
         jump = "jgt r0, %d, +END" % draw.one_of((15, 227, 32767, 32768))
         return lines + [loaded(draw, "r0", "b h"), jump, "%s %s, r0" % (draw.one_of(("add", "sub")), to)], to
     if shape == 3:
-        return lines + [loaded(draw, "r0", "b"), draw.one_of(moves), "%s %s, r0" % (draw.one_of(("add", "sub")), to)], to
-    return [loaded(draw, "r0", "b h"), "mov r3, r0", "%s r3, %s" % (draw.one_of(("add", "add", "sub")), draw.one_of(("r1", "r10")))], "r3"
+        return (
+            lines + [loaded(draw, "r0", "b"), draw.one_of(moves), "%s %s, r0" % (draw.one_of(("add", "sub")), to)],
+            to,
+        )
+    return [
+        loaded(draw, "r0", "b h"),
+        "mov r3, r0",
+        "%s r3, %s" % (draw.one_of(("add", "add", "sub")), draw.one_of(("r1", "r10"))),
+    ], "r3"
 
 
 def joined_pointer(draw, _):
@@ -292,7 +355,9 @@ def stored(draw):
 
 def marked(draw, _):
     """Draws stores on one path or on both, and a load."""
-    load = draw.one_of(("ldxb r0, [r10-%d]" % draw.between(1, 4), "ldxh r0, [r10-%d]" % draw.between(2, 4), "ldxsh r0, [r10-2]"))
+    load = draw.one_of(
+        ("ldxb r0, [r10-%d]" % draw.between(1, 4), "ldxh r0, [r10-%d]" % draw.between(2, 4), "ldxsh r0, [r10-2]")
+    )
     start = loaded(draw, "r0", "b")
     jump = "%s r0, %d, +" % (draw.one_of(("jeq", "jgt", "jset", "jslt32")), draw.one_of(SMALL))
     shape = draw.between(1, 4)
@@ -318,8 +383,15 @@ def copied(draw, helper):
 
 # Stores between a store to the last slot and a load from it: next to the slot, in it, and across its borders.
 BETWEEN = (
-    "stb [r10-9], 1", "stw [r10-12], 1", "stdw [r10-16], 1", "stb [r10-8], 1", "stb [r10-1], 1", "sth [r10-5], 1", "stw [r10-10], 1",
-    "stdw [r10-15], 1", "sth [r10-9], 1",
+    "stb [r10-9], 1",
+    "stw [r10-12], 1",
+    "stdw [r10-16], 1",
+    "stb [r10-8], 1",
+    "stb [r10-1], 1",
+    "sth [r10-5], 1",
+    "stw [r10-10], 1",
+    "stdw [r10-15], 1",
+    "sth [r10-9], 1",
 )
 
 
@@ -343,13 +415,24 @@ def kept_once(draw, kept):
     return [loaded(draw, "r0", "b"), "stxdw [r10-%d], r0" % at, jump, "ldxdw r0, [r10-%d]" % at], "r0"
 
 
-KEPT = ("stxdw [r10-8], r6", "stxdw [r10-8], r10", "stdw [r10-8], %d", "stdw [r10-8], -1", "stw [r10-8], 1", "stb [r10-3], 1")
+KEPT = (
+    "stxdw [r10-8], r6",
+    "stxdw [r10-8], r10",
+    "stdw [r10-8], %d",
+    "stdw [r10-8], -1",
+    "stw [r10-8], 1",
+    "stb [r10-3], 1",
+)
 
 
 def kept_joined(draw, stores):
     """Draws slots that are joined. The first pointer leads into the record, or to another offset than the second."""
     first, second = (store % draw.one_of(SMALL) if "%" in store else store for store in stores)
-    lines = ["mov r6, r1"] * ("r6" in first + second) + [first] + ["add r6, %d" % draw.one_of((0, 7, 100))] * ("r6" in second)
+    lines = (
+        ["mov r6, r1"] * ("r6" in first + second)
+        + [first]
+        + ["add r6, %d" % draw.one_of((0, 7, 100))] * ("r6" in second)
+    )
     return lines + ["call 3", "jeq r0, %d, +1" % draw.between(0, 9), second, "ldxdw r0, [r10-8]"], "r0"
 
 
@@ -404,7 +487,13 @@ def bounded(draw, shape):
     bound, lines = draw.one_of(BOUNDED)
     bound += draw.chance(2)
     if shape == "join":
-        return ["mov r0, %d" % draw.between(0, 2), loaded(draw, "r3", "b"), "jne r3, 9, +1", "mov r0, %d" % bound, *lines], None
+        return [
+            "mov r0, %d" % draw.between(0, 2),
+            loaded(draw, "r3", "b"),
+            "jne r3, 9, +1",
+            "mov r0, %d" % bound,
+            *lines,
+        ], None
     if shape == "narrowing":
         jump = draw.one_of(("jgt r0, %d, +END" % bound, "jge r0, %d, +END" % (bound + 1)))
         return [loaded(draw, "r0", "h w dw"), jump, *lines], None
@@ -442,12 +531,24 @@ def alternating(jumps, first):
 
 # Groups of rows: the title, the family, and the subject of each row.
 GROUPS = (
-    ("Results of operations.", operated, [(*case[:3], ask, WIDTHS[at % 2]) for at, case in enumerate(CASES) for ask in case[3].split()]),
+    (
+        "Results of operations.",
+        operated,
+        [(*case[:3], ask, WIDTHS[at % 2]) for at, case in enumerate(CASES) for ask in case[3].split()],
+    ),
     ("Operations on single numbers.", with_numbers, BINARY[::3] + BINARY[1::3]),
-    ("Operations of one operand, loads and calls.", of_one, [(name, *how) for names, hows in UNARY for name in names for how in hows]),
+    (
+        "Operations of one operand, loads and calls.",
+        of_one,
+        [(name, *how) for names, hows in UNARY for name in names for how in hows],
+    ),
     ("", of_load, ("b", "h", "w", "dw", "sb", "sh", "sw")),
     ("", answered, (1, 2, 3, 4, 5, 9)),
-    ("Narrowing of the left side, where a jump is taken and where it isn't.", narrowed_left, pairs(ORDERINGS, (True, False))),
+    (
+        "Narrowing of the left side, where a jump is taken and where it isn't.",
+        narrowed_left,
+        pairs(ORDERINGS, (True, False)),
+    ),
     ("Narrowing of the right side.", narrowed_right, alternating(ORDERINGS, 0)),
     ("Comparisons that narrow nothing.", not_narrowed, alternating(LIMITED, 1)),
     ("Comparisons of single numbers.", decided, alternating(JUMPS, 0)),

@@ -57,7 +57,9 @@ class State(NamedTuple):
 
     def forget(self, reached):
         """Forgets the slots that contain one of these bytes."""
-        return self._replace(slots=frozenset(pair for pair in self.slots if not set(own_bytes(pair[0])).intersection(reached)))
+        return self._replace(
+            slots=frozenset(pair for pair in self.slots if not set(own_bytes(pair[0])).intersection(reached))
+        )
 
     def keep(self, slot, kind):
         """Puts a kind into a slot. A number marks the slot's bytes, and a pointer unmarks them."""
@@ -67,7 +69,10 @@ class State(NamedTuple):
 
     def is_proper(self):
         """Returns whether marks and slots agree."""
-        return all(self.marks.isdisjoint(own_bytes(slot)) if kind.pointer() else self.marks.issuperset(own_bytes(slot)) for slot, kind in self.slots)
+        return all(
+            self.marks.isdisjoint(own_bytes(slot)) if kind.pointer() else self.marks.issuperset(own_bytes(slot))
+            for slot, kind in self.slots
+        )
 
     def below(self, other):
         if other is UNREACHED or not self.marks >= other.marks:
@@ -82,7 +87,9 @@ def own_bytes(slot):
 
 
 UNREACHED = None
-ENTRY = State((NOTHING, Kind("record", 0, 0)) + (NOTHING,) * 8 + (Kind("frame", FRAME_BYTES, FRAME_BYTES),), frozenset())
+ENTRY = State(
+    (NOTHING, Kind("record", 0, 0)) + (NOTHING,) * 8 + (Kind("frame", FRAME_BYTES, FRAME_BYTES),), frozenset()
+)
 
 
 def below(state, other):

@@ -69,7 +69,12 @@ class Instruction(NamedTuple):
     def read(self):
         """Returns the registers that are read."""
         operands = self.operands[self.overwrites() :]
-        read = {part for word in operands for part in (word if isinstance(word, tuple) else (word,)) if isinstance(part, str)}
+        read = {
+            part
+            for word in operands
+            for part in (word if isinstance(word, tuple) else (word,))
+            if isinstance(part, str)
+        }
         if self.form == "call":
             read |= {"r%d" % at for at in range(1, len(HELPERS.get(self.operands[0], ((), 0))[0]) + 1)}
         return read | {"r0"} if self.form == "exit" else read
@@ -114,6 +119,9 @@ def read_program(text):
     """Returns the instructions by place. Raises ValueError unless all jumps lead forwards to an instruction and the last one is an exit."""
     program = read_instructions(text)
     edges = [(place, target) for place, instruction in program.items() for target in instruction.targets()]
-    if any(target <= place or target not in program for place, target in edges) or list(program.values())[-1].form != "exit":
+    if (
+        any(target <= place or target not in program for place, target in edges)
+        or list(program.values())[-1].form != "exit"
+    ):
         raise ValueError("no forward code: " + text)
     return program

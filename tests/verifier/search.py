@@ -4,7 +4,17 @@
 import itertools
 
 from verifier.kinds import (
-    ENTRY, GREATEST_OFFSET, LEAST_OFFSET, NOTHING, UNREACHED, WORD, Fault, Kind, State, below, index,
+    ENTRY,
+    GREATEST_OFFSET,
+    LEAST_OFFSET,
+    NOTHING,
+    UNREACHED,
+    WORD,
+    Fault,
+    Kind,
+    State,
+    below,
+    index,
 )
 from verifier.steps import step
 
@@ -152,7 +162,11 @@ class Search:
         self.used = {}
         for place in reversed(self.places):
             instruction = self.program[place]
-            behind = set().union(*(self.used[target] for target in instruction.targets())) if instruction.targets() else set(wanted)
+            behind = (
+                set().union(*(self.used[target] for target in instruction.targets()))
+                if instruction.targets()
+                else set(wanted)
+            )
             self.used[place] = behind - instruction.written() | instruction.read()
 
     def only(self, place, state):
@@ -198,7 +212,10 @@ class Search:
         fronts, self.layers, steps = {(1 << last) - (1 << start.end) | start.above(self.entry)}, [], 0
         for place in self.places:
             everything, passing = self.domains[place].everything, self.passing(place)
-            sets = {bits: [found for found in passing if not found[0] & ~bits] for bits in {front & everything for front in fronts}}
+            sets = {
+                bits: [found for found in passing if not found[0] & ~bits]
+                for bits in {front & everything for front in fronts}
+            }
             layer = {front: sets[front & everything] for front in fronts}
             steps += sum(map(len, layer.values()))
             if steps > STEPS_AT_MOST:
@@ -218,7 +235,12 @@ class Search:
             domain = self.domains[self.places[len(layers)]]
             met.append({state for alone, state in domain.states() if any(not alone & ~front for front in fronts)})
         for layer in reversed(layers):
-            going_on = [(front, state) for front, states in layer.items() for _, state, allowed in states if front & allowed in fronts]
+            going_on = [
+                (front, state)
+                for front, states in layer.items()
+                for _, state, allowed in states
+                if front & allowed in fronts
+            ]
             fronts = {front for front, _ in going_on}
             met.append({state for _, state in going_on})
         return dict(zip(self.places, reversed(met)))

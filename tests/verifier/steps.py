@@ -3,7 +3,16 @@
 
 from verifier.helpers import HELPERS, NAME_COPY, NAME_IS
 from verifier.kinds import (
-    FRAME_BYTES, GREATEST_OFFSET, LEAST_OFFSET, NOTHING, RECORD_BYTES, SLOT_BYTES, UNREACHED, WORD, Kind, check,
+    FRAME_BYTES,
+    GREATEST_OFFSET,
+    LEAST_OFFSET,
+    NOTHING,
+    RECORD_BYTES,
+    SLOT_BYTES,
+    UNREACHED,
+    WORD,
+    Kind,
+    check,
     number,
 )
 from verifier.program_text import SIZES
@@ -150,7 +159,11 @@ def written(state, pointer, reached, count):
 
 def argument(state, at, bounds):
     kind = state.read("r%d" % at)
-    fits = kind.sort == "frame" if bounds is None else kind.sort == "number" and bounds[0] <= kind.low and kind.high <= bounds[1]
+    fits = (
+        kind.sort == "frame"
+        if bounds is None
+        else kind.sort == "number" and bounds[0] <= kind.low and kind.high <= bounds[1]
+    )
     check(fits, "50", "BadArgument(%d)" % at)
     return kind
 
