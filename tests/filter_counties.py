@@ -1,5 +1,4 @@
 """Counties for the comparison of filters with SQL: columns and their values, segments that are drawn, files and tables of them."""
-# Needs only Python 3.11 or later.
 
 import re
 import sqlite3

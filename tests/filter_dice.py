@@ -1,5 +1,4 @@
 """Filters to compare with SQL: how predicates are drawn, and how they are joined."""
-# Needs only Python 3.11 or later, and shapely.
 
 from collections.abc import Callable
 from enum import IntEnum

@@ -1,29 +1,21 @@
-#!/usr/bin/env python3
 """Shapes of the filters that are compared: where a segment's line meets them, by whole numbers, by fractions, and by shapely.
 
-    python3 filter_geometry.py COUNT [SEED]
+Lines and shapes of a small grid mostly touch: they share vertices, run along one another or cross in a vertex. shapely says nothing of polygons that aren't
+valid, such as those that cross themselves. A coordinate is a whole number of millionths of a degree.
+"""
 
-compares the three. It draws lines and shapes on a small grid, where most of them touch: they share vertices, run along one another or cross in a vertex. For
-each shape, there are as many lines as the grid has pairs of points. shapely says nothing of polygons that aren't valid, such as those that cross themselves.
-
-Prints the shapes of which one says something else, then how many agree and how many differ. Exits with 1 if any differs. SEED defaults to 1.
-
-A coordinate is a whole number of millionths of a degree."""
-# Needs only Python 3.11 or later, and shapely.
-
-import sys
 from collections.abc import Iterator
+from contextlib import suppress
 from fractions import Fraction
 from functools import cached_property
 from itertools import pairwise, product
 from random import Random
 from typing import Any
 
-try:
-    from shapely.geometry import LineString, MultiPoint, Polygon  # type: ignore
-    from shapely.prepared import prep  # type: ignore
-except ImportError:
-    sys.exit("The comparison of shapes needs shapely, Debian's package python3-shapely.")
+# The tests that need shapely are left out without it.
+with suppress(ImportError):
+    from shapely.geometry import LineString, MultiPoint, Polygon
+    from shapely.prepared import prep
 
 Point = tuple[int, int]
 Edge = tuple[Point, Point]
@@ -177,27 +169,6 @@ def draw_shape(dice: Random) -> Shape:
     return Shape([], [[draw_ring(dice) for _ in range(dice.choice((1, 1, 2, 3)))] for _ in range(kind - 1)])
 
 
-def difference(shape: Shape) -> str | None:
-    """Returns the first line of the grid of which the three don't say the same, or None."""
-    for line in product(GRID, GRID):
-        said = [shape.meets(line), shape.meets_by_fractions(line), shape.meets_by_shapely(line)]
-        if True in said and False in said:
-            return f"FAILED: {shape.polygons or shape.path} and the line {line}: whole numbers, fractions and shapely say {said}"
-    return None
-
-
-def main() -> int:
-    if len(sys.argv) not in (2, 3) or not all(word.isdecimal() for word in sys.argv[1:]):
-        print(f"usage: {sys.argv[0]} COUNT [SEED]", file=sys.stderr)
-        return 1
-    dice = Random(int(sys.argv[2]) if len(sys.argv) == 3 else 1)
-    differences = [difference(draw_shape(dice)) for _ in range(int(sys.argv[1]))]
-    for text in filter(None, differences):
-        print(text)
-    agree = differences.count(None)
-    print(f"{agree} shapes agree, {len(differences) - agree} differ")
-    return 0 if agree == len(differences) > 0 else 1
-
-
-if __name__ == "__main__":
-    sys.exit(main())
+def opinions(shape: Shape, line: Edge) -> list[bool | None]:
+    """Returns whether a line meets a shape by whole numbers, by fractions, and by shapely, which may have no opinion."""
+    return [shape.meets(line), shape.meets_by_fractions(line), shape.meets_by_shapely(line)]

@@ -1,5 +1,4 @@
 """Numeric expressions of the filters that are compared with SQL: how they are written, their bounds, and what is drawn."""
-# Needs only Python 3.11 or later.
 
 from enum import IntEnum
 from typing import NamedTuple

@@ -1,5 +1,4 @@
 """Shapes of the filters that are compared: how they are drawn near the lines of segments, how they are written, and whether a line meets them."""
-# Needs only Python 3.11 or later, and shapely.
 
 from functools import cached_property, lru_cache
 from math import atan2, gcd

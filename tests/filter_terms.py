@@ -1,5 +1,4 @@
 """What the filters that are compared with SQL consist of: columns, literals and patterns, as CQL2 and as SQL."""
-# Needs only Python 3.11 or later.
 
 from collections.abc import Sequence
 from random import Random

@@ -1,27 +1,15 @@
-#!/usr/bin/env python3
 """Compares filters with SQL: draws filters, and runs each by `extractd select` and by SQLite.
 
-    python3 filters.py COUNT [SEED]
-
-`extractd` is taken from the search path. The script also draws counties of a few hundred segments, with blank fields, fields without a number, alternate
-names and further ranges. Each segment is also a row of a table in SQLite, and each filter is also an SQL expression. SQL has the same three-valued logic
-as CQL2. `select` must write the rows of the segments that SQLite selects, byte for byte. A few filters have a number that may be too great, or is too
-deep; `select` must refuse those. Whether a segment meets a shape is computed by whole numbers, with which shapely has to agree (filter_outlines.py).
-
-Prints each filter with different rows, then how many agree and how many differ, and how often shapely erred, if it did. Exits with 1 if any differs. SEED
-defaults to 1; the same seed draws the same filters.
+The counties have a few hundred segments, with blank fields, fields without a number, alternate names and further ranges. Each segment is also a row of a
+table in SQLite, and each filter is also an SQL expression. SQL has the same three-valued logic as CQL2. `select` must write the rows of the segments that
+SQLite selects, byte for byte. A few filters have a number that may be too great, or is too deep; `select` must refuse those. Whether a segment meets a
+shape is computed by whole numbers, with which shapely has to agree (filter_outlines.py).
 """
-# Needs only Python 3.11 or later, and shapely.
 
-import os
 import re
 import sqlite3
 import subprocess
-import sys
-import tempfile
 from collections.abc import Callable
-from concurrent.futures import ThreadPoolExecutor
-from itertools import repeat
 from pathlib import Path
 from random import Random
 from typing import NamedTuple
@@ -29,12 +17,10 @@ from typing import NamedTuple
 from filter_counties import NUMERIC, Column, County, chance
 from filter_dice import FilterDice
 from filter_numbers import NUMBER_RANGE, TOO_DEEP
-from filter_outlines import MappedCounty, mistakes, slips
+from filter_outlines import MappedCounty
 from filter_terms import WHITE_SPACE
 
 CODES = ("00001", "00002")
-# The number of filters that are tried on each pair of counties.
-FILTERS_OF_COUNTIES = 50
 REFUSALS = {NUMBER_RANGE: b"NumberRange", TOO_DEEP: b"TooDeep"}
 
 # ---- Texts
@@ -122,37 +108,9 @@ def draw_trial(dice: Random, makers: Makers, counties: list[County]) -> Trial:
     return Trial(spelled(dice, drawn.tokens), score, [county.code for county in asked], rows, drawn.refusals)
 
 
-def compare(dice: Random, makers: Makers, count: int, pool: ThreadPoolExecutor) -> list[str | None]:
-    """Compares filters on a pair of counties."""
+def draw_trials(dice: Random, makers: Makers, count: int, folder: Path) -> list[Trial]:
+    """Draws filters on a pair of counties, whose files are written to a folder."""
     counties = [makers.county(dice, code) for code in CODES]
-    trials = [draw_trial(dice, makers, counties) for _ in range(count)]
-    with tempfile.TemporaryDirectory() as name:
-        folder = Path(name)
-        for county in counties:
-            county.write(folder)
-        return list(pool.map(Trial.difference, trials, repeat(folder)))
-
-
-def main(makers: Makers = Makers()) -> int:
-    if len(sys.argv) not in (2, 3) or not all(word.isdecimal() for word in sys.argv[1:]):
-        print(f"usage: {sys.argv[0]} COUNT [SEED]", file=sys.stderr)
-        return 1
-    count, dice = int(sys.argv[1]), Random(int(sys.argv[2]) if len(sys.argv) == 3 else 1)
-    agree = differ = 0
-    with ThreadPoolExecutor(os.cpu_count()) as pool:
-        for start in range(0, count, FILTERS_OF_COUNTIES):
-            differences = compare(dice, makers, min(FILTERS_OF_COUNTIES, count - start), pool)
-            for difference in filter(None, differences):
-                print(difference, flush=True)
-                differ += 1
-            agree += differences.count(None)
-    print(f"{agree} filters agree, {differ} differ")
-    if slips:
-        print(f"shapely erred {len(slips)} times")
-    for shape, line in mistakes:
-        print(f"FAILED: whole numbers and fractions differ on {line} and {shape.polygons or shape.path}")
-    return 1 if differ or mistakes or not agree else 0
-
-
-if __name__ == "__main__":
-    sys.exit(main())
+    for county in counties:
+        county.write(folder)
+    return [draw_trial(dice, makers, counties) for _ in range(count)]

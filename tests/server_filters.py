@@ -1,32 +1,21 @@
-#!/usr/bin/env python3
-"""Sends requests about filters, programs and addresses to a server, and compares each reply with what docs/http.md says.
+"""Requests about filters, programs and addresses to a server, and the replies that docs/http.md says.
 
-    python3 server_filters.py COUNT [SEED]
-
-`extractd` is taken from the search path. The script draws two counties, and requests for `/select`, `/compile`, `/filter-jobs`, `/explain` and
-`/geocode-batch`: with filters in text and in JSON, accepted and refused, with parameters that are right, wrong, repeated and encoded, with bodies
-that are damaged, cut short or too long. The status and the headers follow from the page, and the body from what the commands print, which other
-scripts compare with SQL and with a second verifier. A job is driven to its end, and its rows are those of `select`.
-
-Prints each reply that differs, then how many replies agree and how many differ. Exits with 1 if any differs. SEED defaults to 1; the same seed draws
-the same requests.
+Draws requests for `/select`, `/compile`, `/filter-jobs`, `/explain` and `/geocode-batch`: with filters in text and in JSON, accepted and refused, with
+parameters that are right, wrong, repeated and encoded, with bodies that are damaged, cut short or too long. The status and the headers follow from the page,
+and the body from what the commands print, which other tests compare with SQL and with a second verifier. A job is driven to its end, and its rows are those
+of `select`.
 """
-# Needs only Python 3.11 or later, and shapely.
 
 import csv
 import functools
 import io
 import socket
 import subprocess
-import sys
-import tempfile
-from collections.abc import Callable
 from pathlib import Path
 from random import Random
 from typing import NamedTuple
 from urllib.parse import quote
 
-from clients import read_reply, serving
 from filter_counties import BY_NAME, NUMERIC, chance
 from filter_dice import FilterDice
 from filter_outlines import MappedCounty
@@ -327,7 +316,7 @@ class Client:
             connection.sendall(data)
             if is_short:
                 connection.shutdown(socket.SHUT_WR)
-            return read_reply(connection)
+            return b"".join(iter(lambda: connection.recv(65536), b""))
 
     def job_rows(self, number: int) -> bytes:
         """Drives a job to its end, fetches its rows and removes it."""
@@ -354,42 +343,7 @@ def difference(client: Client, reading: Reading, dice: Random, request: Request)
         if replied == wanted.bytes() and client.job_rows(client.jobs) != reading.commands.selected(
             request.body.decode(), options
         ):
-            return f"FAILED: {request}\n    has other rows as a job"
+            return f"{request}\n    has other rows as a job"
     if replied == wanted.bytes():
         return None
-    return f"FAILED: {request}\n    must get {wanted.bytes()[:400]!r}\n    and gets {replied[:400]!r}"
-
-
-def compare(count: int, seed: int, folder: Path, say: Callable[[str], None]) -> int:
-    dice = Random(seed)
-    counties = [MappedCounty(dice, code) for code in CODES]
-    for county in counties:
-        county.write(folder)
-    commands = Commands(folder)
-    reading, drawn = Reading(commands), RequestDice(dice, counties, commands)
-    differ = 0
-    with serving(folder, *CODES) as server:
-        client = Client(server.port)
-        for _ in range(count):
-            found = difference(client, reading, dice, drawn.request())
-            if found is not None:
-                say(found)
-                differ += 1
-    return differ
-
-
-def main() -> int:
-    if len(sys.argv) not in (2, 3) or not all(word.isdecimal() for word in sys.argv[1:]):
-        print(f"usage: {sys.argv[0]} COUNT [SEED]", file=sys.stderr)
-        return 1
-    count = int(sys.argv[1])
-    with tempfile.TemporaryDirectory() as folder:
-        differ = compare(
-            count, int(sys.argv[2]) if len(sys.argv) == 3 else 1, Path(folder), functools.partial(print, flush=True)
-        )
-    print(f"{count - differ} replies agree, {differ} differ")
-    return 1 if differ or not count else 0
-
-
-if __name__ == "__main__":
-    sys.exit(main())
+    return f"{request}\n    must get {wanted.bytes()[:400]!r}\n    and gets {replied[:400]!r}"

@@ -1,33 +1,30 @@
-#!/usr/bin/env python3
 """Asks segments what the abstract tests of CQL2 (21-065r2, annex A) ask of places, countries and rivers: by `extractd select`, SQLite and shapely.
 
-    python3 annex_a.py
-
-`extractd` is taken from the search path. The predicates are those of the standard's tables, about columns of the example county, 01001, and of the town,
-01007, in the rows of annex_a.txt. SQLite must find the row's number of segments, with shapely for the geometries, and `select` must write that many rows.
-
-Prints each row with other numbers, then how many predicates agree and how many differ. Exits with 1 if any differs.
+The predicates are those of the standard's tables, about columns of the example county, 01001, and of the town, 01007, in the rows of annex_a.txt. SQLite must
+find the row's number of segments, with shapely for the geometries, and `select` must write that many rows.
 """
-# Needs only Python 3.11 or later, and shapely.
 
 import re
 import sqlite3
 import subprocess
-import sys
 from collections.abc import Iterator
+from contextlib import suppress
 from decimal import Decimal
-from functools import lru_cache
+from functools import cache, lru_cache
 from pathlib import Path
 from typing import Any, NamedTuple
 
+import pytest
 from filter_counties import Segment, database_of
+from harness.program import TOP
+from harness.tables import rows_of
 
-try:
-    from shapely.geometry import LineString, MultiPoint, MultiPolygon, Point, Polygon, box  # type: ignore
-except ImportError:
-    sys.exit("Geometries need shapely, Debian's package python3-shapely.")
+# The tests are left out without it.
+with suppress(ImportError):
+    from shapely.geometry import LineString, MultiPoint, MultiPolygon, Point, Polygon, box
 
-FOLDERS = {"01001": Path(__file__).parents[1] / "examples", "01007": Path(__file__).parents[1] / "examples/town"}
+TABLE = TOP / "tests/annex_a.txt"
+FOLDERS = {"01001": TOP / "examples", "01007": TOP / "examples/town"}
 
 SHAPE = r"[A-Z]+\([-0-9., ()]*\)"
 SPATIAL = re.compile(
@@ -131,14 +128,13 @@ def in_sql(text: str) -> str:
     return SPATIAL.sub(asked_by_sql, text.replace(" div ", " / "))
 
 
-def rows() -> Iterator[Row]:
-    text = (Path(__file__).parent / "annex_a.txt").read_text(encoding="utf-8").replace("\n  ", " ")
-    for line in text.splitlines():
-        if line and not line.startswith("#"):
-            county, count, asked, *sql = line.split("; ")
-            yield Row(county, int(count), asked, in_sql(sql[0] if sql else asked))
+def rows() -> Iterator[Any]:
+    for line, text in rows_of(TABLE):
+        county, count, asked, *sql = text.split("; ")
+        yield pytest.param(Row(county, int(count), asked, in_sql(sql[0] if sql else asked)), id=f"line {line}")
 
 
+@cache
 def database(county: str) -> sqlite3.Connection:
     lines = (FOLDERS[county] / f"TGR{county}.RT1").read_bytes().splitlines()
     made = database_of([Segment(record, [], []) for record in lines])
@@ -147,19 +143,9 @@ def database(county: str) -> sqlite3.Connection:
     return made
 
 
-def main() -> int:
-    databases = {county: database(county) for county in FOLDERS}
-    agree = differ = 0
-    for row in rows():
-        difference = row.difference(databases[row.county])
-        if difference:
-            print(f"FAILED: {row.county}; {row.segments}; {row.filter}: {difference}")
-            differ += 1
-        else:
-            agree += 1
-    print(f"{agree} predicates agree, {differ} differ")
-    return 1 if differ else 0
-
-
-if __name__ == "__main__":
-    sys.exit(main())
+@pytest.mark.needs("python3-shapely")
+@pytest.mark.usefixtures("extractd")
+@pytest.mark.parametrize("row", rows())
+def test_predicates(row: Row) -> None:
+    difference = row.difference(database(row.county))
+    assert difference is None, f"{row.county}; {row.segments}; {row.filter}: {difference}"
