@@ -1,23 +1,11 @@
-#!/usr/bin/env python3
-"""Compares batches of addresses with an independent reading of the same files: draws counties and addresses, and runs `extractd geocode-batch` on them.
+"""A second reading of docs/records.md and docs/geocoding.md: counties and addresses that are drawn, and what `geocode-batch` has to write about them.
 
-    python3 addresses.py COUNT [SEED]
-
-`extractd` is taken from the search path. The script draws small counties with alternate names, further ranges, hyphenated numbers and unknown
-coordinates. It draws addresses on and near their streets, as a CSV file with its columns in any order, quoted cells, line breaks within cells, empty
-lines and either line ending. It reads the files by docs/records.md and answers the addresses by docs/geocoding.md, every second time along shapes
-(`--shape`). `geocode-batch` must write the same bytes.
-
-Prints each address with a different answer, then how many agree and how many differ. Exits with 1 if any differs. SEED defaults to 1; the same seed
-draws the same addresses.
+The counties are small, with alternate names, further ranges, hyphenated numbers and unknown coordinates. The addresses are on and near their streets, in a
+CSV file with its columns in any order, quoted cells, line breaks within cells, empty lines and either line ending.
 """
-# Needs only Python 3.11 or later.
 
 import csv
 import io
-import subprocess
-import sys
-import tempfile
 from collections.abc import Iterator
 from itertools import pairwise
 from math import cos, isqrt, radians
@@ -26,7 +14,6 @@ from random import Random
 from typing import NamedTuple
 
 CODES = ("00001", "00002")
-ADDRESSES_OF_COUNTIES = 200
 SEGMENTS = 60
 HEADER = [
     "id",
@@ -426,71 +413,30 @@ def write_file(random: Random, rows: list[dict[str, str]]) -> tuple[str, list[st
     return ("\ufeff" if random.random() < 0.3 else "") + file, ids
 
 
-def compare(random: Random, folder: Path, count: int, shaped: bool) -> int:
-    """Returns how many of the addresses get a different answer."""
-    for code in CODES:
-        write_county(random, folder, code)
-    counties = [(code, read_county(folder, code, shaped)) for code in CODES]
-    segments = [segment for _, county in counties for segment in county]
-    rows = [draw_cells(random, segments, at) for at in range(count)]
-    file, ids = write_file(random, rows)
-    (folder / "addresses.csv").write_text(file, "utf-8", newline="")
-    arguments = [
-        "extractd",
-        "geocode-batch",
-        "--addresses",
-        str(folder / "addresses.csv"),
-        "--data",
-        str(folder),
-        *(["--shape"] if shaped else []),
-        *CODES,
-    ]
-    done = subprocess.run(arguments, capture_output=True)
-    if done.returncode != 0 or done.stderr:
-        print(f"status {done.returncode}: {done.stderr.decode()}")
-        return count
-    return compare_output(list(zip(rows, ids)), counties, done.stdout.decode("utf-8"))
-
-
-def compare_output(
-    rows: list[tuple[dict[str, str], str]], counties: list[tuple[str, list[Segment]]], output: str
-) -> int:
-    differing = 0
-    expected = csv_text([HEADER])
-    left = output.removeprefix(expected)
-    if left == output:
-        print(f"the header is {output.splitlines()[0]!r}")
-        return len(rows)
-    for row, name in rows:
-        text = csv_text([[name, *cells] for cells in answer(counties, row)])
-        if not left.startswith(text):
-            print(f"{row}\n  is to be {text!r}\n  and is   {left[: len(text)]!r}")
-            return differing + 1
-        left = left[len(text) :]
-    if left:
-        print(f"too much: {left!r}")
-    return differing + bool(left)
-
-
 def csv_text(rows: list[list[str]]) -> str:
     text = io.StringIO()
     csv.writer(text, lineterminator="\n").writerows(rows)
     return text.getvalue()
 
 
-def main() -> None:
-    if len(sys.argv) not in (2, 3):
-        sys.exit(__doc__)
-    count, seed = int(sys.argv[1]), int(sys.argv[2]) if len(sys.argv) == 3 else 1
-    differing = 0
-    for batch, start in enumerate(range(0, count, ADDRESSES_OF_COUNTIES)):
-        with tempfile.TemporaryDirectory() as folder:
-            differing += compare(
-                Random(f"{seed} {batch}"), Path(folder), min(ADDRESSES_OF_COUNTIES, count - start), batch % 2 == 1
-            )
-    print(f"{count - differing} addresses agree, {differing} differ")
-    sys.exit(differing != 0)
+class Batch(NamedTuple):
+    """Two counties and addresses in a folder, and what is expected of each address: its lines of the output."""
+
+    addresses: list[dict[str, str]]
+    header: str
+    lines: list[str]
 
 
-if __name__ == "__main__":
-    main()
+def draw_batch(random: Random, folder: Path, count: int, shaped: bool) -> Batch:
+    """Writes the counties' files and `addresses.csv`."""
+    for code in CODES:
+        write_county(random, folder, code)
+    counties = [(code, read_county(folder, code, shaped)) for code in CODES]
+    segments = [segment for _, county in counties for segment in county]
+    rows = [draw_cells(random, segments, at) for at in range(count)]
+    file, names = write_file(random, rows)
+    (folder / "addresses.csv").write_text(file, "utf-8", newline="")
+    lines = [
+        csv_text([[name, *cells] for cells in answer(counties, row)]) for row, name in zip(rows, names, strict=True)
+    ]
+    return Batch(rows, csv_text([HEADER]), lines)

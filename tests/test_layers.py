@@ -1,30 +1,27 @@
-#!/usr/bin/env python3
-"""Compares the layers of `extractd select` with what GDAL's TIGER driver reads from the same files: has GDAL read them, in CSV and as a GeoJSON
-sequence, with straight lines and with the points of record type 2.
+"""The layers of `extractd select` have what GDAL's TIGER driver reads from the same files: in CSV and as a GeoJSON sequence, with straight lines and with the
+points of record type 2. GDAL reads the layers, too.
 
-    python3 layers.py COUNT [SEED]
-
-`extractd` and `ogr2ogr` are taken from the search path. The script makes a county of COUNT segments from the town in examples, with new TLIDs, and draws
-imputed flags and 0 to 25 points for each. `extractd` reads its lines of type 2 in a random order; the driver takes the lines of a TLID as they follow each
-other.
-
-Prints the first segment that differs in each layer, then how many agree and how many differ. Exits with 1 if any differs. SEED defaults to 1; the same
-seed draws the same flags and points.
+A county has the segments of the town in examples with new TLIDs, and imputed flags and 0 to 25 points that are drawn for each. `extractd` reads its lines of
+type 2 in a random order; the driver takes the lines of a TLID as they follow each other.
 """
-# Needs only Python 3.11 or later, and GDAL's tools.
 
 import csv
 import io
 import re
 import subprocess
-import sys
-import tempfile
 from collections.abc import Iterator
 from pathlib import Path
 from random import Random
 from typing import NamedTuple
 
-TOWN = Path(__file__).resolve().parent.parent / "examples" / "town" / "TGR01007.RT1"
+import pytest
+from harness.batches import add_batches
+from harness.program import TOP
+
+BATCHES = 1
+# Of a batch.
+SEGMENTS = 2000
+TOWN = TOP / "examples/town/TGR01007.RT1"
 CODE = "01007"
 POINTS_OF_A_LINE = 10
 MOST_POINTS = 25
@@ -98,8 +95,7 @@ def gdal(*source: str, given: bytes | None = None) -> bytes:
     """Returns what GDAL reads, as a table. Its warnings, as of a missing file of type 2, are shown only if it fails."""
     command = ["ogr2ogr", "-f", "CSV", "-lco", "GEOMETRY=AS_WKT", "/vsistdout/", *source]
     done = subprocess.run(command, input=given, capture_output=True)
-    if done.returncode != 0:
-        sys.exit(done.stderr.decode())
+    assert done.returncode == 0, done.stderr.decode()
     return done.stdout
 
 
@@ -110,32 +106,26 @@ def layer(folder: Path, form: str, geometry: str) -> Iterator[Segment]:
     return read(gdal(*FORMATS[form], given=written), "utf-8")
 
 
-def differing(expected: list[Segment], found: Iterator[Segment], name: str) -> int:
-    others = list(found)
-    pairs = [(one, other) for one, other in zip(expected, others, strict=False) if one != other]
-    for one, other in pairs[:1]:
-        print(f"{name}:\n  is to be {one}\n  and is   {other}")
-    if len(others) != len(expected):
-        print(f"{name}: {len(others)} segments")
-    return len(pairs) + abs(len(others) - len(expected))
+# What the driver reads, and what `extractd` does, for each geometry.
+GEOMETRIES = {"line": ("straight", "straight"), "shape": ("ordered", "shuffled")}
 
 
-def main() -> None:
-    if len(sys.argv) not in (2, 3):
-        sys.exit(__doc__)
-    count, random = int(sys.argv[1]), Random(sys.argv[2] if len(sys.argv) == 3 else "1")
-    agree = differ = 0
-    with tempfile.TemporaryDirectory() as name:
-        folder = Path(name)
-        write_counties(folder, count, random)
-        for geometry, read_by_gdal, given in (("line", "straight", "straight"), ("shape", "ordered", "shuffled")):
-            expected = list(read(gdal(str(folder / read_by_gdal / f"TGR{CODE}.RT1"), "CompleteChain"), "latin-1"))
-            for form in FORMATS:
-                wrong = differing(expected, layer(folder / given, form, geometry), f"{form} with {geometry}")
-                agree, differ = agree + len(expected) - wrong, differ + wrong
-    print(f"{agree} segments agree, {differ} differ")
-    sys.exit(differ != 0 or agree == 0)
+def pytest_generate_tests(metafunc: pytest.Metafunc) -> None:
+    add_batches(metafunc, BATCHES)
 
 
-if __name__ == "__main__":
-    main()
+@pytest.mark.needs("ogr2ogr")
+@pytest.mark.usefixtures("extractd")
+@pytest.mark.parametrize("form", FORMATS)
+@pytest.mark.parametrize("geometry", GEOMETRIES)
+def test_segments(batch: int, geometry: str, form: str, here: Path) -> None:
+    write_counties(here, SEGMENTS, Random(batch))
+    read_by_gdal, given = GEOMETRIES[geometry]
+    expected = list(read(gdal(str(here / read_by_gdal / f"TGR{CODE}.RT1"), "CompleteChain"), "latin-1"))
+    found = list(layer(here / given, form, geometry))
+    assert len(expected) == SEGMENTS
+    assert len(found) == SEGMENTS
+    differing = [
+        f"is to be {one}\nand is   {other}" for one, other in zip(expected, found, strict=True) if one != other
+    ]
+    assert not differing, f"{len(differing)} segments differ\n{differing[0]}"
