@@ -1,31 +1,22 @@
-#!/usr/bin/env python3
-"""Counts the instructions that each command takes: python3 costs.py [--show]
-
-`extractd` is taken from the search path, and `valgrind` counts. For one binary the counts are the same in each run, whatever else the machine does.
+"""Counts the instructions that each command takes, by valgrind. For one binary the counts are the same in each run, whatever else the machine does.
 
 - Ten times the lines, words or addresses may take at most twelve times the instructions, less those for next to nothing.
 - Each further one may take at most the instructions of its row. These limits are some 30 % above what the program took when they were written, so a
   new compiler may need new ones.
 - A short way of the program, for input as it usually is, must take a part of the instructions of the long way, or fewer.
 
-Prints each row that fails, then how many hold and how many don't. With --show it also prints each row's counts. Exits with 1 if any doesn't hold.
+`tests/run PROGRAM tests/test_costs.py -rP` shows each row's counts.
 """
-# Needs only Python 3.11 or later.
 
-import os
 import re
 import subprocess
-import sys
-import tempfile
 from collections.abc import Iterable
 from functools import cache
 from pathlib import Path
 from typing import NamedTuple
 
-TOP = Path(__file__).resolve().parent.parent
-sys.path.insert(0, str(TOP / "tools"))
-
-from make_county import JOINED_SEED, SEED, Dice, county, joined, record, write  # type: ignore[import] # noqa: E402
+import pytest
+from make_county import JOINED_SEED, SEED, Dice, county, joined, record, write
 
 CODE = "01001"
 # Sizes of inputs: next to nothing, something, and ten times as much.
@@ -130,114 +121,98 @@ def write_county(folder: Path, chains: list[Chain]) -> None:
     write(folder, [lines for lines in (segments, *joined(Dice(JOINED_SEED), chains)) if lines])
 
 
-def write_counties(size: str, parts: int) -> None:
+def write_counties(folder: Path, size: str, parts: int) -> None:
     chains = drawn(parts)
-    write_county(Path(f"drawn.{size}"), chains)
+    write_county(folder / f"drawn.{size}", chains)
     lines = [record(segment) for chain in chains for segment in chain]
     # A name and its line for a TLID that no segment has.
     name = {"RT": "5", "VERSION": "0006", "FILE": CODE, "FEAT": "5", "FENAME": "Other"}
     other = {"RT": "4", "VERSION": "0006", "TLID": "5", "RTSQ": "1", "FEAT1": "5"}
-    write_lines(Path(f"bare.{size}"), {"1": lines})
-    write_lines(Path(f"left.{size}"), {"1": [to_the_left(line) for line in lines]})
-    write_lines(Path(f"joined.{size}"), {"1": lines, "4": [record(other)], "5": [record(name)]})
+    write_lines(folder / f"bare.{size}", {"1": lines})
+    write_lines(folder / f"left.{size}", {"1": [to_the_left(line) for line in lines]})
+    write_lines(folder / f"joined.{size}", {"1": lines, "4": [record(other)], "5": [record(name)]})
     roads, main = drawn(parts), drawn(parts)
     put_on_own_roads(roads)
     put_on_main(main)
     for kind, chains in (("roads", roads), ("main", main)):
-        write_lines(Path(f"{kind}.{size}"), {"1": [record(segment) for chain in chains for segment in chain]})
+        write_lines(folder / f"{kind}.{size}", {"1": [record(segment) for chain in chains for segment in chain]})
 
 
-def write_addresses(size: str, count: int) -> None:
+def write_addresses(folder: Path, size: str, count: int) -> None:
     def put(kind: str, rows: Iterable[str]) -> None:
-        Path(f"{kind}.{size}.csv").write_text("".join(f"{row}\n" for row in ("number,name", *rows)))
+        (folder / f"{kind}.{size}.csv").write_text("".join(f"{row}\n" for row in ("number,name", *rows)))
 
     put("roads", (f"1,Road {number % 100}" for number in range(count)))
     put("unknown", (f"1,Lane {number}" for number in range(count)))
     put("main", (f"{number * 100 + 1},Main" for number in range(count)))
 
 
-def write_texts(size: str, words: int) -> None:
+def write_program(folder: Path, name: str, lines: Iterable[str]) -> None:
+    (folder / f"{name}.s").write_text("".join(f"{line}\n" for line in lines))
+    command = ["extractd", "asm", "--source", f"{name}.s"]
+    (folder / f"{name}.bpf").write_bytes(subprocess.run(command, cwd=folder, check=True, stdout=subprocess.PIPE).stdout)
+
+
+def write_texts(folder: Path, size: str, words: int) -> None:
     """Writes a program of so many words, half of them jumps, and two more; and a filter of so many comparisons."""
     body = ["ldxb r2, [r1+55]", *["jne r2, 65, +1", "mov r0, 1"] * (words // 2)]
-    Path(f"{size}.s").write_text("".join(f"{line}\n" for line in (*body, "mov r0, 1", "exit")))
-    Path(f"{size}.cql").write_text("ZIPL = 36067 AND FALSE OR\n" * words + "TRUE\n")
-    assemble(size)
+    write_program(folder, size, [*body, "mov r0, 1", "exit"])
+    (folder / f"{size}.cql").write_text("ZIPL = 36067 AND FALSE OR\n" * words + "TRUE\n")
 
 
-def assemble(name: str) -> None:
-    with open(f"{name}.bpf", "wb") as out:
-        subprocess.run(["extractd", "asm", "--source", f"{name}.s"], check=True, stdout=out)
-
-
-def write_inputs() -> None:
+@pytest.fixture(scope="module")
+def inputs(extractd: str, tmp_path_factory: pytest.TempPathFactory) -> Path:
+    """Returns a folder with the input of each command."""
+    folder = tmp_path_factory.mktemp("inputs")
     for size, parts in SIZES.items():
-        write_counties(size, parts)
-        write_addresses(size, parts * ADDRESSES)
-        write_texts(size, parts * WORDS)
-    for name, text in (("nothing", "mov r0, 0"), ("all", "mov r0, 1"), ("names", "call 3\nmov r0, 0")):
-        Path(f"{name}.s").write_text(f"{text}\nexit\n")
-        assemble(name)
+        write_counties(folder, size, parts)
+        write_addresses(folder, size, parts * ADDRESSES)
+        write_texts(folder, size, parts * WORDS)
+    for name, lines in (("nothing", ["mov r0, 0"]), ("all", ["mov r0, 1"]), ("names", ["call 3", "mov r0, 0"])):
+        write_program(folder, name, [*lines, "exit"])
+    return folder
 
 
 # ---- Counts
 
 
 @cache
-def count(command: str) -> int:
+def count(folder: Path, command: str) -> int:
     """Returns the instructions that a command takes, without the system's."""
     valgrind = ["valgrind", "--tool=callgrind", "--callgrind-out-file=/dev/null", "--log-file=counts"]
     done = subprocess.run(
-        [*valgrind, "extractd", *command.split(" ")], stdout=subprocess.DEVNULL, stderr=subprocess.PIPE
+        [*valgrind, "extractd", *command.split(" ")], cwd=folder, stdout=subprocess.DEVNULL, stderr=subprocess.PIPE
     )
-    counts = re.search(r"Collected : (\d+)", Path("counts").read_text())
-    if done.returncode or counts is None:
-        raise SystemExit(f"{command}: status {done.returncode}: {done.stderr.decode(errors='replace')}")
+    counts = re.search(r"Collected : (\d+)", (folder / "counts").read_text())
+    assert (
+        done.returncode == 0 and counts
+    ), f"{command}: status {done.returncode}: {done.stderr.decode(errors='replace')}"
     return int(counts[1])
 
 
-def counts_of(command: str, kind: str = "") -> tuple[int, int, int]:
-    """Returns the counts of a command for each size."""
-    start, few, many = (
-        count(command.format(kind + size, line=max(1, parts * SEGMENTS))) for size, parts in SIZES.items()
-    )
-    return start, few, many
+def counts_of(folder: Path, command: str, sizes: Iterable[str], kind: str = "") -> list[int]:
+    """Returns the counts of a command for each of these sizes."""
+    lines = {size: max(1, parts * SEGMENTS) for size, parts in SIZES.items()}
+    return [count(folder, command.format(kind + size, line=lines[size])) for size in sizes]
 
 
-def growth_fault(row: Growth, show: bool) -> str | None:
-    start, few, many = counts_of(row.command)
+@pytest.mark.needs("valgrind")
+@pytest.mark.parametrize("row", GROWTHS, ids=[row.command for row in GROWTHS])
+def test_growth(row: Growth, inputs: Path) -> None:
+    start, few, many = counts_of(inputs, row.command, SIZES)
+    assert start < few < many
     ratio, further = (many - start) / (few - start), (many - few) / (9 * row.units)
-    if show:
-        print(f"{ratio:5.2f} {further:9.1f} {row.most:9} per {row.unit}: {row.command}")
-    if ratio > MOST_RATIO:
-        return f"{row.command}: ten times the {row.unit}s take {ratio:.1f} times the instructions, which may be {MOST_RATIO} times"
-    if further > row.most:
-        return f"{row.command}: each further {row.unit} takes {further:.0f} instructions, which may be {row.most}"
-    return None
+    print(f"{ratio:5.2f} {further:9.1f} {row.most:9} per {row.unit}: {row.command}")
+    assert ratio <= MOST_RATIO, f"ten times the {row.unit}s take {ratio:.1f} times the instructions"
+    assert further <= row.most, f"each further {row.unit} takes {further:.0f} instructions"
 
 
-def shortcut_fault(row: Shortcut, show: bool) -> str | None:
-    counts = [counts_of(row.command, f"{kind}.") for kind in (row.usual, row.unusual)]
-    part = (counts[0][2] - counts[0][1]) / (counts[1][2] - counts[1][1])
-    if show:
-        print(f"{part:5.2f} {row.most:19} of {row.unusual}: {row.command.format(row.usual)}")
-    if part > row.most:
-        return f"{row.command.format(row.usual)}: takes {part:.2f} of the instructions for {row.unusual}, which may be {row.most}"
-    return None
-
-
-def main() -> int:
-    show = sys.argv[1:] == ["--show"]
-    with tempfile.TemporaryDirectory() as scratch:
-        os.chdir(scratch)
-        write_inputs()
-        found = [growth_fault(growth, show) for growth in GROWTHS] + [shortcut_fault(it, show) for it in SHORTCUTS]
-        os.chdir("/")
-    faults = [fault for fault in found if fault is not None]
-    for fault in faults:
-        print(fault)
-    print(f"{len(found) - len(faults)} hold, {len(faults)} don't")
-    return 1 if faults else 0
-
-
-if __name__ == "__main__":
-    sys.exit(main())
+@pytest.mark.needs("valgrind")
+@pytest.mark.parametrize("row", SHORTCUTS, ids=[row.command.format(row.usual) for row in SHORTCUTS])
+def test_shortcut(row: Shortcut, inputs: Path) -> None:
+    usual_few, usual_many = counts_of(inputs, row.command, ("few", "many"), f"{row.usual}.")
+    few, many = counts_of(inputs, row.command, ("few", "many"), f"{row.unusual}.")
+    assert usual_few < usual_many and few < many
+    part = (usual_many - usual_few) / (many - few)
+    print(f"{part:5.2f} {row.most:19} of {row.unusual}: {row.command.format(row.usual)}")
+    assert part <= row.most, f"takes {part:.2f} of the instructions for {row.unusual}"
