@@ -1,28 +1,25 @@
 #!/usr/bin/env python3
-"""Compares programs in C with native code: compiles those of examples/c/programs by each compiler, and runs them.
+"""Builds the programs of examples/c/programs for extractd and natively. Their rows over the example county have to be the same.
 
-    python3 c_programs.py [--compilers clang,clang-19,bpf-gcc] [--levels=-O1,-O2,-Os] [--counts] [NAME]...
+    python3 c_programs.py
 
-`extractd` is the one on the search path. A build has to write the rows that the native program writes over the example
-county, byte for byte, or to be refused as REFUSED says. Prints each build that does neither, then the number of builds
-that do. With --counts it prints how many programs each compiler has accepted by level. Compilers that aren't installed
-are left out. The exit status is 1 if a build fails.
+prints how many programs each compiler has accepted by level, as the table of docs/c-programs.md. `extractd` is the one on the search path. Compilers that
+aren't installed are left out, and what isn't as expected is listed: builds have to write the rows of the native programs, or to be refused as REFUSED says.
 """
-# Needs only Python 3.11, cc and the compilers.
 
-import argparse
 import os
 import shutil
 import subprocess
 import sys
 import tempfile
-from collections import Counter
 from concurrent.futures import ThreadPoolExecutor
 from dataclasses import dataclass
 from pathlib import Path
 
 TOP = Path(__file__).resolve().parent.parent
 TOOLS, PROGRAMS, COUNTY, CODE = TOP / "tools" / "c", TOP / "examples" / "c" / "programs", TOP / "examples", "01001"
+NAMES = sorted(path.stem for path in PROGRAMS.glob("*.c"))
+COMPILERS, LEVELS = ("clang", "clang-19", "bpf-gcc"), ("-O1", "-O2", "-Os")
 
 # The builds that are refused, with a part of what is said.
 REFUSED: dict[tuple[str, str, str], str] = {
@@ -59,7 +56,8 @@ def run(*command: str | Path, **environment: str) -> subprocess.CompletedProcess
         return subprocess.CompletedProcess(command, 124, b"", b"more than 120 seconds")
 
 
-def native_rows(source: Path, folder: Path) -> bytes:
+def native_rows(name: str, folder: Path) -> bytes:
+    source = PROGRAMS / f"{name}.c"
     program = folder / f"{source.stem}.native"
     flags = ("-w", "-O1", "-fsanitize=undefined", "-fsanitize-undefined-trap-on-error", f"-I{TOOLS}")
     made = run("cc", *flags, "-include", TOOLS / "native.h", source, TOOLS / "native.c", "-o", program)
@@ -84,40 +82,19 @@ def try_build(build: Build, folder: Path, natively: bytes) -> Outcome:
     return Outcome(build, True, None if expected is None else f"accepted, and not: {expected}")
 
 
-def print_counts(outcomes: list[Outcome], compilers: list[str], levels: list[str]) -> None:
-    accepted = Counter((outcome.build.compiler, outcome.build.level) for outcome in outcomes if outcome.accepted)
-    for compiler in compilers:
-        print(f"| {compiler} |", " | ".join(str(accepted[compiler, level]) for level in levels), "|")
-
-
-def parse_arguments() -> argparse.Namespace:
-    summary, _, rest = (__doc__ or "").partition("\n")
-    formatter = argparse.RawDescriptionHelpFormatter
-    parser = argparse.ArgumentParser(description=summary, epilog=rest, formatter_class=formatter)
-    parser.add_argument("names", nargs="*", metavar="NAME", help="programs, without .c (all)")
-    parser.add_argument("--compilers", default="clang,clang-19,bpf-gcc", help="(clang,clang-19,bpf-gcc)")
-    parser.add_argument("--levels", default="-O1,-O2,-Os", help="(-O1,-O2,-Os)")
-    parser.add_argument("--jobs", type=int, default=os.cpu_count(), help="builds at once (the processors)")
-    parser.add_argument("--counts", action="store_true", help="print the accepted programs by compiler and level")
-    return parser.parse_args()
-
-
 def main() -> int:
-    options = parse_arguments()
-    levels = options.levels.split(",")
-    compilers = [compiler for compiler in options.compilers.split(",") if shutil.which(compiler)]
-    names = options.names or sorted(path.stem for path in PROGRAMS.glob("*.c"))
-    builds = [Build(name, compiler, level) for name in names for compiler in compilers for level in levels]
-    with tempfile.TemporaryDirectory() as folder, ThreadPoolExecutor(options.jobs) as pool:
-        rows = dict(zip(names, pool.map(lambda name: native_rows(PROGRAMS / f"{name}.c", Path(folder)), names)))
+    compilers = [compiler for compiler in COMPILERS if shutil.which(compiler)]
+    builds = [Build(name, compiler, level) for compiler in compilers for level in LEVELS for name in NAMES]
+    with tempfile.TemporaryDirectory() as folder, ThreadPoolExecutor(os.cpu_count()) as pool:
+        rows = dict(zip(NAMES, pool.map(lambda name: native_rows(name, Path(folder)), NAMES), strict=True))
         outcomes = list(pool.map(lambda build: try_build(build, Path(folder), rows[build.program]), builds))
+    accepted = [(outcome.build.compiler, outcome.build.level) for outcome in outcomes if outcome.accepted]
+    for compiler in compilers:
+        print(f"| {compiler} |", " | ".join(str(accepted.count((compiler, level))) for level in LEVELS), "|")
     failed = [outcome for outcome in outcomes if outcome.failure is not None]
     for outcome in failed:
         print(outcome.build.program, outcome.build.compiler, outcome.build.level, outcome.failure, sep=": ")
-    if options.counts:
-        print_counts(outcomes, compilers, levels)
-    print(f"{len(outcomes) - len(failed)} builds are as expected, {len(failed)} aren't")
-    return 1 if failed else 0
+    return 1 if failed or not builds else 0
 
 
 if __name__ == "__main__":

@@ -1,48 +1,32 @@
-#!/usr/bin/env python3
-"""Compares compiled BPF with native code: draws programs in C, and runs each by `extractd run` and natively.
+"""Programs in C that are drawn, and their builds for extractd and for this machine.
 
-    python3 random_programs.py [--count N] [--seed N] [--compiler clang] [--cpu v1,v2,v3] [--order both]
+A program has early returns, nested conditions, switches, loops, gotos and calls of helper functions, and no undefined behavior. It is compiled for BPF as
+compile.sh does, and for this machine by `cc` together with native.c. Each build has to be accepted, and has to write the rows of the native program over the
+example county, byte for byte.
 
-`extractd` is the one on the search path. A program has early returns, nested conditions, switches, loops, gotos and
-calls of helper functions, and no undefined behavior. It is compiled for BPF as compile.sh does, at -O1, -O2 and -Os and
-for each of the given instruction sets, and for this machine by `cc` together with native.c. Each build has to be
-accepted, and has to write the rows of the native program over the example county, byte for byte.
-
-Builds with more than 65,536 words, or with a jump over more than 32,767 words, are counted apart. The jump needs
--mcpu=v4: at less, clang 14 cuts its distance, and clang 19 reports it.
-
-Prints each build that is refused or writes other rows, with the program's source, then the numbers of builds that
-agree, that differ, and that are too long. The exit status is 1 if any differs. The same seed draws the same programs.
+A build with more than 65,536 words, or with a jump over more than 32,767 words, is too long. The jump needs -mcpu=v4: at less, clang 14 cuts its distance,
+and clang 19 reports it.
 """
-# Needs only Python 3.11, cc and the compiler.
 
-import argparse
-import os
 import subprocess
-import sys
-import tempfile
 from collections.abc import Callable, Iterator
-from concurrent.futures import ThreadPoolExecutor
 from contextlib import contextmanager
 from dataclasses import dataclass, field
 from enum import Enum
 from pathlib import Path
 from random import Random
 
-TOP = Path(__file__).resolve().parent.parent
+from forward import put_in_order
+from harness.program import TOP
+from instructions import LoopError, ProgramError
+from link import Linker, find_function
+from objects import ObjectFile
+
 TOOLS = TOP / "tools" / "c"
 COUNTY = TOP / "examples"
-sys.path.insert(0, str(TOOLS))
-
-from forward import put_in_order  # noqa: E402
-from instructions import LoopError, ProgramError  # noqa: E402
-from link import Linker, find_function  # noqa: E402
-from objects import ObjectFile  # noqa: E402
-
 CODE = "01001"
 LEVELS = ("-O1", "-O2", "-Os")
 ORDER_FLAGS = ("-mllvm", "-disable-block-placement", "-disable-branch-fold")
-CPUS = "v1,v2,v3"
 
 # ---- Programs
 
@@ -414,76 +398,37 @@ def rows_of(build: Build, source: Path, scratch: Path) -> bytes:
 
 @dataclass
 class Outcome:
-    source: str
+    """How many builds of a program agree with it, how many are too long, and what the others say."""
+
     agree: int = 0
     too_long: int = 0
     differences: list[str] = field(default_factory=list)
 
 
-def try_program(source: str, builds: list[Build], harness: Path) -> Outcome:
-    outcome = Outcome(source)
-    with tempfile.TemporaryDirectory() as folder:
-        scratch = Path(folder)
-        path = scratch / "program.c"
-        path.write_text(source)
-        expected = native_rows(path, harness, scratch)
-        for build in builds:
-            try:
-                rows = rows_of(build, path, scratch)
-            except TooLong:
-                outcome.too_long += 1
-                continue
-            except BuildFailure as failure:
-                outcome.differences.append(f"{build}: {failure}")
-                continue
-            if rows == expected:
-                outcome.agree += 1
-            else:
-                counts = f"{rows.count(10)} rows, natively {expected.count(10)}"
-                outcome.differences.append(f"{build}: {counts}, or other scores")
+def made_harness(scratch: Path) -> Path:
+    """Returns native.c as an object file."""
+    harness = scratch / "native.o"
+    run("cc", "-std=c11", "-O1", "-c", TOOLS / "native.c", "-o", harness)
+    return harness
+
+
+def try_program(source: str, builds: list[Build], harness: Path, scratch: Path) -> Outcome:
+    outcome = Outcome()
+    path = scratch / "program.c"
+    path.write_text(source)
+    expected = native_rows(path, harness, scratch)
+    for build in builds:
+        try:
+            rows = rows_of(build, path, scratch)
+        except TooLong:
+            outcome.too_long += 1
+            continue
+        except BuildFailure as failure:
+            outcome.differences.append(f"{build}: {failure}")
+            continue
+        if rows == expected:
+            outcome.agree += 1
+        else:
+            counts = f"{rows.count(10)} rows, natively {expected.count(10)}"
+            outcome.differences.append(f"{build}: {counts}, or other scores")
     return outcome
-
-
-def try_programs(count: int, seed: int, builds: list[Build]) -> Iterator[Outcome]:
-    with tempfile.TemporaryDirectory() as folder:
-        harness = Path(folder) / "native.o"
-        run("cc", "-std=c11", "-O1", "-c", TOOLS / "native.c", "-o", harness)
-        sources = [draw_program(seed, number) for number in range(count)]
-        with ThreadPoolExecutor(os.cpu_count()) as pool:
-            yield from pool.map(lambda source: try_program(source, builds, harness), sources)
-
-
-def parse_arguments() -> argparse.Namespace:
-    summary, _, rest = (__doc__ or "").partition("\n")
-    formatter = argparse.RawDescriptionHelpFormatter
-    parser = argparse.ArgumentParser(description=summary, epilog=rest, formatter_class=formatter)
-    parser.add_argument("--count", type=int, default=300, help="how many programs (300)")
-    parser.add_argument("--seed", type=int, default=1, help="what the programs are drawn from (1)")
-    parser.add_argument("--compiler", default="clang", help="clang, or bpf-gcc (clang)")
-    parser.add_argument("--cpu", default=CPUS, help=f"values of -mcpu, with commas between them ({CPUS})")
-    parser.add_argument("--order", type=Order, choices=list(Order), default=Order.BOTH, metavar="flags|forward|both",
-                        help="what makes jumps lead forwards: clang's flags, forward.py, or both (both)")  # fmt: skip
-    parser.add_argument("--print", type=int, metavar="NUMBER", help="only print the program of this number")
-    return parser.parse_args()
-
-
-def main() -> int:
-    options = parse_arguments()
-    if options.print is not None:
-        print(draw_program(options.seed, options.print), end="")
-        return 0
-    cpus = [None] if "gcc" in options.compiler else options.cpu.split(",")
-    builds = [Build(options.compiler, level, cpu, options.order) for cpu in cpus for level in LEVELS]
-    agree = differ = too_long = 0
-    for number, outcome in enumerate(try_programs(options.count, options.seed, builds)):
-        agree += outcome.agree
-        differ += len(outcome.differences)
-        too_long += outcome.too_long
-        if outcome.differences:
-            print(f"program {number} of seed {options.seed}", *outcome.differences, outcome.source, sep="\n")
-    print(f"{agree} builds agree, {differ} differ, {too_long} are too long")
-    return 1 if differ else 0
-
-
-if __name__ == "__main__":
-    sys.exit(main())
