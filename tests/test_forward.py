@@ -1,19 +1,16 @@
-#!/usr/bin/env python3
-"""Tests forward.py, with programs as text: python3 test_forward.py
-
-`extractd`, whose `asm` and `dis` turn text into words and back, is taken from the search path. The expected orders,
-distances and messages were worked out by hand.
+"""forward.py puts programs into an order in which all jumps lead forwards. `asm` and `dis` turn text into words and back. The expected orders, distances and
+messages were worked out by hand.
 """
 
 import subprocess
 import sys
-import tempfile
-import unittest
 from pathlib import Path
 
-sys.path.insert(0, str(Path(__file__).resolve().parent.parent / "tools" / "c"))
+import forward
+import pytest
+from harness.program import TOP
 
-import forward  # noqa: E402
+pytestmark = pytest.mark.usefixtures("extractd")
 
 ORDERS = (
     # A program whose jumps lead forwards stays as it is.
@@ -113,108 +110,113 @@ FOUND_FIRST = "ja start | out: | mov r0, 1 | exit | start: | jeq r1, 1, out"
 LINES = "0\tint x = f();\n1\tif (x)\n2\t{\n2\t    return 1;\n4\treturn 0;\n"
 
 
-class ForwardTest(unittest.TestCase):
-    def setUp(self) -> None:
-        folder = tempfile.TemporaryDirectory()
-        self.addCleanup(folder.cleanup)
-        self.scratch = Path(folder.name)
-
-    def assemble(self, text: str) -> bytes:
-        source = self.scratch / "program.s"
-        source.write_text("".join(f"{line.strip()}\n" for line in text.split("|")))
-        return subprocess.run(["extractd", "asm", "--source", source], check=True, capture_output=True).stdout
-
-    def disassemble(self, words: bytes) -> str:
-        program = self.scratch / "program.bpf"
-        program.write_bytes(words)
-        command = ["extractd", "dis", "--program", str(program)]
-        return subprocess.run(command, check=True, capture_output=True, text=True).stdout
-
-    def test_orders(self) -> None:
-        for text, expected in ORDERS:
-            with self.subTest(text):
-                words, _ = forward.put_in_order(self.assemble(text))
-                self.assertEqual(self.disassemble(words).splitlines(), expected.split(" | "))
-
-    def test_conditions(self) -> None:
-        """Each condition, of 64 and of 32 bits, on a register and on a number. All jump to a block that is moved."""
-        jumps = [
-            f"{name}{bits} r1, {operand}" for name in CONDITIONS for bits in ("", "32") for operand in ("-1", "r2")
-        ]
-        conditions = " | ".join(f"{jump}, out" for jump in jumps)
-        words, _ = forward.put_in_order(
-            self.assemble(f"ja32 start | out: | mov r0, 1 | exit | start: | {conditions} | mov r0, 0 | exit")
-        )
-        expected = [f"{jump}, +{len(jumps) + 1 - place}" for place, jump in enumerate(jumps)]
-        expected += ["mov r0, 0", "exit", "mov r0, 1", "exit"]
-        self.assertEqual(self.disassemble(words).splitlines(), expected)
-
-    def test_errors(self) -> None:
-        for text, expected in ERRORS:
-            with self.subTest(text), self.assertRaises(forward.ProgramError) as caught:
-                forward.put_in_order(self.assemble(text))
-            self.assertEqual(str(caught.exception), expected)
-
-    def test_byte_errors(self) -> None:
-        for data, expected in BYTE_ERRORS:
-            with self.subTest(data), self.assertRaises(forward.ProgramError) as caught:
-                forward.put_in_order(data)
-            self.assertEqual(str(caught.exception), expected)
-
-    def test_farthest_jump(self) -> None:
-        """A conditional jump reaches 32,767 words, and one more word with the help of a ja32."""
-        for filling, beginning in (
-            (32_765, ["jeq r1, 1, +32767"]),
-            (32_766, ["jeq r1, 1, +1", "ja +1", "ja32 +32768"]),
-        ):
-            text = FOUND_FIRST + " | mov r0, 0" * (filling + 1) + " | exit"
-            words, _ = forward.put_in_order(self.assemble(text))
-            listing = self.disassemble(words).splitlines()
-            self.assertEqual(listing[: len(beginning)], beginning)
-            self.assertEqual(listing[len(beginning) :], ["mov r0, 0"] * (filling + 1) + ["exit", "mov r0, 1", "exit"])
-
-    def test_far_plain_jump(self) -> None:
-        """A plain jump that its offset field can't reach becomes a ja32."""
-        text = "jeq r1, 1, second | join: | mov r0, 2" + " | exit | second:" + " | mov r2, 3" * 32_768 + " | ja32 join"
-        words, _ = forward.put_in_order(self.assemble(text))
-        listing = self.disassemble(words).splitlines()
-        self.assertEqual(listing, ["jeq r1, 1, +1", "ja32 +32768", *["mov r2, 3"] * 32_768, "mov r0, 2", "exit"])
-
-    def test_too_long(self) -> None:
-        """Added jumps may make a program too long."""
-        text = "jeq r1, 1, second | join: | mov r0, 2 | exit | second:" + " | mov r2, 3" * 65_532 + " | ja32 join"
-        words, _ = forward.put_in_order(self.assemble(text))
-        self.assertEqual(len(words) // 8, 65_536)
-        # Here the first jump becomes too long and takes two more words.
-        text = FOUND_FIRST + " | mov r0, 0" * 65_531 + " | exit"
-        with self.assertRaises(forward.ProgramError) as caught:
-            forward.put_in_order(self.assemble(text))
-        self.assertEqual(str(caught.exception), "the program has 65537 words, and it may have 65536")
-
-    def test_lines(self) -> None:
-        """A block keeps its lines, and repeats the line before it if it is moved away from it."""
-        text = "mov r0, 1 | ja start | out: | mov r0, 1 | exit | start: | jeq r0, 1, out | mov r0, 0 | exit"
-        words = self.assemble(text)
-        _, layout = forward.put_in_order(words)
-        expected = "0\tint x = f();\n1\tif (x)\n1\treturn 0;\n4\t{\n4\t    return 1;\n"
-        self.assertEqual(forward.move_lines(forward.read_lines(LINES), layout), expected)
-        expected = "0\tint x = f();\n1\tint x = f();\n4\tint x = f();\n"
-        self.assertEqual(forward.move_lines({0: ["int x = f();"]}, layout), expected)
-        with self.assertRaises(forward.ProgramError):
-            forward.read_lines("if (x)\n")
-
-    def test_command(self) -> None:
-        program, output = self.scratch / "program.bpf", self.scratch / "output.bpf"
-        program.write_bytes(self.assemble("ja start | out: | exit | start: | mov r0, 1 | ja out"))
-        command = [sys.executable, forward.__file__, str(program), str(output)]
-        self.assertEqual(subprocess.run(command).returncode, 0)
-        self.assertEqual(self.disassemble(output.read_bytes()), "mov r0, 1\nexit\n")
-        output.unlink()
-        program.write_bytes(self.assemble("ja -1"))
-        done = subprocess.run(command, capture_output=True, text=True)
-        self.assertEqual((done.returncode, done.stdout, output.exists()), (1, "", False))
-        self.assertEqual(done.stderr, "forward.py: there is a loop: the jump at place 0 leads back to place 0\n")
+def assemble(text: str) -> bytes:
+    source = Path("program.s")
+    source.write_text("".join(f"{line.strip()}\n" for line in text.split("|")))
+    return subprocess.run(["extractd", "asm", "--source", source], check=True, capture_output=True).stdout
 
 
-if __name__ == "__main__":
-    unittest.main()
+def disassemble(words: bytes) -> str:
+    Path("program.bpf").write_bytes(words)
+    command = ["extractd", "dis", "--program", "program.bpf"]
+    return subprocess.run(command, check=True, capture_output=True, text=True).stdout
+
+
+def error_of(data: bytes) -> str:
+    with pytest.raises(forward.ProgramError) as caught:
+        forward.put_in_order(data)
+    return str(caught.value)
+
+
+@pytest.mark.parametrize("text, expected", ORDERS, ids=[text for text, _ in ORDERS])
+def test_orders(text: str, expected: str, here: Path) -> None:
+    words, _ = forward.put_in_order(assemble(text))
+    assert disassemble(words).splitlines() == expected.split(" | ")
+
+
+def test_conditions(here: Path) -> None:
+    """Each condition, of 64 and of 32 bits, on a register and on a number. All jump to a block that is moved."""
+    jumps = [f"{name}{bits} r1, {operand}" for name in CONDITIONS for bits in ("", "32") for operand in ("-1", "r2")]
+    conditions = " | ".join(f"{jump}, out" for jump in jumps)
+    words, _ = forward.put_in_order(
+        assemble(f"ja32 start | out: | mov r0, 1 | exit | start: | {conditions} | mov r0, 0 | exit")
+    )
+    expected = [f"{jump}, +{len(jumps) + 1 - place}" for place, jump in enumerate(jumps)]
+    expected += ["mov r0, 0", "exit", "mov r0, 1", "exit"]
+    assert disassemble(words).splitlines() == expected
+
+
+@pytest.mark.parametrize("text, expected", ERRORS, ids=[text for text, _ in ERRORS])
+def test_errors(text: str, expected: str, here: Path) -> None:
+    assert error_of(assemble(text)) == expected
+
+
+@pytest.mark.parametrize("data, expected", BYTE_ERRORS, ids=[expected for _, expected in BYTE_ERRORS])
+def test_byte_errors(data: bytes, expected: str) -> None:
+    assert error_of(data) == expected
+
+
+@pytest.mark.parametrize(
+    "filling, beginning",
+    [(32_765, ["jeq r1, 1, +32767"]), (32_766, ["jeq r1, 1, +1", "ja +1", "ja32 +32768"])],
+    ids=["farthest", "too far"],
+)
+def test_farthest_jump(filling: int, beginning: list[str], here: Path) -> None:
+    """A conditional jump reaches 32,767 words, and one more word with the help of a ja32."""
+    text = FOUND_FIRST + " | mov r0, 0" * (filling + 1) + " | exit"
+    words, _ = forward.put_in_order(assemble(text))
+    listing = disassemble(words).splitlines()
+    assert listing == [*beginning, *["mov r0, 0"] * (filling + 1), "exit", "mov r0, 1", "exit"]
+
+
+def test_far_plain_jump(here: Path) -> None:
+    """A plain jump that its offset field can't reach becomes a ja32."""
+    text = "jeq r1, 1, second | join: | mov r0, 2" + " | exit | second:" + " | mov r2, 3" * 32_768 + " | ja32 join"
+    words, _ = forward.put_in_order(assemble(text))
+    listing = disassemble(words).splitlines()
+    assert listing == ["jeq r1, 1, +1", "ja32 +32768", *["mov r2, 3"] * 32_768, "mov r0, 2", "exit"]
+
+
+def test_longest(here: Path) -> None:
+    text = "jeq r1, 1, second | join: | mov r0, 2 | exit | second:" + " | mov r2, 3" * 65_532 + " | ja32 join"
+    words, _ = forward.put_in_order(assemble(text))
+    assert len(words) // 8 == 65_536
+
+
+def test_too_long(here: Path) -> None:
+    """The first jump becomes too long and takes two more words."""
+    text = FOUND_FIRST + " | mov r0, 0" * 65_531 + " | exit"
+    assert error_of(assemble(text)) == "the program has 65537 words, and it may have 65536"
+
+
+def test_lines(here: Path) -> None:
+    """A block keeps its lines, and repeats the line before it if it is moved away from it."""
+    text = "mov r0, 1 | ja start | out: | mov r0, 1 | exit | start: | jeq r0, 1, out | mov r0, 0 | exit"
+    _, layout = forward.put_in_order(assemble(text))
+    expected = "0\tint x = f();\n1\tif (x)\n1\treturn 0;\n4\t{\n4\t    return 1;\n"
+    assert forward.move_lines(forward.read_lines(LINES), layout) == expected
+    expected = "0\tint x = f();\n1\tint x = f();\n4\tint x = f();\n"
+    assert forward.move_lines({0: ["int x = f();"]}, layout) == expected
+
+
+def test_lines_without_places() -> None:
+    with pytest.raises(forward.ProgramError):
+        forward.read_lines("if (x)\n")
+
+
+def run_command() -> subprocess.CompletedProcess[str]:
+    command = [sys.executable, TOP / "tools/c/forward.py", "program.bpf", "output.bpf"]
+    return subprocess.run(command, capture_output=True, text=True)
+
+
+def test_command(here: Path) -> None:
+    Path("program.bpf").write_bytes(assemble("ja start | out: | exit | start: | mov r0, 1 | ja out"))
+    assert run_command().returncode == 0
+    assert disassemble(Path("output.bpf").read_bytes()) == "mov r0, 1\nexit\n"
+
+
+def test_command_that_fails(here: Path) -> None:
+    Path("program.bpf").write_bytes(assemble("ja -1"))
+    done = run_command()
+    assert (done.returncode, done.stdout, Path("output.bpf").exists()) == (1, "", False)
+    assert done.stderr == "forward.py: there is a loop: the jump at place 0 leads back to place 0\n"

@@ -1,26 +1,23 @@
-#!/usr/bin/env python3
-"""Tests compile.sh and link.py: what they say about programs in C and about object files: python3 test_link.py
-
-Needs clang, bpf-gcc, llvm-objcopy and llvm-objdump. `extractd` is taken from the search path. The expected messages
-were worked out by hand. Programs that are accepted have the rows of another spelling, which the table names.
+"""compile.sh and link.py: what they say about programs in C and about object files. The expected messages were worked out by hand. Programs that are accepted
+have the rows of another spelling, which the table names.
 """
 
 import os
 import struct
 import subprocess
 import sys
-import tempfile
-import unittest
 from collections.abc import Callable
 from pathlib import Path
-from random import Random
 
-TOP = Path(__file__).resolve().parent.parent
-TOOLS, COUNTY = TOP / "tools" / "c", TOP / "examples"
-sys.path.insert(0, str(TOOLS))
-sys.path.insert(0, str(TOP / "tests"))
+import pytest
+from harness.program import TOP
 
-import intervals  # noqa: E402
+TOOLS, COUNTY = TOP / "tools/c", TOP / "examples"
+
+pytestmark = [
+    pytest.mark.needs("clang", "bpf-gcc", "llvm-objcopy", "llvm-objdump"),
+    pytest.mark.usefixtures("extractd", "here"),
+]
 
 HEAD = '#include "extractd.h"\n#include <string.h>\n'
 CHOOSE = "uint64_t choose(const struct record *record) { "
@@ -143,167 +140,97 @@ def run(*command: str | Path, compiler: str = "clang") -> subprocess.CompletedPr
     return subprocess.run(command, stdin=subprocess.DEVNULL, capture_output=True, text=True, timeout=120, env=variables)
 
 
-class LinkTest(unittest.TestCase):
-    def setUp(self) -> None:
-        folder = tempfile.TemporaryDirectory()
-        self.addCleanup(folder.cleanup)
-        self.scratch = Path(folder.name)
-
-    def compile(self, source: str, *flags: str, compiler: str = "clang") -> subprocess.CompletedProcess[str]:
-        (self.scratch / "program.c").write_text(HEAD + source + "\n")
-        files = self.scratch / "program.c", self.scratch / "program.bpf"
-        return run(TOOLS / "compile.sh", *files, *flags, compiler=compiler)
-
-    def rows(self, source: str, *flags: str) -> str:
-        done = self.compile(source, *flags)
-        self.assertEqual((done.returncode, done.stderr), (0, ""), source)
-        ran = run("extractd", "run", "--program", self.scratch / "program.bpf", "--data", COUNTY, "01001")
-        self.assertEqual((ran.returncode, ran.stderr), (0, ""), source)
-        return ran.stdout
-
-    def object(self) -> bytes:
-        (self.scratch / "program.c").write_text(HEAD + A_ROAD + "\n")
-        made = run("clang", f"@{TOOLS / 'flags'}", f"-I{TOOLS}", "-isystem", TOOLS / "include", "-c", "-o",
-                   self.scratch / "whole.o", self.scratch / "program.c")  # fmt: skip
-        self.assertEqual(made.returncode, 0, made.stderr)
-        return (self.scratch / "whole.o").read_bytes()
-
-    def link(self, path: Path, *options: str | Path) -> str:
-        done = run(sys.executable, TOOLS / "link.py", *options, path, self.scratch / "linked.bpf")
-        return done.stderr.removeprefix(f"link.py: {path.name}: ").rstrip("\n")
-
-    def test_refused(self) -> None:
-        for source, said in REFUSED:
-            with self.subTest(source):
-                done = self.compile(source)
-                self.assertEqual(done.returncode, 1)
-                self.assertIn(said, done.stderr)
-                self.assertFalse((self.scratch / "program.bpf").exists())
-
-    def test_accepted(self) -> None:
-        for source, other in ACCEPTED:
-            with self.subTest(source):
-                self.assertEqual(self.rows(source), self.rows(other))
-
-    def test_sections_of_one_name(self) -> None:
-        self.assertEqual(self.rows(TWO_TABLES, ONE_NAME), self.rows(A_4))
-        said = self.compile(TWO_TOO_LARGE, ONE_NAME).stderr
-        tables = "the constants in .rodata[0], .rodata[1] have 600 bytes, and the frame has 512 left for them"
-        self.assertEqual(said, f"link.py: program.o: {tables} (program.c:6)\n")
-        lines = self.scratch / "lines"
-        (self.scratch / "program.c").write_text(HEAD + OTHER + A_ROAD + "\n")
-        run(TOOLS / "compile.sh", "--lines", lines, self.scratch / "program.c", self.scratch / "program.bpf", ONE_NAME)
-        self.assertEqual(lines.read_text().split("\n")[0], f"0\t{A_ROAD}")
-
-    def test_objects(self) -> None:
-        for compiler, flags, said in OBJECTS:
-            with self.subTest(compiler + flags):
-                done = self.compile(A_ROAD, *flags.split(), compiler=compiler)
-                self.assertEqual((done.returncode, done.stderr), (1, said + "\n"))
-
-    def test_damaged(self) -> None:
-        whole = self.object()
-        self.assertEqual(self.link(self.scratch / "whole.o"), "")
-        for damage, said in DAMAGED:
-            with self.subTest(said):
-                path = self.scratch / "damaged.o"
-                path.write_bytes(damage(whole))
-                self.assertEqual(self.link(path), said)
-
-    def test_symbols_and_lines(self) -> None:
-        self.object()
-        whole, other = self.scratch / "whole.o", self.scratch / "other.o"
-        run("llvm-objcopy", "--strip-all", whole, other)
-        self.assertEqual(
-            self.link(other), "this object has no symbols, so its functions can't be found; don't strip it"
-        )
-        run("llvm-objcopy", "--strip-debug", whole, other)
-        lines = self.scratch / "lines"
-        self.assertEqual(self.link(other, "--lines", lines), "there are no source lines; compile with -g")
-        self.assertEqual(self.link(whole, "--lines", lines), "")
-        self.assertIn("return record->cfcc[0] == 'A'", lines.read_text())
-        os.remove(self.scratch / "program.c")
-        self.assertIn("there is no source file", self.link(whole, "--lines", lines))
+def compiled(source: str, *flags: str, compiler: str = "clang") -> subprocess.CompletedProcess[str]:
+    Path("program.c").write_text(HEAD + source + "\n")
+    return run(TOOLS / "compile.sh", "program.c", "program.bpf", *flags, compiler=compiler)
 
 
-class IntervalTest(unittest.TestCase):
-    """What an operation results in for numbers of two intervals is in the interval that is computed for these."""
-
-    def drawn(self, dice: Random) -> intervals.Interval:
-        low = dice.choice((0, 1, 2**31, 2**32 - 3, 2**63 - 2, 2**64 - 40, -5, -(2**31))) + dice.randrange(4)
-        return intervals.normal(low, low + dice.choice((0, 1, 7, 300, 2**32)))
-
-    def test_operations(self) -> None:
-        dice = Random(1)
-        names = ("add", "sub", "mul", "div", "or", "and", "lsh", "rsh", "neg", "mod", "xor", "mov", "arsh")
-        for _ in range(20_000):
-            operation, bits = dice.randrange(len(names)), dice.choice((32, 64))
-            x, y = self.drawn(dice), self.drawn(dice)
-            one, other = dice.randint(*x) % 2**64, dice.randint(*y) % 2**64
-            result = computed(names[operation], one % 2**bits, other % 2**bits, bits)
-            low, high = intervals.operate(operation, x, y, bits)
-            self.assertTrue(low <= result <= high or low <= result - 2**64 <= high, (names[operation], bits, x, y))
-
-    def test_signed_division(self) -> None:
-        dice = Random(3)
-        for _ in range(20_000):
-            is_remainder, bits = dice.random() < 0.5, dice.choice((32, 64))
-            x, y = self.drawn(dice), self.drawn(dice)
-            one, other = dice.randint(*x) % 2**64, dice.randint(*y) % 2**64
-            result = divided(is_remainder, one % 2**bits, other % 2**bits, bits)
-            low, high = intervals.divide_signed(is_remainder, x, y, bits)
-            self.assertTrue(low <= result <= high or low <= result - 2**64 <= high, (is_remainder, bits, x, y))
-
-    def test_comparisons(self) -> None:
-        dice = Random(2)
-        for _ in range(20_000):
-            condition, bits = dice.choice(sorted(intervals.CONDITIONS)), dice.choice((32, 64))
-            x, y = self.drawn(dice), self.drawn(dice)
-            one, other = dice.randint(*x) % 2**64, dice.randint(*y) % 2**64
-            taken = holds(condition, one % 2**bits, other % 2**bits, bits)
-            left = intervals.narrow(condition, x, y, bits, taken)
-            self.assertIsNotNone(left, (condition, bits, x, y))
-            for number, (low, high) in zip((one, other), left or (), strict=True):
-                self.assertTrue(low <= number <= high or low <= number - 2**64 <= high, (condition, bits, x, y))
+def rows(source: str, *flags: str) -> str:
+    done = compiled(source, *flags)
+    assert (done.returncode, done.stderr) == (0, "")
+    ran = run("extractd", "run", "--program", "program.bpf", "--data", COUNTY, "01001")
+    assert (ran.returncode, ran.stderr) == (0, "")
+    return ran.stdout
 
 
-def as_signed(number: int, bits: int) -> int:
-    return int.from_bytes(number.to_bytes(bits // 8, "little"), "little", signed=True)
+@pytest.fixture
+def whole(here: Path) -> Path:
+    """Returns an object file of a program, which is `program.c`."""
+    path = here / "whole.o"
+    Path("program.c").write_text(HEAD + A_ROAD + "\n")
+    flags = (f"@{TOOLS / 'flags'}", f"-I{TOOLS}", "-isystem", TOOLS / "include")
+    made = run("clang", *flags, "-c", "-o", path, here / "program.c")
+    assert made.returncode == 0, made.stderr
+    return path
 
 
-def computed(name: str, x: int, y: int, bits: int) -> int:
-    """Returns the result by RFC 9669, section 4.1."""
-    match name:
-        case "div":
-            return x // y if y else 0
-        case "mod":
-            return x % y if y else x
-        case "lsh":
-            return (x << y % bits) % (1 << bits)
-        case "rsh":
-            return x >> y % bits
-        case "arsh":
-            return (as_signed(x, bits) >> y % bits) % (1 << bits)
-        case "neg":
-            return -x % (1 << bits)
-        case "mov":
-            return y
-    return {"add": x + y, "sub": x - y, "mul": x * y, "or": x | y, "and": x & y, "xor": x ^ y}[name] % (1 << bits)
+def link(path: Path, *options: str | Path) -> str:
+    done = run(sys.executable, TOOLS / "link.py", *options, path, "linked.bpf")
+    return done.stderr.removeprefix(f"link.py: {path.name}: ").rstrip("\n")
 
 
-def divided(is_remainder: bool, x: int, y: int, bits: int) -> int:
-    """Returns the result of `sdiv` or `smod` by RFC 9669, section 4.1."""
-    a, b = as_signed(x, bits), as_signed(y, bits)
-    quotient = abs(a) // abs(b) * (1 if (a < 0) == (b < 0) else -1) if b else 0
-    return (a - b * quotient if is_remainder else quotient) % (1 << bits)
+@pytest.mark.parametrize("source, said", REFUSED, ids=[said for _, said in REFUSED])
+def test_refused(source: str, said: str) -> None:
+    done = compiled(source)
+    assert done.returncode == 1
+    assert said in done.stderr
+    assert not Path("program.bpf").exists()
 
 
-def holds(condition: int, x: int, y: int, bits: int) -> bool:
-    """Whether the comparison holds by RFC 9669, section 4.3."""
-    a, b = as_signed(x, bits), as_signed(y, bits)
-    return {1: x == y, 2: x > y, 3: x >= y, 4: x & y != 0, 5: x != y, 6: a > b, 7: a >= b, 10: x < y, 11: x <= y,
-            12: a < b, 13: a <= b}[condition]  # fmt: skip
+@pytest.mark.parametrize("source, other", ACCEPTED, ids=[f"program {number}" for number, _ in enumerate(ACCEPTED, 1)])
+def test_accepted(source: str, other: str) -> None:
+    assert rows(source) == rows(other)
 
 
-if __name__ == "__main__":
-    unittest.main()
+def test_sections_of_one_name() -> None:
+    assert rows(TWO_TABLES, ONE_NAME) == rows(A_4)
+
+
+def test_tables_of_one_name_that_are_too_large() -> None:
+    tables = "the constants in .rodata[0], .rodata[1] have 600 bytes, and the frame has 512 left for them"
+    assert compiled(TWO_TOO_LARGE, ONE_NAME).stderr == f"link.py: program.o: {tables} (program.c:6)\n"
+
+
+def test_lines_of_sections_of_one_name() -> None:
+    Path("program.c").write_text(HEAD + OTHER + A_ROAD + "\n")
+    run(TOOLS / "compile.sh", "--lines", "lines", "program.c", "program.bpf", ONE_NAME)
+    assert Path("lines").read_text().split("\n")[0] == f"0\t{A_ROAD}"
+
+
+@pytest.mark.parametrize("compiler, flags, said", OBJECTS, ids=[f"{it[0]} {it[1]}" for it in OBJECTS])
+def test_objects(compiler: str, flags: str, said: str) -> None:
+    done = compiled(A_ROAD, *flags.split(), compiler=compiler)
+    assert (done.returncode, done.stderr) == (1, said + "\n")
+
+
+def test_undamaged(whole: Path) -> None:
+    assert link(whole) == ""
+
+
+@pytest.mark.parametrize("damage, said", DAMAGED, ids=[f"object {number}" for number, _ in enumerate(DAMAGED, 1)])
+def test_damaged(damage: Callable[[bytes], bytes], said: str, whole: Path) -> None:
+    path = Path("damaged.o")
+    path.write_bytes(damage(whole.read_bytes()))
+    assert link(path) == said
+
+
+def test_without_symbols(whole: Path) -> None:
+    other = Path("other.o")
+    run("llvm-objcopy", "--strip-all", whole, other)
+    assert link(other) == "this object has no symbols, so its functions can't be found; don't strip it"
+
+
+def test_without_lines(whole: Path) -> None:
+    other = Path("other.o")
+    run("llvm-objcopy", "--strip-debug", whole, other)
+    assert link(other, "--lines", "lines") == "there are no source lines; compile with -g"
+
+
+def test_lines(whole: Path) -> None:
+    assert link(whole, "--lines", "lines") == ""
+    assert "return record->cfcc[0] == 'A'" in Path("lines").read_text()
+
+
+def test_lines_without_the_source(whole: Path) -> None:
+    Path("program.c").unlink()
+    assert "there is no source file" in link(whole, "--lines", "lines")
