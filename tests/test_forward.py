@@ -205,7 +205,7 @@ def test_lines_without_places() -> None:
 
 
 def run_command() -> subprocess.CompletedProcess[str]:
-    command = [sys.executable, TOP / "tools/c/forward.py", "program.bpf", "output.bpf"]
+    command = [sys.executable, str(TOP / "tools/c/forward.py"), "program.bpf", "output.bpf"]
     return subprocess.run(command, capture_output=True, text=True)
 
 
