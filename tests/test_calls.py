@@ -1,8 +1,4 @@
-#!/usr/bin/env python3
-"""Compares the table of public calls, tests/calls.txt, with the sources, and reports what is wrong.
-
-    python3 calls.py             prints each row that is wrong and each call without a row; exits with 1 if there are any
-    python3 calls.py --list      prints the calls in the sources, each with the kinds of its cells
+"""Compares the table of public calls, tests/calls.txt, with the sources: each row is a test, and each call needs a row.
 
 A call belongs in the table if its types let it allocate memory, read or write: if it has an allocator, a reader or a writer, as a parameter
 or through the type that it is a method of, or if its result may say that memory ran out. Its row has its path and one cell for each of
@@ -13,20 +9,21 @@ or through the type that it is a method of, or if its result may say that memory
 - `by` and the path of another call, which makes this one and whose sweep covers both;
 - `none` if the call never does it, whatever its types allow, followed by the path of the test that shows this, if there is one;
 - `Global` if all memory comes from the global allocator, which no test can make fail;
-- `system` if the operating system opens, reads or writes: tests/try.sh tests that on real files.
+- `system` if the operating system opens, reads or writes: other tests do that on real files.
 
 A line that begins with two blanks continues the row above it, and a line that begins with `#` is a comment.
 """
-# Needs only Python 3.8 or later.
 
 import re
-import sys
-from functools import lru_cache
-from pathlib import Path
-from typing import NamedTuple, Optional
+from collections.abc import Iterable, Iterator
+from functools import cache
+from typing import NamedTuple
 
-TOP = Path(__file__).resolve().parent.parent
-TABLE = Path(__file__).with_name("calls.txt")
+import pytest
+from harness.program import TOP
+from harness.tables import rows_of
+
+TABLE = TOP / "tests/calls.txt"
 
 # The types in a signature that let a call allocate memory, read or write.
 BOUNDS = {
@@ -39,15 +36,15 @@ KINDS = list(BOUNDS)
 
 class Call(NamedTuple):
     path: str
-    kinds: tuple
+    kinds: tuple[str, ...]
     of_global: bool
     # The trait that it implements, if it is in an `impl` of one.
-    trait: Optional[str]
+    trait: str | None
 
-    def name(self):
+    def name(self) -> str:
         return self.path.rpartition("::")[2]
 
-    def owner(self):
+    def owner(self) -> str | None:
         """Returns the type or the trait that the call is a method of, if it is one."""
         owner = self.path.split("::")[-2]
         return owner if owner[0].isupper() else None
@@ -60,32 +57,34 @@ class Item(NamedTuple):
     header: str
     signature: str
 
-    def name(self):
-        return re.search(r"\bfn (\w+)", self.signature)[1]
+    def name(self) -> str:
+        found = re.search(r"\bfn (\w+)", self.signature)
+        assert found is not None, self.signature
+        return found[1]
 
-    def owner(self):
+    def owner(self) -> str | None:
         """Returns the type or the trait that it is a method of."""
-        named = re.match(r"pub trait (\w+)", self.header) or re.search(
-            r"(?:\bfor\s+|^impl(?:<.*?>)?\s+)(?:\w+::)*(\w+)", self.header
-        )
         for_type = re.search(r"\bfor (?:\w+::)*(\w+)", self.header)
-        return (for_type or named)[1] if self.header else None
+        trait = re.match(r"pub trait (\w+)", self.header)
+        of_type = re.search(r"(?:\bfor\s+|^impl(?:<.*?>)?\s+)(?:\w+::)*(\w+)", self.header)
+        found = for_type or trait or of_type
+        return found[1] if found and self.header else None
 
-    def is_public(self):
+    def is_public(self) -> bool:
         return self.signature.startswith("pub fn") or bool(re.search(r"^pub trait| for ", self.header))
 
 
 # ---- The sources
 
 
-def libraries():
+def libraries() -> list[str]:
     """Returns the libraries of the repository that aren't for tests."""
     names = re.findall(r"^(\w+)(?: staticlib)?:", (TOP / "crates.txt").read_text(), re.M)
     return [name for name in names if not name.endswith("_tests") and name not in ("fixtures", "extractd")]
 
 
-@lru_cache(maxsize=None)
-def sources(crate):
+@cache
+def sources(crate: str) -> dict[str, str]:
     """Returns the files of a crate by module path, without comments."""
     root = TOP / "crates" / crate / "src"
     files = {}
@@ -95,7 +94,7 @@ def sources(crate):
     return files
 
 
-def items(module, text):
+def items(module: str, text: str) -> Iterator[Item]:
     """Yields the functions of a file, which must be laid out by the formatter."""
     header, lines = "", iter(text.splitlines())
     for line in lines:
@@ -109,7 +108,7 @@ def items(module, text):
             yield Item(module, header, head_of(line.strip(), lines))
 
 
-def head_of(line, lines):
+def head_of(line: str, lines: Iterator[str]) -> str:
     """Returns a header or a signature up to its clauses or its body."""
     head = [line]
     while not re.search(r"[{;]$", head[-1]):
@@ -120,17 +119,17 @@ def head_of(line, lines):
     return " ".join(head)
 
 
-def exports(crate):
+def exports(crate: str) -> tuple[set[str], set[tuple[str, str]]]:
     """Returns a crate's exports: its modules, and the names with their modules."""
     text = sources(crate)["lib"]
     modules = set(re.findall(r"^pub mod (\w+);", text, re.M))
-    names = set()
+    names: set[tuple[str, str]] = set()
     for module, listed, single in re.findall(r"^pub use (\w+)::(?:\{([^}]*)\}|(?:\w+::)*(\w+));", text, re.M):
         names.update((module, name) for name in re.findall(r"\w+", listed or single))
     return modules, names
 
 
-def faults():
+def faults() -> set[str]:
     """Returns the error types of all libraries that may say that memory ran out."""
     found = {"AllocError"}
     for crate in libraries():
@@ -142,7 +141,8 @@ def faults():
     return found
 
 
-def calls():
+@cache
+def calls() -> dict[str, Call]:
     """Returns the public calls that may allocate memory, read or write, by path."""
     wanting = r"Result<.*\b(" + "|".join(faults()) + r")\b"
     found = {}
@@ -157,7 +157,7 @@ def calls():
     return found
 
 
-def path_of(crate, item, modules, names):
+def path_of(crate: str, item: Item, modules: set[str], names: set[tuple[str, str]]) -> str | None:
     """Returns the path of a function that is reachable from the root, or None."""
     owner = item.owner()
     if not item.is_public() or re.search(r"\b(Display|Debug|Model|From<.*>) for\b", item.header):
@@ -171,7 +171,7 @@ def path_of(crate, item, modules, names):
     return f"{crate}::{item.name()}" if shown else None
 
 
-def kinds_of(item, wanting):
+def kinds_of(item: Item, wanting: str) -> tuple[str, ...]:
     """Returns what the types of a function let it do."""
     types = f"{item.header} {item.signature}"
     result = item.signature.partition("->")[2]
@@ -180,29 +180,27 @@ def kinds_of(item, wanting):
     )
 
 
-def trait_of(item):
+def trait_of(item: Item) -> str | None:
     """Returns the trait that a function implements, if it does."""
     found = re.match(r"impl(?:<.*>)? (\w+)(?:<.*>)? for ", item.header)
     return found[1] if found else None
 
 
-def is_of_global(item):
+def is_of_global(item: Item) -> bool:
     return not re.search(r"\bAllocator\b", f"{item.header} {item.signature}")
 
 
 # ---- The table
 
 
-def rows():
-    """Yields the rows of the table: a path and cells."""
-    text = TABLE.read_text().replace("\n  ", " ")
-    for line in text.splitlines():
-        if line and not line.startswith("#"):
-            path, *cells = [cell.strip() for cell in line.split(";")]
-            yield path, cells
+def rows() -> Iterator[tuple[str, str, list[str]]]:
+    """Yields the rows of the table: a line, a path and cells."""
+    for line, text in rows_of(TABLE):
+        path, *cells = [cell.strip() for cell in text.split(";")]
+        yield f"line {line}", path, cells
 
 
-def wrong_in(path, cells, found):
+def wrong_in(path: str, cells: list[str], found: dict[str, Call]) -> Iterator[str]:
     """Yields what is wrong with a row."""
     if path not in found:
         yield "is no public call that may take memory, read or write"
@@ -217,7 +215,7 @@ def wrong_in(path, cells, found):
             yield f"{cell}: {wrong}"
 
 
-def wrong_with(call, sweep="?", *more):
+def wrong_with(call: Call, sweep: str = "?", *more: str) -> str | None:
     """Returns what is wrong with a cell after its first word, or None."""
     if sweep == "none":
         return reached(call, more[0]) if more else None
@@ -232,18 +230,22 @@ def wrong_with(call, sweep="?", *more):
 
 # ---- The sweeps
 
+# A function's module and text, and both after its crate.
+Text = tuple[str, str]
+Function = tuple[str, str, str]
 
-@lru_cache(maxsize=None)
-def functions(crate):
+
+@cache
+def functions(crate: str) -> dict[str, list[Text]]:
     """Returns the functions of a crate by name, as lists of modules and texts."""
-    found = {}
+    found: dict[str, list[Text]] = {}
     for module, text in sources(crate).items():
         for indent, name, body in re.findall(r"^( *)(?:pub(?:\(\w+\))? )?fn (\w+)(.*?\n\1\}$)", text, re.M | re.S):
             found.setdefault(name, []).append((module, body))
     return found
 
 
-def bodies(crate, module, word, others):
+def bodies(crate: str, module: str, word: str, others: Iterable[str]) -> list[Function]:
     """Returns the texts of the functions that a word in a file may name: any method, or a function of that file, or else one of another
     file or of other crates."""
     name = word.lstrip(".")
@@ -254,7 +256,7 @@ def bodies(crate, module, word, others):
     return [(other, *found) for other in others for found in functions(other).get(name, [])]
 
 
-def closure(crate, module, name, others):
+def closure(crate: str, module: str, name: str, others: Iterable[str]) -> list[Function]:
     """Returns the texts, with their files, of a function and of all functions that it calls in its crate and in others."""
     waiting, seen = bodies(crate, module, name, ()), []
     while waiting:
@@ -266,7 +268,7 @@ def closure(crate, module, name, others):
     return seen
 
 
-def makes(path, call):
+def makes(path: str, call: Call) -> bool:
     """Returns whether the call with this path makes another call, in its own crate or in the other call's."""
     crate, below = path.split("::")[0], (call.path.split("::")[0],)
     name = path.rpartition("::")[2]
@@ -274,7 +276,7 @@ def makes(path, call):
     return any(is_made(call, *found) for module in roots for found in closure(crate, module, name, below))
 
 
-def reached(call, sweep):
+def reached(call: Call, sweep: str) -> str | None:
     """Returns what is wrong with the path of a call's sweep, or None."""
     crate, *modules, name = sweep.split("::")
     module = "::".join(modules)
@@ -289,7 +291,7 @@ def reached(call, sweep):
     return None
 
 
-def is_made(call, crate, module, body):
+def is_made(call: Call, crate: str, module: str, body: str) -> bool:
     """Returns whether the text of a function makes a call, in a file that names the call's type or trait. `write!` calls `write_str`."""
     file, name, owner = sources(crate)[module], call.name(), call.owner()
     source = call.path.split("::")[0]
@@ -305,18 +307,18 @@ def is_made(call, crate, module, body):
     return bool(imported and re.search(rf"(?<![.\w]){name}\b", body))
 
 
-def main():
-    found = calls()
-    if sys.argv[1:] == ["--list"]:
-        print("\n".join(f"{call.path}; {'; '.join(call.kinds)}" for call in found.values()))
-        return 0
-    table = list(rows())
-    wrong = [f"{path} has no row" for path in found if path not in dict(table)]
-    for path, cells in table:
-        wrong.extend(f"{path} {text}" for text in wrong_in(path, cells, found))
-    print("".join(f"{line}\n" for line in wrong), end="")
-    return 1 if wrong else 0
+# ---- The tests
+
+ROWS = list(rows())
 
 
-if __name__ == "__main__":
-    sys.exit(main())
+@pytest.mark.parametrize("path, cells", [row[1:] for row in ROWS], ids=[row[0] for row in ROWS])
+def test_row(path: str, cells: list[str]) -> None:
+    wrong = list(wrong_in(path, cells, calls()))
+    assert not wrong, "\n".join(f"{path} {text}" for text in wrong)
+
+
+def test_each_call_has_a_row() -> None:
+    paths = [path for _, path, _ in ROWS]
+    missing = [f"{call.path}; {'; '.join(call.kinds)}" for call in calls().values() if call.path not in paths]
+    assert calls() and not missing, "\n".join(["without a row:", *missing])
