@@ -27,21 +27,20 @@ in the same ways, and are followed together. A program whose domain is too large
 so it can't show by itself that none is good. Therefore others are drawn, with arbitrary ends. None of them may pass a place that no
 annotation of the domain passes, and each must be above the domain's least annotation.
 """
-# Needs only Python 3.8 or later.
-
 import sys
+from typing import Any
 
-from verifier.generated import GROUPS, finished, kept_joined, kept_number, kept_once, kept_pointer, linked
+from verifier.generated import GROUPS, Family, finished, kept_joined, kept_number, kept_once, kept_pointer, linked
 from verifier.program_text import read_program
 from verifier.search import Draw, Search, TooLarge, sample
 
 SEED = 5
 # Rows of these families may take two lines.
-LONG = (kept_number, kept_pointer, kept_once, kept_joined)
+LONG: tuple[Family, ...] = (kept_number, kept_pointer, kept_once, kept_joined)
 COLUMNS, SAMPLES = 120, 10
 
 
-def judged(text, samples):
+def judged(text: str, samples: int) -> str:
     """Returns the verdict on a program."""
     search = Search(read_program(text))
     draw, least = Draw(SEED), search.least()
@@ -50,7 +49,7 @@ def judged(text, samples):
     return search.verdict()
 
 
-def row(draw, family, subject, known):
+def row(draw: Draw, family: Family, subject: Any, known: set[str]) -> str:
     """Draws a row that is short enough and isn't known yet."""
     columns = 2 * COLUMNS if family in LONG else COLUMNS
     while True:
@@ -60,14 +59,14 @@ def row(draw, family, subject, known):
             text = finished(draw, body, name, ask) if name else linked(body + ["exit"])
             if len("accepted; " + text) > columns:
                 continue
-            line = "%s; %s" % (text, judged(text, SAMPLES))
+            line = f"{text}; {judged(text, SAMPLES)}"
         except TooLarge:
             continue
         if len(line) <= columns and line not in known:
             return line
 
 
-def wrapped(line):
+def wrapped(line: str) -> list[str]:
     """Splits a row into lines. A row continues after a line that ends with `|`."""
     if len(line) <= COLUMNS:
         return [line]
@@ -81,10 +80,10 @@ HEAD = [
 ]
 
 
-def table():
+def table() -> list[str]:
     """Returns the lines of the file: groups of rows, each under its title."""
-    draw, known = Draw(SEED), set()
-    lines = list(HEAD)
+    draw, lines = Draw(SEED), list(HEAD)
+    known: set[str] = set()
     for title, family, subjects in GROUPS:
         if title:
             lines += ["", "# " + title]
@@ -95,7 +94,7 @@ def table():
     return lines
 
 
-def main(arguments):
+def main(arguments: list[str]) -> None:
     if not arguments:
         print("\n".join(table()))
         return

@@ -3,8 +3,6 @@
 A program is a list of idioms, lines that belong together. Each is drawn for the state before it, and mostly drawn
 again if one of its checks fails, so that programs grow long. Jumps lead to labels between idioms.
 """
-# Needs Python 3.11 or later, and nothing else.
-
 from collections.abc import Callable, Iterator
 from typing import NamedTuple
 
@@ -143,8 +141,11 @@ class DrawnProgram:
     """The lines of a program as it grows, with the states that lead to its labels."""
 
     def __init__(self, draw: Draw) -> None:
-        self.draw, self.lines, self.labels = draw, ["ldxb r2, [r1+55]", "mov r6, r1"], {}
-        self.state, self.length = edges_of(self.lines, ENTRY)[-1], draw.between(2, 22)
+        self.draw, self.lines = draw, ["ldxb r2, [r1+55]", "mov r6, r1"]
+        self.labels: dict[int, State | None] = {}
+        start = edges_of(self.lines, ENTRY)
+        assert start is not None
+        self.state, self.length = start[-1], draw.between(2, 22)
 
     def grow(self) -> str:
         for number in range(self.length):

@@ -3,9 +3,9 @@
 A body calculates, compares or stores. The probe after it passes for the interval that is known of a register by
 then and for no wider one, or needs one more than that. `+END` in a line is the distance to the last `exit`.
 """
-# Needs only Python 3.8 or later.
-
 import itertools
+from collections.abc import Callable, Iterable, Sequence
+from typing import Any
 
 from verifier.helpers import HELPERS, NAME_IS
 from verifier.kinds import (
@@ -17,29 +17,35 @@ from verifier.kinds import (
     UNREACHED,
     WORD,
     Kind,
+    State,
     index,
     number,
 )
 from verifier.program_text import CONDITIONS, OPERATIONS, SIZES, read_program
 from verifier.results import holds, signed
-from verifier.search import Search
+from verifier.search import Annotation, Draw, Search
+
+# The lines of a body, the register to probe, and maybe what the probe needs.
+Body = tuple[list[str], str | None] | tuple[list[str], str | None, str]
+# Draws a body about a subject.
+Family = Callable[[Draw, Any], Body]
 
 SMALL = (0, 1, 2, 3, 5, 7, 8, 15, 31, 32, 63, 64, 100, 127, 128, 255, 256, 1000)
 IMMEDIATES = SMALL + (-1, -2, -3, -8, -128, -255, -256, 32767, -32768, 65535, 65536, 2147483647, -2147483648)
 
 
-def linked(lines):
+def linked(lines: list[str]) -> str:
     """Returns the lines as text, with distances."""
     sizes = [2 if line.startswith("lddw") else 1 for line in lines]
     return " | ".join(line.replace("END", str(sum(sizes[at + 1 : -1]))) for at, line in enumerate(lines))
 
 
-def loaded(draw, to, sizes="b b h w dw sb sh sw"):
+def loaded(draw: Draw, to: str, sizes: str = "b b h w dw sb sh sw") -> str:
     return "ldx%s %s, [r1+%d]" % (draw.one_of(sizes.split()), to, draw.between(0, 99))
 
 
 # Lines that fail a check if they are reached, grouped by cause.
-FAULTS = (
+FAULTS: tuple[tuple[tuple[str, ...], ...], ...] = (
     (("mov r0, r9",), ("neg r9",), ("add r9, 1",), ("movsx8 r0, r9",), ("stxb [r10-1], r9",)),
     (("add32 r0, r10",), ("and r0, r10",), ("sub r0, r10",), ("mov32 r0, r10",), ("movsx8 r0, r10",)),
     (
@@ -61,26 +67,27 @@ FAULTS = (
 )
 
 
-def fault_drawn(draw):
+def fault_drawn(draw: Draw) -> list[str]:
     return list(draw.one_of(draw.one_of(FAULTS)))
 
 
-def immediate_of(value):
+def immediate_of(value: int) -> int | None:
     """Returns the immediate that a 64-bit comparison extends to this number, or None."""
     value = signed(value, 64)
     return value if -(1 << 31) <= value < 1 << 31 else None
 
 
-def comparison(name, condition, value, high):
+def comparison(name: str, condition: str, value: int, high: int) -> list[str]:
     """Returns a comparison with any number: with an immediate in either width, or with r9."""
-    if immediate_of(value) is not None:
-        return ["%s %s, %d" % (condition, name, immediate_of(value))]
+    immediate = immediate_of(value)
+    if immediate is not None:
+        return ["%s %s, %d" % (condition, name, immediate)]
     if max(value, high) < 1 << 32:
         return ["%s32 %s, %d" % (condition, name, signed(value, 32))]
     return ["lddw r9, %d" % value, "%s %s, r9" % (condition, name)]
 
 
-def bounds_probed(kind, before, ask):
+def bounds_probed(kind: Kind, before: Kind, ask: str) -> list[tuple[str, int]]:
     """Returns conditions that need an end of the interval, or one more, each with a number. They test an end that differs from `before`."""
     beyond = ask.startswith("beyond")
     if kind.single():
@@ -92,7 +99,7 @@ def bounds_probed(kind, before, ask):
     return lower + upper if ask == "ends" and before.low < kind.low else upper
 
 
-def number_probe(draw, name, kind, before, ask):
+def number_probe(draw: Draw, name: str, kind: Kind, before: Kind, ask: str) -> list[str]:
     """Returns a jump that is always taken for a number in these bounds, followed by lines that fail."""
     conditions = [(condition, value) for condition, value in bounds_probed(kind, before, ask) if 0 <= value < WORD]
     condition, value = draw.one_of(conditions)
@@ -101,7 +108,7 @@ def number_probe(draw, name, kind, before, ask):
     return lines + ["%s, +%d" % (jump, len(fault)), *fault]
 
 
-def access(draw, name, kind, exactly):
+def access(draw: Draw, name: str, kind: Kind, exactly: bool) -> list[str]:
     """Returns a load or a store whose first or last byte is the first or last one of the area."""
     size = draw.one_of(tuple(SIZES))
     if draw.chance(2):
@@ -133,7 +140,7 @@ UNKNOWN_USED = (
 EVERYTHING = number(0, WORD - 1)
 
 
-def probe(draw, name, state, before, ask):
+def probe(draw: Draw, name: str, state: State | None, before: Kind, ask: str) -> list[str]:
     """Returns lines that pass, or fail, with what is known of a register."""
     if state is UNREACHED:
         return fault_drawn(draw)
@@ -149,14 +156,14 @@ def probe(draw, name, state, before, ask):
     return number_probe(draw, name, kind, before, ask)
 
 
-def kind_before(search, least, name):
+def kind_before(search: Search, least: Annotation, name: str) -> Kind:
     """Returns the kind of a register before the last jump if it is a number, else any number."""
-    jumps = [place for place in least if search.program[place].form == "jump" and least[place] is not UNREACHED]
-    kinds = [least[place].registers[index(name)] for place in jumps]
+    states = [state for place, state in least.items() if search.program[place].form == "jump"]
+    kinds = [state.registers[index(name)] for state in states if state is not UNREACHED]
     return kinds[-1] if kinds and kinds[-1].sort == "number" else EVERYTHING
 
 
-def finished(draw, body, name, ask):
+def finished(draw: Draw, body: list[str], name: str, ask: str) -> str:
     """Returns the program of a body, followed by a probe unless the body fails."""
     wanted = {name, "r0"} | {register for register in ("r1",) if register in " ".join(body)}
     search = Search(read_program(linked(body + ["ja +0", "exit"])), wanted)
@@ -177,7 +184,7 @@ def finished(draw, body, name, ask):
 
 # The rows for results, by operands and by what the probe needs. A is a number from 1 to 1001, B a byte, D any number of the width, N a
 # negative number. A pair gives the bounds of an immediate.
-CASES = (
+CASES: tuple[tuple[str, str, str | tuple[int, int], str], ...] = (
     ("add", "A", (1, 5000), "low high"),
     ("add", "A", (-1, -1), "high beyond"),
     ("add", "B", (-255, -1), "beyond"),
@@ -220,7 +227,7 @@ CASES = (
 )
 
 
-def operated(draw, subject):
+def operated(draw: Draw, subject: tuple[str, str, str | tuple[int, int], str, str]) -> Body:
     """Draws an operation on intervals."""
     name, left, right, ask, width = subject
     any_number = loaded(draw, "r0", "w" if width else "dw")
@@ -232,7 +239,7 @@ def operated(draw, subject):
     return [loaded(draw, "r6", "b"), "call 4", "%s%s %s, %s" % (name, width, to, source)], to, ask
 
 
-def with_numbers(draw, operation):
+def with_numbers(draw: Draw, operation: str) -> Body:
     """Draws an operation on two single numbers. If a computation with interval ends gives the same result, the probe needs one more."""
     start = draw.one_of(("mov r0, %d", "mov32 r0, %d")) % draw.one_of(IMMEDIATES[2:])
     line = "%s r0, %d" % (operation, draw.one_of((3, 5, 7, 15, 100, 255, -3, -8, -255)))
@@ -243,7 +250,7 @@ def with_numbers(draw, operation):
     )
 
 
-def of_one(draw, subject):
+def of_one(draw: Draw, subject: tuple[str, str, str]) -> Body:
     """Draws an operation on a single number, on one from 1 to 1001 or to 127, on an interval that contains 65536, or on any number."""
     operation, start, ask = subject
     line = operation + (" r0, r0" if operation.startswith("mov") else " r0")
@@ -256,24 +263,24 @@ def of_one(draw, subject):
     return ["ldxdw r0, [r1+%d]" % draw.between(0, 9), line], "r0", ask
 
 
-def of_load(draw, size):
+def of_load(draw: Draw, size: str) -> Body:
     return ["ldx%s r0, [r1+%d]" % (size, draw.between(0, 9))], "r0", draw.one_of(("ends", "beyond", "beyond"))
 
 
-def answered(draw, helper):
-    bound = HELPERS[helper][0][0][1] if HELPERS[helper][0] else 0
+def answered(draw: Draw, helper: int) -> Body:
+    bound = max((bounds[1] for bounds in HELPERS[helper][0][:1] if bounds), default=0)
     lines = ["mov r1, %d" % draw.between(0, min(bound, 16))] * (helper not in (3, 4)) + ["mov r2, 9"] * (helper == 5)
     return lines + ["call %d" % helper], "r0", draw.one_of(("ends", "beyond", "beyond"))
 
 
-def jumped(lines, condition, one, other, taken):
+def jumped(lines: list[str], condition: str, one: str, other: str | int, taken: bool) -> list[str]:
     """Returns the lines and a jump that is taken or not. The other edge leads to an exit."""
     if taken:
         return lines + ["%s %s, %s, +1" % (condition, one, other), "exit"]
     return lines + ["%s %s, %s, +END" % (condition, one, other)]
 
 
-def narrowed_left(draw, subject):
+def narrowed_left(draw: Draw, subject: tuple[str, bool]) -> Body:
     """Draws a comparison that narrows the left side, with an immediate inside the interval, or at one of its ends for equality."""
     condition, taken = subject
     size = draw.one_of(("b", "b", "h"))
@@ -283,7 +290,7 @@ def narrowed_left(draw, subject):
     return jumped(["ldx%s r0, [r1+%d]" % (size, draw.between(0, 9))], condition, "r0", operand, taken), "r0", "ends"
 
 
-def narrowed_right(draw, subject):
+def narrowed_right(draw: Draw, subject: tuple[str, bool]) -> Body:
     """Draws a comparison that narrows a right side from 0 to 65535. The left side is from 1 to 1001, or a single number."""
     condition, taken = subject
     equal = (condition[1:3] == "eq") == (not taken) and condition[1:3] in ("eq", "ne")
@@ -291,7 +298,7 @@ def narrowed_right(draw, subject):
     return jumped(["ldxh r6, [r1+%d]" % draw.between(0, 9), left], condition, "r0", "r6", taken), "r6", "ends"
 
 
-def not_narrowed(draw, subject):
+def not_narrowed(draw: Draw, subject: tuple[str, bool]) -> Body:
     """Draws a comparison that narrows nothing because a side may be too large."""
     condition, taken = subject
     sizes = "dw sb sh" if "32" not in condition else "w dw" if condition[1] == "s" else "dw"
@@ -302,7 +309,7 @@ def not_narrowed(draw, subject):
     return jumped([loaded(draw, "r0", sizes)], condition, "r0", draw.between(1, 9), taken), "r0", ask
 
 
-def decided(draw, subject):
+def decided(draw: Draw, subject: tuple[str, bool]) -> Body:
     """Draws a comparison of two single numbers, with lines that fail on the unreached edge or on the other one."""
     condition, on_other = subject
     one = draw.one_of((3, 64, 200, 65535, -1, -3, -200, 2147483647))
@@ -312,7 +319,7 @@ def decided(draw, subject):
     return jumped(["%s r0, %d" % (start, one)], condition, "r0", other, taken == on_other) + fault_drawn(draw), None
 
 
-def moved_pointer(draw, _):
+def moved_pointer(draw: Draw, _: object) -> Body:
     """Draws a pointer that numbers are added to or subtracted from."""
     to, lines = "r1", []
     if draw.chance(3):
@@ -341,19 +348,19 @@ def moved_pointer(draw, _):
     ], "r3"
 
 
-def joined_pointer(draw, _):
+def joined_pointer(draw: Draw, _: object) -> Body:
     """Draws a pointer with one of two offsets."""
     base = draw.one_of(("r1", "r10"))
     lines = ["mov r2, %s" % base, loaded(draw, "r0", "b"), "jeq r0, %d, +1" % draw.one_of(SMALL)]
     return lines + ["%s r2, %d" % (draw.one_of(("add", "sub")), draw.one_of((1, 7, 227, -1, -8, -512)))], "r2"
 
 
-def stored(draw):
+def stored(draw: Draw) -> str:
     low = draw.between(1, 4)
     return draw.one_of(("stb [r10-%d], 1" % low, "sth [r10-%d], 1" % max(2, low), "stxb [r10-%d], r0" % low))
 
 
-def marked(draw, _):
+def marked(draw: Draw, _: object) -> Body:
     """Draws stores on one path or on both, and a load."""
     load = draw.one_of(
         ("ldxb r0, [r10-%d]" % draw.between(1, 4), "ldxh r0, [r10-%d]" % draw.between(2, 4), "ldxsh r0, [r10-2]")
@@ -371,7 +378,7 @@ def marked(draw, _):
     return [start, stored(draw), stored(draw), load], None
 
 
-def copied(draw, helper):
+def copied(draw: Draw, helper: int) -> Body:
     """Draws a call of a helper that takes bytes of the frame, at its limits."""
     length, at = draw.one_of((1, 2, 4, 30)), draw.one_of((1, 2, 4, 30, 512))
     given = draw.one_of((length, length, length, 0, 31))
@@ -395,20 +402,20 @@ BETWEEN = (
 )
 
 
-def kept_number(draw, between):
+def kept_number(draw: Draw, between: str) -> Body:
     """Draws a number that is stored in a slot and loaded again."""
     start = draw.one_of((["call 4"], ["call 3"], ["mov r0, %d" % draw.one_of(SMALL)], [loaded(draw, "r0", "b h w")]))
     return start + ["stxdw [r10-8], r0", between, "ldxdw r0, [r10-8]"], "r0"
 
 
-def kept_pointer(draw, between):
+def kept_pointer(draw: Draw, between: str) -> Body:
     """Draws a pointer that is stored in a slot and loaded again."""
     to = draw.one_of(("r1", "r6"))
     lines = ["mov r6, r10"] * (to == "r6") + ["add %s, %d" % (to, draw.one_of((1, 7, 200, -1, -8, -512)))]
     return lines + ["stxdw [r10-8], %s" % to, between, "ldxdw r6, [r10-8]"], "r6"
 
 
-def kept_once(draw, kept):
+def kept_once(draw: Draw, kept: bool) -> Body:
     """Draws a comparison of a register. It narrows neither the slot that the register was stored in nor any other slot."""
     jump = "%s r0, %d, +END" % (draw.one_of(("jgt", "jge", "jlt")), draw.one_of((9, 15, 200)))
     at = draw.one_of((8, 8, 16, 512)) if kept else 12
@@ -425,7 +432,7 @@ KEPT = (
 )
 
 
-def kept_joined(draw, stores):
+def kept_joined(draw: Draw, stores: tuple[str, str]) -> Body:
     """Draws slots that are joined. The first pointer leads into the record, or to another offset than the second."""
     first, second = (store % draw.one_of(SMALL) if "%" in store else store for store in stores)
     lines = (
@@ -436,20 +443,20 @@ def kept_joined(draw, stores):
     return lines + ["call 3", "jeq r0, %d, +1" % draw.between(0, 9), second, "ldxdw r0, [r10-8]"], "r0"
 
 
-def unreached(draw, _):
+def unreached(draw: Draw, _: object) -> Body:
     fault = fault_drawn(draw)
     start = draw.one_of(("mov r0, 1", "call 3"))
     return [start, draw.one_of(("ja +END", "exit")), *fault], None
 
 
-def against_itself(draw, condition):
+def against_itself(draw: Draw, condition: str) -> Body:
     """Draws a comparison of a register with itself. Both edges are reached, and nothing is narrowed."""
     if draw.chance(2):
         return [loaded(draw, "r0"), "%s r0, r0, +END" % condition], "r0"
     return ["mov r0, %d" % draw.one_of(SMALL), "%s r0, r0, +END" % condition], "r0"
 
 
-KIND_SOURCES = {
+KIND_SOURCES: dict[str, tuple[str, ...]] = {
     "number": ("mov %s, 7", "mov %s, -1", "mov32 %s, 300", "mov %s, 0"),
     "record": ("mov %s, r1",),
     "frame": ("mov %s, r10",),
@@ -457,7 +464,7 @@ KIND_SOURCES = {
 }
 
 
-def joined_kinds(draw, sorts):
+def joined_kinds(draw: Draw, sorts: tuple[str, str]) -> Body:
     """Draws two kinds that are joined. A call makes a register Nothing."""
     first, second = sorts
     to = "r2" if second == "nothing" else "r6"
@@ -470,7 +477,7 @@ def joined_kinds(draw, sorts):
 
 
 # Checks that pass up to a bound of r0.
-BOUNDED = (
+BOUNDED: tuple[tuple[int, tuple[str, ...]], ...] = (
     (32767, ("add r1, r0",)),
     (32760, ("add r1, 7", "add r1, r0")),
     (200, ("add r1, r0", "ldxb r0, [r1+27]")),
@@ -482,7 +489,7 @@ BOUNDED = (
 )
 
 
-def bounded(draw, shape):
+def bounded(draw: Draw, shape: str) -> Body:
     """Draws a check at its bound or one past it. Only a join, a narrowing, or both decide it."""
     bound, lines = draw.one_of(BOUNDED)
     bound += draw.chance(2)
@@ -505,7 +512,7 @@ WIDTHS = ("", "32")
 BINARY = [name + width for name in OPERATIONS.split("|") if name != "mov" for width in WIDTHS]
 EXTENSIONS = ["movsx8", "movsx16", "movsx32", "movsx8_32", "movsx16_32"]
 # Operations with one operand: the operands, and what the probe needs.
-UNARY = (
+UNARY: tuple[tuple[Sequence[str], tuple[tuple[str, str], ...]], ...] = (
     (("neg", "neg32"), (("single", "ends"), ("low", "beyond"))),
     (("mov32",), (("single", "ends"), ("low", "low"), ("any", "high"), ("any", "beyond"))),
     (EXTENSIONS, (("single", "ends"), ("low", "high"), ("any", "beyond"))),
@@ -520,17 +527,17 @@ LIMITED = [jump for jump in ORDERINGS if "32" in jump or jump[1] == "s"]
 SORT_PAIRS = [(one, other) for one in KIND_SOURCES for other in KIND_SOURCES]
 
 
-def pairs(ones, others):
+def pairs(ones: Iterable[Any], others: Iterable[Any]) -> list[tuple[Any, Any]]:
     return list(itertools.product(ones, others))
 
 
-def alternating(jumps, first):
+def alternating(jumps: list[str], first: int) -> list[tuple[str, bool]]:
     """Pairs each jump with whether it is taken. Each condition has both cases in its two widths."""
     return [(jump, (at + at // 2) % 2 == first) for at, jump in enumerate(jumps)]
 
 
 # Groups of rows: the title, the family, and the subject of each row.
-GROUPS = (
+GROUPS: tuple[tuple[str, Family, Iterable[Any]], ...] = (
     (
         "Results of operations.",
         operated,

@@ -1,11 +1,11 @@
 """The helper functions: their arguments and results."""
-# Needs only Python 3.8 or later.
+from verifier.kinds import WORD, Kind, number
 
-from verifier.kinds import WORD, number
-
-# The bounds of each argument (None for a pointer into the frame), and the result.
+# None for a pointer into the frame.
+Bounds = tuple[int, int] | None
 ANY, LENGTH = (0, WORD - 1), (1, 30)
-HELPERS = {
+# The bounds of each argument, and the result.
+HELPERS: dict[int, tuple[list[Bounds], Kind]] = {
     1: ([(0, 16)], number(0, 99999999999)),
     2: ([(0, 16)], number(0, 1)),
     3: ([], number(0, 5000)),

@@ -1,7 +1,4 @@
 """The listing of a program, as `explain` writes it."""
-# Needs Python 3.11 or later, and nothing else.
-
-import re
 from collections.abc import Callable, Iterable, Mapping
 from dataclasses import dataclass
 from typing import NamedTuple
@@ -103,7 +100,8 @@ class Access(NamedTuple):
 
 def memory_operand(instruction: Instruction) -> tuple[str, int]:
     """Returns the base and the offset of a load or a store."""
-    return next(operand for operand in instruction.operands if isinstance(operand, tuple))
+    base, offset = next(operand for operand in instruction.operands if isinstance(operand, tuple))
+    return base, offset
 
 
 def kind_of(state: State, register: str) -> Kind:
@@ -114,8 +112,8 @@ def access(instruction: Instruction, state: State) -> Access | None:
     """Returns what an instruction may touch, if it goes through a pointer."""
     if instruction.form in ("load", "store"):
         base, offset = memory_operand(instruction)
-        pointer, length = kind_of(state, base), SIZES[instruction.parts[1]]
-        first, last = pointer.low + offset, pointer.high + offset + length - 1
+        pointer = kind_of(state, base)
+        first, last = pointer.low + offset, pointer.high + offset + SIZES[instruction.parts[1]] - 1
         return Access(pointer.sort, first, last) if pointer.pointer() else None
     if instruction.form == "call" and instruction.operands[0] in (NAME_COPY, NAME_IS):
         pointer, length = kind_of(state, "r2"), kind_of(state, "r3")
@@ -157,7 +155,7 @@ class Failure:
 
     def argument(self) -> int:
         """Returns the number in parentheses."""
-        return int(re.fullmatch(r"\w+\((\d+)\)", self.name)[1])
+        return int(self.name.partition("(")[2].removesuffix(")"))
 
     def registers(self) -> str:
         return facts(self.texts(), self.instruction.read())
@@ -172,8 +170,13 @@ class Failure:
     def offset(self) -> str:
         return f", offset {memory_operand(self.instruction)[1]}"
 
-    def bytes_read(self, verb: str) -> str:
+    def touched(self) -> Access:
         touched = access(self.instruction, self.state)
+        assert touched is not None, self.instruction
+        return touched
+
+    def bytes_read(self, verb: str) -> str:
+        touched = self.touched()
         return f"{verb} bytes {touched.first}..{touched.last} of the {touched.area}"
 
 
@@ -211,9 +214,8 @@ def not_pointer(failure: Failure) -> str:
 
 def out_of_bounds(failure: Failure) -> str:
     writes = failure.instruction.form == "store" or failure.instruction.operands[0] == NAME_COPY
-    area = access(failure.instruction, failure.state).area
     bytes_read = failure.bytes_read("writes" if writes else "reads")
-    return f"{bytes_read}, which has 0..{LAST_BYTES[area]}: {failure.address()}"
+    return f"{bytes_read}, which has 0..{LAST_BYTES[failure.touched().area]}: {failure.address()}"
 
 
 def unwritten_frame(failure: Failure) -> str:
@@ -296,9 +298,9 @@ def instruction_line(place: int, instruction: Instruction, shown: str) -> str:
 
 def listing(program: Program, found: Walk, source: Iterable[SourceLine] = (), words: bytes = b"") -> str:
     """Returns the text that `explain` writes on standard output. The program's words are needed if its jumps have a fault."""
-    if not found.states:
-        texts = {place: spelled(instruction) for place, instruction in program.items()}
-        return excerpt(words, texts, found.refusal.place, jump_reason(program, found.refusal), source)
+    if found.refusal and not found.states:
+        spellings = {place: spelled(instruction) for place, instruction in program.items()}
+        return excerpt(words, spellings, found.refusal.place, jump_reason(program, found.refusal), source)
     lines: list[str] = []
     left = list(source)
     last = NOTHING_KNOWN
@@ -311,13 +313,16 @@ def listing(program: Program, found: Walk, source: Iterable[SourceLine] = (), wo
             shown = note(instruction, texts, parts_read(instruction, state), last)
             last = texts
         lines.append(instruction_line(place, instruction, shown))
-    lines += [refused_line(program, found)] if found.refusal else [*(f"; {line.text}" for line in left), "accepted"]
+    if found.refusal:
+        lines.append(refused_line(program, found.states[found.refusal.place], found.refusal))
+    else:
+        lines += [*(f"; {line.text}" for line in left), "accepted"]
     return "".join(f"{line}\n" for line in lines)
 
 
-def refused_line(program: Program, found: Walk) -> str:
-    refusal = found.refusal
-    failure = Failure(program[refusal.place], found.states[refusal.place], refusal.name)
+def refused_line(program: Program, state: State | None, refusal: Refusal) -> str:
+    assert state is not UNREACHED, refusal
+    failure = Failure(program[refusal.place], state, refusal.name)
     return f"refused: {FAILURE_TEXTS[refusal.number](failure)}"
 
 

@@ -1,8 +1,7 @@
 """A program's text, read into instructions."""
-# Needs only Python 3.8 or later.
-
 import re
-from typing import NamedTuple
+from collections.abc import Iterator
+from typing import Any, NamedTuple
 
 from verifier.helpers import HELPERS
 from verifier.results import signed
@@ -10,45 +9,49 @@ from verifier.results import signed
 SIZES = {"b": 1, "h": 2, "w": 4, "dw": 8}
 OPERATIONS = "add|sub|mul|div|sdiv|or|and|lsh|rsh|mod|smod|xor|mov|arsh"
 CONDITIONS = "jeq|jgt|jge|jset|jne|jsgt|jsge|jlt|jle|jslt|jsle"
-FORMS = [
-    ("arithmetic", "(%s)(32)?" % OPERATIONS),
+PATTERNS = (
+    ("arithmetic", f"({OPERATIONS})(32)?"),
     ("negate", "neg(32)?"),
     ("extend", "movsx(8|16|32)(_32)?"),
     ("swap", "(le|be|swap)(16|32|64)"),
-    ("jump", "(%s)(32)?" % CONDITIONS),
+    ("jump", f"({CONDITIONS})(32)?"),
     ("always", "ja(32)?"),
     ("call", "call"),
     ("exit", "exit"),
     ("wide", "lddw"),
     ("load", "ldx(s?)(b|h|w|dw)"),
     ("store", "st(x?)(b|h|w|dw)"),
-]
-FORMS = [(form, re.compile(pattern)) for form, pattern in FORMS]
+)
+FORMS = [(form, re.compile(pattern)) for form, pattern in PATTERNS]
 
 
-def operand(text):
+def operand(text: str) -> str | tuple[str, int] | int:
     """Returns a register's name, an address as its base and offset, or a number."""
     if text.startswith("r"):
         return text
     if text.startswith("["):
-        base, offset = re.fullmatch(r"\[(r\d+)([+-]\d+)?\]", text).groups()
-        return base, int(offset or 0)
+        address = re.fullmatch(r"\[(r\d+)([+-]\d+)?\]", text)
+        if address is None:
+            raise ValueError("no such operand: " + text)
+        return address[1], int(address[2] or 0)
     return int(text, 0)
 
 
-def immediate(word):
+def immediate(word: str | tuple[str, int] | int) -> str | tuple[str, int] | int:
     """Returns a number as the immediate with the same 32 bits, and any other operand unchanged."""
     return signed(word % (1 << 32), 32) if isinstance(word, int) else word
 
 
 class Instruction(NamedTuple):
+    """An instruction. What its operands are depends on its form: `operand`."""
+
     form: str
-    parts: tuple
-    operands: tuple
+    parts: tuple[Any, ...]
+    operands: tuple[Any, ...]
     after: int
     mnemonic: str
 
-    def targets(self):
+    def targets(self) -> list[int]:
         """Returns the places that the edges lead to, in the order of `step`."""
         if self.form == "exit":
             return []
@@ -56,17 +59,17 @@ class Instruction(NamedTuple):
             return [self.after + self.operands[0]]
         return [self.after + self.operands[2], self.after] if self.form == "jump" else [self.after]
 
-    def overwrites(self):
+    def overwrites(self) -> bool:
         """Returns whether the first operand is written and not read."""
         return self.form in ("wide", "load", "extend") or self.parts[:1] == ("mov",)
 
-    def written(self):
+    def written(self) -> set[str]:
         """Returns the registers whose previous value is lost."""
         if self.form == "call":
-            return {"r%d" % at for at in range(6)}
+            return {f"r{at}" for at in range(6)}
         return {self.operands[0]} if self.overwrites() else set()
 
-    def read(self):
+    def read(self) -> set[str]:
         """Returns the registers that are read."""
         operands = self.operands[self.overwrites() :]
         read = {
@@ -76,11 +79,12 @@ class Instruction(NamedTuple):
             if isinstance(part, str)
         }
         if self.form == "call":
-            read |= {"r%d" % at for at in range(1, len(HELPERS.get(self.operands[0], ((), 0))[0]) + 1)}
+            arguments = HELPERS[self.operands[0]][0] if self.operands[0] in HELPERS else []
+            read |= {f"r{at}" for at in range(1, len(arguments) + 1)}
         return read | {"r0"} if self.form == "exit" else read
 
 
-def read_line(line, place):
+def read_line(line: str, place: int) -> Instruction:
     mnemonic, _, rest = line.partition(" ")
     for form, pattern in FORMS:
         found = pattern.fullmatch(mnemonic)
@@ -92,9 +96,11 @@ def read_line(line, place):
     raise ValueError("no such instruction: " + line)
 
 
-def without_labels(lines):
+def without_labels(lines: list[str]) -> Iterator[str]:
     """Returns the lines of instructions, with distances instead of labels."""
-    afters, labels, place = [], {}, 0
+    afters: list[tuple[str, int]] = []
+    labels: dict[str, int] = {}
+    place = 0
     for line in lines:
         if line.endswith(":"):
             labels[line[:-1]] = place
@@ -103,19 +109,20 @@ def without_labels(lines):
             afters.append((line, place))
     for line, after in afters:
         start, _, last = line.rpartition(" ")
-        yield "%s %+d" % (start, labels[last] - after) if last in labels else line
+        yield f"{start} {labels[last] - after:+d}" if last in labels else line
 
 
-def read_instructions(text):
+def read_instructions(text: str) -> dict[int, Instruction]:
     """Returns the instructions by place."""
-    program, place = {}, 0
+    program: dict[int, Instruction] = {}
+    place = 0
     for line in without_labels([line.strip() for line in text.split("|")]):
         program[place] = read_line(line, place)
         place = program[place].after
     return program
 
 
-def read_program(text):
+def read_program(text: str) -> dict[int, Instruction]:
     """Returns the instructions by place. Raises ValueError unless all jumps lead forwards to an instruction and the last one is an exit."""
     program = read_instructions(text)
     edges = [(place, target) for place, instruction in program.items() for target in instruction.targets()]

@@ -1,7 +1,7 @@
 """The step of one instruction on a state: its checks, and the states on its edges."""
-# Needs only Python 3.8 or later.
+from collections.abc import Callable
 
-from verifier.helpers import HELPERS, NAME_COPY, NAME_IS
+from verifier.helpers import HELPERS, Bounds, NAME_COPY, NAME_IS
 from verifier.kinds import (
     FRAME_BYTES,
     GREATEST_OFFSET,
@@ -12,20 +12,24 @@ from verifier.kinds import (
     UNREACHED,
     WORD,
     Kind,
+    State,
     check,
     number,
 )
-from verifier.program_text import SIZES
+from verifier.program_text import SIZES, Instruction
 from verifier.results import compared, extended, result, signed, swapped
 
 
-def value_of(state, operand, width):
+Edges = list[State | None]
+
+
+def value_of(state: State, operand: str | int, width: int) -> Kind:
     if isinstance(operand, str):
         return state.read(operand)
     return number(operand % (1 << width))
 
 
-def moved(name, pointer, distance):
+def moved(name: str, pointer: Kind, distance: Kind) -> Kind:
     """Returns a pointer after a number was added to it or subtracted from it."""
     fits = distance.high <= GREATEST_OFFSET or distance.low >= WORD + LEAST_OFFSET
     check(not distance.pointer() and fits, "41", "PointerArithmetic")
@@ -37,7 +41,7 @@ def moved(name, pointer, distance):
     return Kind(pointer.sort, low, high)
 
 
-def combined(name, width, x, y):
+def combined(name: str, width: int, x: Kind, y: Kind) -> Kind:
     if not x.pointer() and not y.pointer():
         return result(name, width, x, y)
     check(width == 64, "41", "PointerArithmetic")
@@ -49,7 +53,7 @@ def combined(name, width, x, y):
     return moved(name, y, x)
 
 
-def arithmetic(state, instruction):
+def arithmetic(state: State, instruction: Instruction) -> Edges:
     (name, width), (to, source) = instruction.parts, instruction.operands
     width = int(width or 64)
     x = number(0) if name == "mov" else state.read(to)
@@ -57,34 +61,34 @@ def arithmetic(state, instruction):
     return [state.put(to, combined(name, width, x, y))]
 
 
-def number_in(state, name):
+def number_in(state: State, name: str) -> Kind:
     kind = state.read(name)
     check(not kind.pointer(), "41", "PointerArithmetic")
     return kind
 
 
-def negate(state, instruction):
+def negate(state: State, instruction: Instruction) -> Edges:
     to = instruction.operands[0]
     x = number_in(state, to)
     return [state.put(to, result("neg", int(instruction.parts[0] or 64), x, number(0)))]
 
 
-def extend(state, instruction):
+def extend(state: State, instruction: Instruction) -> Edges:
     (bits, width), (to, source) = instruction.parts, instruction.operands
     return [state.put(to, extended(int(bits), 32 if width else 64, number_in(state, source)))]
 
 
-def swap(state, instruction):
+def swap(state: State, instruction: Instruction) -> Edges:
     (order, bits), to = instruction.parts, instruction.operands[0]
     return [state.put(to, swapped(order, int(bits), number_in(state, to)))]
 
 
-def wide(state, instruction):
+def wide(state: State, instruction: Instruction) -> Edges:
     to, value = instruction.operands
     return [state.put(to, number(value))]
 
 
-def jump(state, instruction):
+def jump(state: State, instruction: Instruction) -> Edges:
     (name, width), (left, right, _) = instruction.parts, instruction.operands
     width = int(width or 64)
     x, y = state.read(left), value_of(state, right, width)
@@ -102,13 +106,13 @@ def jump(state, instruction):
     return edges
 
 
-def base_of(state, address):
+def base_of(state: State, address: tuple[str, int]) -> Kind:
     kind = state.read(address[0])
     check(kind.pointer(), "43", "NotPointer")
     return kind
 
 
-def reached_bytes(pointer, offset, count):
+def reached_bytes(pointer: Kind, offset: int, count: int) -> range:
     """Returns the bytes that an access may touch."""
     first, last = pointer.low + offset, pointer.high + offset + count - 1
     size = RECORD_BYTES if pointer.sort == "record" else FRAME_BYTES
@@ -116,19 +120,19 @@ def reached_bytes(pointer, offset, count):
     return range(first, last + 1)
 
 
-def read_bytes(state, pointer, offset, count):
+def read_bytes(state: State, pointer: Kind, offset: int, count: int) -> None:
     reached = reached_bytes(pointer, offset, count)
     check(pointer.sort == "record" or state.marks.issuperset(reached), "45", "UnwrittenFrame")
 
 
-def slot_reached(pointer, offset, count):
+def slot_reached(pointer: Kind, offset: int, count: int) -> int | None:
     """Returns the slot that an access at a known offset covers completely, or None."""
     first = pointer.low + offset
     is_slot = pointer.sort == "frame" and pointer.single() and count == SLOT_BYTES and first % SLOT_BYTES == 0
     return first // SLOT_BYTES if is_slot else None
 
 
-def load(state, instruction):
+def load(state: State, instruction: Instruction) -> Edges:
     (sign, size), (to, address) = instruction.parts, instruction.operands
     base, size = base_of(state, address), SIZES[size]
     kept = state.slot(slot_reached(base, address[1], size))
@@ -139,7 +143,7 @@ def load(state, instruction):
     return [state.put(to, kept)]
 
 
-def store(state, instruction):
+def store(state: State, instruction: Instruction) -> Edges:
     size, (address, source) = SIZES[instruction.parts[1]], instruction.operands
     base = base_of(state, address)
     check(base.sort == "frame", "46", "WritesRecord")
@@ -151,24 +155,24 @@ def store(state, instruction):
     return [written(state, base, reached, size)]
 
 
-def written(state, pointer, reached, count):
+def written(state: State, pointer: Kind, reached: range, count: int) -> State:
     """Returns the state after a write of arbitrary bytes, at least `count` of them."""
     state = state.forget(reached)
     return state.mark(reached[0], count) if pointer.single() else state
 
 
-def argument(state, at, bounds):
-    kind = state.read("r%d" % at)
+def argument(state: State, at: int, bounds: Bounds) -> Kind:
+    kind = state.read(f"r{at}")
     fits = (
         kind.sort == "frame"
         if bounds is None
         else kind.sort == "number" and bounds[0] <= kind.low and kind.high <= bounds[1]
     )
-    check(fits, "50", "BadArgument(%d)" % at)
+    check(fits, "50", f"BadArgument({at})")
     return kind
 
 
-def call(state, instruction):
+def call(state: State, instruction: Instruction) -> Edges:
     helper = instruction.operands[0]
     check(helper in HELPERS, "49", "UnknownHelper")
     bounds, answer = HELPERS[helper]
@@ -184,12 +188,12 @@ def call(state, instruction):
     return [state.put("r0", answer)]
 
 
-def leave(state, _):
+def leave(state: State, _: Instruction) -> Edges:
     check(not state.read("r0").pointer(), "51", "ExitNotNumber")
     return []
 
 
-STEPS = {
+STEPS: dict[str, Callable[[State, Instruction], Edges]] = {
     "arithmetic": arithmetic,
     "negate": negate,
     "extend": extend,
@@ -204,8 +208,10 @@ STEPS = {
 }
 
 
-def step(instruction, state):
+def step(instruction: Instruction, state: State | None) -> list[tuple[int, State | None]]:
     """Returns the state on each edge with the edge's target, or raises a Fault."""
     targets = instruction.targets()
-    edges = [UNREACHED] * len(targets) if state is UNREACHED else STEPS[instruction.form](state, instruction)
+    edges: Edges = [UNREACHED] * len(targets)
+    if state is not UNREACHED:
+        edges = STEPS[instruction.form](state, instruction)
     return list(zip(targets, edges))

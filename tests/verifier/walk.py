@@ -1,6 +1,4 @@
 """A program's verdict by one walk that joins states, with the states before its instructions."""
-# Needs Python 3.11 or later, and nothing else.
-
 from dataclasses import dataclass, field
 
 from verifier.kinds import ENTRY, NOTHING, UNREACHED, Fault, Kind, State
