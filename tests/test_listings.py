@@ -180,10 +180,9 @@ def said(*arguments: str) -> Said:
 
 
 def check_text(name: str, expected: bytes, written: bytes) -> None:
-    lines = (text.decode("utf-8", "replace").splitlines() for text in (expected, written))
-    assert written == expected, "\n".join(
-        [f"{name}:", *difflib.unified_diff(*lines, "expected", "written", lineterm="")]
-    )
+    one, other = (text.decode("utf-8", "replace").splitlines() for text in (expected, written))
+    difference = difflib.unified_diff(one, other, "expected", "written", lineterm="")
+    assert written == expected, "\n".join([f"{name}:", *difference])
 
 
 class Read(NamedTuple):
