@@ -11,7 +11,6 @@ from collections.abc import Iterator
 from contextlib import suppress
 from decimal import Decimal
 from functools import cache, lru_cache
-from pathlib import Path
 from typing import Any, NamedTuple
 
 import pytest

@@ -10,8 +10,7 @@ some listing, and each line `refused: ..` that docs/refused-programs.md quotes.
 import difflib
 import re
 import subprocess
-from collections.abc import Iterable, Iterator
-from functools import cache
+from collections.abc import Iterator
 from itertools import chain
 from pathlib import Path
 from typing import NamedTuple
@@ -185,32 +184,36 @@ def check_text(name: str, expected: bytes, written: bytes) -> None:
     assert written == expected, "\n".join([f"{name}:", *difference])
 
 
-class Read(NamedTuple):
-    """The second reading of a program, and its words by `asm`."""
+class Expected(NamedTuple):
+    """The second reading of a program: its walk, lines of a source, and the listings without these and with them."""
 
     found: Walk
     lines: str
-    words: bytes
     plain: str
     with_lines: str
 
 
-def read(case: Case, folder: Path) -> Read:
+def expected_of(case: Case, words: bytes) -> Expected:
+    """The words are needed if the program's jumps have a fault."""
     program = read_instructions(case.text)
     found, lines = verified(program), drawn_lines(Draw(len(case.text)), program)
+    with_lines = listing(program, found, source_lines(lines), words)
+    return Expected(found, lines, listing(program, found, (), words), with_lines)
+
+
+def assembled(case: Case, folder: Path) -> bytes:
     source = folder / "program.s"
     source.write_text(case.text.replace("|", "\n") + "\n", "utf-8")
-    assembled = said("asm", "--source", str(source))
-    assert (assembled.status, assembled.errors) == (0, b"")
-    plain = listing(program, found, (), assembled.output)
-    with_lines = listing(program, found, source_lines(lines), assembled.output)
-    return Read(found, lines, assembled.output, plain, with_lines)
+    made = said("asm", "--source", str(source))
+    assert (made.status, made.errors) == (0, b"")
+    return made.output
 
 
 def check(case: Case, folder: Path) -> None:
     """Compares what is expected of a program with what the built program writes."""
-    it = read(case, folder)
-    (folder / "program.bpf").write_bytes(it.words)
+    words = assembled(case, folder)
+    it = expected_of(case, words)
+    (folder / "program.bpf").write_bytes(words)
     (folder / "places").write_text(it.lines, "utf-8", newline="")
     assert it.found.verdict() == (case.verdict or it.found.verdict())
     assert is_least(read_instructions(case.text), it.found), "the search finds other states"
@@ -257,8 +260,13 @@ QUOTED = re.findall("`(refused: [^`]+)`", (TOP / "docs/refused-programs.md").rea
 def listings(extractd: str, tmp_path_factory: pytest.TempPathFactory) -> str:
     """Returns the listings of all programs of the tests above, which those compare."""
     folder = tmp_path_factory.mktemp("listings")
+
+    def texts_of(case: Case) -> tuple[str, ...]:
+        has_states = verified(read_instructions(case.text)).states
+        return expected_of(case, b"" if has_states else assembled(case, folder))[2:]
+
     drawn = chain.from_iterable(drawn_programs(PROGRAMS, batch) for batch in range(1, BATCHES + 1))
-    texts = [text for case in (*CASES, *drawn) for text in read(case, folder)[3:]]
+    texts = [text for case in (*CASES, *drawn) for text in texts_of(case)]
     return "".join([*texts, *(refused.listing() for refused in REFUSED_BYTES)])
 
 
