@@ -12,7 +12,7 @@ in common are tried at once.
 
 Prints the tables that pass with such a row. The last line is `N passed, N failed`, where a table has passed if each bad row made the tests fail.
 """
-# Needs only Linux, Python 3.8 or later, and `rt`.
+# Needs only Linux, Python 3.11 and `rt`.
 
 import argparse
 import os
@@ -20,15 +20,19 @@ import re
 import subprocess
 import sys
 import tempfile
+from collections.abc import Iterator
 from concurrent.futures import ThreadPoolExecutor
 from pathlib import Path
-from typing import Dict, Iterator, List, NamedTuple, Optional, Set, Tuple
+from typing import NamedTuple
 
 from crate_copy import TOP, make_copy
 
-TABLE = re.compile(r"const (?P<name>\w+): (?:fixtures::)?Table = Table \{\n\s*rows: (?P<rows>[\d_]+),\n\s*text: (?P<text>.*?)\n\};", re.DOTALL)
-# The last literal of a table's text: `r#"..."#`, `r"..."` or `"..."`, which another literal of a concat! may precede.
-CLOSING = re.compile(r'(\n?)"#?,?\s*\)?,?\s*$')
+TABLE = re.compile(
+    r"const (?P<name>\w+): (?:fixtures::)?Table = Table \{\n\s*rows: (?P<rows>[\d_]+),\n\s*text: (?P<text>.*?)\n\};",
+    re.DOTALL,
+)
+# The last literal of a table's text: `r##"..."##`, `r"..."` or `"..."`, which another literal of a concat! may precede.
+CLOSING = re.compile(r'(\n?)"#*,?\s*\)?,?\s*$')
 SECONDS = "900"  # that a test has, also on a busy machine
 # A test that failed, by its module and name. One that ran out of time hasn't refused a row.
 FAILED_TEST = re.compile(r"^test (\S+) \.\.\. (?!ok\b)(?!.*no-answer)", re.MULTILINE)
@@ -44,6 +48,15 @@ class Table(NamedTuple):
     @property
     def label(self) -> str:
         return f"{self.crate}/{self.path.name}/{self.name}"
+
+    @property
+    def module(self) -> str:
+        return module_of(self.path, TOP / "crates" / self.crate / "src")
+
+
+def module_of(path: Path, folder: Path) -> str:
+    """Returns the module of a source below the folder of a crate's sources."""
+    return "::".join(path.relative_to(folder).with_suffix("").parts)
 
 
 def tables() -> Iterator[Table]:
@@ -62,7 +75,7 @@ def last_row(text: str) -> str:
     return re.sub(r'^.*"\\?\n?', "", row, flags=re.DOTALL) if '"' in row and first == 0 else row
 
 
-def bad_rows(row: str) -> Dict[str, str]:
+def bad_rows(row: str) -> dict[str, str]:
     """Returns the row in bad forms: the text that it's malformed by, and the row."""
     separator = next((it for it in SEPARATORS if it in row), "")
     if not separator:
@@ -71,7 +84,7 @@ def bad_rows(row: str) -> Dict[str, str]:
     return {"missing cell": head, "further cell": f"{row}{separator}1", "misspelt cell": f"{head}{separator}{last}x"}
 
 
-def with_row(source: str, name: str, row: Optional[str] = None, kind: str = "") -> Optional[str]:
+def with_row(source: str, name: str, row: str | None = None, kind: str = "") -> str | None:
     """Returns the source with a bad row of one kind in a table, if the table's last row can be malformed this way."""
     found = next(it for it in TABLE.finditer(source) if it["name"] == name)
     closing = CLOSING.search(found["text"])
@@ -87,7 +100,7 @@ def with_row(source: str, name: str, row: Optional[str] = None, kind: str = "") 
     return source[: found.start()] + table + source[found.end() :]
 
 
-def functions_of(source: str) -> Iterator[Tuple[str, str, bool]]:
+def functions_of(source: str) -> Iterator[tuple[str, str, bool]]:
     """Yields the functions of a source: the name, the text up to the next one, and whether it is a test."""
     starts = list(re.finditer(r"(?P<test>#\[test\]\s*)?\bfn (?P<name>\w+)", source))
     for at, found in enumerate(starts):
@@ -106,16 +119,16 @@ class Function(NamedTuple):
         return f"{self.module}::{self.name}"
 
 
-def functions_in(crate: str) -> List[Function]:
+def functions_in(crate: str) -> list[Function]:
     folder = TOP / "crates" / crate / "src"
     return [
-        Function("::".join(path.relative_to(folder).with_suffix("").parts), name, text, is_test)
+        Function(module_of(path, folder), name, text, is_test)
         for path in sorted(folder.rglob("*.rt"))
         for name, text, is_test in functions_of(path.read_text(encoding="utf-8"))
     ]
 
 
-def callers(functions: List[Function], called: Function) -> Iterator[Function]:
+def callers(functions: list[Function], called: Function) -> Iterator[Function]:
     """Yields the functions that may call another: those that have a call of its name, and none of that name in their own module."""
     calls_it = re.compile(rf"\b{called.name}\(")
     named_alike = {it.module for it in functions if it.name == called.name}
@@ -124,18 +137,18 @@ def callers(functions: List[Function], called: Function) -> Iterator[Function]:
             yield function
 
 
-def tests_of(chosen: List[Table]) -> Dict[Table, Set[str]]:
+def tests_of(chosen: list[Table]) -> dict[Table, set[str]]:
     """Returns the tests of each table, by module and name: those that name it or call a function which does, also through others."""
-    tests: Dict[Table, Set[str]] = {}
+    tests: dict[Table, set[str]] = {}
     functions = {crate: functions_in(crate) for crate in {table.crate for table in chosen}}
+    every = list(tables())
     for table in chosen:
-        folder = TOP / "crates" / table.crate / "src"
-        own = "::".join(table.path.relative_to(folder).with_suffix("").parts)
         names_it = re.compile(rf"\b{table.name}\b")
         # A table of this name in another module is another table, which that module's functions mean.
-        others = {"::".join(it.path.relative_to(folder).with_suffix("").parts) for it in tables() if it.crate == table.crate and it.name == table.name} - {own}
+        alike = (it.module for it in every if it.crate == table.crate and it.name == table.name)
+        others = set(alike) - {table.module}
         waiting = [it for it in functions[table.crate] if it.module not in others and names_it.search(it.text)]
-        reaching: Set[Function] = set()
+        reaching: set[Function] = set()
         while waiting:
             function = waiting.pop()
             if function not in reaching:
@@ -145,30 +158,32 @@ def tests_of(chosen: List[Table]) -> Dict[Table, Set[str]]:
     return tests
 
 
-def with_tests_only(source: str, module: str, kept: Set[str]) -> str:
+def with_tests_only(source: str, module: str, kept: set[str]) -> str:
     """Returns a module's source without the tests that aren't among these. Each ends at the first line that is a brace."""
 
-    def cut(found: "re.Match[str]") -> str:
+    def cut(found: re.Match[str]) -> str:
         return found[0] if f"{module}::{found['name']}" in kept else ""
 
     return re.sub(r"^(?:///[^\n]*\n)*#\[test\]\nfn (?P<name>\w+).*?^\}\n", cut, source, flags=re.DOTALL | re.MULTILINE)
 
 
-def keep_tests(folder: Path, kept: Set[str]) -> None:
+def keep_tests(folder: Path, kept: set[str]) -> None:
     """Leaves these tests alone in a crate. Without any, all stay: they find the table by another way than its name."""
     for path in folder.rglob("*.rt") if kept else ():
         source = path.read_text(encoding="utf-8")
-        changed = with_tests_only(source, "::".join(path.relative_to(folder).with_suffix("").parts), kept)
+        changed = with_tests_only(source, module_of(path, folder), kept)
         if changed != source:
             path.unlink()  # it may be a link
             path.write_text(changed, encoding="utf-8")
 
 
-def rounds(chosen: List[Table], tests: Dict[Table, Set[str]]) -> Iterator[List[Table]]:
+def rounds(chosen: list[Table], tests: dict[Table, set[str]]) -> Iterator[list[Table]]:
     """Yields groups of a crate's tables that have no test in common. A failed test then shows which of them it refuses."""
-    groups: List[List[Table]] = []
+    groups: list[list[Table]] = []
     for table in chosen:
-        fitting = (it for it in groups if it[0].crate == table.crate and not any(tests[table] & tests[other] for other in it))
+        fitting = (
+            it for it in groups if it[0].crate == table.crate and not any(tests[table] & tests[other] for other in it)
+        )
         group = next(fitting, None) if tests[table] else None
         if group is None:
             groups.append([table])
@@ -177,10 +192,10 @@ def rounds(chosen: List[Table], tests: Dict[Table, Set[str]]) -> Iterator[List[T
     yield from groups
 
 
-def run_tests(group: List[Table], kind: str, tests: Dict[Table, Set[str]]) -> Tuple[List[Table], str]:
+def run_tests(group: list[Table], kind: str, tests: dict[Table, set[str]]) -> tuple[list[Table], str]:
     """Runs the tests of these tables with a bad row in each that has one. Returns those, and the output."""
     crate = group[0].crate
-    bad: List[Table] = []
+    bad: list[Table] = []
     with tempfile.TemporaryDirectory(prefix="bad-row-") as room:
         folder = make_copy(crate, Path(room), is_proved=False)
         for table in group:
@@ -203,7 +218,7 @@ def run_tests(group: List[Table], kind: str, tests: Dict[Table, Set[str]]) -> Tu
     return bad, done.stdout
 
 
-def outcomes(group: List[Table], kind: str, tests: Dict[Table, Set[str]]) -> Dict[Table, str]:
+def outcomes(group: list[Table], kind: str, tests: dict[Table, set[str]]) -> dict[Table, str]:
     """Returns `fails` for each table whose tests fail with a bad row, as they must; `none` if it has no such row; else what happened."""
     bad, output = run_tests(group, kind, tests)
     found = {table: "none" for table in group}
@@ -217,16 +232,16 @@ def outcomes(group: List[Table], kind: str, tests: Dict[Table, Set[str]]) -> Dic
     return found
 
 
-def faults_of(group: List[Table], kinds: List[str], tests: Dict[Table, Set[str]]) -> Dict[Table, Optional[str]]:
+def faults_of(group: list[Table], kinds: list[str], tests: dict[Table, set[str]]) -> dict[Table, str | None]:
     """Returns why a table isn't refused with some bad row, for each that isn't."""
-    all_found: Dict[Table, Dict[str, str]] = {table: {} for table in group}
+    all_found: dict[Table, dict[str, str]] = {table: {} for table in group}
     left = group
     for kind in [*kinds, *(kind for kind in [*KINDS, "misspelt"] if kind not in kinds)]:
         for table, found in outcomes(left, kind, tests).items() if left else ():
             all_found[table][kind] = found
         # A table without a bad row of the kinds that were asked for is tried with another.
         left = left if kind in kinds[:-1] else [table for table in left if set(all_found[table].values()) == {"none"}]
-    faults: Dict[Table, Optional[str]] = {}
+    faults: dict[Table, str | None] = {}
     for table, found_ones in all_found.items():
         wrong = [f"{kind}: {it}" for kind, it in found_ones.items() if it not in ("fails", "none")]
         if not wrong and "fails" not in found_ones.values():
@@ -236,7 +251,9 @@ def faults_of(group: List[Table], kinds: List[str], tests: Dict[Table, Set[str]]
 
 
 def main() -> int:
-    parser = argparse.ArgumentParser(description="Puts a malformed row into each table of tests: the tests have to fail.")
+    parser = argparse.ArgumentParser(
+        description="Puts a malformed row into each table of tests: the tests have to fail."
+    )
     parser.add_argument("--every-kind", action="store_true", help="a bad row of every kind in turn")
     parser.add_argument("--jobs", type=int, default=os.cpu_count(), help="how many run at once")
     parser.add_argument("names", nargs="*", metavar="NAME", help="a crate, or CRATE/FILE/TABLE; none: all")

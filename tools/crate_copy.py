@@ -31,7 +31,9 @@ def make_copy(crate: str, to: Path, *, is_proved: bool) -> Path:
     made = [] if is_proved else ["out"]
     for path in (TOP / "crates").iterdir():
         if path.name == crate:
-            shutil.copytree(path, to / "crates" / crate, copy_function=link_or_copy, ignore=shutil.ignore_patterns(*MUTANTS, *made))
+            shutil.copytree(
+                path, to / "crates" / crate, copy_function=link_or_copy, ignore=shutil.ignore_patterns(*MUTANTS, *made)
+            )
         elif path.is_dir():
             ignored = shutil.ignore_patterns(*MUTANTS, *made, "incremental")
             shutil.copytree(path, to / "crates" / path.name, copy_function=link, ignore=ignored)

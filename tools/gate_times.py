@@ -11,15 +11,16 @@ put together from several runs with --table. --anew proves everything again.
 
 The output of `rt` goes to standard error, and the exit status is its own.
 """
-# Needs only Linux and Python 3.8 or later. The processes that `rt` starts are sampled ten times a second, so the last tenth of a second of each is missed.
+# Needs only Linux and Python 3.11. The processes that `rt` starts are sampled ten times a second, so the last tenth of a second of each is missed.
 
 import argparse
 import os
 import subprocess
 import sys
 import time
+from collections.abc import Iterator
 from pathlib import Path
-from typing import Dict, Iterator, List, NamedTuple, Optional, Tuple
+from typing import NamedTuple
 
 TOP = Path(__file__).resolve().parent.parent
 KINDS = ["proof", "tests", "runs", "mutants"]
@@ -27,7 +28,7 @@ HEADINGS = ["Crate", "Proof", "Proof of tests", "Runs", "Mutants", "Sum"]
 PERIOD_SECONDS = 0.1
 TICKS_PER_SECOND = os.sysconf("SC_CLK_TCK")
 
-Table = Dict[str, Dict[str, float]]
+Table = dict[str, dict[str, float]]
 
 
 class Process(NamedTuple):
@@ -56,7 +57,7 @@ def children(number: int) -> Iterator[int]:
         yield from map(int, text_of(f"/proc/{number}/task/{thread}/children").split())
 
 
-def look_at(number: int) -> Optional[Process]:
+def look_at(number: int) -> Process | None:
     """Returns a process with the seconds that it has taken itself, without its children."""
     fields = text_of(f"/proc/{number}/stat").rpartition(")")[2].split()
     if not fields:
@@ -75,7 +76,7 @@ def descendants(number: int) -> Iterator[Process]:
                 yield process
 
 
-def purpose_of(words: List[str], folder: str) -> Optional[Tuple[str, str]]:
+def purpose_of(words: list[str], folder: str) -> tuple[str, str] | None:
     """Returns the crate that a process works for, and the column that it belongs in."""
     program = os.path.basename(words[0]) if words else ""
     if program == "rattle" and "--crate-name" in words:
@@ -92,8 +93,8 @@ class Meter:
     """Adds up what the processes below one take."""
 
     def __init__(self) -> None:
-        self.purposes: Dict[Tuple[int, int], Optional[Tuple[str, str]]] = {}
-        self.seconds: Dict[Tuple[int, int], float] = {}
+        self.purposes: dict[tuple[int, int], tuple[str, str] | None] = {}
+        self.seconds: dict[tuple[int, int], float] = {}
 
     def look(self, number: int) -> None:
         for process in descendants(number):
@@ -103,7 +104,7 @@ class Meter:
             self.seconds[key] = process.seconds
 
     @staticmethod
-    def purpose(number: int) -> Optional[Tuple[str, str]]:
+    def purpose(number: int) -> tuple[str, str] | None:
         words = text_of(f"/proc/{number}/cmdline").split("\0")
         try:
             return purpose_of(words, os.readlink(f"/proc/{number}/cwd"))
@@ -120,7 +121,7 @@ class Meter:
         return table
 
 
-def measure(command: List[str]) -> Tuple[int, Table]:
+def measure(command: list[str]) -> tuple[int, Table]:
     """Runs a command, and returns its exit status and what it took."""
     meter = Meter()
     with subprocess.Popen(command, cwd=TOP, stdin=subprocess.DEVNULL, stdout=sys.stderr) as running:

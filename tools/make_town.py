@@ -42,22 +42,24 @@ COLUMNS, ROWS = 11, 8  # blocks from that corner to the grid's end: east and wes
 
 NORTH_STREETS = ("Washington", "Jefferson", "Madison", "Franklin", "Lincoln", "Jackson", "Highland", "Monroe")
 SOUTH_STREETS = ("2nd", "3rd", "4th", "5th", "6th", "7th", "8th", "9th")
-WEST_AVENUES = ("Oak", "Elm", "Maple", "Cedar", "Pine", "Walnut", "Chestnut", "Hickory", "Sycamore", "Spruce",
-    "Willow")
-EAST_AVENUES = ("Church", "Court", "College", "Market", "Depot", "Spring", "Mill", "Park", "Union", "Locust",
-    "Poplar")
-FARM_ROADS = ("Smith", "Johnson", "Miller", "Davis", "Wilson", "Taylor", "Moore", "Clark", "Lewis", "Walker", "Hall",
-    "Young", "King", "Wright", "Hill", "Green", "Baker", "Nelson", "Carter", "Mitchell", "Turner", "Parker",
-    "Collins", "Morris", "Cook", "Rogers", "Reed", "Bailey", "Bell", "Cooper", "Howard", "Ward", "Cox", "Gray",
-    "James", "Watson", "Brooks", "Kelly", "Sanders", "Price", "Bennett", "Wood", "Barnes", "Ross", "Henderson",
-    "Coleman", "Jenkins", "Perry", "Powell", "Long", "Patterson", "Hughes", "Butler", "Simmons", "Foster", "Bryant")
-FARM_TYPES = (("", "Rd"), ("", "Rd"), ("", "Ln"), ("", "Dr"), ("Farm", "Rd"), ("Hollow", "Rd"), ("Ridge", "Rd"),
-    ("Chapel", "Rd"))
-COURTS = ("Heron", "Fox", "Quail", "Meadow", "Stone", "Deer", "Robin", "Brook", "Valley", "Orchard", "Sunset",
-    "Rolling", "Timber", "Willow Run", "Laurel", "Holly", "Dogwood", "Magnolia", "Birch", "Aspen", "Juniper",
-    "Redbud", "Cardinal", "Bluebird", "Partridge", "Summit", "Clover", "Briar", "Ivy", "Fern", "Hazel", "Peach",
-    "Acorn", "Falcon", "Lark", "Wren", "Plum", "Maplewood", "Cherry", "Lilac", "Primrose", "Ridgeway", "Creekside",
-    "Pinecrest", "Woodland", "Fairway", "Sandstone", "Bayberry", "Cottonwood", "Foxglove", "Gardenia", "Jasmine")
+WEST_AVENUES = "Oak, Elm, Maple, Cedar, Pine, Walnut, Chestnut, Hickory, Sycamore, Spruce, Willow".split(", ")
+EAST_AVENUES = "Church, Court, College, Market, Depot, Spring, Mill, Park, Union, Locust, Poplar".split(", ")
+FARM_ROADS = (
+    "Smith, Johnson, Miller, Davis, Wilson, Taylor, Moore, Clark, Lewis, Walker, Hall, Young, King, Wright, Hill, "
+    "Green, Baker, Nelson, Carter, Mitchell, Turner, Parker, Collins, Morris, Cook, Rogers, Reed, Bailey, Bell, "
+    "Cooper, Howard, Ward, Cox, Gray, James, Watson, Brooks, Kelly, Sanders, Price, Bennett, Wood, Barnes, Ross, "
+    "Henderson, Coleman, Jenkins, Perry, Powell, Long, Patterson, Hughes, Butler, Simmons, Foster, Bryant"
+).split(", ")
+FARM_TYPES = [
+    *(("", kind) for kind in ("Rd", "Rd", "Ln", "Dr")),
+    *((middle, "Rd") for middle in ("Farm", "Hollow", "Ridge", "Chapel")),
+]
+COURTS = (
+    "Heron, Fox, Quail, Meadow, Stone, Deer, Robin, Brook, Valley, Orchard, Sunset, Rolling, Timber, Willow Run, "
+    "Laurel, Holly, Dogwood, Magnolia, Birch, Aspen, Juniper, Redbud, Cardinal, Bluebird, Partridge, Summit, Clover, "
+    "Briar, Ivy, Fern, Hazel, Peach, Acorn, Falcon, Lark, Wren, Plum, Maplewood, Cherry, Lilac, Primrose, Ridgeway, "
+    "Creekside, Pinecrest, Woodland, Fairway, Sandstone, Bayberry, Cottonwood, Foxglove, Gardenia, Jasmine"
+).split(", ")
 COURT_TYPES = ("Ct", "Ct", "Ln", "Pl", "Cir", "Way")
 
 
@@ -84,8 +86,11 @@ class Line:
     others: tuple[Name, ...] = ()
 
 
+# Points are in rows, not each on a line.
+# fmt: off
 BORDER: list[Point] = [(0, 0), (52_000, 0), (52_000, 600), (80_000, 600), (80_000, 60_000), (12_000, 60_000),
     (12_000, 58_800), (0, 58_800)]
+# fmt: on
 MAIN = Name("Main", "St")
 BROAD = Name("Broad", "St")
 US_31 = Name("US Hwy 31")
@@ -166,6 +171,7 @@ def corner(column: float, row: float) -> Point:
     return round(TOWN[0] + (40 * east - 9 * north) / 41), round(TOWN[1] + (9 * east + 40 * north) / 41)
 
 
+# fmt: off
 MILL_RIVER = curve([(6_000, 62_000), (8_500, 55_000), (6_500, 48_000), (10_500, 42_500), (12_500, 35_500),
     (15_500, 29_500), (19_500, 25_500), (25_000, 22_400), (31_000, 21_800), (36_500, 23_600), (42_500, 24_000),
     (48_000, 21_500), (52_500, 16_500), (58_500, 14_500), (64_000, 16_500), (70_000, 14_000), (74_500, 9_000),
@@ -173,6 +179,7 @@ MILL_RIVER = curve([(6_000, 62_000), (8_500, 55_000), (6_500, 48_000), (10_500, 
 RAILROAD = curve([(-2_000, 33_500), (8_000, 31_500),
     (17_000, 30_000), corner(-11, 1.5), corner(-5, 1.5), corner(0, 1.5), corner(5, 1.5), corner(11, 1.5),
     (56_500, 42_000), (67_000, 47_000), (82_000, 49_500)], 6)
+# fmt: on
 PARK = (-10, -7, -4, -2)  # first and last column, first and last row
 CEMETERY = (3, 5, 6, 7)
 
@@ -244,6 +251,7 @@ def block_ring(area: tuple[int, int, int, int]) -> list[Point]:
 
 # Around the town
 
+# fmt: off
 WEST_31 = curve([corner(-11, 0), (19_000, 25_900), (11_000, 24_000), (4_000, 20_500), (-2_000, 20_000)])
 EAST_31 = curve([corner(11, 0), (55_500, 35_200), (61_000, 35_800), (66_000, 35_600), (73_000, 37_500),
     (82_000, 38_500)])
@@ -286,6 +294,7 @@ CREEKS: tuple[tuple[Name, str, tuple[Point, ...]], ...] = (
     (Name("Beaver", "Br"), "H12", ((2_500, -2_000), (5_000, 7_000), (12_500, 13_500), (20_500, 17_000),
      MILL_RIVER[42])),
 )
+# fmt: on
 
 
 def numbered(points: Sequence[Point], first: int, length: int) -> list[float]:
@@ -605,6 +614,12 @@ def county(seed: int, code: str) -> dict[str, list[bytes]]:
     return types
 
 
+def files_of(seed: int, code: str) -> dict[str, bytes]:
+    """Returns the files of a county by their names."""
+    types = county(seed, code)
+    return {f"TGR{code}.RT{number}": b"".join(line + LINE_END for line in lines) for number, lines in types.items()}
+
+
 def main() -> None:
     parser = argparse.ArgumentParser(description="Writes a made-up county with a town in it, as TIGER/Line files.")
     add, town = parser.add_argument, TOP / "examples" / "town"
@@ -615,8 +630,8 @@ def main() -> None:
     if not re.fullmatch("[0-9]{5}", arguments.code):
         parser.error(f"a code is five digits, and {arguments.code!r} isn't")
     arguments.folder.mkdir(parents=True, exist_ok=True)
-    for number, lines in county(arguments.seed, arguments.code).items():
-        (arguments.folder / f"TGR{arguments.code}.RT{number}").write_bytes(b"".join(line + LINE_END for line in lines))
+    for name, content in files_of(arguments.seed, arguments.code).items():
+        (arguments.folder / name).write_bytes(content)
 
 
 if __name__ == "__main__":
