@@ -15,13 +15,12 @@ crates. The words in backticks are names, unless they have other characters:
 
 Prints what isn't so, and then the number of names. Exit status 1 means that something isn't so.
 """
-# Needs only Python 3.9.
 
 import re
 import sys
-from collections.abc import Iterator
+from collections.abc import Iterable, Iterator
 from pathlib import Path
-from typing import NamedTuple, Optional
+from typing import NamedTuple
 
 TOP = Path(__file__).resolve().parent.parent
 PAGE = TOP / "docs" / "PROOFS.md"
@@ -172,7 +171,7 @@ class Section:
         for path in (path for word in words for path in self.files_of(word)):
             yield from re.findall(r"\w+", path.read_text(encoding="utf-8"))
 
-    def fault_of(self, name: str, is_grouped: bool) -> Optional[str]:
+    def fault_of(self, name: str, is_grouped: bool) -> str | None:
         if "::" in name or name.startswith("Is"):
             return None if self.has_item(name) else f"no `{name}`"
         if is_grouped and name not in self.clauses and not self.is_grouped_item(name):
@@ -207,38 +206,65 @@ class Section:
                 yield f"no file {word}.antt"
 
 
-def sections_of(text: str) -> Iterator[tuple[int, str, list[tuple[int, str]]]]:
-    """Yields each section: the number of its first line, its crates, and its paragraphs and points with their numbers."""
+class Part(NamedTuple):
+    """A section as the page has it: the number of its first line, its heading, its crates, and its paragraphs and points with their numbers."""
+
+    line: int
+    heading: str
+    crates: list[str]
+    paragraphs: list[tuple[int, str]]
+
+    def names(self) -> list[str]:
+        """Returns all words in backticks."""
+        return [name for _, paragraph in self.paragraphs for name in BACKTICKS.findall(paragraph)]
+
+    def faults(self, crates: dict[str, Crate]) -> list[str]:
+        """Returns what the sources of all crates lack of the section."""
+        if unknown := [name for name in self.crates if name not in crates]:
+            return [f"line {self.line}: no crate {unknown[0]}"]
+        section = Section(self.crates, crates)
+        about = ", ".join(self.crates) or "all crates"
+        return [
+            f"line {line}: {about}: {fault}"
+            for line, paragraph in self.paragraphs
+            for fault in section.faults(paragraph)
+        ]
+
+
+def parts_of(text: str) -> Iterator[Part]:
+    """Yields the sections of the page."""
     line = 1
     for part in re.split(r"^(?=###? )", text, flags=re.MULTILINE):
         heading = part.partition("\n")[0]
+        crates = heading.removeprefix("### ").split(", ") if heading.startswith("### ") else []
         paragraphs, begin = [], line
         for paragraph in re.split(r"\n(?=\n|- )", part):
             paragraphs.append((begin + len(paragraph) - len(paragraph.lstrip("\n")), paragraph))
             begin += paragraph.count("\n") + 1
-        yield line, heading.removeprefix("### ") if heading.startswith("### ") else "", paragraphs
+        yield Part(line, heading.lstrip("# "), crates, paragraphs)
         line += part.count("\n")
+
+
+def needs_section(crate: str) -> bool:
+    return not crate.endswith("_tests") and crate != "fixtures"
+
+
+def without_section(parts: Iterable[Part], crates: Iterable[str]) -> list[str]:
+    """Returns the crates that have no section, and need one."""
+    described = {name for part in parts for name in part.crates}
+    return sorted(name for name in crates if needs_section(name) and name not in described)
 
 
 def main() -> int:
     crates = read_crates()
-    missing = {name for name in crates if not name.endswith("_tests") and name != "fixtures"}
-    count, faults = 0, []
-    for number, heading, paragraphs in sections_of(PAGE.read_text(encoding="utf-8")):
-        names = heading.split(", ") if heading else []
-        if unknown := [name for name in names if name not in crates]:
-            faults.append(f"line {number}: no crate {unknown[0]}")
-            continue
-        missing.difference_update(names)
-        section = Section(names, crates)
-        for begin, paragraph in paragraphs:
-            count += len(re.findall(r"`[^`]+`", paragraph))
-            faults += [f"line {begin}: {heading or 'all crates'}: {fault}" for fault in section.faults(paragraph)]
-    faults += [f"no section about {name}" for name in sorted(missing)]
+    parts = list(parts_of(PAGE.read_text(encoding="utf-8")))
+    faults = [fault for part in parts for fault in part.faults(crates)]
+    faults += [f"no section about {name}" for name in without_section(parts, crates)]
     for fault in faults:
         print(f"docs/PROOFS.md: {fault}")
+    count = sum(len(part.names()) for part in parts)
     print(f"{count} names, {len(faults)} of them wrong")
-    return 1 if faults else 0
+    return 1 if faults or not count else 0
 
 
 if __name__ == "__main__":

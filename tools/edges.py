@@ -9,13 +9,13 @@ use each other, and that none has the name of a library.
 A crate's code uses a library if a source file names it in an ordinary path. Libraries that are named only in `ghost use`, in tactics, in
 definitions or in proofs stand in a comment above the crate's line, `# proofs alone: NAME..`. A library that is named nowhere has no place in the line.
 """
-# Needs only Python 3.9 or later.
 
 import re
 import sys
+from collections.abc import Iterator
 from graphlib import CycleError, TopologicalSorter
 from pathlib import Path
-from typing import Dict, Iterator, List, NamedTuple, Optional, Set
+from typing import NamedTuple
 
 TOP = Path(__file__).resolve().parent.parent
 TABLE = TOP / "crates.txt"
@@ -28,13 +28,13 @@ OWN_PATH = re.compile(r"\bcrate::((?:\w+::)*)(\w+|\{[^}]*\})")
 
 class Crate(NamedTuple):
     name: str
-    libraries: List[str]
-    marked: List[str]
+    libraries: list[str]
+    marked: list[str]
 
 
 def crates() -> Iterator[Crate]:
     """Yields the crates of the table, each with the libraries that the comment above it marks."""
-    marked: List[str] = []
+    marked: list[str] = []
     for line in TABLE.read_text(encoding="utf-8").splitlines():
         if line.startswith(MARK):
             marked = line[len(MARK) :].split()
@@ -59,17 +59,19 @@ def code_of(crate: str) -> str:
     return "\n".join(without_ghosts(text) for text in texts(crate, "src"))
 
 
-def proofs_alone(crate: Crate) -> List[str]:
+def proofs_alone(crate: Crate) -> list[str]:
     """Returns the crate's libraries of this workspace that its code doesn't name."""
     code = code_of(crate.name)
     own = [library for library in crate.libraries if (TOP / "crates" / library).is_dir()]
     return [library for library in own if not re.search(rf"\b{library}\b", code)]
 
 
-def faults(crate: Crate) -> Iterator[str]:
+def mark_faults(crate: Crate) -> Iterator[str]:
+    """Yields what is wrong with the crate's line in the table and the comment above it."""
     alone = proofs_alone(crate)
     if crate.marked != alone:
-        yield f"{crate.name}: marked: {' '.join(crate.marked) or 'none'}; only definitions and proofs use: {' '.join(alone) or 'none'}"
+        marked, right = (" ".join(libraries) or "none" for libraries in (crate.marked, alone))
+        yield f"{crate.name}: marked: {marked}; only definitions and proofs use: {right}"
     everything = "\n".join(texts(crate.name, "src", "specs", "proofs"))
     for library in alone:
         if not re.search(rf"\b{library}\b", everything):
@@ -82,16 +84,16 @@ def own_paths(text: str) -> Iterator[str]:
             yield found[1] + name.strip()
 
 
-def module_uses(crate: str) -> Dict[str, Set[str]]:
+def module_uses(crate: str) -> dict[str, set[str]]:
     """Returns the modules of a crate, each with those that its code names."""
     folder = TOP / "crates" / crate / "src"
     sources = {"::".join(path.relative_to(folder).with_suffix("").parts): path for path in sorted(folder.rglob("*.rt"))}
 
-    def module_of(path: str) -> Optional[str]:
+    def module_of(path: str) -> str | None:
         found = [it for it in sources if path == it or path.startswith(f"{it}::")]
         return max(found, key=len) if found else None
 
-    uses: Dict[str, Set[str]] = {}
+    uses: dict[str, set[str]] = {}
     for module, source in sources.items():
         named = (module_of(path) for path in own_paths(source.read_text(encoding="utf-8")))
         uses[module] = {it for it in named if it is not None and it != module}
@@ -113,6 +115,11 @@ def shadowed(crate: Crate) -> Iterator[str]:
             yield f"{crate.name}: {path.name} has the name of a library"
 
 
+def faults(crate: Crate) -> list[str]:
+    """Returns what is wrong with a crate, and with its line in the table."""
+    return [*mark_faults(crate), *circles(crate.name), *shadowed(crate)]
+
+
 def fix() -> None:
     marks = {crate.name: proofs_alone(crate) for crate in crates()}
     lines = []
@@ -129,7 +136,7 @@ def fix() -> None:
 def main() -> int:
     if sys.argv[1:] == ["--fix"]:
         fix()
-    found = [fault for crate in crates() for fault in (*faults(crate), *circles(crate.name), *shadowed(crate))]
+    found = [fault for crate in crates() for fault in faults(crate)]
     for fault in found:
         print(fault)
     return 1 if found else 0

@@ -5,19 +5,35 @@
 
 FOLDER has the pages README.md, docs/*.md and examples/*.md, by default those of this clone.
 Addresses on the web aren't fetched. Prints each broken link, and then the number of links. Exit status 1 means that
-a link is broken.
+a link is broken, or that there is none.
 """
 
 import re
 import sys
 from collections import Counter
-from collections.abc import Iterator
 from pathlib import Path
+from typing import NamedTuple
 
-ROOT = Path(sys.argv[1] if len(sys.argv) > 1 else Path(__file__).parent.parent).resolve()
-PAGES = [path for folder in (ROOT, ROOT / "docs", ROOT / "examples") for path in sorted(folder.glob("*.md"))]
+TOP = Path(__file__).resolve().parent.parent
 FENCED = re.compile(r"^```.*?^```", re.DOTALL | re.MULTILINE)
 LINK = re.compile(r"\]\(([^)\s]+)\)")
+
+
+class Link(NamedTuple):
+    """A link to a file: as written, the file, and the anchor."""
+
+    text: str
+    target: Path
+    anchor: str
+
+    def is_broken(self) -> bool:
+        if not self.target.exists():
+            return True
+        return bool(self.anchor) and self.target.suffix == ".md" and self.anchor not in anchors_of(self.target)
+
+
+def pages_in(folder: Path) -> list[Path]:
+    return [path for part in (folder, folder / "docs", folder / "examples") for path in sorted(part.glob("*.md"))]
 
 
 def text_of(page: Path) -> str:
@@ -37,30 +53,24 @@ def anchors_of(page: Path) -> set[str]:
     return anchors
 
 
-def links_of(page: Path) -> Iterator[tuple[str, Path, str]]:
-    """Yields each link to a file: the link as written, the file, and the anchor."""
+def links_of(page: Path) -> list[Link]:
+    """Returns the links of a page to files, and to its own headings."""
+    links = []
     for link in LINK.findall(text_of(page)):
         if not re.match(r"[a-z]+:", link):
             path, _, anchor = link.partition("#")
-            yield link, (page.parent / path).resolve() if path else page, anchor
-
-
-def leads_somewhere(target: Path, anchor: str) -> bool:
-    if not target.exists():
-        return False
-    return not anchor or target.suffix != ".md" or anchor in anchors_of(target)
+            links.append(Link(link, (page.parent / path).resolve() if path else page, anchor))
+    return links
 
 
 def main() -> int:
-    count = broken = 0
-    for page in PAGES:
-        for link, target, anchor in links_of(page):
-            count += 1
-            if not leads_somewhere(target, anchor):
-                broken += 1
-                print(f"{page.relative_to(ROOT)}: {link} leads nowhere")
-    print(f"{count} links, {broken} lead nowhere")
-    return 1 if broken else 0
+    folder = Path(sys.argv[1]).resolve() if len(sys.argv) > 1 else TOP
+    found = [(page, link) for page in pages_in(folder) for link in links_of(page)]
+    broken = [(page, link) for page, link in found if link.is_broken()]
+    for page, link in broken:
+        print(f"{page.relative_to(folder)}: {link.text} leads nowhere")
+    print(f"{len(found)} links, {len(broken)} lead nowhere")
+    return 1 if broken or not found else 0
 
 
 if __name__ == "__main__":

@@ -14,7 +14,7 @@ The crates have to be proved by `rt check`, which the script runs first.
 
 Prints the mutants that weren't refused, and why. The last line is `N passed, N failed`. Exit status 0 means that all were refused.
 """
-# Needs only Linux, Python 3.8 or later, and `rt`.
+# Needs only Linux, Python 3.11 and `rt`.
 
 import argparse
 import os
@@ -23,14 +23,17 @@ import shutil
 import subprocess
 import sys
 import tempfile
+from collections.abc import Iterator
 from concurrent.futures import ThreadPoolExecutor
 from pathlib import Path
-from typing import Iterator, List, NamedTuple, Optional, Tuple
+from typing import NamedTuple
 
 from crate_copy import MUTANTS, TOP, make_copy
 
 # What a check says of an edit that it can't read, compile or apply: such an edit says nothing of a contract.
-UNREADABLE = re.compile(r"error\[|is not in scope|has no field|is no name|operand is missing|expected the end|cannot continue|was not admitted")
+UNREADABLE = re.compile(
+    r"error\[|is not in scope|has no field|is no name|operand is missing|expected the end|cannot continue|was not admitted"
+)
 
 
 class Replacement(NamedTuple):
@@ -59,12 +62,12 @@ class Mutant(NamedTuple):
                 yield Replacement(file, old, text[1:])
 
 
-def mutants_of(crate: str) -> List[Mutant]:
+def mutants_of(crate: str) -> list[Mutant]:
     folders = [TOP / "crates" / crate / folder for folder in MUTANTS]
     return [Mutant(crate, path) for folder in folders for path in sorted(folder.glob("*.edit"))]
 
 
-def chosen(names: List[str]) -> List[Mutant]:
+def chosen(names: list[str]) -> list[Mutant]:
     """Returns the mutants of these crates and those with these names, or all."""
     crates = sorted(path.name for path in (TOP / "crates").iterdir() if path.is_dir())
     every = [mutant for crate in crates for mutant in mutants_of(crate)]
@@ -74,7 +77,7 @@ def chosen(names: List[str]) -> List[Mutant]:
     return [mutant for mutant in every if not names or mutant.crate in names or mutant.name in names]
 
 
-def function_at(text: str, place: int) -> Optional[str]:
+def function_at(text: str, place: int) -> str | None:
     """Returns the name of the function that this place in a source is in, as `rt check --only` takes it: with its type, if it is a method."""
     name = owner = None
     for line in text[:place].splitlines() + [text[place:].partition("\n")[0]]:
@@ -89,13 +92,13 @@ def function_at(text: str, place: int) -> Optional[str]:
     return name
 
 
-def module_of(file: str) -> List[str]:
+def module_of(file: str) -> list[str]:
     """Returns the module of a source file."""
     words = list(Path(file).with_suffix("").parts[1:])
     return [] if words in (["lib"], ["main"]) else words
 
 
-def edited(mutant: Mutant, folder: Path) -> Optional[List[str]]:
+def edited(mutant: Mutant, folder: Path) -> list[str] | None:
     """Applies a mutant to a copy of its crate. Returns the functions that it edits, or nothing if it edits anything else."""
     functions = []
     for file, old, new in mutant.replacements():
@@ -111,8 +114,10 @@ def edited(mutant: Mutant, folder: Path) -> Optional[List[str]]:
     return functions
 
 
-def run(words: List[str], folder: Path) -> Tuple[int, str]:
-    done = subprocess.run(words, cwd=folder, stdin=subprocess.DEVNULL, stdout=subprocess.PIPE, stderr=subprocess.STDOUT, errors="replace")
+def run(words: list[str], folder: Path) -> tuple[int, str]:
+    done = subprocess.run(
+        words, cwd=folder, stdin=subprocess.DEVNULL, stdout=subprocess.PIPE, stderr=subprocess.STDOUT, errors="replace"
+    )
     return done.returncode, done.stdout
 
 
@@ -128,7 +133,7 @@ def is_refused(mutant: Mutant) -> bool:
     return status == 1 and counts is not None and int(counts[2]) < int(counts[1]) and not UNREADABLE.search(said)
 
 
-def fault_of(mutant: Mutant) -> Optional[str]:
+def fault_of(mutant: Mutant) -> str | None:
     """Returns why a mutant isn't refused as it must be, if so."""
     if is_refused(mutant):
         return None
@@ -140,18 +145,44 @@ def fault_of(mutant: Mutant) -> Optional[str]:
     return None if status == 0 else said.strip()
 
 
+def stale_texts(mutant: Mutant) -> list[str]:
+    """Returns the texts that a mutant replaces and that aren't exactly once in their file."""
+    folder = TOP / "crates" / mutant.crate
+    return [
+        f"{file}: {old}"
+        for file, old, _ in mutant.replacements()
+        if not (folder / file).is_file() or (folder / file).read_text(encoding="utf-8").count(old) != 1
+    ]
+
+
 def applies(mutant: Mutant) -> bool:
-    """Returns whether each text that a mutant replaces stands once in its file."""
-    paths = [(TOP / "crates" / mutant.crate / file, old) for file, old, _ in mutant.replacements()]
-    return bool(paths) and all(path.is_file() and path.read_text(encoding="utf-8").count(old) == 1 for path, old in paths)
+    """Returns whether a mutant replaces something, and each text that it replaces is once in its file."""
+    return any(mutant.replacements()) and not stale_texts(mutant)
 
 
-def report_stale(mutants: List[Mutant]) -> int:
+def report_stale(mutants: list[Mutant]) -> int:
     stale = [mutant.name for mutant in mutants if not applies(mutant)]
     for name in stale:
         print(f"FAILED: {name}: it can't be applied")
     print(f"{len(mutants) - len(stale)} passed, {len(stale)} failed")
-    return 1 if stale else 0
+    return 1 if stale or not mutants else 0
+
+
+def report_unrefused(mutants: list[Mutant], jobs: int) -> int:
+    """Tries mutants, and reports those that aren't refused. Their crates have to pass without them."""
+    for crate in dict.fromkeys(mutant.crate for mutant in mutants):
+        status, said = run(["rt", "check"], TOP / "crates" / crate)
+        if status:
+            print(said, end="")
+            return 1
+    failed = 0
+    with ThreadPoolExecutor(jobs) as pool:
+        for mutant, fault in zip(mutants, pool.map(fault_of, mutants)):
+            if fault:
+                failed += 1
+                print(f"FAILED: {mutant.name}: {fault}", flush=True)
+    print(f"{len(mutants) - failed} passed, {failed} failed")
+    return 1 if failed else 0
 
 
 def main() -> int:
@@ -161,21 +192,7 @@ def main() -> int:
     parser.add_argument("names", nargs="*", metavar="NAME", help="a crate, or CRATE/MUTANT; none: all")
     given = parser.parse_args()
     mutants = chosen(given.names)
-    if given.applies:
-        return report_stale(mutants)
-    for crate in dict.fromkeys(mutant.crate for mutant in mutants):
-        status, said = run(["rt", "check"], TOP / "crates" / crate)
-        if status:
-            print(said, end="")
-            return 1
-    failed = 0
-    with ThreadPoolExecutor(given.jobs) as pool:
-        for mutant, fault in zip(mutants, pool.map(fault_of, mutants)):
-            if fault:
-                failed += 1
-                print(f"FAILED: {mutant.name}: {fault}", flush=True)
-    print(f"{len(mutants) - failed} passed, {failed} failed")
-    return 1 if failed else 0
+    return report_stale(mutants) if given.applies else report_unrefused(mutants, given.jobs)
 
 
 if __name__ == "__main__":

@@ -9,7 +9,6 @@ A part is between two comments of a page: `<!-- NAME: by tools/pages.py -->` and
 isn't what the sources say. A page is wrong if it has more than 400 lines. And docs/refusals.md has to have the number and the
 name of each refusal that a command reports, and no others, README.md the options of each command, and docs/http.md the routes.
 """
-# Needs only Python 3.9.
 
 import re
 import sys
@@ -198,15 +197,18 @@ def refusals_in_sources() -> set[tuple[str, str]]:
     return {row for text in texts for row in re.findall(r'Refusal::(?:refused|detailed|io)\(\s*(\d+),\s*"(\w+)"', text)}
 
 
-def refusal_faults() -> Iterator[str]:
-    page = read("docs/refusals.md")
-    listed = set(re.findall(r"^- \*\*(\d+) ([A-Z]\w+)", page, re.MULTILINE))
-    sources = refusals_in_sources()
-    for number, name in sorted(listed - sources):
-        yield f"docs/refusals.md: {number} {name} isn't in the sources"
-    for number, name in sorted(sources - listed):
-        if number not in UNREPORTED:
-            yield f"docs/refusals.md: {number} {name} is missing"
+def refusals_on_page() -> set[tuple[str, str]]:
+    return set(re.findall(r"^- \*\*(\d+) ([A-Z]\w+)", read("docs/refusals.md"), re.MULTILINE))
+
+
+def refusal_faults() -> list[str]:
+    """Returns the refusals that are only on their page, and those that aren't there."""
+    listed, sources = refusals_on_page(), refusals_in_sources()
+    missing = (row for row in sources - listed if row[0] not in UNREPORTED)
+    return [
+        *(f"docs/refusals.md: {number} {name} isn't in the sources" for number, name in sorted(listed - sources)),
+        *(f"docs/refusals.md: {number} {name} is missing" for number, name in sorted(missing)),
+    ]
 
 
 # Refusals that no command reports: of a table of jobs, and of connections.
@@ -234,31 +236,47 @@ def options_in_readme() -> dict[str, set[str]]:
     return {command: set(re.findall(r"(?<=--)[a-z-]+|LAYER", text)) for command, text in points}
 
 
-def option_faults() -> Iterator[str]:
+def option_faults() -> list[str]:
+    """Returns the commands whose options README.md doesn't show."""
     shown = options_in_readme()
-    for command, options in options_in_definition().items():
-        if shown.get(command) != options:
-            yield f"README.md: {command} has the options {' '.join(sorted(options))}, and not those shown under \"Using it\""
+    return [
+        f"README.md: {command} has the options {' '.join(sorted(options))}, and not those shown under \"Using it\""
+        for command, options in options_in_definition().items()
+        if shown.get(command) != options
+    ]
 
 
-def route_faults() -> Iterator[str]:
+def routes() -> list[str]:
+    """Returns the methods and paths of the server, such as `GET /version`."""
+    rows = re.findall(r'\w+: "(/[^"]*)" "([A-Z, ]+)"', source("http_routes/src/route.rt"))
+    return [f"{method} {path}" for path, methods in rows for method in methods.split(", ")]
+
+
+def route_faults() -> list[str]:
     page = read("docs/http.md")
-    for path, methods in re.findall(r'\w+: "(/[^"]*)" "([A-Z, ]+)"', source("http_routes/src/route.rt")):
-        for method in methods.split(", "):
-            if f"| `{method} {path}` |" not in page:
-                yield f"docs/http.md: no row for {method} {path}"
+    return [f"docs/http.md: no row for {route}" for route in routes() if f"| `{route}` |" not in page]
 
 
-def faults() -> Iterator[str]:
-    for name, (page, _) in PARTS.items():
-        if with_part(name, read(page)) != read(page):
-            yield f"{page}: the part {name} isn't what the sources say; run tools/pages.py"
-    for page in pages():
-        if (lines := read(page).count("\n")) > MAX_LINES:
-            yield f"{page}: {lines} lines, more than {MAX_LINES}"
-    yield from refusal_faults()
-    yield from option_faults()
-    yield from route_faults()
+def part_faults(name: str) -> list[str]:
+    page = PARTS[name][0]
+    is_right = with_part(name, read(page)) == read(page)
+    return [] if is_right else [f"{page}: the part {name} isn't what the sources say; run tools/pages.py"]
+
+
+def length_faults(page: str) -> list[str]:
+    lines = read(page).count("\n")
+    return [f"{page}: {lines} lines, more than {MAX_LINES}"] if lines > MAX_LINES else []
+
+
+def faults() -> list[str]:
+    """Returns all that is wrong with the pages."""
+    return [
+        *(fault for name in PARTS for fault in part_faults(name)),
+        *(fault for page in pages() for fault in length_faults(page)),
+        *refusal_faults(),
+        *option_faults(),
+        *route_faults(),
+    ]
 
 
 def paragraphs(text: str) -> Iterator[str]:
@@ -278,9 +296,8 @@ def count() -> None:
         words = len(text.split())
         total += words
         mean = sum(lengths) / max(1, len(lengths))
-        print(
-            f"{page:28} {words:6} words {text.count(chr(10)):4} lines {mean:5.1f} words per sentence, at most {max(lengths, default=0)}"
-        )
+        sizes = f"{words:6} words {text.count(chr(10)):4} lines"
+        print(f"{page:28} {sizes} {mean:5.1f} words per sentence, at most {max(lengths, default=0)}")
     print(f"{len(pages())} pages, {total} words")
 
 
@@ -289,7 +306,7 @@ def main() -> int:
         count()
         return 0
     if sys.argv[1:] == ["--check"]:
-        found = list(faults())
+        found = faults()
         print("\n".join(found) if found else f"{len(pages())} pages")
         return 1 if found else 0
     for name, (page, _) in PARTS.items():

@@ -6,7 +6,6 @@
 
 A new version is written to VERSION, and then by this script. CHANGELOG.md, which needs a section on it, is checked alone.
 """
-# Needs only Python 3.9.
 
 import os
 import re
@@ -49,17 +48,31 @@ def sources() -> Iterator[str]:
                 yield str((Path(folder) / name).relative_to(TOP))
 
 
-def faults() -> Iterator[str]:
-    for path, patterns in COPIES.items():
-        text = (TOP / path).read_text(encoding="utf-8")
-        found = [re.findall(pattern, text) for pattern in patterns]
-        if not all(found) or text != with_version(path, text):
-            yield f"{path}: the version isn't {VERSION}; run tools/version.py"
-    for path in set(sources()) - COPIES.keys() - OTHERS:
-        if re.search(PROGRAM, (TOP / path).read_text(encoding="utf-8", errors="replace")):
-            yield f"{path}: names a version, but isn't in tools/version.py"
-    if f"\n## [{VERSION}]" not in (TOP / "CHANGELOG.md").read_text(encoding="utf-8"):
-        yield f"CHANGELOG.md: no section on {VERSION}"
+def copy_faults(path: str) -> list[str]:
+    """Returns what is wrong with a file that repeats the version."""
+    text = (TOP / path).read_text(encoding="utf-8")
+    found = [re.findall(pattern, text) for pattern in COPIES[path]]
+    is_right = all(found) and text == with_version(path, text)
+    return [] if is_right else [f"{path}: the version isn't {VERSION}; run tools/version.py"]
+
+
+def other_faults() -> list[str]:
+    """Returns the further files that name a version."""
+    return [
+        f"{path}: names a version, but isn't in tools/version.py"
+        for path in set(sources()) - COPIES.keys() - OTHERS
+        if re.search(PROGRAM, (TOP / path).read_text(encoding="utf-8", errors="replace"))
+    ]
+
+
+def changelog_faults() -> list[str]:
+    text = (TOP / "CHANGELOG.md").read_text(encoding="utf-8")
+    return [] if f"\n## [{VERSION}]" in text else [f"CHANGELOG.md: no section on {VERSION}"]
+
+
+def faults() -> list[str]:
+    """Returns all that is wrong with the copies of the version."""
+    return [*(fault for path in COPIES for fault in copy_faults(path)), *other_faults(), *changelog_faults()]
 
 
 def main() -> int:
