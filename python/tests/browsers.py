@@ -4,6 +4,7 @@ import shutil
 from collections.abc import Iterator
 from contextlib import contextmanager
 from pathlib import Path
+from typing import Any
 
 import pytest
 
@@ -17,13 +18,13 @@ SECONDS = 60  # for a page, and for each step of a script
 
 
 @contextmanager
-def browser(folder: Path, width: int = 1200, height: int = 900) -> Iterator[Chrome]:
+def browser(folder: Path, width: int = 1200, height: int = 900) -> Iterator[Any]:
     """Opens a browser with a profile in a folder. At the end, what its log has is an error of the test."""
-    tools = [shutil.which(name) for name in ("chromium", "chromedriver")]
-    if None in tools:
+    chromium, driver = shutil.which("chromium"), shutil.which("chromedriver")
+    if chromium is None or driver is None:
         pytest.skip("no chromium with chromedriver")
-    options = ChromeOptions()
-    options.binary_location = tools[0]
+    options: Any = ChromeOptions()
+    options.binary_location = chromium
     options.set_capability("goog:loggingPrefs", {"browser": "ALL"})
     profile = f"--user-data-dir={folder / 'profile'}"
     for argument in ("--headless=new", "--no-sandbox", "--disable-gpu", f"--window-size={width},{height}", profile):
@@ -31,7 +32,7 @@ def browser(folder: Path, width: int = 1200, height: int = 900) -> Iterator[Chro
     if width < 500:  # the smallest window
         phone = {"deviceMetrics": {"width": width, "height": height, "pixelRatio": 2.0}}
         options.add_experimental_option("mobileEmulation", phone)
-    opened = Chrome(service=Service(tools[1]), options=options)
+    opened: Any = Chrome(service=Service(driver), options=options)
     try:
         opened.set_page_load_timeout(SECONDS)
         opened.set_script_timeout(SECONDS)

@@ -5,12 +5,16 @@ import shutil
 import signal
 from collections.abc import Iterator
 from pathlib import Path
+from typing import Any
 
 import pytest
 
 with contextlib.suppress(ImportError):
     import hypothesis
+    from hypothesis.configuration import set_hypothesis_home_dir
 
+    # Git ignores its tables of characters here, but not at the top.
+    set_hypothesis_home_dir(Path(__file__).parent / ".hypothesis")
     # Uses the same examples each time, so that a commit always has the same result.
     hypothesis.settings.register_profile("repeatable", derandomize=True, deadline=None, database=None)
     hypothesis.settings.load_profile("repeatable")
@@ -33,7 +37,7 @@ def gdal() -> None:
 @pytest.fixture(autouse=True)
 def signals() -> Iterator[None]:
     """Handles signals as in a terminal. A background run ignores Ctrl-C, and so would everything that it starts."""
-    handlers = {
+    handlers: dict[signal.Signals, Any] = {
         signal.SIGINT: signal.default_int_handler,
         signal.SIGTERM: signal.SIG_DFL,
         signal.SIGHUP: signal.SIG_DFL,

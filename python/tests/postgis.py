@@ -22,16 +22,17 @@ import subprocess
 import sys
 import tempfile
 from collections import Counter
-from collections.abc import Iterable, Iterator, Mapping, Sequence
+from collections.abc import Iterable, Iterator, Sequence
 from concurrent.futures import ThreadPoolExecutor
 from contextlib import contextmanager
 from dataclasses import replace
 from functools import partial
-from itertools import pairwise
 from pathlib import Path
 from typing import NamedTuple
 
 import tigerline
+from shapely.geometry import LineString
+from shapely.geometry import Point as Place
 from noise import Drawn, cut_parts, draw_addresses, draw_counties, measure, measure_cut
 from test_geocoding_index import Index, Segment
 from test_reversing import METERS, House, beside, houses
@@ -189,7 +190,7 @@ def write_tables(target: Path, folder: Path, code: str) -> Lines:
     return lines
 
 
-def shape_points(path: Path) -> Mapping[int, list[Point]]:
+def shape_points(path: Path) -> dict[int, list[Point]]:
     """Returns the shape points of each TLID in degrees, in the order of the file."""
     found: dict[int, list[Point]] = {}
     for record in path.read_text("latin-1").splitlines():
@@ -236,16 +237,6 @@ def in_meters(point: Point) -> Point:
     return point[0] * METERS[0], point[1] * METERS[1]
 
 
-def distance_from(line: Sequence[Point]) -> float:
-    """Returns how far a line is from the origin."""
-    distances = []
-    for (x, y), (to_x, to_y) in pairwise(line):
-        east, north = to_x - x, to_y - y
-        share = min(max(-(x * east + y * north) / (east * east + north * north), 0), 1)
-        distances.append(math.hypot(x + share * east, y + share * north))
-    return min(distances)
-
-
 # The measurements
 
 
@@ -273,7 +264,7 @@ def outcome(drawn: Drawn, found: Found | None, lines: Lines) -> str:
     if found is None or not drawn.places:
         return "wrong" if found else "none"
     line, (x, y) = lines[drawn.spot.tlid], in_meters(found.place)
-    off_line = distance_from([(to_x - x, to_y - y) for to_x, to_y in line])
+    off_line = LineString(line).distance(Place(x, y))
     off_place = math.dist((x, y), beside(line, drawn.spot.share, 0))
     return "right" if off_line <= OFF_LINE and off_place <= OFF_PLACE else "wrong"
 

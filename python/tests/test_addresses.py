@@ -1,5 +1,7 @@
 """Parsing street strings: all readings of a string, the fullest first, or the reason for none."""
 
+from typing import Any
+
 import pytest
 from tigerline.geocoding.addresses import LONGEST_NAME, Crossing, Reading, Reason, Street, parse_street
 from tigerline.geocoding.words import _TYPES, DIRECTIONS, TYPES, same_type
@@ -224,29 +226,26 @@ class TestAnything:
     """Property tests: no string fails, and an address written from the fields is read as the same fields."""
 
     def test_no_string_fails(self) -> None:
-        hypothesis = pytest.importorskip("hypothesis", reason="no hypothesis")
-        strategies = pytest.importorskip("hypothesis.strategies", reason="no hypothesis")
+        hypothesis: Any = pytest.importorskip("hypothesis", reason="no hypothesis")
+        strategies: Any = pytest.importorskip("hypothesis.strategies", reason="no hypothesis")
         words = strategies.sampled_from(
             ["12", "1/2", "N", "East", "Main", "St", "Apt", "#", "4", "CR", "US", "PO", "Box", "&", ".", ",", "\u00bd"]
         )
         streets = strategies.lists(words, max_size=9).map(" ".join)
 
-        @hypothesis.settings(max_examples=400)
-        @hypothesis.given(strategies.one_of(strategies.text(), streets, streets.map(lambda street: f"7 {street}")))
         def check(text: str) -> None:
             street = parse_street(text)
             assert isinstance(street, (Street, Crossing, Reason))
             if isinstance(street, Street):
                 assert len(set(street.readings)) == len(street.readings)
-                assert all(
-                    0 < len(reading.name.encode("utf-8", "replace")) <= LONGEST_NAME for reading in street.readings
-                )
+                assert all(0 < len(reading.name) <= LONGEST_NAME for reading in street.readings)
 
-        check()
+        texts = strategies.one_of(strategies.text(), streets, streets.map(lambda street: f"7 {street}"))
+        hypothesis.settings(max_examples=400)(hypothesis.given(texts)(check))()
 
     def test_canonical_address(self) -> None:
-        hypothesis = pytest.importorskip("hypothesis", reason="no hypothesis")
-        strategies = pytest.importorskip("hypothesis.strategies", reason="no hypothesis")
+        hypothesis: Any = pytest.importorskip("hypothesis", reason="no hypothesis")
+        strategies: Any = pytest.importorskip("hypothesis.strategies", reason="no hypothesis")
         directions = strategies.sampled_from(["", "N", "S", "E", "W", "NE", "NW", "SE", "SW"])
         known = strategies.sampled_from(
             ["Oak", "Hill", "North", "Park", "St", "Lot", "Rear", "7", "County", "Road", "E"]
@@ -254,18 +253,12 @@ class TestAnything:
         word = strategies.one_of(known, strategies.from_regex(r"[A-Za-z][a-z']{0,9}", fullmatch=True))
         names = strategies.lists(word, min_size=1, max_size=4).map(" ".join).filter(lambda name: len(name) <= 30)
 
-        @hypothesis.settings(max_examples=400)
-        @hypothesis.given(
-            strategies.integers(0, 10**11 - 1),
-            directions,
-            names,
-            strategies.sampled_from(["", *sorted(set(TYPES.values()))]),
-            directions,
-        )
         def check(number: int, predir: str, name: str, type_: str, sufdir: str) -> None:
             text = " ".join(part for part in (str(number), predir, name, type_, sufdir) if part)
             street = parse_street(text)
             assert isinstance(street, Street) and street.number == number
             assert Reading(name, predir, type_, sufdir) in street.readings
 
-        check()
+        numbers, types = strategies.integers(0, 10**11 - 1), strategies.sampled_from(["", *sorted({*TYPES.values()})])
+        given = hypothesis.given(numbers, directions, names, types, directions)
+        hypothesis.settings(max_examples=400)(given(check))()

@@ -11,7 +11,7 @@ from collections.abc import Iterator
 from contextlib import contextmanager
 from pathlib import Path
 from types import ModuleType
-from typing import Any
+from typing import Any, cast
 
 import pytest
 import tigerline
@@ -113,7 +113,8 @@ def test_partitions(
     """Each county is a partition, which a worker makes when it is computed."""
     from distributed import Client
 
-    monkeypatch.setitem(sys.modules, "dask_geopandas", ModuleType("dask_geopandas") if has_dask_geopandas else None)
+    module = ModuleType("dask_geopandas") if has_dask_geopandas else None
+    monkeypatch.setitem(cast(dict[str, object], sys.modules), "dask_geopandas", module)
     expected = tigerline.select(ROADS, data)
     with Client(address) as client:
         found = tigerline.select(ROADS, data, client=client)

@@ -20,10 +20,9 @@ webdriver = pytest.importorskip("selenium.webdriver", reason="no selenium")
 geometry = pytest.importorskip("shapely.geometry", reason="no shapely")
 from selenium.common.exceptions import WebDriverException  # noqa: E402
 from selenium.webdriver.chrome.service import Service  # noqa: E402
-from selenium.webdriver.common.action_chains import ActionChains  # noqa: E402
 from selenium.webdriver.common.by import By  # noqa: E402
 from selenium.webdriver.common.keys import Keys  # noqa: E402
-from selenium.webdriver.support.ui import WebDriverWait  # noqa: E402
+from selenium.webdriver.support.wait import WebDriverWait  # noqa: E402
 
 DRIVER = Path("/usr/bin/chromedriver")
 SECONDS = 180
@@ -69,6 +68,9 @@ class Browser:
         """Waits until the page and the map have so many segments."""
         self.wait(lambda: self.text("#count").startswith(f"{count:,} segment"))
         self.wait(lambda: self.run("return document.querySelector('#map').dataset.selected") == str(count))
+
+    def actions(self) -> Any:
+        return webdriver.ActionChains(self.driver)
 
     def run(self, script: str) -> Any:
         return self.driver.execute_script(script)
@@ -207,7 +209,7 @@ def test_click(browser: Browser) -> None:
     middle = (ends[0] + ends[2]) / 2, (ends[1] + ends[3]) / 2
     browser.open(f"{ITEMS}?f=html&filter=FENAME%20%3D%20%27Main%27#map=18/{middle[0]:.6f}/{middle[1]:.6f}")
     browser.wait_for_count(len(MAIN))
-    ActionChains(browser.driver).move_to_element(browser.one("#map")).pause(0.5).click().perform()
+    browser.actions().move_to_element(browser.one("#map")).pause(0.5).click().perform()
     browser.wait(lambda: f"{row['FEDIRP']} Main {row['FETYPE']}" in browser.text(".leaflet-popup"))
     assert f"{row['FRADDL']}–{row['TOADDL']}, ZIP {row['ZIPL']}" in browser.text(".leaflet-popup")
     assert browser.one("#rows tr.found").get_attribute("data-id") == row["TLID"]
@@ -238,13 +240,13 @@ def test_boundary(browser: Browser) -> None:
     browser.wait_for_count(len(town_rows(lambda row: True)))
     browser.one("#draw").click()
     for x, y in ((-150, -80), (100, -100), (60, 90), (-150, -80)):
-        ActionChains(browser.driver).move_to_element_with_offset(browser.one("#map"), x, y).click().perform()
+        browser.actions().move_to_element_with_offset(browser.one("#map"), x, y).click().perform()
         time.sleep(0.5)  # Two clicks at once are a double click.
     browser.wait(lambda: browser.parameter("filter"))
     text = browser.parameter("filter")
     points = re.findall(r"(-[0-9.]+) ([0-9.]+)", text)
     area = geometry.Polygon([(float(x), float(y)) for x, y in points])
-    inside = town_rows(lambda row: line_of(row).intersects(area))
+    inside = town_rows(lambda row: bool(line_of(row).intersects(area)))
     assert text.startswith("S_INTERSECTS(geometry, POLYGON((") and len(points) == 4 and 50 < len(inside) < 800
     browser.wait_for_count(len(inside))
     browser.one("#in-view").click()
@@ -296,7 +298,7 @@ def test_keyboard(browser: Browser) -> None:
         active = browser.driver.switch_to.active_element
         names.append(active.accessible_name)
         seen.append(active.get_attribute("id") or active.tag_name)
-        ActionChains(browser.driver).send_keys(Keys.TAB).perform()
+        browser.actions().send_keys(Keys.TAB).perform()
     assert {one for one, name in zip(seen, names) if not name} <= {"body"}
     assert (
         seen.index("filter")
@@ -351,7 +353,7 @@ def test_markup(browser: Browser) -> None:
             place.click()
         for row in browser.driver.find_elements(By.CSS_SELECTOR, ".show")[:1]:
             row.click()
-            ActionChains(browser.driver).move_to_element(browser.one("#map")).pause(1).click().pause(1).perform()
+            browser.actions().move_to_element(browser.one("#map")).pause(1).click().pause(1).perform()
             assert MARKUP in browser.text(".leaflet-popup")
         assert browser.run("return document.querySelectorAll('img, b, [onerror]').length") == 0
         assert MARKUP.lower() in browser.text("#explorer").lower()

@@ -122,9 +122,10 @@ def test_names(sources: Sources) -> None:
     ]
     for name, text in sources.items():
         for node in ast.walk(ast.parse(text)):
-            bases = [ast.unparse(base) for base in node.bases] if isinstance(node, ast.ClassDef) else []
-            if any(base == "Exception" or base.endswith("Error") for base in bases):
-                assert node.name.endswith("Error"), f"{name}: {node.name}"
+            if isinstance(node, ast.ClassDef):
+                bases = [ast.unparse(base) for base in node.bases]
+                is_error = any(base == "Exception" or base.endswith("Error") for base in bases)
+                assert node.name.endswith("Error") or not is_error, f"{name}: {node.name}"
         if name in PACKAGES:
             module = importlib.import_module(name)
             assert [public for public in module.__all__ if not hasattr(module, public)] == []

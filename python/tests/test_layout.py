@@ -30,10 +30,8 @@ def test_kinds_are_those_of_filters() -> None:
         layout.Kind.CODE: "number",
         layout.Kind.NUMBER: "number",
     }
-    columns = {
-        kind: set(re.search(rf"^\| {kind} \| ([A-Z0-9_, ]+) \|", document, re.MULTILINE)[1].split(", "))
-        for kind in by_kind.values()
-    }
+    rows = re.findall(r"^\| (text|number|coordinate) \| ([A-Z0-9_, ]+) \|", document, re.MULTILINE)
+    columns = {kind: set(names.split(", ")) for kind, names in rows}
     for field in (*layout.FIELDS, *layout.HOUSE_NUMBER_TEXTS):
         assert field.name in columns[by_kind[field.kind]]
 

@@ -6,6 +6,7 @@ import re
 import subprocess
 import sys
 from pathlib import Path
+from typing import Any
 
 import pytest
 import tigerline
@@ -19,7 +20,7 @@ ROW = "0" + "," * len(NAMES) + "\\n"
 TABLE = HEADER + ROW
 
 
-def outcome(program: str | None, **options: object) -> list[tigerline.Row]:
+def outcome(program: str | None, **options: Any) -> list[tigerline.Row]:
     return list(tigerline.rows("TRUE", EXAMPLES, CODE, extractd=program, **options))
 
 
@@ -155,7 +156,8 @@ class TestBuilt:
         path = EXAMPLES / "programs/not_water.bpf"
         words = path.read_bytes()
         expected = [int(line[5:15]) for line in records(EXAMPLES / "TGR01001.RT1") if line[55:56] != b"H"]
-        for program in (words, path, os.path.relpath(path)):
+        programs: list[bytes | Path | str] = [words, path, os.path.relpath(path)]
+        for program in programs:
             assert [row.TLID for row in tigerline.rows(program=program, data=EXAMPLES, counties=CODE)] == expected
         with pytest.raises(RefusedError, match="refused 40 place 0 ReadsNothing"):
             list(tigerline.rows(program=words[16:], data=EXAMPLES, counties=CODE))
@@ -173,7 +175,8 @@ class TestBuilt:
             next(iterator)
 
     def test_arguments(self) -> None:
-        for options in ({}, {"where": "TRUE", "program": b""}, {"program": b"", "score": "TLID"}):
+        wrong: list[dict[str, Any]] = [{}, {"where": "TRUE", "program": b""}, {"program": b"", "score": "TLID"}]
+        for options in wrong:
             with pytest.raises(ValueError):
                 tigerline.rows(data=EXAMPLES, **options)
 

@@ -2,6 +2,7 @@
 
 import sys
 from pathlib import Path
+from typing import Any, cast
 
 import pytest
 import tigerline
@@ -64,13 +65,9 @@ def test_any_byte(tmp_path: Path) -> None:
     odd = bytes(byte for byte in range(256) if byte != 10)
     lines = []
     for shift in range(40):
-        record = bytearray((odd * 2)[shift * 5 : shift * 5 + 228])
-        record[0:1], record[5:15], record[227:] = (
-            b"1",
-            b"%10d" % (1000 + shift),
-            b"9",
-        )  # A CR at the end would belong to the line end.
-        lines.append(bytes(record))
+        record = (odd * 2)[shift * 5 : shift * 5 + 228]
+        # A CR at the end would belong to the line end.
+        lines.append(b"1" + record[1:5] + b"%10d" % (1000 + shift) + record[15:227] + b"9")
     (tmp_path / "TGR01001.RT1").write_bytes(b"\n".join(lines) + b"\n")
     with pytest.warns(UserWarning):
         frame = tigerline.read_county(tmp_path, CODE)
@@ -80,7 +77,7 @@ def test_any_byte(tmp_path: Path) -> None:
 
 
 @pytest.mark.parametrize("geometry", ["", "Line", True, None])
-def test_other_geometry(geometry: object) -> None:
+def test_other_geometry(geometry: Any) -> None:
     with pytest.raises(ValueError, match="geometry is"):
         tigerline.select("TRUE", EXAMPLES, CODE, geometry=geometry)
 
@@ -146,6 +143,6 @@ class TestAgainstGdal:
 @pytest.mark.parametrize("has_tqdm", [True, False])
 def test_progress(capsys: pytest.CaptureFixture[str], monkeypatch: pytest.MonkeyPatch, has_tqdm: bool) -> None:
     if not has_tqdm:
-        monkeypatch.setitem(sys.modules, "tqdm", None)
+        monkeypatch.setitem(cast(dict[str, object], sys.modules), "tqdm", None)
     tigerline.select("FALSE", EXAMPLES, CODE, progress=True)
     assert "1" in capsys.readouterr().err

@@ -6,6 +6,7 @@ import shutil
 import subprocess
 from collections.abc import Iterator
 from pathlib import Path
+from typing import Any
 
 import pytest
 from counties import TOP
@@ -27,7 +28,7 @@ def test_scripts() -> None:
     assert not [path for path in PACKAGE.rglob("*.py") if re.search("addEventListener|querySelector", path.read_text())]
 
 
-def declarations(content: list) -> Iterator[tuple[str, str, str]]:
+def declarations(content: list[Any]) -> Iterator[tuple[str, str, str]]:
     """Yields the selector, the property and the value of each declaration. Raises AssertionError for faults."""
     tinycss2 = pytest.importorskip("tinycss2", reason="no tinycss2")
     for rule in content:

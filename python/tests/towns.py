@@ -9,8 +9,7 @@ from collections.abc import Iterator
 from contextlib import contextmanager
 from pathlib import Path
 from random import Random
-from types import ModuleType
-from typing import NamedTuple
+from typing import Any, NamedTuple
 
 from counties import TOOLS
 
@@ -58,7 +57,7 @@ class Town(NamedTuple):
 
 
 @contextmanager
-def loaded() -> Iterator[ModuleType]:
+def loaded() -> Iterator[Any]:
     """Loads a copy of tools/make_town.py whose constants may be replaced."""
     sys.path.insert(0, str(TOOLS))
     kept = sys.modules.pop("make_town", None)
@@ -84,7 +83,7 @@ def write_county(
             cities[at],
             f"{13264 + at:05}",
             f"{90315 + at:05}",
-            tuple(f"{first_zip + 3 * at + zone}" for zone in range(3)),
+            (f"{first_zip + 3 * at}", f"{first_zip + 3 * at + 1}", f"{first_zip + 3 * at + 2}"),
         )
         for at in range(count)
     ]
@@ -111,7 +110,7 @@ def write_cities(path: Path, code: str, names: list[tuple[str, str, str]]) -> No
 
 
 def draw_town(
-    maker: ModuleType, random: Random, at: int, town: Town, numbers: dict[object, int], code: str
+    maker: Any, random: Random, at: int, town: Town, numbers: dict[object, int], code: str
 ) -> dict[str, list[bytes]]:
     """Draws a town with streets, a place and ZIP Codes of its own."""
     pool = random.sample(STREETS, len(STREETS))
@@ -145,7 +144,7 @@ def draw_town(
             )
         return own, further
 
-    def start(self: object, dice: object) -> None:
+    def start(self: Any, dice: object) -> None:
         self.dice, self.numbers = dice, numbers
 
     maker.area_fields, maker.house_numbers, maker.Names.__init__ = area_fields, house_numbers, start
