@@ -3,7 +3,7 @@
 import contextlib
 import shutil
 import signal
-from collections.abc import Iterator
+from collections.abc import Callable, Iterator
 from pathlib import Path
 from typing import Any
 
@@ -11,10 +11,11 @@ import pytest
 
 with contextlib.suppress(ImportError):
     import hypothesis
-    from hypothesis.configuration import set_hypothesis_home_dir
+    from hypothesis import configuration
 
     # Git ignores its tables of characters here, but not at the top.
-    set_hypothesis_home_dir(Path(__file__).parent / ".hypothesis")
+    set_home: Callable[[Path], None] = configuration.set_hypothesis_home_dir
+    set_home(Path(__file__).parent / ".hypothesis")
     # Uses the same examples each time, so that a commit always has the same result.
     hypothesis.settings.register_profile("repeatable", derandomize=True, deadline=None, database=None)
     hypothesis.settings.load_profile("repeatable")

@@ -1,4 +1,4 @@
-"""The package's types, the errors that a caller sees, and the format of the code."""
+"""The errors that mypy shows a caller of the package. tests/test_types.py checks the package itself."""
 
 import subprocess
 import sys
@@ -19,15 +19,12 @@ tigerline.select("TRUE", "data", geometry=False, columns=["TLID"])
 """
 
 
-def mypy(tmp_path: Path, *arguments: str) -> subprocess.CompletedProcess[str]:
-    pytest.importorskip("mypy", reason="no mypy")
-    command = [sys.executable, "-m", "mypy", "--strict", "--cache-dir", str(tmp_path / "cache"), *arguments]
-    return subprocess.run(command, cwd=TOP / "python", stdout=subprocess.PIPE, text=True)
-
-
 def test_package(tmp_path: Path) -> None:
+    pytest.importorskip("mypy", reason="no mypy")
     (tmp_path / "caller.py").write_text(CALLER)
-    shown = mypy(tmp_path, "tigerline", str(tmp_path / "caller.py")).stdout.splitlines()
+    options = ["--config-file", "pyproject.toml", "--cache-dir", str(tmp_path / "cache"), str(tmp_path / "caller.py")]
+    done = subprocess.run([sys.executable, "-m", "mypy", *options], cwd=TOP, stdout=subprocess.PIPE, text=True)
+    shown = done.stdout.splitlines()
     assert [line.split(": ", 2)[2] for line in shown[:3]] == [
         'Revealed type is "Union[builtins.int, None]"',
         'Revealed type is "Union[builtins.str, None]"',
@@ -35,10 +32,3 @@ def test_package(tmp_path: Path) -> None:
     ]
     assert 'Argument "geometry" to "select" has incompatible type' in shown[3]
     assert shown[-1].startswith("Found 2 errors in 1 file ")
-
-
-def test_format() -> None:
-    pytest.importorskip("black", reason="no black")
-    command = [sys.executable, "-m", "black", "--check", "--quiet", "--diff", "tigerline", "tests"]
-    done = subprocess.run(command, cwd=TOP / "python", stdout=subprocess.PIPE, text=True)
-    assert (done.stdout, done.returncode) == ("", 0)
