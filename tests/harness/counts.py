@@ -7,6 +7,7 @@ the prover must refuse.
 import re
 from collections import Counter
 from collections.abc import Iterator, Mapping
+from functools import cache
 from pathlib import Path
 
 import pytest
@@ -29,7 +30,7 @@ LONGEST = (
     "python/tests/test_explorer.py",
 )
 
-_TEXT = re.compile(r'r#"(.*?)"#|r?"((?:[^"\\]|\\.)*)"', re.DOTALL)
+_TEXT = re.compile(r'r(#+)"(.*?)"\1|r?"((?:[^"\\]|\\.)*)"', re.DOTALL)
 
 
 def name_of(path: Path) -> str:
@@ -55,6 +56,7 @@ def listed() -> dict[str, int]:
     return {name: int(number) for name, _, number in rows}
 
 
+@cache
 def in_crates() -> dict[str, int]:
     """Returns the tests of each source file that has some, and the mutants of each crate that has some."""
     found = {name_of(file): tests_in(file.read_text()) for file in sorted(TOP.glob("crates/*/src/**/*.rt"))}
@@ -66,7 +68,7 @@ def in_crates() -> dict[str, int]:
 def tests_in(source: str) -> int:
     """Returns the number of tests in a source, and of lines in its texts of several lines."""
     tests = source.count("#[test]")
-    texts = (match[1] or match[2] or "" for match in _TEXT.finditer(source)) if tests else ()
+    texts = (match[2] or match[3] or "" for match in _TEXT.finditer(source)) if tests else ()
     return tests + sum(sum(bool(line.strip()) for line in text.splitlines()) for text in texts if "\n" in text)
 
 
