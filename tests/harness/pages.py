@@ -80,6 +80,12 @@ def parts_of(text: str) -> Iterator[Block]:
         yield begun._replace(kind="unfinished")
 
 
+def has_test(part: Block) -> bool:
+    """Returns whether a block has something to run. One that has lost it isn't a test any more, so the count is another one."""
+    begins = {"bash": "", "console": "$ ", "hex": "", "http": "$ ", "pycon": ">>> "}.get(part.kind)
+    return begins is None or any(line.startswith(begins) for line in part.text.splitlines() if line)
+
+
 class PageFile(pytest.File):
     """A page, and the folder in which its commands run."""
 
@@ -93,7 +99,8 @@ class PageFile(pytest.File):
                 assembly = part.text
             if part.kind == "pycon":
                 session += part.text
-            yield from self.tests_of(part, session if part.kind == "pycon" else assembly)
+            if has_test(part):
+                yield from self.tests_of(part, session if part.kind == "pycon" else assembly)
         if self.examples.shown and not self.installed:
             yield self.item(0, self.examples.fault, "the examples of crates/wire_tests")
 
