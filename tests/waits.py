@@ -1,39 +1,33 @@
 #!/usr/bin/env python3
-"""Measures how long one client of the server waits while another one makes trouble: python3 waits.py [--small]
+"""Measures how long one client of the server waits while another one makes trouble: python3 waits.py
 
 Prints a table of the longest waits, without a proxy and through deploy/server/site.conf, as docs/operating.md has it. The waiting client alternates
-between GET /health and POST /verify. The other one has an address of its own, 127.0.0.2. Each row has a server and an nginx of its own.
+between GET /health and POST /verify. The other one has an address of its own, 127.0.0.2. Each row has a server and an nginx of its own. It takes ten minutes.
 
---small takes two minutes instead of ten, and checks the table: through the site no client may wait longer than MOST seconds. Then the last line is
-`N hold, N don't`, and exit status 1 means that one doesn't.
+test_waits.py measures less, and checks the waits through the site.
 """
-# Needs Python 3.11, extractd on the search path, nginx and openssl, and Linux.
+# Needs Python 3.11 with pytest, extractd on the search path, nginx and openssl, and Linux.
 
-import argparse
 import http.client
 import multiprocessing
-import re
 import resource
 import socket
 import ssl
-import subprocess
-import sys
 import tempfile
 import time
-from collections.abc import Callable, Iterator
-from contextlib import contextmanager, suppress
+from collections.abc import Callable
+from contextlib import suppress
 from pathlib import Path
 from typing import NamedTuple
 
-TOP = Path(__file__).resolve().parent.parent
-EXAMPLES = TOP / "examples"
-SERVER = TOP / "deploy" / "server"
+from harness.bodies import EXAMPLES
+from harness.nginx import OTHER, Nginx
+from harness.server import Server
+
 SMALL_PROGRAM = (EXAMPLES / "programs" / "all.bpf").read_bytes()
-HOSTILE = ("127.0.0.2", 0)
+HOSTILE = (OTHER, 0)
 # Words of the longest program, and of the longest that the site lets through to /extract and /jobs.
 LONGEST, LONGEST_OF_SITE = 65_536, 8_192
-# In the small size, the longest wait through the site, in seconds. Machines that do other things are slow.
-MOST = 5.0
 # Without memory for more than this, a job that selects all segments doesn't finish.
 SPARE = 1 << 20
 
@@ -46,7 +40,7 @@ class Size(NamedTuple):
     patience: float
 
 
-FULL, SMALL = Size(20_000, 20, 60), Size(400, 3, 12)
+FULL = Size(20_000, 20, 60)
 
 
 class Target(NamedTuple):
@@ -61,9 +55,13 @@ class Target(NamedTuple):
         context = ssl.create_default_context()
         context.check_hostname = False
         context.verify_mode = ssl.CERT_NONE
-        return http.client.HTTPSConnection("127.0.0.1", self.port, timeout=patience, source_address=source, context=context)
+        return http.client.HTTPSConnection(
+            "127.0.0.1", self.port, timeout=patience, source_address=source, context=context
+        )
 
-    def ask(self, method: str, path: str, body: bytes | None, source: tuple[str, int] | None, patience: float) -> tuple[int, bytes]:
+    def ask(
+        self, method: str, path: str, body: bytes | None, source: tuple[str, int] | None, patience: float
+    ) -> tuple[int, bytes]:
         """Sends a request over a connection of its own, and returns the reply's status and body."""
         connection = self.connect(source, patience)
         try:
@@ -79,7 +77,11 @@ class Target(NamedTuple):
 
 def costly(words: int) -> bytes:
     """Returns a program of this length that executes all its instructions and selects every segment."""
-    add, one, leave = bytes([7, 0, 0, 0, 1, 0, 0, 0]), bytes([0xB7, 0, 0, 0, 1, 0, 0, 0]), bytes([0x95, 0, 0, 0, 0, 0, 0, 0])
+    add, one, leave = (
+        bytes([7, 0, 0, 0, 1, 0, 0, 0]),
+        bytes([0xB7, 0, 0, 0, 1, 0, 0, 0]),
+        bytes([0x95, 0, 0, 0, 0, 0, 0, 0]),
+    )
     return bytes([0xB7]) + bytes(7) + add * (words - 3) + one + leave
 
 
@@ -165,63 +167,7 @@ ROWS = (
 )
 
 
-# ---- Servers
-
-
-def free_port() -> int:
-    with socket.create_server(("127.0.0.1", 0)) as listener:
-        port: int = listener.getsockname()[1]
-    return port
-
-
-@contextmanager
-def serving(folder: Path, lacks_memory: bool) -> Iterator[int]:
-    """Serves the county in a folder, and yields the port."""
-    port = free_port()
-    command = ["extractd", "serve", "--data", str(folder), "--port", str(port), "01001"]
-    with subprocess.Popen(command, stdout=subprocess.PIPE, text=True) as process:
-        try:
-            assert process.stdout is not None
-            if process.stdout.readline() != f"listening 127.0.0.1:{port}\n":
-                raise OSError("no server listens")
-            if lacks_memory:
-                limit = int(Path(f"/proc/{process.pid}/statm").read_text().split()[0]) * resource.getpagesize() + SPARE
-                resource.prlimit(process.pid, resource.RLIMIT_AS, (limit, limit))
-            yield port
-        finally:
-            process.kill()
-
-
-@contextmanager
-def proxying(folder: Path, port: int) -> Iterator[int]:
-    """Runs nginx with the site in front of a server, and yields nginx's port. The folder has a certificate."""
-    tls = free_port()
-    site = (SERVER / "site.conf").read_text()
-    site = site.replace("127.0.0.1:8080", f"127.0.0.1:{port}").replace("listen 443 ", f"listen 127.0.0.1:{tls} ")
-    (folder / "site.conf").write_text(site.replace("/var/log/nginx/", ""))
-    (folder / "nginx.conf").write_bytes((SERVER / "nginx.conf").read_bytes())
-    command = ["nginx", "-e", "stderr", "-p", str(folder), "-c", "nginx.conf", "-g", "daemon off;"]
-    with subprocess.Popen(command, stderr=subprocess.DEVNULL) as process:
-        try:
-            await_listener(tls)
-            yield tls
-        finally:
-            process.terminate()
-
-
-def await_listener(port: int) -> None:
-    for _ in range(100):
-        with suppress(OSError):
-            socket.create_connection(("127.0.0.1", port), 1).close()
-            return
-        time.sleep(0.1)
-    raise OSError("nginx doesn't listen")
-
-
-def make_certificate(folder: Path) -> None:
-    command = ["openssl", "req", "-x509", "-newkey", "ec", "-pkeyopt", "ec_paramgen_curve:prime256v1", "-nodes", "-days", "1", "-subj", "/CN=localhost"]
-    files = ["-keyout", str(folder / "extractd.key"), "-out", str(folder / "extractd.crt")]
-    subprocess.run([*command, *files], check=True, stderr=subprocess.DEVNULL)
+# ---- The measurement
 
 
 def write_county(folder: Path, segments: int) -> None:
@@ -232,15 +178,13 @@ def write_county(folder: Path, segments: int) -> None:
     (folder / "TGR01001.RT1").write_bytes(b"".join(lines * (segments // len(lines))))
 
 
-# ---- The measurement
-
-
 class Waits(NamedTuple):
-    """How often the waiting client asked, its longest wait in seconds, and the requests that got no answer."""
+    """How often the waiting client asked, its longest wait in seconds, the requests that got no answer, and whether the trouble lasted."""
 
     asked: int
     longest: float
     failed: int
+    lasted: bool
 
 
 def measure(target: Target, trouble: Callable[[Target], None], size: Size) -> Waits:
@@ -254,10 +198,10 @@ def measure(target: Target, trouble: Callable[[Target], None], size: Size) -> Wa
             start = time.monotonic()
             failed += not is_answered(target, asked % 2 == 0, size.patience)
             asked, longest = asked + 1, max(longest, time.monotonic() - start)
+        return Waits(asked, longest, failed, other.is_alive())
     finally:
         other.kill()
         other.join()
-    return Waits(asked, longest, failed)
 
 
 def is_answered(target: Target, asks_health: bool, patience: float) -> bool:
@@ -270,11 +214,16 @@ def is_answered(target: Target, asks_health: bool, patience: float) -> bool:
 
 
 def waits_of(row: Row, by_site: bool, folder: Path, size: Size) -> Waits:
-    with serving(folder, row.lacks_memory) as port:
+    """Returns the waits for a new server over the county in a folder."""
+    with Server(folder) as server:
+        if row.lacks_memory:
+            pages = int(Path(f"/proc/{server.process.pid}/statm").read_text().split()[0])
+            limit = pages * resource.getpagesize() + SPARE
+            resource.prlimit(server.process.pid, resource.RLIMIT_AS, (limit, limit))
         if not by_site:
-            return measure(Target(port, by_site), row.trouble, size)
-        with proxying(folder, port) as tls:
-            return measure(Target(tls, by_site), row.trouble, size)
+            return measure(Target(server.port, by_site), row.trouble, size)
+        with Nginx(server.port) as nginx:
+            return measure(Target(nginx.port, by_site), row.trouble, size)
 
 
 def shown(waits: Waits, size: Size) -> str:
@@ -282,33 +231,19 @@ def shown(waits: Waits, size: Size) -> str:
     return f"{text}, {waits.failed} of {waits.asked} failed" if waits.failed else text
 
 
-def print_table(folder: Path, size: Size) -> Iterator[tuple[Row, Waits]]:
-    """Prints the table, and yields each row with its waits through the site."""
+def print_table(folder: Path, size: Size) -> None:
     print(f"{size.segments} segments, {size.duration} seconds a cell\n")
     print("| Another client | Without a proxy | Through the site |\n|---|--:|--:|", flush=True)
     for row in ROWS:
         without, by_site = (waits_of(row, site, folder, size) for site in (False, True))
         print(f"| {row.name} | {shown(without, size)} | {shown(by_site, size)} |", flush=True)
-        yield row, by_site
 
 
-def main() -> int:
-    parser = argparse.ArgumentParser(description="Measures how long a client waits while another one makes trouble.")
-    parser.add_argument("--small", action="store_true", help="measure less, and check the waits")
-    size = SMALL if (options := parser.parse_args()).small else FULL
+def main() -> None:
     with tempfile.TemporaryDirectory() as scratch:
-        folder = Path(scratch)
-        folder.chmod(0o755)
-        write_county(folder, size.segments)
-        make_certificate(folder)
-        rows = list(print_table(folder, size))
-    faults = [row.name for row, waits in rows if waits.longest > MOST or waits.failed > 0]
-    if options.small:
-        for name in faults:
-            print(f"another client {name}: a wait through the site is too long, or a request failed")
-        print(f"{len(rows) - len(faults)} hold, {len(faults)} don't")
-    return 1 if options.small and faults else 0
+        write_county(Path(scratch), FULL.segments)
+        print_table(Path(scratch), FULL)
 
 
 if __name__ == "__main__":
-    sys.exit(main())
+    main()
