@@ -26,8 +26,8 @@ exec prlimit "$limit" -- "$@"
 """
 
 
-def install(program: str | None) -> None:
-    """Makes the commands, with the program if it is known."""
+def install(program: str | None, is_installed: bool = False) -> None:
+    """Makes the commands, with the program if it is known. If the package is installed, its command and Python are those of the system."""
     folder = Path(tempfile.mkdtemp(prefix="commands."))
     folder.chmod(0o755)
     os.environ[VARIABLE] = str(folder)
@@ -35,8 +35,9 @@ def install(program: str | None) -> None:
     package = f'#!/bin/sh\nPYTHONPATH="{TOP}/python" exec "{sys.executable}" -B'
     _write(folder / "rt", RT)
     _write(folder / "limited", LIMITED)
-    _write(folder / "tigerline", f'{package} -m tigerline "$@"\n')
-    _write(folder / "python3", f'{package} "$@"\n')
+    if not is_installed:
+        _write(folder / "tigerline", f'{package} -m tigerline "$@"\n')
+        _write(folder / "python3", f'{package} "$@"\n')
     if program is not None:
         shutil.copy(program, folder / "extractd")
         (folder / "extractd").chmod(0o755)
