@@ -1,4 +1,4 @@
-//! Requests with whole replies, those that docs/http.md shows among them, in its order. tests/try.sh looks for the page's in these tables, and sends
+//! Requests with whole replies, those that docs/http.md shows among them, in its order. tests/run looks for the page's in these tables, and sends
 //! them to the program.
 use fixtures::Table;
 
