@@ -12,7 +12,9 @@ from harness.program import TOP
 
 RUNNER = TOP / "tests/harness/shell.sh"
 SECONDS = 900
-_TEST = re.compile(r"^(test_\w+)\(\) \{(?: # needs (.*))?$", re.MULTILINE)
+# What shell.sh prints at the end of a test that passes. Without it, nothing was run.
+_COUNTS = re.compile(r"^[1-9][0-9]* passed, 0 failed$", re.MULTILINE)
+_TEST = re.compile(r"^(test_\w+) *\(\) *\{(?: # needs (.*))?", re.MULTILINE)
 
 
 class ShellFile(pytest.File):
@@ -43,8 +45,8 @@ class ShellTest(pytest.Item):
                 start_new_session=True,
             ) as process:
                 said, _ = process.communicate(timeout=SECONDS)
-        if process.returncode:
-            raise ShellFailure(said)
+        if process.returncode or not _COUNTS.search(said):
+            raise ShellFailure(said or f"{RUNNER.name} says nothing")
 
     def repr_failure(self, excinfo: pytest.ExceptionInfo[BaseException], style: object = None) -> str:
         return str(excinfo.value) if isinstance(excinfo.value, ShellFailure) else str(super().repr_failure(excinfo))

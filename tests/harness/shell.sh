@@ -2,7 +2,7 @@
 # Runs one test of a file: shell.sh FILE TEST
 #
 # The test is a function of the file, and runs in the current folder, which is new. It passes if at least one thing was checked, by `pass` or `fail`, and
-# nothing failed. Prints what failed.
+# nothing failed. Prints what failed, and the counts.
 
 set -u
 export LC_ALL=C
@@ -54,4 +54,5 @@ echo silent > home/.curlrc
 . "$1"
 if ! declare -F "$2" > /dev/null; then fail "$1 doesn't define $2"; else "$2"; fi
 [ $((passed + failed)) -gt 0 ] || fail "$2 checks nothing"
+echo "$passed passed, $failed failed"
 [ "$failed" -eq 0 ]
