@@ -7,8 +7,7 @@
     --jobs N                                   how many run at once; 1 to 2 GB of memory each
 
 A table is a constant of the type `Table`. Its last row is put in once more, without its last cell, with a further cell, or with a misspelt word or
-number, and the table says that it has one row more. `rt try --test` compiles and runs the table's tests, without a proof. Tables that have no test
-in common are tried at once.
+number. `rt try --test` compiles and runs the table's tests, without a proof. Tables that have no test in common are tried at once.
 
 Prints the tables that pass with such a row. The last line is `N passed, N failed`, where a table has passed if each bad row made the tests fail.
 """
@@ -27,12 +26,9 @@ from typing import NamedTuple
 
 from crate_copy import TOP, make_copy
 
-TABLE = re.compile(
-    r"const (?P<name>\w+): (?:fixtures::)?Table = Table \{\n\s*rows: (?P<rows>[\d_]+),\n\s*text: (?P<text>.*?)\n\};",
-    re.DOTALL,
-)
-# The last literal of a table's text: `r##"..."##`, `r"..."` or `"..."`, which another literal of a concat! may precede.
-CLOSING = re.compile(r'(\n?)"#*,?\s*\)?,?\s*$')
+TABLE = re.compile(r"""const (?P<name>\w+): (?:fixtures::)?Table = Table\((?P<text>.*?"#*)(?=,?\s*\)+;\n)""", re.DOTALL)
+# The end of a table's text: of `r##"..."##`, `r"..."` or `"..."`, which another literal of a concat! may precede.
+CLOSING = re.compile(r'\n?"#*$')
 SECONDS = "900"  # that a test has, also on a busy machine
 # A test that failed, by its module and name. One that ran out of time hasn't refused a row.
 FAILED_TEST = re.compile(r"^test (\S+) \.\.\. (?!ok\b)(?!.*no-answer)", re.MULTILINE)
@@ -84,7 +80,7 @@ def bad_rows(row: str) -> dict[str, str]:
     return {"missing cell": head, "further cell": f"{row}{separator}1", "misspelt cell": f"{head}{separator}{last}x"}
 
 
-def with_row(source: str, name: str, row: str | None = None, kind: str = "") -> str | None:
+def with_row(source: str, name: str, kind: str) -> str | None:
     """Returns the source with a bad row of one kind in a table, if the table's last row can be malformed this way."""
     found = next(it for it in TABLE.finditer(source) if it["name"] == name)
     closing = CLOSING.search(found["text"])
@@ -94,10 +90,8 @@ def with_row(source: str, name: str, row: str | None = None, kind: str = "") -> 
     bad = bad_rows(last_row(body)).get(kind)
     if bad is None:
         return None
-    rows = int(found["rows"].replace("_", "")) + 1
     text = f"{body}\n{bad}{found['text'][closing.start():]}"
-    table = found[0].replace(found["text"], text).replace(f"rows: {found['rows']},", f"rows: {rows},", 1)
-    return source[: found.start()] + table + source[found.end() :]
+    return source[: found.start("text")] + text + source[found.end("text") :]
 
 
 def functions_of(source: str) -> Iterator[tuple[str, str, bool]]:
