@@ -1,4 +1,4 @@
-"""Every file in Python is typed, as mypy --strict sees it, and laid out by black. shellcheck finds nothing in any file of the shell."""
+"""Every file in Python is typed, as mypy --strict sees it, and laid out by black. shellcheck finds nothing in any file of the shell. None is empty."""
 
 import re
 import subprocess
@@ -86,6 +86,13 @@ def test_types(part: str, file: str) -> None:
 def test_layout(part: str, file: str) -> None:
     """`black --config pyproject.toml FILE` lays out a file."""
     check(layout_of(part), part, file)
+
+
+@pytest.mark.parametrize("file", sorted({*PYTHON["tests"], *PYTHON["python"], *SHELL}))
+def test_content(file: str) -> None:
+    """A file that lost its text would still be well typed and laid out."""
+    lines = (TOP / file).read_text(encoding="utf-8").splitlines()
+    assert [line for line in lines if line.strip() and not line.startswith("#")]
 
 
 @pytest.mark.needs("shellcheck")
