@@ -4,6 +4,7 @@ tests/run starts them. The last line is `N passed, N failed`, which .ci/run read
 """
 
 import os
+import tempfile
 from collections import Counter
 from collections.abc import Iterator
 from pathlib import Path
@@ -112,7 +113,8 @@ def times(pytestconfig: pytest.Config) -> int:
 
 
 @pytest.fixture
-def here(tmp_path: Path, monkeypatch: pytest.MonkeyPatch) -> Iterator[Path]:
-    """Goes to a new folder."""
-    monkeypatch.chdir(tmp_path)
-    yield tmp_path
+def here(monkeypatch: pytest.MonkeyPatch) -> Iterator[Path]:
+    """Goes to a new folder, which is removed at the end."""
+    with tempfile.TemporaryDirectory(prefix="here.") as folder, monkeypatch.context() as patch:
+        patch.chdir(folder)
+        yield Path(folder)
