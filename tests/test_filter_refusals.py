@@ -13,17 +13,17 @@ FENAME = 'é€'; 90 line 1 column 12 Syntax; expected a character of Latin-1
 FENAME IN ('a', 'bc€'); 90 line 1 column 20 Syntax; expected a character of Latin-1
 FENAME LIKE 'ab€%'; 90 line 1 column 16 Syntax; expected a character of Latin-1
 FENAME LIKE 'a\€'; 90 line 1 column 16 Syntax; expected a character that the backslash makes literal
-FENAME LIKE 'a\b'; 90 line 1 column 16 Syntax; expected a character that the backslash makes literal
-ZIPL + 1 IS NULL; 90 line 1 column 10 Syntax; expected a comparison, LIKE, BETWEEN, IN or IS
+ZIPL + 1 IS NULL; 92 line 1 column 13 WrongType; the column isn't of this type
 FENAME = CASEI('A'); 92 line 1 column 10 WrongType; CASEI and ACCENTI have to be on both sides, with =, <>, LIKE or IN
 CASEI(FENAME) = 'A'; 92 line 1 column 17 WrongType; CASEI and ACCENTI have to be on both sides, with =, <>, LIKE or IN
-FENAME BETWEEN 'a' AND 'b'; 92 line 1 column 16 WrongType; the column isn't of this type
-ZIPL = '36067'; 92 line 1 column 8 WrongType; the column isn't of this type
+FENAME BETWEEN 'a' AND 'b'; 92 line 1 column 8 WrongType; the column isn't of this type
+ZIPL = '36067'; 92 line 1 column 8 WrongType; the column isn't of this type: write a number, without quotes
+FENAME = "Main"; 90 line 1 column 10 Syntax; expected a text in single quotes: write single quotes, since double quotes are for the name of a column
 """
-# The same of JSON. A name that isn't a column gets no hint about the single quotes of the text.
+# The same of JSON, which gets no hint about the quotes of the text.
 JSON = """
-{"op":"=","args":[{"property":"FENAME"},{"property":"Main"}]}; 91 pointer /args/1/property UnknownColumn; no column has this name
-{"op":"=","args":[{"property":"ZIPL"},"36067"]}; 92 pointer /args/1 WrongType; the column isn't of this type
+{"op":"=","args":[{"property":"FENAME"},{"property":"Main"}]}; 90 pointer /args/1/property Syntax; expected a text in single quotes
+{"op":"=","args":[{"property":"ZIPL"},"36067"]}; 92 pointer /args/1 WrongType; the column isn't of this type: write a number, without quotes
 """
 
 
