@@ -119,3 +119,9 @@ DOWN_ROWS = [pytest.param(row.split(" | ")[1], id=row.split(" | ")[0]) for row i
 @pytest.mark.parametrize("arguments", DOWN_ROWS)
 def test_no_server(arguments: str, down: Nginx, inputs: Path) -> None:
     assert ask(*arguments.replace("URL", down.url).split(" "), folder=inputs) == Reply("502", b"no server\n")
+
+
+@pytest.mark.parametrize("route", ["extract", "select", "compile", "explain", "jobs", "filter-jobs"])
+def test_more_words_than_nginx_lets_through(route: str, proxy: Nginx, inputs: Path) -> None:
+    reply = ask("--data-binary", "@wordy", f"{proxy.url}/{route}", folder=inputs)
+    assert reply == Reply("413", b"too large\n")
