@@ -11,6 +11,7 @@ import warnings
 from collections.abc import Iterator
 from math import cos, radians, sin
 from pathlib import Path
+from typing import Any, TypedDict
 from xml.etree import ElementTree
 
 import pytest
@@ -49,8 +50,10 @@ def drawn(
     return Drawing(view_of(segments), groups, by_class(background), caption, f"{len(segments):,} segments", score)
 
 
-def svg(*arguments: object, **options: object) -> str:
-    return drawn(*arguments, **options).file(".svg").decode()
+def svg(
+    segments: list[MapSegment], caption: str = "", background: list[MapSegment] = [], score: str | None = None
+) -> str:
+    return drawn(segments, caption, background, score).file(".svg").decode()
 
 
 def tree_of(text: str) -> ElementTree.Element:
@@ -69,9 +72,8 @@ def names_of(text: str) -> list[str]:
 
 def legend_of(text: str) -> dict[str, str]:
     """Returns the rows of the legend: each label with its count."""
-    return dict(
-        found.groups() for found in (re.fullmatch(r"(.+) \(([0-9,]+)\)", row) for row in texts_of(text)) if found
-    )
+    rows = (re.fullmatch(r"(.+) \(([0-9,]+)\)", row) for row in texts_of(text))
+    return {found[1]: found[2] for found in rows if found}
 
 
 def lines_of(text: str) -> Iterator[tuple[str, list[list[tuple[float, float]]]]]:
@@ -88,7 +90,7 @@ def lines_of(text: str) -> Iterator[tuple[str, list[list[tuple[float, float]]]]]
 def test_picture_has_caption_and_source() -> None:
     root = tree_of(svg(SOME, "CFCC LIKE 'A%' AND $x$"))
     assert root.tag == SVG + "svg" and "width" not in root.attrib  # so it fills the screen
-    assert root.find(SVG + "title").text == "CFCC LIKE 'A%' AND $x$"
+    assert root.findtext(SVG + "title") == "CFCC LIKE 'A%' AND $x$"
     texts = texts_of(svg(SOME, "CFCC LIKE 'A%' AND $x$"))
     assert {"CFCC LIKE 'A%' AND $x$", "U.S. Census Bureau, TIGER/Line 2006, NAD83"} <= {*texts}
 
@@ -206,7 +208,7 @@ def test_texts_are_escaped(kind: str) -> None:
     file = drawn(wide, evil).file(kind)
     if kind == ".svg":
         shown = "</title></svg><script>alert(1)</script><img onerror=alert(2)>&\"'$\ufffd\ufffd\ufffd"
-        assert tree_of(file.decode()).find(SVG + "title").text == shown
+        assert tree_of(file.decode()).findtext(SVG + "title") == shown
     if kind in (".svg", ".html"):
         assert b"<script>alert" not in file and b"onerror=alert(2)>" not in file and b"\x1b" not in file
 
@@ -331,15 +333,16 @@ def test_more_names_with_zoom() -> None:
     assert names_of(svg(SOME)).count("I-65") == 1 and "N Oak Ave" in names_of(svg(SOME))
 
 
-def placed_names(text: str) -> Iterator[tuple[str, object]]:
+def placed_names(text: str) -> Iterator[tuple[str, Any]]:
     """Yields the names on a map with the lines that they are surely on: letters are at least 0.4 as wide as high."""
-    line_string = pytest.importorskip("shapely.geometry", reason="no shapely").LineString
+    # Shapely has no types.
+    line_string: Any = pytest.importorskip("shapely.geometry", reason="no shapely").LineString
     for group in tree_of(text).iter(SVG + "g"):
         if group.get("id", "").startswith("name"):
             found = group[0]
-            angle, x, y = map(
-                float, re.search(r"rotate\(([^ ]+) ([^ ]+) ([^ ]+)\)", found.get("transform", "")).groups()
-            )
+            place = re.search(r"rotate\(([^ ]+) ([^ ]+) ([^ ]+)\)", found.get("transform", ""))
+            assert place and found.text is not None
+            angle, x, y = map(float, place.groups())
             half = len(found.text) * 6 * 0.4 / 2
             along = half * cos(radians(angle)), half * sin(radians(angle))
             yield found.text, line_string([(x - along[0], y - along[1]), (x + along[0], y + along[1])])
@@ -401,7 +404,7 @@ def test_command_draws_rows_over_their_county() -> None:
 
 def test_picture_of_the_readme_is_what_the_command_draws(tmp_path: Path) -> None:
     where = "CFCC LIKE 'A%' AND (ZIPL = 35042 OR ZIPR = 35042)"
-    words = ["select", TOWN, tmp_path / "a.csv", "--where", where, "--map", tmp_path / "a.svg"]
+    words = ["select", str(TOWN), str(tmp_path / "a.csv"), "--where", where, "--map", str(tmp_path / "a.svg")]
     command, environment = [sys.executable, "-m", "tigerline", *words], {**os.environ, "PYTHONPATH": str(PACKAGES)}
     subprocess.run(command, env=environment, check=True, timeout=300)
     picture = (tmp_path / "a.svg").read_text()
@@ -486,9 +489,17 @@ def test_gdal_finds_the_same_points_in_a_selection(tmp_path: Path) -> None:
 # Pages
 
 
-def page_data(page: bytes) -> dict:
-    (data,) = re.findall('<script type="application/json" id="data">(.*?)</script>', page.decode(), re.DOTALL)
-    return json.loads(data)
+class PageData(TypedDict):
+    """The rows of segments in a page: the row of the legend, the class, the name, the score and the points of each."""
+
+    selected: list[list[object]]
+    around: list[list[object]]
+
+
+def page_data(page: bytes) -> PageData:
+    (text,) = re.findall('<script type="application/json" id="data">(.*?)</script>', page.decode(), re.DOTALL)
+    data: PageData = json.loads(text)
+    return data
 
 
 def shown_by(chromium: Chrome, selector: str) -> list[str]:
@@ -496,9 +507,11 @@ def shown_by(chromium: Chrome, selector: str) -> list[str]:
     return [found.text for found in chromium.find_elements("css selector", selector)]
 
 
-def point_at(chromium: Chrome, across: int, down: int) -> ActionChains:
+def point_at(chromium: Chrome, across: int, down: int) -> Any:
     """Moves the pointer to a place, counted from the middle of the map."""
-    chains = ActionChains(chromium).move_to_element_with_offset(chromium.find_element("id", "map"), across, down)
+    # Selenium has no types of this class.
+    actions: Any = ActionChains
+    chains = actions(chromium).move_to_element_with_offset(chromium.find_element("id", "map"), across, down)
     chains.perform()
     return chains
 
