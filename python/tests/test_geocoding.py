@@ -11,8 +11,9 @@ import signal
 import subprocess
 import sys
 import time
-from collections.abc import Iterator
+from collections.abc import Iterator, Sequence
 from pathlib import Path
+from typing import IO
 
 import pytest
 import tigerline
@@ -37,8 +38,15 @@ def out(tmp_path: Path) -> Iterator[Path]:
     assert not [path.name for path in folder.iterdir() if path.name.startswith(".")]
 
 
-def geocode(source: object, *options: object, **settings: object) -> subprocess.CompletedProcess[str]:
-    return run("geocode", "--data", EXAMPLES, f"--counties={CODE}", source, *options, **settings)
+def geocode(
+    source: object,
+    *options: object,
+    before: Sequence[str] = (),
+    stdin: IO[bytes] | None = None,
+    stdout: int = subprocess.PIPE,
+) -> subprocess.CompletedProcess[str]:
+    words = ("geocode", "--data", EXAMPLES, f"--counties={CODE}", source, *options)
+    return run(*words, before=before, stdin=stdin, stdout=stdout)
 
 
 def rows_of(text: str) -> list[list[str]]:
@@ -163,8 +171,10 @@ class TestOutput:
         (tmp_path / "in.csv").write_text(f"{EXACT}\n" * 3000)
         return tmp_path / "in.csv"
 
-    def refused(self, out: Path, status: int, text: str, *arguments: object, **options: object) -> None:
-        done = geocode(*arguments, **options)
+    def refused(
+        self, out: Path, status: int, text: str, source: object, *options: object, before: Sequence[str] = ()
+    ) -> None:
+        done = geocode(source, *options, before=before)
         assert done.returncode == status and text in done.stderr and done.stderr.count("\n") == 1
         assert not list(out.iterdir())
 
@@ -289,14 +299,17 @@ class TestFunction:
 class TestInterrupts:
     """Ctrl-C and other signals leave no process, no folder and no partial file."""
 
-    def start(self, *arguments: object, **options: object) -> subprocess.Popen[bytes]:
+    def start(
+        self, *arguments: object, stdin: int | None = None, stdout: int = subprocess.DEVNULL
+    ) -> subprocess.Popen[bytes]:
         command = [sys.executable, "-m", "tigerline", "geocode", *map(str, arguments), "--data", str(EXAMPLES)]
         return subprocess.Popen(
             [*command, "--counties", CODE],
             env=environment(),
+            stdin=stdin,
+            stdout=stdout,
             stderr=subprocess.DEVNULL,
             start_new_session=True,
-            **{"stdout": subprocess.DEVNULL, **options},
         )
 
     def test_at_any_moment(self, scratch: Path, out: Path, tmp_path: Path) -> None:
@@ -323,6 +336,7 @@ class TestInterrupts:
         os.mkfifo(tmp_path / "pipe")
         source = "-" if kind == "standard input" else tmp_path / "pipe"
         process = self.start(source, out / "a.csv", stdin=subprocess.PIPE)
+        assert process.stdin is not None
         while not list(scratch.iterdir()):
             time.sleep(0.01)
         time.sleep(0.2)
@@ -334,6 +348,7 @@ class TestInterrupts:
     def test_output_that_nobody_reads(self, scratch: Path, tmp_path: Path) -> None:
         (tmp_path / "in.csv").write_text(f"{EXACT}\n" * 3000)
         process = self.start(tmp_path / "in.csv", stdout=subprocess.PIPE)
+        assert process.stdout is not None
         select.select([process.stdout], [], [])
         time.sleep(0.2)
         os.killpg(process.pid, signal.SIGINT)
@@ -456,7 +471,7 @@ CHOICES = """
 
 
 def write_segments(folder: Path) -> None:
-    rt1, rt4, rt5 = [], [], []
+    files: dict[str, list[str]] = {"1": [], "4": [], "5": [], "6": []}
     for tlid, (names, numbers, zip_code) in enumerate((row.split("|") for row in SEGMENTS), start=1):
         own, *others = (
             f"{predir:2}{name.replace('_', ' '):30}{kind:4}{sufdir:2}"
@@ -467,11 +482,11 @@ def write_segments(folder: Path) -> None:
         first, last = numbers.split("-")
         addresses = f"{first.strip():>11}{last.strip():>11}{'':22}0000{zip_code.strip():5}"
         place = f"{-86_000_000 - tlid:+010}{32_000_000:+09}" * 2
-        rt1.append(f"10006{tlid:10}  {own}A41{addresses}".ljust(190) + place)
+        files["1"].append(f"10006{tlid:10}  {own}A41{addresses}".ljust(190) + place)
         for other in others:
-            rt5.append(f"5000601001{tlid:8}{other}")
-            rt4.append(f"40006{tlid:10}  1{tlid:8}{'':32}")
-    for record_type, lines in (("1", rt1), ("4", rt4), ("5", rt5), ("6", [])):
+            files["5"].append(f"5000601001{tlid:8}{other}")
+            files["4"].append(f"40006{tlid:10}  1{tlid:8}{'':32}")
+    for record_type, lines in files.items():
         (folder / f"TGR{CODE}.RT{record_type}").write_text("".join(line + "\n" for line in lines))
 
 

@@ -41,9 +41,18 @@ TYPES = {**{long.lower(): short.lower() for short, long in LONG.items() if len(s
 TYPES |= {short: short for short in TYPES.values()}
 
 
+class Name(NamedTuple):
+    """The fields of a name, without blanks around them."""
+
+    fedirp: str
+    fename: str
+    fetype: str
+    fedirs: str
+
+
 class Segment(NamedTuple):
     tlid: int
-    names: list[tuple[str, str, str, str]]  # FEDIRP, FENAME, FETYPE, FEDIRS
+    names: list[Name]
     sides: list[tuple[str, int, int, str]]  # letter, first and last number, ZIP Code
     ends: tuple[int, int, int, int] | None
     shape: list[Point] | None  # None if the county has no shapes
@@ -66,7 +75,8 @@ class Index:
         features = {
             int(line[10:18]): (line[18:20], line[20:50], line[50:54], line[54:56]) for line in reversed(lines(5))
         }
-        names, sides = defaultdict(list), defaultdict(list)
+        names: dict[str, list[tuple[str, ...]]] = defaultdict(list)
+        sides: dict[str, list[tuple[str, str, str]]] = defaultdict(list)
         for line in lines(4):
             for at in range(18, 58, 8):
                 if line[at : at + 8].strip():
@@ -75,26 +85,26 @@ class Index:
             sides[line[5:15]] += [("L", line[18:40], line[66:71]), ("R", line[40:62], line[71:76])]
         path = folder / f"TGR{code}.RT2"
         shapes = read_shapes(path) if path.exists() else None
-        self.segments = []
-        self.by_name = defaultdict(list)
+        self.segments: list[Segment] = []
+        self.by_name: dict[str, list[tuple[Segment, Name]]] = defaultdict(list)
         for line in lines(1):
             own = (line[17:19], line[19:49], line[49:53], line[53:55])
             ranges = [("L", line[58:80], line[106:111]), ("R", line[80:102], line[111:116]), *sides[line[5:15]]]
-            ends = line[190:200], line[200:209], line[209:219], line[219:228]
             segment = Segment(
                 int(line[5:15]),
-                [tuple(part.strip() for part in name) for name in (own, *names[line[5:15]])],
+                [Name(*map(str.strip, name)) for name in (own, *names[line[5:15]])],
                 [(side, int(both[:11]), int(both[11:]), code.strip()) for side, both, code in ranges if both.strip()],
-                tuple(map(int, ends)) if all(map(str.strip, ends)) else None,
+                ends_of(line),
                 None if shapes is None else shapes.get(int(line[5:15]), []),
             )
             self.segments.append(segment)
             for name in segment.names:
-                self.by_name[name[1].lower()].append((segment, name))
+                self.by_name[name.fename.lower()].append((segment, name))
 
     def answer(self, number: int, street: str, zip_code: str) -> tuple[str, list[Found]]:
         """Returns Match, Tie or the reason, and the best hits."""
-        hits, street_exists = [], False
+        hits: list[Found] = []
+        street_exists = False
         for name, prefix, type_, suffix in self.splits(street.lower().replace(".", "").split()):
             for segment, (fedirp, fename, fetype, fedirs) in self.by_name[name]:
                 if not fename:
@@ -149,6 +159,15 @@ class Index:
         return [name]
 
 
+def ends_of(record: str) -> tuple[int, int, int, int] | None:
+    """Returns the longitude and the latitude of both ends of a segment, or None if one of the four is missing."""
+    fields = record[190:200], record[200:209], record[209:219], record[219:228]
+    if not all(map(str.strip, fields)):
+        return None
+    longitude, latitude, to_longitude, to_latitude = map(int, fields)
+    return longitude, latitude, to_longitude, to_latitude
+
+
 def place(segment: Segment, number: int, first: int, last: int) -> tuple[str, str] | None:
     """Returns the place of a house number in degrees, along the shape if the county has shapes."""
     if segment.ends is None:
@@ -156,8 +175,10 @@ def place(segment: Segment, number: int, first: int, last: int) -> tuple[str, st
     start, end = Point(*segment.ends[:2]), Point(*segment.ends[2:])
     part, whole = abs(number - first), abs(last - first) or 1
     if segment.shape is None:
-        return tuple(map(degrees, place_between(start, end, part, whole)))
-    return tuple(map(degrees, place_along([start, *segment.shape, end], part, whole)))
+        spot = place_between(start, end, part, whole)
+    else:
+        spot = place_along([start, *segment.shape, end], part, whole)
+    return degrees(spot.longitude), degrees(spot.latitude)
 
 
 class Drawn(NamedTuple):
@@ -275,7 +296,7 @@ def test_index(code: str, many_segments: Path) -> None:
     drawn = [draw(random, index, kind) for kind in kinds]
     addresses = [(str(at), address.text, "Town", "AL", address.zip) for at, address in enumerate(drawn)]
     matches = list(tigerline.geocode(addresses, folder, code))
-    counts = Counter()
+    counts: Counter[str] = Counter()
     for at, (address, match) in enumerate(zip(drawn, matches, strict=True)):
         assert match.address.id == str(at)
         check(index, address, match)

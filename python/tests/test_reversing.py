@@ -225,8 +225,9 @@ def houses(folder: Path, code: str, count: int) -> Iterator[House]:
     """Yields houses of random streets, 5 to 25 m beside the place of their number along the shape."""
     records = {kind: (folder / f"TGR{code}.RT{kind}").read_text("latin-1").splitlines() for kind in "12456"}
     features = {record[10:18]: record[20:50].strip() for record in records["5"]}
-    names, shapes = defaultdict(set), defaultdict(list)
-    sides = defaultdict(list)
+    names: dict[str, set[str]] = defaultdict(set)
+    shapes: dict[str, list[tuple[float, float]]] = defaultdict(list)
+    sides: dict[str, list[tuple[int, str]]] = defaultdict(list)
     for record in records["4"]:
         names[record[5:15]] |= {features[record[at : at + 8]] for at in range(18, 58, 8) if record[at : at + 8].strip()}
     for record in records["2"]:
