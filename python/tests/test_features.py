@@ -8,8 +8,9 @@ from concurrent.futures import ThreadPoolExecutor, as_completed
 from pathlib import Path
 from typing import Any, NamedTuple
 from urllib.parse import parse_qsl, urlencode, urlsplit
+from wsgiref.types import WSGIEnvironment
 from wsgiref.util import setup_testing_defaults
-from wsgiref.validate import validator
+from wsgiref.validate import IteratorWrapper, validator
 
 import pytest
 from counties import (
@@ -27,7 +28,7 @@ from counties import (
 from test_features_command import HANGING, wait_until
 from test_interrupts import processes_with
 from tigerline.layout import FIELDS, Field, Kind
-from tigerline.service.application import Limits, Service, application
+from tigerline.service import Limits, Service, application
 
 BASE = "http://127.0.0.1"
 ITEMS = f"/collections/{CODE}/items"
@@ -57,6 +58,7 @@ def ask(service: Service, target: str, method: str = "GET", is_raw: bool = False
         return lambda data: None
 
     parts = validator(service)(environ, start_response)
+    assert isinstance(parts, IteratorWrapper)
     body = b"".join(parts)
     parts.close()
     headers = dict(started[1])
@@ -231,9 +233,9 @@ class TestFeatures:
         odd = bytes(byte for byte in range(256) if byte != 10)
         lines = []
         for shift in range(40):
-            line = bytearray((odd * 2)[shift * 5 : shift * 5 + 228])
-            line[0:1], line[5:15], line[227:] = b"1", b"%10d" % (1000 + shift), b"9"
-            lines.append(bytes(line))
+            record = bytearray((odd * 2)[shift * 5 : shift * 5 + 228])
+            record[0:1], record[5:15], record[227:] = b"1", b"%10d" % (1000 + shift), b"9"
+            lines.append(bytes(record))
         (copy_county(tmp_path) / "TGR01001.RT1").write_bytes(b"\n".join(lines) + b"\n")
         features = ask(make(tmp_path), ITEMS).document["features"]
         for line, feature in zip(lines, features, strict=True):
@@ -736,7 +738,7 @@ class TestRuns:
         program = program_of(tmp_path / "hanging", f"exec {HANGING}")
         service = make(extractd=program, limits=Limits(processes=1, waiting=1, seconds=10))
         have_left = threading.Event()
-        environ: dict[str, Any] = {"waitress.client_disconnected": have_left.is_set}
+        environ: WSGIEnvironment = {"waitress.client_disconnected": have_left.is_set}
         with ThreadPoolExecutor(5) as threads:
             pending = [threads.submit(ask, service, f"{ITEMS}/{number}", **environ) for number in range(5)]
             answers = (answer.result() for answer in as_completed(pending))
@@ -753,7 +755,7 @@ class TestRuns:
         program = program_of(tmp_path / "hanging", f"{HANGING}; true")
         started = time.monotonic()
         left = started + 0.3
-        environ = {"waitress.client_disconnected": lambda: time.monotonic() > left}
+        environ: WSGIEnvironment = {"waitress.client_disconnected": lambda: time.monotonic() > left}
         assert ask(make(extractd=program), ITEMS, **environ).status == 503
         assert time.monotonic() - started < 10 and not processes_with(program)
 

@@ -94,12 +94,13 @@ class TestBoxes:
     def scattered(self, make: Make, extractd: str, tmp_path: Path) -> Service:  # noqa: F811
         """A county on both sides of the 180th meridian, around 0, and in Alabama, without some of its coordinates."""
         randoms = random.Random(SEED)
-        segments = []
+        segments: list[Ends] = []
         for _ in range(400):
             x, y = randoms.choice((-179_999_000, 179_999_000, 0, -86_700_000)), randoms.choice((0, 32_400_000))
             steps = [randoms.randint(-3, 3) * step for step in (1, 1, 500, 500)]
             ends = [place + step for place, step in zip((x, y, x, y), steps)]
-            segments.append(tuple(end if randoms.random() < 0.95 else None for end in ends))
+            west, south, east, north = (end if randoms.random() < 0.95 else None for end in ends)
+            segments.append((west, south, east, north))
         return make(write_ends(tmp_path, segments))
 
     def test_town(self, make: Make, extractd: str) -> None:  # noqa: F811

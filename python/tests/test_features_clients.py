@@ -10,6 +10,7 @@ import subprocess
 import sys
 from collections.abc import Callable, Iterator
 from pathlib import Path
+from typing import Any
 
 import pytest
 from counties import CODE, EXAMPLES, SEGMENTS, TOOLS, TOP, gdal_rows, records
@@ -18,6 +19,7 @@ from test_features_command import Running, start  # noqa: F401 (a fixture)
 LARGE, TOWN = "01003", "01007"
 CHAINS = 8
 ALL = {CODE: SEGMENTS, LARGE: CHAINS * SEGMENTS, TOWN: 803}
+Client = Any  # OWSLib has no types.
 
 pytestmark = pytest.mark.usefixtures("scratch")
 
@@ -213,11 +215,11 @@ class TestOwslib:
     """OWSLib reads all documents and features."""
 
     @pytest.fixture
-    def client(self, service: Running) -> object:
+    def client(self, service: Running) -> Client:
         features = pytest.importorskip("owslib.ogcapi.features", reason="no owslib")
         return features.Features(f"{service.url}/")
 
-    def test_documents(self, client: object) -> None:
+    def test_documents(self, client: Client) -> None:
         assert client.feature_collections() == [*ALL, "al", "us"]
         conformance = client.conformance()["conformsTo"]
         for name in (
@@ -232,7 +234,7 @@ class TestOwslib:
         assert client.collection(TOWN)["id"] == TOWN
         assert client.collection_queryables(TOWN)["properties"]["TLID"] == {"title": "TLID", "type": "integer"}
 
-    def test_features(self, client: object) -> None:
+    def test_features(self, client: Client) -> None:
         found, offset = [], 0
         while page := client.collection_items(TOWN, limit=300, offset=offset)["features"]:
             found += page
@@ -241,7 +243,7 @@ class TestOwslib:
         assert [feature["id"] for feature in found] == expected
         assert client.collection_item(TOWN, str(expected[5]))["properties"] == found[5]["properties"]
 
-    def test_selections(self, client: object) -> None:
+    def test_selections(self, client: Client) -> None:
         lines = [record.decode() for record in records(EXAMPLES / "town/TGR01007.RT1")]
         found = client.collection_items(TOWN, filter="CFCC = 'A41' AND ZIPL = 35042", limit=1000)["features"]
         expected = [int(line[5:15]) for line in lines if line[55:58] == "A41" and line[106:111] == "35042"]

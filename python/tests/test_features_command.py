@@ -117,8 +117,9 @@ def large(tmp_path: Path) -> str:
     with open(tmp_path / "features", "w") as file:
         for number in range(20_000):
             values = dict.fromkeys(names) | {"RT": "1", "TLID": number, "FENAME": "Main", "FRLONG": -86.5}
+            properties: dict[str, object] = {"score": 0, **values}
             line = {"type": "LineString", "coordinates": [[-86.5, 32.5], [-86.4, 32.4]]}
-            feature = {"type": "Feature", "properties": {"score": 0, **values}, "geometry": line}
+            feature = {"type": "Feature", "properties": properties, "geometry": line}
             file.write(json.dumps(feature, separators=(",", ":")) + "\n")
     return program_of(tmp_path / "large", f"exec cat {tmp_path}/features")
 
