@@ -6,7 +6,7 @@ import shutil
 import signal
 import time
 import zipfile
-from collections.abc import Callable, Iterator
+from collections.abc import Iterator
 from dataclasses import replace
 from pathlib import Path
 
@@ -98,8 +98,8 @@ def test_same_map(data: Path, out: Path, name: str, options: tuple[str, ...]) ->
     expected = plain(data, out / "a.csv", *selection, "--map", out / name)
     drawn = (out / name).read_bytes()
     assert (b"Not selected (" in drawn or b'"around": [[' in drawn) == ("--no-background" not in options)
-    options = (*selection, "--workers", "2", "--map", out / name, "--overwrite")
-    assert plain(data, out / "a.csv", *options) == expected and (out / name).read_bytes() == drawn
+    assert plain(data, out / "a.csv", *selection, "--workers", "2", "--map", out / name, "--overwrite") == expected
+    assert (out / name).read_bytes() == drawn
 
 
 def test_too_much_background(
@@ -258,6 +258,29 @@ class TestTasks:
         store.mkdir(exist_ok=True)
         return batch.part_task(source, store)
 
+    def others(self, data: Path, store: Path, program: str) -> Iterator[batch.PartTask]:
+        """Yields the tasks of other selections and forms, and the task after each change of a file."""
+        for request in (Request("NOT FALSE"), Request("TRUE", score="TLID"), Request(program=b"words")):
+            yield self.task(data, store, request)
+        yield self.task(data, store, Request("TRUE", extractd=program))
+        for form in (
+            replace(FORM, names=("CFCC",)),
+            replace(FORM, geometry="line"),
+            replace(FORM, geometry="shape"),
+            replace(FORM, has_map=True),
+            replace(FORM, has_map=True, has_background=True),
+        ):
+            yield self.task(data, store, form=form)
+        os.utime(data / "TGR01001.RT6", (0, 0))
+        yield self.task(data, store)
+        first = data / "TGR01001.RT1"
+        first.write_bytes(first.read_bytes() * 2)
+        yield self.task(data, store)
+        (data / "TGR01001.RT4").unlink()
+        yield self.task(data, store)
+        os.utime(program, (0, 0))
+        yield self.task(data, store, Request("TRUE", extractd=program))
+
     def refused(self, task: batch.PartTask, text: str) -> None:
         with pytest.raises(OSError, match=text):
             batch.run_task(task)
@@ -267,31 +290,9 @@ class TestTasks:
         program = disturbed(tmp_path / "program", extractd, ":")
         seen = {self.task(data, tmp_path).path, self.task(data, tmp_path).path}
         assert len(seen) == 1
-        first = data / "TGR01001.RT1"
-        changes: list[Callable[[], batch.PartTask]] = [
-            lambda: self.task(data, tmp_path, Request("NOT FALSE")),
-            lambda: self.task(data, tmp_path, Request("TRUE", score="TLID")),
-            lambda: self.task(data, tmp_path, Request(program=b"words")),
-            lambda: self.task(data, tmp_path, Request("TRUE", extractd=program)),
-            *[
-                lambda form=form: self.task(data, tmp_path, form=form)
-                for form in (
-                    replace(FORM, names=("CFCC",)),
-                    replace(FORM, geometry="line"),
-                    replace(FORM, geometry="shape"),
-                    replace(FORM, has_map=True),
-                    replace(FORM, has_map=True, has_background=True),
-                )
-            ],
-            lambda: os.utime(data / "TGR01001.RT6", (0, 0)) or self.task(data, tmp_path),
-            lambda: first.write_bytes(first.read_bytes() * 2) and self.task(data, tmp_path),
-            lambda: (data / "TGR01001.RT4").unlink() or self.task(data, tmp_path),
-            lambda: os.utime(program, (0, 0)) or self.task(data, tmp_path, Request("TRUE", extractd=program)),
-        ]
-        for change in changes:
-            path = change().path
-            assert path not in seen
-            seen.add(path)
+        for task in self.others(data, tmp_path, program):
+            assert task.path not in seen
+            seen.add(task.path)
 
     def test_spoilt_parts(self, data: Path, tmp_path: Path) -> None:
         """A part without its end, or with a changed byte anywhere, doesn't count as complete."""
