@@ -278,6 +278,7 @@ class TestTasks:
         yield self.task(data, store)
         (data / "TGR01001.RT4").unlink()
         yield self.task(data, store)
+        yield self.task(data, store, Request("TRUE", extractd=program))
         os.utime(program, (0, 0))
         yield self.task(data, store, Request("TRUE", extractd=program))
 
