@@ -8,6 +8,7 @@ import shutil
 import sqlite3
 import subprocess
 import sys
+import tempfile
 from collections.abc import Iterator, Sequence
 from pathlib import Path
 from typing import IO, Any
@@ -442,9 +443,7 @@ class TestFaults:
             "--overwrite",
         )
 
-    def test_unwritable_folder(
-        self, out: Path, tmp_path: Path, tmp_path_factory: pytest.TempPathFactory, extractd: str
-    ) -> None:
+    def test_unwritable_folder(self, out: Path, tmp_path: Path, extractd: str) -> None:
         """Root can write to all folders, so then the command runs as nobody, with copies that nobody may read."""
         before = []
         shutil.copytree(TOP / "python/tigerline", tmp_path / "python/tigerline")
@@ -455,9 +454,9 @@ class TestFaults:
                 pytest.skip("no setpriv")
             before = ["setpriv", "--reuid=65534", "--regid=65534", "--clear-groups"]
             for folder in out.parents:
-                folder.chmod(0o755)
-                if folder == tmp_path_factory.getbasetemp().parent:
+                if folder == Path(tempfile.gettempdir()):
                     break
+                folder.chmod(0o755)
         out.chmod(0o555)
         (tmp_path / "scratch").chmod(0o777)
         environment = {"PYTHONPATH": str(tmp_path / "python"), "EXTRACTD": str(tmp_path / "extractd")}

@@ -17,7 +17,7 @@ from harness.program import TOP
 HERE = Path(__file__).parent
 PACKAGING = TOP / "deploy/packaging"
 PAGES = sorted((PACKAGING / "man").glob("*.1"))
-COMMANDS = [page.stem.removeprefix("extractd-") for page in PAGES if page.stem.startswith("extractd-")]
+COMMANDS = sorted(page.stem.removeprefix("extractd-") for page in PAGES if page.stem.startswith("extractd-"))
 # The program without a command, and with each.
 CALLS = ["", *COMMANDS]
 SECONDS = 300
@@ -67,7 +67,9 @@ def page_of(command: str) -> str:
 
 def options_in_page(command: str) -> list[str]:
     """Returns the options that its manual page describes, sorted."""
-    return sorted(f"--{name}" for name in re.findall(r"^\.It Fl.*Fl Fl ([a-z-]*)", page_of(command), re.MULTILINE))
+    return sorted(
+        f"--{name}" for name in re.findall(r"^\.It (?:Fl \w , )?Fl Fl ([a-z-]*)", page_of(command), re.MULTILINE)
+    )
 
 
 def options_in_synopsis(command: str) -> list[str]:
@@ -250,7 +252,8 @@ def test_score(column: str, extractd: str) -> None:
 def test_column(column: str, extractd: str, here: Path) -> None:
     """The program is read after the options."""
     (here / "empty.bpf").write_bytes(b"")
-    command = ["extractd", "run", "--program", "empty.bpf", "--data", ".", "--format", "csv", "--columns", column]
+    data = str(TOP / "examples")
+    command = ["extractd", "run", "--program", "empty.bpf", "--data", data, "--format", "csv", "--columns", column]
     assert said(*command, "01001", folder=here) == "refused 10 Empty\n"
 
 

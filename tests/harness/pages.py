@@ -224,9 +224,7 @@ class PageFile(pytest.File):
             assert service.stdout is not None
             listening = re.search(r"127\.0\.0\.1:\d+", service.stdout.readline())
             try:
-                return (
-                    self.console_fault(text.replace(PORT, listening[0])) if listening else "the service doesn't start"
-                )
+                return fault(text.replace(PORT, listening[0])) if listening else "the service doesn't start"
             finally:
                 service.terminate()
 
