@@ -117,7 +117,7 @@ put() {
             awk -v page="${3#share/doc/extractd/}" -v folder="$prefix/share/doc/extractd" -f "$here/deploy/packaging/page.awk" - "$2" > "$root/$3" &&
             chmod "$1" "$root/$3"
         ;;
-    *) install -m "$1" "$2" "$root/$3" ;;
+    *) install -T -m "$1" "$2" "$root/$3" ;;
     esac
 }
 
@@ -143,7 +143,8 @@ install_all() {
 uninstall() {
     [ -f "$list" ] || fail "$list: not found, so nothing is installed there"
     grep -v '/$' "$list" | while IFS= read -r file; do
-        rm -f "$root/$file"
+        # A folder in the place of a file isn't ours.
+        [ -d "$root/$file" ] || rm -f "$root/$file"
         case $file in
         # Python keeps compiled modules next to it.
         *.py) remove_compiled "$root/${file%/*}/__pycache__" "$(basename "$file" .py)" ;;

@@ -167,18 +167,21 @@ test_full() { # needs extractd prlimit
     is_removed full
 }
 
-# blocks FILE: checks that an installation fails if a folder is in a file's place.
+# blocks FILE: checks that an installation fails if a folder is in a file's place, and that the folder stays.
 blocks() {
     mkdir -p "blocked/$1"
     case_of 1 0 "*$incomplete" '"$top/install.sh" --program built blocked'
-    rmdir "blocked/$1"
     is_removed blocked
+    equal "the folder $1" yes "$([ -d "blocked/$1" ] && echo yes)"
 }
 test_no_unit() { # needs extractd
     blocks lib/systemd/system/extractd@.service
 }
 test_no_page() { # needs extractd
     blocks share/doc/extractd/docs/http.md
+}
+test_header_is_a_folder() { # needs extractd
+    blocks include/extractd.h
 }
 
 # A file in the place of a folder stays.
