@@ -5,6 +5,7 @@ from pathlib import Path
 from typing import NamedTuple
 
 import pytest
+from harness.program import TOP
 
 # A filter; the refusal; the text below it.
 TEXTS = r"""
@@ -56,9 +57,18 @@ def test_refusal(row: Row, tmp_path: Path) -> None:
     assert (done.returncode, done.stdout, done.stderr.decode()) == (1, b"", row.said)
 
 
-@pytest.mark.parametrize("length", (59_999, 60_000, 1_000_000))
+@pytest.mark.parametrize("length", (59_999, 60_000, 1_048_576))
 def test_long_text(length: int, tmp_path: Path) -> None:
     """A filter of up to 1,048,576 bytes is compiled, whatever its length."""
     done = compiled("TRUE".ljust(length), "cql2-text", tmp_path)
     assert (done.returncode, done.stderr) == (0, b"")
     assert done.stdout == compiled("TRUE", "cql2-text", tmp_path).stdout
+
+
+@pytest.mark.parametrize("length", (59_999, 60_000, 130_000))
+def test_long_argument(length: int) -> None:
+    """It selects what a short one does. An argument may have 131,071 bytes."""
+    command = ["extractd", "select", "--data", str(TOP / "examples"), "01001", "--where"]
+    short, long = (subprocess.run([*command, text], capture_output=True) for text in ("TRUE", "TRUE".ljust(length)))
+    assert (long.returncode, long.stderr) == (0, b"")
+    assert long.stdout == short.stdout != b""
