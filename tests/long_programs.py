@@ -172,15 +172,21 @@ def adopting() -> Iterator[None]:
         library.prctl(PR_SET_CHILD_SUBREAPER, 0, 0, 0, 0)
 
 
+# The command begins when the shell has ended. A shell that still runs might wait for it itself.
+DETACHED = 'exec 3<&0; { read -r _; exec "$@" < /dev/null 3<&-; } <&3 > /dev/null & echo $!'
+
+
 def peak_once(command: list[str]) -> int:
     """Returns the maximum resident set of a process, in bytes.
 
     A direct child would start with the resident set of this process, which is larger than its own. So a shell starts it and exits. This process
     adopts the orphan and waits for it.
     """
-    script = ["sh", "-c", '"$@" > /dev/null & echo $!', "sh", *command]
-    with adopting():
-        shell = subprocess.run(script, stdin=subprocess.DEVNULL, stdout=subprocess.PIPE, check=True)
+    begin, beginning = os.pipe()
+    with adopting(), open(begin), open(beginning, "w") as line:
+        shell = subprocess.run(["sh", "-c", DETACHED, "sh", *command], stdin=begin, stdout=subprocess.PIPE, check=True)
+        line.write("\n")
+        line.flush()
         _, status, usage = os.wait4(int(shell.stdout), 0)
     if status != 0:
         raise Failed(f"{' '.join(command)} ends with status {os.waitstatus_to_exitcode(status)}")

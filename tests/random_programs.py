@@ -12,7 +12,6 @@ import subprocess
 from collections.abc import Callable, Iterator
 from contextlib import contextmanager
 from dataclasses import dataclass, field
-from enum import Enum
 from pathlib import Path
 from random import Random
 
@@ -26,7 +25,6 @@ TOOLS = TOP / "tools" / "c"
 COUNTY = TOP / "examples"
 CODE = "01001"
 LEVELS = ("-O1", "-O2", "-Os")
-ORDER_FLAGS = ("-mllvm", "-disable-block-placement", "-disable-branch-fold")
 
 # ---- Programs
 
@@ -317,14 +315,6 @@ class TooLong(Exception):
     """The program or one of its jumps is too long."""
 
 
-class Order(Enum):
-    """The tool that makes jumps lead forwards."""
-
-    FLAGS = "flags"
-    FORWARD = "forward"
-    BOTH = "both"
-
-
 def run(*command: str | Path) -> subprocess.CompletedProcess[bytes]:
     done = subprocess.run(command, stdin=subprocess.DEVNULL, capture_output=True, timeout=300)
     if done.returncode != 0:
@@ -335,22 +325,16 @@ def run(*command: str | Path) -> subprocess.CompletedProcess[bytes]:
 
 @dataclass(frozen=True)
 class Build:
-    """How a program is compiled to BPF words."""
+    """How a program is compiled to BPF words, by clang."""
 
-    compiler: str
     level: str
-    cpu: str | None
-    order: Order
+    cpu: str
 
     def __str__(self) -> str:
-        return " ".join((self.compiler, self.level, self.cpu or "", self.order.value))
+        return f"clang {self.level} -mcpu={self.cpu}"
 
     def flags(self) -> list[str]:
-        if self.cpu is None:
-            return [f"@{TOOLS / 'gcc-flags'}", self.level, "-w"]
         flags = (TOOLS / "flags").read_text().split()
-        if self.order is Order.FORWARD:
-            flags = [flag for flag in flags if flag not in ORDER_FLAGS]
         if self.level == "-O1":
             flags += (TOOLS / "flags-O1").read_text().split()
         return [*flags, f"-mcpu={self.cpu}", self.level, "-w"]
@@ -361,9 +345,6 @@ class Build:
         self.compile(source, code)
         file = ObjectFile(code.read_bytes())
         linker = Linker(file, find_function(file, "choose"))
-        if self.order is Order.FLAGS:
-            program.write_bytes(linker.words)
-            return program
         try:
             words, _ = put_in_order(linker.with_offsets(), linker.tables())
         except LoopError as error:
@@ -375,7 +356,7 @@ class Build:
 
     def compile(self, source: Path, code: Path) -> subprocess.CompletedProcess[bytes]:
         try:
-            return run(self.compiler, *self.flags(), f"-I{TOOLS}", "-c", source, "-o", code)
+            return run("clang", *self.flags(), f"-I{TOOLS}", "-c", source, "-o", code)
         except BuildFailure as failure:
             if "Branch target out of insn range" in str(failure):
                 raise TooLong from failure

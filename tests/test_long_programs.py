@@ -10,6 +10,8 @@ import pytest
 from long_programs import COMMANDS, LONG, PROGRAMS, SHORT, START, Files, Times, least_times, made, peak
 
 MOST_RATIO, MOST_PEAK = 20, 4 << 20
+# How often runs are measured until a ratio holds. Other work on the machine lengthens some of them.
+MEASUREMENTS = 20
 PROMISED = ("straight", "jumps of 0", "all jumps to the end")
 
 # One after the other, as they measure.
@@ -38,10 +40,14 @@ def programs(extractd: str, here: Path) -> Made:
 @pytest.mark.parametrize("command", COMMANDS)
 @pytest.mark.parametrize("name", PROGRAMS)
 def test_times(name: str, command: str, programs: Made) -> None:
-    times = Times(*least_times([[programs.extractd, *files.arguments(command)] for files in programs.files(name)]))
+    commands = [[programs.extractd, *files.arguments(command)] for files in programs.files(name)]
+    times = Times(*least_times(commands))
+    for _ in range(MEASUREMENTS if name in PROMISED else 0):
+        if max(times.ratios()) <= MOST_RATIO:
+            break
+        times = Times(*(min(pair) for pair in zip(times, least_times(commands), strict=True)))
     print(f"{name}: {command}: {times}")
-    if name in PROMISED:
-        assert max(times.ratios()) <= MOST_RATIO, str(times)
+    assert name not in PROMISED or max(times.ratios()) <= MOST_RATIO, str(times)
 
 
 @pytest.mark.parametrize("name", PROGRAMS)

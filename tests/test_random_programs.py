@@ -1,10 +1,10 @@
-"""Random programs in C do what they do natively. Instruction sets and tools other than the usual ones are for releases."""
+"""Random programs in C do what they do natively. Instruction sets other than the usual one are for releases."""
 
 from pathlib import Path
 
 import pytest
 from harness.batches import add_batches
-from random_programs import LEVELS, Build, Order, draw_program, made_harness, try_program
+from random_programs import LEVELS, Build, draw_program, made_harness, try_program
 
 BATCHES = 10
 # Of a batch.
@@ -15,9 +15,9 @@ def pytest_generate_tests(metafunc: pytest.Metafunc) -> None:
     add_batches(metafunc, BATCHES)
 
 
-def check_batch(batch: int, compiler: str, cpu: str | None, order: Order, scratch: Path) -> None:
+def check_batch(batch: int, cpu: str, scratch: Path) -> None:
     """Compares each program's builds at all levels. Few programs are too long."""
-    builds = [Build(compiler, level, cpu, order) for level in LEVELS]
+    builds = [Build(level, cpu) for level in LEVELS]
     harness = made_harness(scratch)
     agree = too_long = 0
     for number in range(PROGRAMS):
@@ -31,22 +31,13 @@ def check_batch(batch: int, compiler: str, cpu: str | None, order: Order, scratc
 
 @pytest.mark.needs("cc", "clang")
 @pytest.mark.usefixtures("extractd")
-def test_clang(batch: int, here: Path) -> None:
-    check_batch(batch, "clang", "v2", Order.BOTH, here)
+def test_rows(batch: int, here: Path) -> None:
+    check_batch(batch, "v2", here)
 
 
 @pytest.mark.release
 @pytest.mark.needs("cc", "clang")
 @pytest.mark.usefixtures("extractd")
-@pytest.mark.parametrize(
-    "cpu, order", [("v1", Order.BOTH), ("v3", Order.BOTH), ("v2", Order.FLAGS), ("v2", Order.FORWARD)], ids=str
-)
-def test_other_builds_of_clang(batch: int, cpu: str, order: Order, here: Path) -> None:
-    check_batch(batch, "clang", cpu, order, here)
-
-
-@pytest.mark.release
-@pytest.mark.needs("cc", "bpf-gcc")
-@pytest.mark.usefixtures("extractd")
-def test_gcc(batch: int, here: Path) -> None:
-    check_batch(batch, "bpf-gcc", None, Order.BOTH, here)
+@pytest.mark.parametrize("cpu", ["v1", "v3"])
+def test_rows_of_other_instruction_sets(batch: int, cpu: str, here: Path) -> None:
+    check_batch(batch, cpu, here)
