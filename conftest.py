@@ -32,7 +32,9 @@ def pytest_addoption(parser: pytest.Parser) -> None:
 def pytest_configure(config: pytest.Config) -> None:
     """Makes the program a command. A process that runs tests for another one gets its commands."""
     if "PYTEST_XDIST_WORKER" not in os.environ:
-        program.install(config.getoption("--program") or os.environ.get("EXTRACTD"), bool(config.getoption("--pages")))
+        program.install(
+            config.getoption("--program") or os.environ.get("EXTRACTD") or None, bool(config.getoption("--pages"))
+        )
 
 
 def pytest_unconfigure(config: pytest.Config) -> None:
