@@ -30,7 +30,7 @@ def pytest_addoption(parser: pytest.Parser) -> None:
 
 
 def pytest_configure(config: pytest.Config) -> None:
-    """Makes the program a command. A process that runs tests for another one gets its commands."""
+    """Makes the program a command. The processes that run tests side by side inherit it."""
     if "PYTEST_XDIST_WORKER" not in os.environ:
         program.install(
             config.getoption("--program") or os.environ.get("EXTRACTD") or None, bool(config.getoption("--pages"))
@@ -58,16 +58,15 @@ def is_all_required() -> bool:
 
 @pytest.hookimpl(tryfirst=True)
 def pytest_collection_modifyitems(config: pytest.Config, items: list[pytest.Item]) -> None:
-    """Counts the tests of each file, before any is deselected. The tests of one file run in one process, if they share a county, a server or a page."""
+    """Counts the tests of each file before any is deselected. Those of a file of the package run in one process, as they share counties and services."""
     counts.count(config, items)
     if not config.getoption("--release"):
-        selected = [item for item in items if not item.get_closest_marker("release")]
         config.hook.pytest_deselected(items=[item for item in items if item.get_closest_marker("release")])
-        items[:] = selected
+        items[:] = [item for item in items if not item.get_closest_marker("release")]
     for item in items:
         if not item.get_closest_marker("xdist_group") and item.path.is_relative_to(TOP / "python"):
             item.add_marker(pytest.mark.xdist_group(str(item.path.relative_to(TOP))))
-    items.sort(key=counts.is_short)
+    items.sort(key=counts.order_of)
 
 
 def pytest_runtest_setup(item: pytest.Item) -> None:
@@ -106,12 +105,6 @@ def extractd() -> str:
     if path is None:
         pytest.skip("no program: tests/run names it")
     return path
-
-
-@pytest.fixture(scope="session")
-def times(pytestconfig: pytest.Config) -> int:
-    """Returns how many times as many random cases are asked for."""
-    return int(pytestconfig.getoption("--times"))
 
 
 @pytest.fixture

@@ -1,10 +1,9 @@
 """Replies of `POST /select` whose texts are files of tests/replies, worked out by hand, over a county of one segment."""
 
-import subprocess
 from collections.abc import Iterator
-from pathlib import Path
 
 import pytest
+from harness.curl import ask
 from harness.program import TOP
 from harness.rows import constant
 from harness.server import Server
@@ -28,10 +27,7 @@ def server(tmp_path_factory: pytest.TempPathFactory) -> Iterator[Server]:
 
 
 @pytest.mark.parametrize("row", ROWS.strip().splitlines())
-def test_reply(server: Server, row: str, tmp_path: Path) -> None:
+def test_reply(server: Server, row: str) -> None:
     query, text, media, file = row.split("; ")
-    (tmp_path / "filter").write_text(text)
-    command = ["curl", "-s", "-w", "%{http_code} %{content_type}", "-o", "body", "--data-binary", "@filter"]
-    done = subprocess.run([*command, f"{server.url}/select?{query}"], cwd=tmp_path, capture_output=True, text=True)
-    assert done.stdout == f"200 {media}"
-    assert (tmp_path / "body").read_bytes() == (TOP / "tests/replies" / file).read_bytes()
+    reply = ask("-w", "%{stderr}%{http_code} %{content_type}", "--data-binary", text, f"{server.url}/select?{query}")
+    assert reply == (f"200 {media}", (TOP / "tests/replies" / file).read_bytes())

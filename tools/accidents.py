@@ -7,7 +7,7 @@
     --list                                         tries none, and only prints the names
 
 An accident is a page whose blocks are empty or only shown, a table without rows, a file of tests that ends where it begins, a tool or a
-file of the harness without text, a source of a crate without its `#[test]`s, or a folder without mutants. It happens in a copy of this clone
+file of the harness without text, a source of a crate without its `#[test]`s or with a row less, or a folder without mutants. It happens in a copy of this clone
 that has a new tests/counts.txt. There pytest collects all tests, and runs the list of counts. What a list can't notice, a test of the file
 notices by what it prints. The built program isn't needed.
 
@@ -41,6 +41,8 @@ HEAVY = (
     "shapely.geometry waitress"
 ).split()
 BLOCK = re.compile(r"^(```\w.*\n)(?:.*\n)*?```$", re.MULTILINE)
+# The last row of a table in a crate of tests.
+ROW = re.compile(r'\n[^\n"]+(?=\n?"#*,?\n?\);)')
 # What precedes the first statement of a file of tests.
 BEGINNING = re.compile(r'(?:#.*\n|\n)*(?:"""(?:.|\n)*?"""\n+)?(?:from __future__ .*\n)*')
 PASSED, FAILED = 0, 1
@@ -93,6 +95,8 @@ def accidents() -> Iterator[Accident]:
     yield from changed("ends at its beginning", with_end, modules)
     sources = files("crates/*/src/**/*.rt")
     yield from changed("without #[test]", lambda text: text.replace("#[test]\n", ""), sources)
+    tables = files("crates/*_tests/src/**/*.rt")
+    yield from changed("a row less", lambda text: ROW.sub("", text, 1), tables)
     for folder in sorted(TOP.glob("crates/*/must-fail")):
         names = [str(path.relative_to(TOP)) for path in sorted(folder.glob("*.edit"))]
         yield Accident(f"{folder.relative_to(TOP)}: emptied", dict.fromkeys(names))

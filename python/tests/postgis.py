@@ -3,7 +3,7 @@
     PYTHONPATH=. python3 tests/postgis.py [FOLDER]
 
 Run it in the folder python, as root on Debian 12, with the program's path in EXTRACTD. It takes some ten minutes. It installs PostgreSQL 15
-and PostGIS by apt-get, and needs pytest and shapely, which try.sh installs. It starts a PostgreSQL server of its own in a temporary
+and PostGIS by apt-get, and needs pytest and shapely, which tests/run installs. It starts a PostgreSQL server of its own in a temporary
 folder, without a port, and removes both at the end. FOLDER keeps the counties, as for noise.py.
 
 Each county is a database, loaded by postgis.sql. The addresses are those of noise.py. A result of PostGIS is right if it is at most 13 m

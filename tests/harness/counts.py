@@ -1,18 +1,19 @@
-"""tests/counts.txt: how many tests each file has. A file that loses its tests, or one that nobody counts, is a failure.
+"""tests/counts.txt: how many tests each file has. A file that loses tests, or one that isn't counted, is a failure.
 
-A row is a file and a number: of the tests that pytest collects; of a crate's `#[test]` functions and the lines of their tables; of a crate's mutants that
-the prover must refuse.
+A row is a file and the number of its tests: those that pytest collects; in a crate of tests, the `#[test]` functions and the lines of tables; in a folder
+of mutants, those that the prover must refuse.
 """
 
 import re
 from collections import Counter
 from collections.abc import Iterator, Mapping
-from functools import cache
+from functools import cache, partial
 from pathlib import Path
 
 import pytest
 
 from harness.program import TOP
+from harness.tables import RowItem
 
 LIST = TOP / "tests/counts.txt"
 HEAD = """\
@@ -37,7 +38,8 @@ def name_of(path: Path) -> str:
     return str(path.relative_to(TOP))
 
 
-def is_short(item: pytest.Item) -> int:
+def order_of(item: pytest.Item) -> int:
+    """Returns the place of a test: the longest first."""
     name = name_of(item.path) if item.path.is_relative_to(TOP) else ""
     return next((place for place, front in enumerate(LONGEST) if name.startswith(front)), len(LONGEST))
 
@@ -58,60 +60,41 @@ def listed() -> dict[str, int]:
 
 @cache
 def in_crates() -> dict[str, int]:
-    """Returns the tests of each source file that has some, and the mutants of each crate that has some."""
-    found = {name_of(file): tests_in(file.read_text()) for file in sorted(TOP.glob("crates/*/src/**/*.rt"))}
+    """Returns the number of tests in each source file and of mutants in each folder that has some."""
+    found = {name_of(file): tests_in(file) for file in sorted(TOP.glob("crates/*/src/**/*.rt"))}
     for folder in sorted(TOP.glob("crates/*/must-fail")):
         found[name_of(folder)] = len(list(folder.glob("*.edit")))
     return {name: number for name, number in found.items() if number}
 
 
-def tests_in(source: str) -> int:
-    """Returns the number of tests in a source, and of lines in its texts of several lines."""
-    tests = source.count("#[test]")
-    texts = (match[2] or match[3] or "" for match in _TEXT.finditer(source)) if tests else ()
-    return tests + sum(sum(bool(line.strip()) for line in text.splitlines()) for text in texts if "\n" in text)
+def tests_in(file: Path) -> int:
+    """Returns the number of tests in a source file, and in a crate of tests also that of lines in texts of several lines, which are tables."""
+    source = file.read_text()
+    is_of_tests = re.fullmatch("fixtures|.*_tests", file.relative_to(TOP / "crates").parts[0])
+    texts = (match[2] or match[3] or "" for match in _TEXT.finditer(source)) if is_of_tests else ()
+    lines = (line for text in texts if "\n" in text for line in text.splitlines())
+    return source.count("#[test]") + sum(bool(line.strip()) for line in lines)
 
 
 class CountList(pytest.File):
     """The list as a file of tests, one for each row, and one for the files that it lacks."""
 
     def collect(self) -> Iterator[pytest.Item]:
-        yield Unlisted.from_parent(self, name="each file is counted")
-        for name, number in listed().items():
-            yield Listed.from_parent(self, name=name, number=number)
+        yield RowItem.from_parent(self, name="each file is counted", line=1, check=self.unlisted)
+        for line, (name, number) in enumerate(listed().items(), HEAD.count("\n") + 1):
+            yield RowItem.from_parent(self, name=name, line=line, check=partial(self.difference, name, number))
 
-
-class Wrong(Exception):
-    """A count isn't the listed one."""
-
-
-class _Item(pytest.Item):
     def found(self) -> dict[str, int]:
         return {**self.config.stash[COLLECTED], **in_crates()}
 
-    def repr_failure(self, excinfo: pytest.ExceptionInfo[BaseException], style: object = None) -> str:
-        return str(excinfo.value)
+    def unlisted(self) -> str | None:
+        new = sorted(self.found().keys() - listed().keys())
+        return f"lacks {', '.join(new)}; tests/run --write-counts adds them" if new else None
 
-    def reportinfo(self) -> tuple[Path, int, str]:
-        return self.path, 0, self.name
-
-
-class Unlisted(_Item):
-    def runtest(self) -> None:
-        new = self.found().keys() - listed().keys()
-        if new:
-            raise Wrong(f"not in tests/counts.txt: {', '.join(sorted(new))}; tests/run --write-counts adds them")
-
-
-class Listed(_Item):
-    def __init__(self, *, number: int, **more: object) -> None:
-        super().__init__(**more)  # type: ignore[arg-type]
-        self.number = number
-
-    def runtest(self) -> None:
-        found = self.found().get(self.name, 0)
+    def difference(self, name: str, number: int) -> str | None:
+        found = self.found().get(name, 0)
         # More random cases are more tests.
-        is_more = found > self.number and self.config.getoption("--times") > 1
-        if found != self.number and not is_more:
-            hint = "; tests/run --write-counts raises the list" if found > self.number else ""
-            raise Wrong(f"{self.name} has {found} tests, and tests/counts.txt says {self.number}{hint}")
+        if found == number or (found > number and self.config.getoption("--times") > 1):
+            return None
+        hint = "; tests/run --write-counts raises the list" if found > number else ""
+        return f"{name} has {found} tests, and tests/counts.txt says {number}{hint}"

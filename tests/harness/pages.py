@@ -26,6 +26,7 @@ import shutil
 import subprocess
 import tempfile
 from collections.abc import Callable, Iterator
+from functools import partial
 from pathlib import Path
 from typing import NamedTuple
 
@@ -41,7 +42,7 @@ SECONDS = 300
 # What a page's commands may use of a clone.
 CLONED = ("README.md", "deploy", "docs", "examples", "python", "quickstart.sh", "tools")
 # Blocks without a test.
-SHOWN = ("none", "rust", "sh")
+SHOWN = ("asm", "none", "rust", "sh")
 PORT = "127.0.0.1:8080"
 # Ends a program with its r0 as the score.
 SCORED = "\nmov r1, r0\ncall 8\nmov r0, 1\nexit\n"
@@ -121,42 +122,38 @@ class PageFile(pytest.File):
             case "line":
                 yield from self.tests_of_row(line, text)
             case "pycon" if "tigerline-serve" in words:
-                yield self.item(
-                    line, lambda: self.beside_service(before, self.session_fault), needs=("python3-owslib",)
-                )
+                check = partial(self.beside_service, before, self.session_fault)
+                yield self.item(line, check, needs=("python3-owslib",))
             case "pycon":
-                yield self.item(line, lambda: self.session_fault(before), needs=("python3-geopandas",))
+                yield self.item(line, partial(self.session_fault, before), needs=("python3-geopandas",))
             case "bash":
-                yield self.item(line, lambda: self.quiet_fault(text), needs=needs)
+                yield self.item(line, partial(self.quiet_fault, text), needs=needs)
             case "console" if "tigerline-serve" in words:
-                yield self.item(line, lambda: self.beside_service(text, self.console_fault), needs=needs)
+                yield self.item(line, partial(self.beside_service, text, self.console_fault), needs=needs)
             case "console":
-                yield self.item(line, lambda: self.console_fault(text), needs=needs)
+                yield self.item(line, partial(self.console_fault, text), needs=needs)
             case "http":
                 self.examples.add_block(text)
-                yield self.item(line, lambda: self.http_fault(words[0], text), needs=("curl", *needs[1:]))
+                yield self.item(line, partial(self.http_fault, words[0], text), needs=("curl", *needs[1:]))
             case "hex":
-                yield self.item(line, lambda: self.conversion_fault(before, text))
+                yield self.item(line, partial(self.conversion_fault, before, text))
             case "verdicts":
                 for number, program, verdict in verdicts.programs_of(part.numbered()):
-                    yield self.item(number, lambda program=program, verdict=verdict: verdicts.difference(program, verdict, self.clone))  # type: ignore[misc]
+                    yield self.item(number, partial(self.verdict_fault, program, verdict))
             case "answers":
                 for number, row in part.numbered():
-                    yield self.item(number, lambda row=row: self.answer_fault(row))  # type: ignore[misc]
-            case "asm":
-                pass
+                    yield self.item(number, partial(self.answer_fault, row))
             case kind if kind not in SHOWN:
                 yield self.item(line, lambda: f"is a block of an unknown kind, or it doesn't end: {kind}")
 
     def tests_of_row(self, line: int, text: str) -> Iterator[pytest.Item]:
         if match := REFUSAL.fullmatch(text):
-            data, refusal = bytes.fromhex(re.sub("[`,]", "", match[1])), match[2]
-            yield self.item(line, lambda: self.refusal_fault(data, refusal))
+            data = bytes.fromhex(re.sub("[`,]", "", match[1]))
+            yield self.item(line, partial(self.refusal_fault, data, match[2]))
         elif match := INSTRUCTION.fullmatch(text):
-            instruction, words = match[1], match[2]
-            yield self.item(line, lambda: self.conversion_fault(f"{instruction}\n", words))
+            yield self.item(line, partial(self.conversion_fault, f"{match[1]}\n", match[2]))
         elif request := self.examples.add_row(text):
-            yield self.item(line, lambda request=request: request.fault(self.plain_server()))  # type: ignore[misc]
+            yield self.item(line, partial(self.request_fault, request))
 
     def setup(self) -> None:
         self.folder = Path(tempfile.mkdtemp(prefix="page."))
@@ -219,7 +216,12 @@ class PageFile(pytest.File):
         """Looks for a fault of a text next to a service over the examples."""
         command = ["tigerline", "serve", "--data", "examples", "--port", "0"]
         with subprocess.Popen(
-            command, cwd=self.clone, stdin=subprocess.DEVNULL, stdout=subprocess.PIPE, stderr=subprocess.PIPE, text=True
+            command,
+            cwd=self.clone,
+            stdin=subprocess.DEVNULL,
+            stdout=subprocess.PIPE,
+            stderr=subprocess.DEVNULL,
+            text=True,
         ) as service:
             assert service.stdout is not None
             listening = re.search(r"127\.0\.0\.1:\d+", service.stdout.readline())
@@ -251,6 +253,12 @@ class PageFile(pytest.File):
             if made == again == wanted
             else f"shows the words\n{words}\nand asm writes {made!r}, and of what dis writes {again!r}"
         )
+
+    def verdict_fault(self, program: str, verdict: str) -> str | None:
+        return verdicts.difference(program, verdict, self.clone)
+
+    def request_fault(self, request: replies.Request) -> str | None:
+        return request.fault(self.plain_server())
 
     def answer_fault(self, row: str) -> str | None:
         program, _, value = row.rpartition(";")

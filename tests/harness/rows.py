@@ -17,6 +17,7 @@ import re
 import subprocess
 import tempfile
 from collections.abc import Callable, Iterable, Iterator
+from functools import partial
 from pathlib import Path
 from typing import NamedTuple
 
@@ -279,9 +280,7 @@ class RowTable(pytest.File):
     def collect(self) -> Iterator[pytest.Item]:
         kind = re.split(r"[_.]", self.path.name)[0]
         for line, row in rows_of(self.path):
-            item = RowItem.from_parent(
-                self, name=f"line {line}", line=line, check=lambda row=row: self.difference(kind, row)
-            )
+            item = RowItem.from_parent(self, name=f"line {line}", line=line, check=partial(self.difference, kind, row))
             item.add_marker(pytest.mark.xdist_group(str(self.path)))
             yield item
 

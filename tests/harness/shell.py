@@ -1,17 +1,21 @@
 """Files of shell tests. Each function `test_..` in such a file is a test, run by shell.sh in a new folder and a process of its own."""
 
+import os
 import re
+import signal
 import subprocess
 import tempfile
 from collections.abc import Iterator
+from functools import partial
 from pathlib import Path
 
 import pytest
 
 from harness.program import TOP
+from harness.tables import RowItem
 
 RUNNER = TOP / "tests/harness/shell.sh"
-SECONDS = 900
+SECONDS = 600
 # What shell.sh prints at the end of a test that passes. Without it, nothing was run.
 _COUNTS = re.compile(r"^[1-9][0-9]* passed, 0 failed$", re.MULTILINE)
 _TEST = re.compile(r"^(test_\w+) *\(\) *\{(?: # needs (.*))?", re.MULTILINE)
@@ -19,23 +23,19 @@ _TEST = re.compile(r"^(test_\w+) *\(\) *\{(?: # needs (.*))?", re.MULTILINE)
 
 class ShellFile(pytest.File):
     def collect(self) -> Iterator[pytest.Item]:
-        for match in _TEST.finditer(self.path.read_text()):
-            item = ShellTest.from_parent(self, name=match[1])
+        text = self.path.read_text()
+        for match in _TEST.finditer(text):
+            line = text.count("\n", 0, match.start()) + 1
+            item = RowItem.from_parent(self, name=match[1], line=line, check=partial(self.fault, match[1]))
             item.add_marker(pytest.mark.needs(*(match[2] or "").split()))
             yield item
 
-
-class ShellFailure(Exception):
-    """What a shell test printed."""
-
-
-class ShellTest(pytest.Item):
-    def runtest(self) -> None:
+    def fault(self, test: str) -> str | None:
+        """Runs a test, and returns what it prints unless it passes."""
         with tempfile.TemporaryDirectory(prefix="shell.") as folder:
             Path(folder).chmod(0o755)
-            command = ["bash", str(RUNNER), str(self.path), self.name]
-            with subprocess.Popen(
-                command,
+            process = subprocess.Popen(
+                ["bash", str(RUNNER), str(self.path), test],
                 cwd=folder,
                 stdin=subprocess.DEVNULL,
                 stdout=subprocess.PIPE,
@@ -43,13 +43,11 @@ class ShellTest(pytest.Item):
                 text=True,
                 errors="replace",
                 start_new_session=True,
-            ) as process:
+            )
+            try:
                 said, _ = process.communicate(timeout=SECONDS)
-        if process.returncode or not _COUNTS.search(said):
-            raise ShellFailure(said or f"{RUNNER.name} says nothing")
-
-    def repr_failure(self, excinfo: pytest.ExceptionInfo[BaseException], style: object = None) -> str:
-        return str(excinfo.value) if isinstance(excinfo.value, ShellFailure) else str(super().repr_failure(excinfo))
-
-    def reportinfo(self) -> tuple[Path, int, str]:
-        return self.path, 0, self.name
+            except subprocess.TimeoutExpired:
+                os.killpg(process.pid, signal.SIGKILL)
+                said, _ = process.communicate()
+        is_passed = process.returncode == 0 and _COUNTS.search(said)
+        return None if is_passed else said or f"{RUNNER.name} says nothing"
