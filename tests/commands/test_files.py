@@ -9,6 +9,14 @@ from harness.cases import Case
 from harness.program import TOP
 
 VERSION = f"extractd {(TOP / 'VERSION').read_text().strip()}"
+STATUSES = """\
+Exit status:
+  0  success, even if no row was selected
+  1  refused
+  2  usage
+  3  a file or output that can't be used
+  4  out of memory
+"""
 COMMANDS = "select compile run trace geocode geocode-batch verify explain asm dis serve".split()
 # all.bpf writes each line as a row, byte for byte.
 ROWS = """
@@ -111,12 +119,12 @@ def test_argument(files: Path, arguments: str, front: str, usage: str) -> None:
 
 
 def test_help(extractd: str) -> None:
-    cases.check(Case("extractd --help", 2, "0", f"*Usage: extractd <COMMAND>*Examples:*Exit status:*{VERSION}"))
+    cases.check(Case("extractd --help", 2, "0", f"*Usage: extractd <COMMAND>*Examples:*{STATUSES}\n{VERSION}"))
 
 
 @pytest.mark.parametrize("command", COMMANDS)
 def test_help_of(extractd: str, command: str) -> None:
-    text = f"*Usage: extractd {command} *Example*:*extractd {command} *Exit status:*{VERSION}"
+    text = f"*Usage: extractd {command} *Example*:*extractd {command} *{STATUSES}\n{VERSION}"
     cases.check(Case(f"extractd {command} --help", 2, "0", text))
 
 

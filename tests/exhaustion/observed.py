@@ -3,8 +3,6 @@
 The output is complete only with status 0. Otherwise it is empty or, of `run`, the first rows.
 """
 
-import os
-import signal
 import subprocess
 import tempfile
 from functools import cache
@@ -12,6 +10,7 @@ from pathlib import Path
 from typing import NamedTuple
 
 import pytest
+from harness.processes import output_of
 
 SECONDS = 300
 ROW = 231
@@ -43,12 +42,7 @@ def observe(command: str) -> Ended:
             stderr=subprocess.PIPE,
             start_new_session=True,
         )
-        try:
-            _, said = process.communicate(timeout=SECONDS)
-        except BaseException:
-            os.killpg(process.pid, signal.SIGKILL)
-            process.communicate()
-            raise
+        _, said = output_of(process, SECONDS)
         written.seek(0)
         status = process.returncode if process.returncode >= 0 else 128 - process.returncode
         return Ended(status, said.decode(), written.read())

@@ -7,12 +7,12 @@ A row of a table is a case: `command|status|size|text`. The size is a number of 
 import math
 import os
 import re
-import signal
 import subprocess
 from typing import NamedTuple
 
 import pytest
 
+from harness.processes import output_of
 from harness.program import TOP
 
 SECONDS = 300
@@ -81,10 +81,8 @@ def run(command: str) -> Ran:
         start_new_session=True,
     )
     try:
-        output, errors = process.communicate(timeout=SECONDS)
+        output, errors = output_of(process, SECONDS)
     except subprocess.TimeoutExpired:
-        os.killpg(process.pid, signal.SIGKILL)
-        process.communicate()
         pytest.fail(f"{command}\ngoes on after {SECONDS} seconds", pytrace=False)
     return Ran(process.returncode, output, errors.decode(errors="replace"))
 

@@ -1,8 +1,6 @@
 """Files of shell tests. Each function `test_..` in such a file is a test, run by shell.sh in a new folder and a process of its own."""
 
-import os
 import re
-import signal
 import subprocess
 import tempfile
 from collections.abc import Iterator
@@ -11,6 +9,7 @@ from pathlib import Path
 
 import pytest
 
+from harness.processes import output_of
 from harness.program import TOP
 from harness.tables import RowItem
 
@@ -45,9 +44,8 @@ class ShellFile(pytest.File):
                 start_new_session=True,
             )
             try:
-                said, _ = process.communicate(timeout=SECONDS)
+                said, _ = output_of(process, SECONDS)
             except subprocess.TimeoutExpired:
-                os.killpg(process.pid, signal.SIGKILL)
-                said, _ = process.communicate()
+                return f"{test} goes on after {SECONDS} seconds"
         is_passed = process.returncode == 0 and _COUNTS.search(said)
         return None if is_passed else said or f"{RUNNER.name} says nothing"
