@@ -12,7 +12,7 @@ from typing import NamedTuple
 TOP = Path(__file__).resolve().parent.parent.parent
 PAGE = "docs/CHANGING.md"
 HEADING = "## Where the tests of a crate are"
-ROW = re.compile(r"^\| (`.*`) \| (.*) \|$", re.MULTILINE)
+ROW = re.compile(r"^- (`.*?`): (.*)$", re.MULTILINE)
 # Tests that take minutes and that no word selects.
 LONG = ("tests/exhaustion", "tests/deploy", "tests/test_clients.py", "tests/test_costs.py", "tests/test_waits.py")
 TEST_FILES = ("tests/**/test_*.py", "tests/**/test_*.sh", "python/tests/test_*.py")
@@ -40,11 +40,16 @@ class Tests(NamedTuple):
     files: list[str]
 
 
+def listed() -> list[tuple[str, str]]:
+    """Returns the crates and the tests in each row of the page's list."""
+    section = (TOP / PAGE).read_text(encoding="utf-8").partition(f"\n{HEADING}\n")[2].partition("\n## ")[0]
+    return ROW.findall(section)
+
+
 def tests_of_crates() -> dict[str, Tests]:
     """Returns the tests of each crate, as the page lists them."""
-    section = (TOP / PAGE).read_text(encoding="utf-8").partition(f"\n{HEADING}\n")[2].partition("\n## ")[0]
     found = {}
-    for crates, tests in ROW.findall(section):
+    for crates, tests in listed():
         named = re.findall("`([^`]+)`", tests)
         files = [str(path.relative_to(TOP)) for name in named for path in sorted((TOP / "tests").glob(name))]
         row = Tests([name for name in named if name.endswith("_tests")], files)

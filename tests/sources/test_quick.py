@@ -14,7 +14,7 @@ OTHERS = [name for name in CRATES if name.endswith("_tests") or name == "fixture
 NAMED = sorted(
     {
         name
-        for _, tests in quick.ROW.findall((TOP / quick.PAGE).read_text(encoding="utf-8"))
+        for _, tests in quick.listed()
         for name in re.findall(r"`((?:rows|verdicts|test_|[a-z]+_tests)[^`]*)`", tests)
     }
 )
