@@ -191,18 +191,21 @@ class Debian:
     def inside(self, *words: str) -> Said:
         return run(*self.command(*words))
 
-    def mounted(self, *words: str, environment: Mapping[str, str]) -> Said:
-        """Runs a command inside, with the file systems that shells and Python use."""
+    def mount_command(self, *words: str) -> list[str]:
+        """Returns a command in the root and this machine's network, with the file systems that shells and Python use."""
         script = f'{MOUNTS} && exec chroot "$0" "$@"'
-        command = ["nsenter", self.network, "unshare", "--mount", "sh", "-c", script, str(self.folder), *words]
-        return run(*command, environment=environment)
+        return ["unshare", "--mount", "sh", "-c", script, str(self.folder), *words]
+
+    def mounted(self, *words: str, environment: Mapping[str, str]) -> Said:
+        """Runs such a command in the root's own network."""
+        return run("nsenter", self.network, *self.mount_command(*words), environment=environment)
 
     def add_packages(self) -> None:
-        """Installs what the tests need, so that the pages can be tested inside."""
+        """Installs what the tests need, so that the pages can be tested inside. The root's own network has no mirror."""
         shutil.copy("/etc/resolv.conf", self.folder / "etc/resolv.conf")
         names = (TOP / "tests/packages.txt").read_text().split()
         script = 'apt-get update && DEBIAN_FRONTEND=noninteractive exec apt-get install -y --no-install-recommends "$@"'
-        said = self.inside("sh", "-c", script, "-", *names)
+        said = run(*self.mount_command("sh", "-c", script, "-", *names))
         assert said.status == 0, said.errors
 
     def text(self, *words: str) -> str:
