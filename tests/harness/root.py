@@ -230,9 +230,12 @@ class Debian:
         installed = self.folder / prefix[1:] / "share/doc/extractd"
         files = {TOP / name: f"tmp/clone/{name}" for name in ("conftest.py", "pyproject.toml", "examples", "tests")}
         self.copy({**files, installed: "tmp/clone/installed"})
-        path = {"PATH": f"{prefix}/bin:/usr/sbin:/usr/bin:/sbin:/bin", "TMPDIR": "/tmp", "PYTHONDONTWRITEBYTECODE": "1"}
-        script = f"unset EXTRACTD && cd /tmp/clone && exec python3 -m pytest -q --pages installed installed/{page}"
-        said = self.mounted("sh", "-c", script, environment=path)
+        # docs/python.md says so to whoever has run install.sh.
+        module = {"PYTHONPATH": f"{prefix}/lib/python3/dist-packages", "PYTHONDONTWRITEBYTECODE": "1"}
+        path = {"PATH": f"{prefix}/bin:/usr/sbin:/usr/bin:/sbin:/bin", "TMPDIR": "/tmp", **module}
+        # These tests aren't a part of the others that run side by side.
+        script = "unset EXTRACTD PYTEST_XDIST_WORKER && cd /tmp/clone && exec python3 -m pytest -q --pages installed"
+        said = self.mounted("sh", "-c", f"{script} installed/{page}", environment=path)
         shutil.rmtree(self.folder / "tmp/clone")
         assert re.search(r"^[1-9][0-9]* passed, 0 failed$", said.output, re.MULTILINE), said.output + said.errors
 
