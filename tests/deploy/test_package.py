@@ -7,6 +7,7 @@ import time
 from pathlib import Path
 
 import pytest
+from harness.counts import listed
 from harness.program import TOP
 from harness.root import DEB, Files, Installed, Packages, Unpacked, changes, is_quiet, run, snapshot
 
@@ -19,7 +20,8 @@ pytestmark = [
 DOCUMENTS = "usr/share/doc/extractd"
 MAN = sorted(path.name for path in (TOP / "deploy/packaging/man").iterdir())
 UNITS = ("extractd.service", "extractd@8081.service")
-PAGES = ["README.md", "examples/README.md", *sorted(f"docs/{path.name}" for path in (TOP / "docs").glob("*.md"))]
+# The pages with tests.
+PAGES = [name for name in listed() if name.endswith(".md")]
 
 
 def rows(text: str) -> list[list[str]]:
