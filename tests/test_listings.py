@@ -1,5 +1,5 @@
-"""The listings of `extractd explain` are those of a second reading of the verifier's rules, byte for byte. The second reading follows docs/verifier.md and is in
-`verifier`. The built program supplies nothing but the words of a text, by `asm`.
+"""The listings of `extractd explain` are those of a second reading of the verifier's rules, byte for byte. The second reading follows
+docs/verifier.md and is in `verifier`. The built program supplies nothing but the words of a text, by `asm`.
 
 For each program of tests/verdicts and of the documents, and for some that are drawn, `explain` has to write the listing that is made here, without source
 lines and with some. Its standard error and exit status have to be those of `verify`, and the verdict has to be that of the second reading and of the

@@ -1,5 +1,5 @@
-"""Tables of programs and what the commands make of them. A line that begins with `#` is a comment, one that begins with two blanks continues the row above, and `;` separates cells. A table's kind is its name up to
-the first `_` or `.`:
+"""Tables of programs and what the commands make of them. A line that begins with `#` is a comment, one that begins with two blanks
+continues the row above, and `;` separates cells. A table's kind is its name up to the first `_` or `.`:
 
 words    bytes; their text, with ` | ` between its lines, or a refusal. `dis` must write the text and `asm` turn it back into the bytes; or `dis` and
          `verify` must refuse the bytes.

@@ -45,7 +45,8 @@ extractd geocode-batch --addresses a.csv --data d 01001;
   HEADER2,no_match,name_too_long,EMPTY\n3,no_match,missing,EMPTY\n4,no_match,missing,EMPTY\n5,no_match,not_a_number,EMPTY\n; 0;;
   a.csv: number,name,zip\n151,{text x*31},\n,main,\n151,,\n151,main,x\n; d/TGR01001.RT1: {rt1}\n
 extractd geocode-batch --addresses a.csv --data d 01001;
-  HEADER2,match,,-86.494898,32.405102,123456789,L,,La Cañada,Pase,,36067,01001,101,199\n3,no_match,no_such_street,EMPTY\n4,no_match,no_such_street,EMPTY\n5,no_match,no_such_street,EMPTY\n6,no_match,name_too_long,EMPTY\n;
+  HEADER2,match,,-86.494898,32.405102,123456789,L,,La Cañada,Pase,,36067,01001,101,199\n3,no_match,no_such_street,EMPTY\n4,no_match,no_such_street,EMPTY\n
+   5,no_match,no_such_street,EMPTY\n6,no_match,name_too_long,EMPTY\n;
   0;; a.csv: number,name\n151,la cañada\n151,la canada\n151,la caňada\n151,{text €*30}\n151,{text €*31}\n;
   d/TGR01001.RT1: {rt1 FENAME=La_Ca\xf1ada FETYPE=Pase}\n
 extractd geocode-batch --addresses a.csv --data d 01001 01003;

@@ -81,9 +81,10 @@ extractd verify --program p.bpf;; 1; refused 40 place 0 ReadsNothing(0); p.bpf: 
 extractd verify --program p.bpf;; 1; refused 33 place 4096 LastNotExit; p.bpf: {asm mov r0, 1 *4097}
 extractd verify --program p.bpf;; 3; error: p.bpf: broken pipe; p.bpf: {every} ! call 2 pipe
 extractd explain --program p.bpf --lines l;
-  \x3b x\n0: mov r0, 1                            \x3b r1 = record + 0, r10 = frame + 512\n1: exit                                 \x3b r0 = 1\naccepted\n; 0;; p.bpf: {every}; l: 0\tx\n
-extractd explain --program p.bpf; 0: exit                                 \x3b r0 = ?, r1 = record + 0, r10 = frame + 512\nrefused: reads r0, of which nothing is
-  known\n; 1; refused 40 place 0 ReadsNothing(0); p.bpf: {stuck}
+  \x3b x\n0: mov r0, 1                            \x3b r1 = record + 0, r10 = frame + 512\n1: exit                                 \x3b r0 = 1\n
+   accepted\n; 0;; p.bpf: {every}; l: 0\tx\n
+extractd explain --program p.bpf; 0: exit                                 \x3b r0 = ?, r1 = record + 0, r10 = frame + 512\n
+   refused: reads r0, of which nothing is known\n; 1; refused 40 place 0 ReadsNothing(0); p.bpf: {stuck}
 extractd explain --program p.bpf --lines l; \x3b x\n0: 85 10 00 00 ff ff ff ff\nrefused: calls another function (src_reg 1),
   whose place clang left to a linker\n1: 95 00 00 00 00 00 00 00  exit\n; 1; refused 15 place 0 UnusedNotZero; p.bpf: {asm hex
   85100000ffffffff | exit}; l: 0\tx\n

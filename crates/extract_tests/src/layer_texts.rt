@@ -14,8 +14,8 @@ use std::io::ErrorKind;
 use std::process::Abort;
 use tl_segments::{CountyFiles, JoinedFiles, Segment};
 
-// The form of a layer, its geometry and its column; the files of types 1 and 2; the number of segments and the text. `\x7b` and `\x7d` are braces, and `\x5c` is a
-// backslash.
+// The form of a layer, its geometry and its column; the files of types 1 and 2; the number of segments and the text. `\x7b` and `\x7d` are braces,
+// and `\x5c` is a backslash.
 const LAYERS: Table = Table(
     r#"
 rows none TLID; {rt1}\n{rt1 TLID=5}\n; {rt2}\n; ok 2; 0\t{rt1}\n0\t{rt1 TLID=5}\n
@@ -37,13 +37,19 @@ csv shape ZIPL; {rt1}\n; {rt2}\n{rt2}\n; refused 121 rt2 line 2 RepeatedSequence
 csv line ZIPL; {rt1}\n{rt1 ..227}; {rt2}\n{rt2}\n; refused 1 rt1 line 2 WrongLength;
   score,ZIPL,WKT\n0,36067,"LINESTRING (-86.500000 32.400000,-86.490000 32.410000)"\n
 geojson none TLID; {rt1}\n;; ok 1; \x7b"type":"Feature","properties":\x7b"score":0,"TLID":123456789\x7d,"geometry":null\x7d\n
-geojson none FENAME; {rt1 FENAME=}\n{rt1 FENAME="\x5c}\n;; ok 2; \x7b"type":"Feature","properties":\x7b"score":0,"FENAME":null\x7d,"geometry":null\x7d\n\x7b"type":"Feature","properties":\x7b"score":0,"FENAME":"\x5c"\x5c\x5c"\x7d,"geometry":null\x7d\n
-geojson none TOIADDR; {rt1 TOIADDR=0}\n{rt1 FRIADDR=1}\n;; ok 2; \x7b"type":"Feature","properties":\x7b"score":0,"TOIADDR":"0"\x7d,"geometry":null\x7d\n\x7b"type":"Feature","properties":\x7b"score":0,"TOIADDR":null\x7d,"geometry":null\x7d\n
-geojson none TOADDR_TEXT; {rt1 TOADDR=________98A}\n{rt1 TOADDR=}\n;; ok 2; \x7b"type":"Feature","properties":\x7b"score":0,"TOADDR_TEXT":"98A"\x7d,"geometry":null\x7d\n\x7b"type":"Feature","properties":\x7b"score":0,"TOADDR_TEXT":null\x7d,"geometry":null\x7d\n
+geojson none FENAME; {rt1 FENAME=}\n{rt1 FENAME="\x5c}\n;; ok 2; \x7b"type":"Feature","properties":\x7b"score":0,"FENAME":null\x7d,"geometry":null\x7d\n
+   \x7b"type":"Feature","properties":\x7b"score":0,"FENAME":"\x5c"\x5c\x5c"\x7d,"geometry":null\x7d\n
+geojson none TOIADDR; {rt1 TOIADDR=0}\n{rt1 FRIADDR=1}\n;; ok 2; \x7b"type":"Feature","properties":\x7b"score":0,"TOIADDR":"0"\x7d,"geometry":null\x7d\n
+   \x7b"type":"Feature","properties":\x7b"score":0,"TOIADDR":null\x7d,"geometry":null\x7d\n
+geojson none TOADDR_TEXT; {rt1 TOADDR=________98A}\n{rt1 TOADDR=}\n;; ok 2;
+  \x7b"type":"Feature","properties":\x7b"score":0,"TOADDR_TEXT":"98A"\x7d,"geometry":null\x7d\n
+   \x7b"type":"Feature","properties":\x7b"score":0,"TOADDR_TEXT":null\x7d,"geometry":null\x7d\n
 geojson none FENAME; {rt1 FENAME=\x01a}\n;; ok 1; \x7b"type":"Feature","properties":\x7b"score":0,"FENAME":"\x5cu0001a"\x7d,"geometry":null\x7d\n
 geojson none FENAME; {rt1 FENAME=Pe\xf1a}\n;; ok 1; \x7b"type":"Feature","properties":\x7b"score":0,"FENAME":"Pe\xc3\xb1a"\x7d,"geometry":null\x7d\n
-geojson line FRLAT; {rt1}\n;; ok 1; \x7b"type":"Feature","properties":\x7b"score":0,"FRLAT":32.400000\x7d,"geometry":\x7b"type":"LineString","coordinates":[[-86.500000,32.400000],[-86.490000,32.410000]]\x7d\x7d\n
-geojson shape FRLAT; {rt1}\n; {rt2 LONG2=}\n; ok 1; \x7b"type":"Feature","properties":\x7b"score":0,"FRLAT":32.400000\x7d,"geometry":\x7b"type":"LineString","coordinates":[[-86.500000,32.400000],[-86.498000,32.403000],[-86.490000,32.410000]]\x7d\x7d\n"#,
+geojson line FRLAT; {rt1}\n;; ok 1; \x7b"type":"Feature","properties":\x7b"score":0,"FRLAT":32.400000\x7d,
+   "geometry":\x7b"type":"LineString","coordinates":[[-86.500000,32.400000],[-86.490000,32.410000]]\x7d\x7d\n
+geojson shape FRLAT; {rt1}\n; {rt2 LONG2=}\n; ok 1; \x7b"type":"Feature","properties":\x7b"score":0,"FRLAT":32.400000\x7d,
+   "geometry":\x7b"type":"LineString","coordinates":[[-86.500000,32.400000],[-86.498000,32.403000],[-86.490000,32.410000]]\x7d\x7d\n"#,
 );
 
 /// A layer, the files of types 1 and 2, the outcome, and what is written.

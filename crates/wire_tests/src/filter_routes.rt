@@ -43,8 +43,10 @@ GET /geocode-batch{end} => 405 POST"#,
 // Listings of programs.
 pub const LISTINGS: Table = Table(
     r"{rt1}\n
-POST /explain HTTP/1.1 >> {every} => 200 text 0: mov r0, 1                            ; r1 = record + 0, r10 = frame + 512\n1: exit                                 ; r0 = 1\naccepted\n
-POST /explain HTTP/1.1 >> {stuck} => 422 0: exit                                 ; r0 = ?, r1 = record + 0, r10 = frame + 512\nrefused: reads r0, of which nothing is known\nrefused 40 place 0 ReadsNothing(0)
+POST /explain HTTP/1.1 >> {every} => 200 text 0: mov r0, 1                            ; r1 = record + 0, r10 = frame + 512\n
+   1: exit                                 ; r0 = 1\naccepted\n
+POST /explain HTTP/1.1 >> {stuck} => 422 0: exit                                 ; r0 = ?, r1 = record + 0, r10 = frame + 512\n
+   refused: reads r0, of which nothing is known\nrefused 40 place 0 ReadsNothing(0)
 POST /explain HTTP/1.1 >> => 422 refused 10 Empty
 POST /explain HTTP/1.1 >> {unknown} => 422 refused 13 place 0 UnknownOpcode
 POST /explain HTTP/1.1 >> {backward} => 422 refused 30 place 1 BackwardJump",
@@ -54,7 +56,8 @@ POST /explain HTTP/1.1 >> {backward} => 422 refused 30 place 1 BackwardJump",
 pub const SCRIPTS: Table = Table(
     r"one
 POST /geocode-batch HTTP/1.1 >> id,number,name\n7,251,Lantern\n8,252,Lantern\n
-  => 200 csv id,status,reason,longitude,latitude,tlid,side,fedirp,fename,fetype,fedirs,zip,county,from,to\n7,match,,-86.629812,32.412161,107000725,L,,Lantern,Ct,,36067,01001,201,299\n8,no_match,no_such_number,,,,,,,,,,,,\n
+  => 200 csv id,status,reason,longitude,latitude,tlid,side,fedirp,fename,fetype,fedirs,zip,county,from,to\n
+   7,match,,-86.629812,32.412161,107000725,L,,Lantern,Ct,,36067,01001,201,299\n8,no_match,no_such_number,,,,,,,,,,,,\n
 POST /geocode-batch HTTP/1.1 >> number,name
   => 200 csv id,status,reason,longitude,latitude,tlid,side,fedirp,fename,fetype,fedirs,zip,county,from,to\n
 POST /geocode-batch HTTP/1.1 >> => 422 refused 100 NoHeader
@@ -63,7 +66,8 @@ POST /geocode-batch HTTP/1.1 >> number,name\n1,\xff\n => 422 refused 102 line 2 
 
 {rt1 FENAME=Oak}\n | {rt1}\n
 POST /geocode-batch HTTP/1.1 >> number,name\n101,main\n
-  => 200 csv id,status,reason,longitude,latitude,tlid,side,fedirp,fename,fetype,fedirs,zip,county,from,to\n2,match,,-86.500000,32.400000,123456789,L,,Main,,,36067,01003,101,199\n
+  => 200 csv id,status,reason,longitude,latitude,tlid,side,fedirp,fename,fetype,fedirs,zip,county,from,to\n
+   2,match,,-86.500000,32.400000,123456789,L,,Main,,,36067,01003,101,199\n
 POST /select HTTP/1.1 >> FENAME = 'Main' => 200 octets 0\t{rt1}\n
 POST /select HTTP/1.1 >> FENAME <> 'Elm' => 200 octets 0\t{rt1 FENAME=Oak}\n0\t{rt1}\n
 POST /filter-jobs?score=ZIPL HTTP/1.1 >> FENAME = 'Main' => 200 text 1\n
@@ -93,7 +97,8 @@ pub const GROWTHS: Table = Table(
 + POST /select?format=%78 HTTP/1.1 >> TRUE => 400
 + POST /compile HTTP/1.1 >> TRUE => 200 octets {asm mov r6, r1 | mov r0, 1 | exit | mov r0, 0 | exit}
 + POST /compile HTTP/1.1 >> FRLAT > 1000 => 422 refused 93 line 1 column 9 NumberRange\na number doesn't fit
-+ POST /explain HTTP/1.1 >> {every} => 200 text 0: mov r0, 1                            ; r1 = record + 0, r10 = frame + 512\n1: exit                                 ; r0 = 1\naccepted\n
++ POST /explain HTTP/1.1 >> {every} => 200 text 0: mov r0, 1                            ; r1 = record + 0, r10 = frame + 512\n
+   1: exit                                 ; r0 = 1\naccepted\n
 + POST /explain HTTP/1.1 >> {backward} => 422 refused 30 place 1 BackwardJump
 + POST /geocode-batch HTTP/1.1 >> number,name\n251,Elm\n
   => 200 csv id,status,reason,longitude,latitude,tlid,side,fedirp,fename,fetype,fedirs,zip,county,from,to\n2,no_match,no_such_street,,,,,,,,,,,,\n

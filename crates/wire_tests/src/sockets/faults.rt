@@ -10,7 +10,9 @@ use std::io::ErrorKind;
 use std::net::{TcpListener, TcpStream};
 use std::time::{Clock, Duration};
 
-/// A clock that shows the same time at each reading, and fails once. Each read and each write of a connection first reads the clock, and fails if the clock does.
+/// A clock that shows the same time at each reading, and fails once.
+///
+/// Each read and each write of a connection first reads the clock, and fails if the clock does.
 #[derive(Drop)]
 pub struct FailingClock {
     readings: Cell<usize>,
