@@ -7,13 +7,24 @@ use Rattle.clap.specs.Simple.{App, Shape, app_of, new_rule, new_shape}
 use Rattle.clap.specs.declared.builder.action.ArgAction.TheVariants.{Set, SetTrue, Append}
 use Rattle.clap.specs.declared.builder.command.Command.{Command}
 use Rattle.clap.specs.declared.builder.command.Command.TheViews.{out-Command as fields_of}
+use Rattle.command_line.specs.declared.argument.Argument.{Argument}
+use Rattle.command_line.specs.declared.argument.ArgumentKind.{ArgumentKind}
+use Rattle.command_line.specs.declared.argument.ArgumentKind.TheVariants.{Required, Optional, Flag, One, Several}
 use Rattle.command_line.specs.declared.arguments.subcommand.Subcommand.{Subcommand}
 use Rattle.command_line.specs.declared.arguments.subcommand.Subcommand.TheVariants.{Select, Compile, Run, Trace, Geocode, GeocodeBatch}
 use Rattle.command_line.specs.declared.arguments.subcommand.Subcommand.TheVariants.{Verify, Explain, Assemble, Disassemble, Serve}
 
+-- `VALUE`, once
+abbrev pub valued : Text → Rule
+valued name = record (new_rule name) { value_names = 1; required = true; action = Some Set }
+
+-- `VALUE..`, one or more
+abbrev pub several : Text → Rule
+several name = record (valued name) { range = Some (record { start_inclusive = 1; end_inclusive = usize_max }); action = Some Append }
+
 -- `--NAME VALUE`, once
 abbrev pub required : Text → Rule
-required name = record (new_rule name) { long = Some name; value_names = 1; required = true; action = Some Set }
+required name = record (valued name) { long = Some name }
 
 -- `--NAME VALUE`, at most once
 abbrev pub optional : Text → Rule
@@ -23,18 +34,24 @@ optional name = record (required name) { required = false }
 abbrev pub flag : Text → Rule
 flag name = record (new_rule name) { long = Some name; action = Some SetTrue }
 
+abbrev pub rule_by_kind : Text → ArgumentKind → Rule
+rule_by_kind name Required = required name
+rule_by_kind name Optional = optional name
+rule_by_kind name Flag = flag name
+rule_by_kind name One = valued name
+rule_by_kind name Several = several name
+
+-- what the parser takes for an argument
+abbrev pub rule : Argument → Rule
+rule argument = rule_by_kind argument.name.now argument.kind
+
 -- `CODE`
 abbrev pub county : Rule
-county = record (new_rule (codes "code")) { value_names = 1; required = true; action = Some Set }
+county = valued (codes "code")
 
--- `CODE..`, one or more
+-- `CODE..`
 abbrev pub counties : Rule
-counties = record (new_rule (codes "code")) {
-  value_names = 1;
-  required = true;
-  range = Some (record { start_inclusive = 1; end_inclusive = usize_max });
-  action = Some Append;
-}
+counties = several (codes "code")
 
 -- `--format FORMAT`, `--columns NAMES` and `--geometry GEOMETRY`, each at most once
 abbrev pub layer_options : List Rule

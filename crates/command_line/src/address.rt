@@ -1,63 +1,15 @@
 //! The address of a server, from the options of `serve`.
-ghost use Rattle.std.specs.Prelude.{◌≡◌, IfErr, MatchResult, None, Some, codes, false};
-ghost use Rattle.clap.specs.Walk.{rule_of};
+ghost use Rattle.std.specs.Prelude.{◌≡◌, IfErr, MatchResult, None, Some};
 ghost use Rattle.command_line.specs.Address.{IsAddress, IsAddressFault, IsHost, IsHostFault, IsPortFault, port_of};
-ghost use Rattle.command_line.specs.Arguments.{flag as flag_rule, optional};
 ghost use Rattle.command_line.specs.Values.{Reads, port_in, rows_in};
 ghost use Rattle.command_line.specs.declared.fault.ArgumentsFault.TheVariants as ArgumentsFault;
 
 use crate::fault::ArgumentsFault;
-use crate::flags::{flag, is_given};
-use crate::options::{optional_option, value_or};
-use clap::{Arg, ArgMatches};
+use crate::flags::is_given;
+use crate::options::value_or;
+use clap::ArgMatches;
 use decimal::are_digits;
-use std::alloc::Global;
 use std::net::{IpAddr, SocketAddr};
-
-/// Returns the option `--port P`.
-pub fn port_option<'a>(alloc: Global) -> Arg<'a>
-    ensures rule { rule_of result ≡ optional (codes "port") }
-    ensures local { result.global ≡ false }
-{
-    optional_option(alloc, "port", "P", "The port, 1 to 65535")
-}
-
-/// Returns the flag `--any-port`.
-pub fn any_port_option<'a>(alloc: Global) -> Arg<'a>
-    ensures rule { rule_of result ≡ flag_rule (codes "any-port") }
-    ensures local { result.global ≡ false }
-{
-    flag(
-        alloc,
-        "any-port",
-        "Takes a free port in place of --port; the output has its number",
-    )
-}
-
-/// Returns the option `--host ADDRESS`.
-pub fn host_option<'a>(alloc: Global) -> Arg<'a>
-    ensures rule { rule_of result ≡ optional (codes "host") }
-    ensures local { result.global ≡ false }
-{
-    optional_option(
-        alloc,
-        "host",
-        "ADDRESS",
-        "The IP address to listen at: 127.0.0.1 (the default), another one of 127.0.0.0/8, or ::1; any other needs --public",
-    )
-}
-
-/// Returns the flag `--public`.
-pub fn public_option<'a>(alloc: Global) -> Arg<'a>
-    ensures rule { rule_of result ≡ flag_rule (codes "public") }
-    ensures local { result.global ≡ false }
-{
-    flag(
-        alloc,
-        "public",
-        "Allows any --host. The server has no TLS and no authentication: whoever reaches it can use all of it",
-    )
-}
 
 /// Returns the address at which to listen.
 pub fn address<'a>(matches: &ArgMatches<'a>) -> Result<SocketAddr, ArgumentsFault<'a>>

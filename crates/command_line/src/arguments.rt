@@ -29,17 +29,18 @@ mod subcommand;
 mod trace;
 mod verify;
 
-ghost use Rattle.std.specs.Prelude.{◌≡◌, ◌≢◌, IfErr, IfOk, MatchResult, []};
+ghost use Rattle.std.specs.Prelude.{◌≡◌, ◌≢◌, IfErr, IfOk, MatchResult, [], map};
 ghost use Rattle.clap.specs.Faults.{fault_of};
 ghost use Rattle.clap.specs.Simple.{app_of};
 ghost use Rattle.clap.specs.Values.{kind_of};
 ghost use Rattle.clap.specs.Walk.{texts};
 ghost use Rattle.clap.specs.declared.error.kind.ErrorKind.TheVariants as usage_kind;
-ghost use Rattle.command_line.specs.Arguments.{Takes, arguments_of as rules_of, name_of, program};
+ghost use Rattle.command_line.specs.Arguments.{Takes, arguments_of as rules_of, name_of, program, rule};
 ghost use Rattle.command_line.specs.Request.{AreMatchesOf, IsNamedRequest, IsRequest, IsRequestOf, IsServeOf};
 ghost use Rattle.command_line.specs.Values.{ReadsUnlessMemory, rows_in};
 ghost use Rattle.command_line.specs.declared.fault.ArgumentsFault.TheVariants as ArgumentsFault;
 
+use crate::argument::Declaration;
 use crate::fault::ArgumentsFault;
 use crate::serve::Serve;
 use clap::error::ErrorKind;
@@ -193,27 +194,43 @@ fn program_command<'a>(alloc: Global) -> Result<Command<'a>, AllocError>
         .disable_help_subcommand(true)
         .subcommand_required(true);
     for subcommand in Subcommand::ALL {
-        program = program.subcommand(arguments_of(alloc, subcommand)?)?;
+        program = program.subcommand(command_of(alloc, subcommand)?)?;
     }
     Ok(program)
 }
 
-/// Returns the arguments of a command for the argument parser.
-fn arguments_of<'a>(alloc: Global, subcommand: Subcommand) -> Result<Command<'a>, AllocError>
+/// Returns a command for the argument parser.
+fn command_of<'a>(alloc: Global, subcommand: Subcommand) -> Result<Command<'a>, AllocError>
     ensures { IfOk result (Takes (name_of subcommand) (rules_of subcommand)) }
 {
+    let declaration = declaration_of(subcommand);
     let name: &'a str = subcommand.name();
+    let about: &'a str = declaration.about;
+    let after_help: &'a str = declaration.after_help;
+    let mut command = Command::new(alloc, name)
+        .about(about)
+        .after_help(after_help);
+    for argument in declaration.arguments {
+        command = command.arg(argument.arg(alloc))?;
+    }
+    Ok(command)
+}
+
+/// Returns what a command is for the argument parser.
+fn declaration_of(subcommand: Subcommand) -> Declaration
+    ensures { map rule result.arguments.now ≡ rules_of subcommand }
+{
     match subcommand {
-        Subcommand::Select => select::command(alloc, name),
-        Subcommand::Compile => compile::command(alloc, name),
-        Subcommand::Run => run::command(alloc, name),
-        Subcommand::Trace => trace::command(alloc, name),
-        Subcommand::Geocode => geocoder::command(alloc, name),
-        Subcommand::GeocodeBatch => geocode_batch::command(alloc, name),
-        Subcommand::Verify => verify::command(alloc, name),
-        Subcommand::Explain => explain::command(alloc, name),
-        Subcommand::Assemble => assemble::command(alloc, name),
-        Subcommand::Disassemble => disassemble::command(alloc, name),
-        Subcommand::Serve => serve::command(alloc, name),
+        Subcommand::Select => select::declaration(),
+        Subcommand::Compile => compile::declaration(),
+        Subcommand::Run => run::declaration(),
+        Subcommand::Trace => trace::declaration(),
+        Subcommand::Geocode => geocoder::declaration(),
+        Subcommand::GeocodeBatch => geocode_batch::declaration(),
+        Subcommand::Verify => verify::declaration(),
+        Subcommand::Explain => explain::declaration(),
+        Subcommand::Assemble => assemble::declaration(),
+        Subcommand::Disassemble => disassemble::declaration(),
+        Subcommand::Serve => serve::declaration(),
     }
 }

@@ -103,13 +103,13 @@ impl ArgumentsFault<'_> {
 
     /// Writes the report, except for `Memory` and `NotUtf8`.
     fn write_report<E: CountedWrite>(&self, line: &mut DiagnosticLine<'_, E>) -> fmt::Result {
+        if let Some((rule, value)) = self.broken_rule() {
+            write!(line, "error: {rule}")?;
+            return end_with_value(line, value);
+        }
         match self {
             ArgumentsFault::Usage(error) => write!(line, "{error}"),
             ArgumentsFault::Missing(name) => write!(line, "error: {name} is missing\n"),
-            ArgumentsFault::Code(code) => {
-                write!(line, "error: CODE is five digits")?;
-                end_with_value(line, code)
-            }
             ArgumentsFault::TooManyCodes(count) => {
                 write!(
                     line,
@@ -128,18 +128,6 @@ impl ArgumentsFault<'_> {
                 write!(line, "error: --name is 1 to {NAME_LENGTH} characters")?;
                 end_with_value(line, name)
             }
-            ArgumentsFault::Language(name) => {
-                write!(line, "error: --filter-lang is cql2-text or cql2-json")?;
-                end_with_value(line, name)
-            }
-            ArgumentsFault::Score(name) => {
-                write!(line, "error: --score is a column with numbers")?;
-                end_with_value(line, name)
-            }
-            ArgumentsFault::Format(name) => {
-                write!(line, "error: --format is rows, csv or geojsonseq")?;
-                end_with_value(line, name)
-            }
             ArgumentsFault::NotOfRows(name) => {
                 write!(line, "error: --{name} needs --format csv or geojsonseq\n")
             }
@@ -154,23 +142,11 @@ impl ArgumentsFault<'_> {
                 line.echo(name)?;
                 write!(line, "\" twice\n")
             }
-            ArgumentsFault::Geometry(name) => {
-                write!(line, "error: --geometry is none, line or shape")?;
-                end_with_value(line, name)
-            }
-            ArgumentsFault::Port(text) => {
-                write!(line, "error: --port is 1 to 65535")?;
-                end_with_value(line, text)
-            }
             ArgumentsFault::TwoPorts => {
                 write!(
                     line,
                     "error: --port and --any-port can't be used together\n"
                 )
-            }
-            ArgumentsFault::Host(text) => {
-                write!(line, "error: --host is an IP address")?;
-                end_with_value(line, text)
             }
             ArgumentsFault::NotLoopback(text) => {
                 write!(line, "error: --host ")?;
@@ -178,7 +154,25 @@ impl ArgumentsFault<'_> {
                 write!(line, " needs --public, which lets other machines connect\n")
             }
             ArgumentsFault::Serve => write!(line, "error: serve needs a socket\n"),
-            ArgumentsFault::Memory | ArgumentsFault::NotUtf8 => Ok(()),
+            _ => Ok(()),
+        }
+    }
+}
+
+impl<'a> ArgumentsFault<'a> {
+    /// Returns the rule for a value and the value that breaks it, if the fault has no other parts.
+    fn broken_rule(&self) -> Option<(&'static str, &'a str)> {
+        match *self {
+            ArgumentsFault::Code(code) => Some(("CODE is five digits", code)),
+            ArgumentsFault::Language(name) => {
+                Some(("--filter-lang is cql2-text or cql2-json", name))
+            }
+            ArgumentsFault::Score(name) => Some(("--score is a column with numbers", name)),
+            ArgumentsFault::Format(name) => Some(("--format is rows, csv or geojsonseq", name)),
+            ArgumentsFault::Geometry(name) => Some(("--geometry is none, line or shape", name)),
+            ArgumentsFault::Port(text) => Some(("--port is 1 to 65535", text)),
+            ArgumentsFault::Host(text) => Some(("--host is an IP address", text)),
+            _ => None,
         }
     }
 }

@@ -1,34 +1,8 @@
 //! Flags: options without a value.
-ghost use Rattle.std.specs.Prelude.{◌≡◌, codes, false};
-ghost use Rattle.clap.specs.Walk.{rule_of};
-ghost use Rattle.command_line.specs.Arguments.{flag as flag_rule};
+ghost use Rattle.std.specs.Prelude.{◌≡◌};
 ghost use Rattle.command_line.specs.Values.{flag_of, rows_in};
 
-use clap::{Arg, ArgAction, ArgMatches};
-use std::alloc::Global;
-
-/// Returns the flag `--name`.
-pub fn flag<'a>(alloc: Global, name: &'a str, help: &'a str) -> Arg<'a>
-    ensures rule { rule_of result ≡ flag_rule name.entry.now }
-    ensures local { result.global ≡ false }
-{
-    Arg::new(alloc, name)
-        .long(name)
-        .help(help)
-        .action(ArgAction::SetTrue)
-}
-
-/// Returns the flag `--log`.
-pub fn log_option<'a>(alloc: Global) -> Arg<'a>
-    ensures rule { rule_of result ≡ flag_rule (codes "log") }
-    ensures local { result.global ≡ false }
-{
-    flag(
-        alloc,
-        "log",
-        "Writes a line to standard error for each connection",
-    )
-}
+use clap::ArgMatches;
 
 /// Returns whether a flag is given.
 ///

@@ -1,47 +1,17 @@
 //! The options of layers, shared by the commands that write segments.
-ghost use Rattle.std.specs.Prelude.{◌≡◌, ◌≢◌, ◌==◌, ◌++◌, List, IfOk, MatchResult, None, Some, codes, map};
+ghost use Rattle.std.specs.Prelude.{◌≡◌, ◌≢◌, ◌==◌, IfOk, MatchResult, None, Some, codes, map};
 ghost use Rattle.std.specs.List.{slice_split};
 ghost use Rattle.std.specs.Option.{option_copied};
-ghost use Rattle.clap.specs.Walk.{Rule, Text};
 ghost use Rattle.layers.specs.LayerParts.{layout_of as layout_parts, parts_of};
-ghost use Rattle.command_line.specs.Arguments.{Takes, layer_options};
 ghost use Rattle.command_line.specs.Values.{columns_in, geometry_in, layer_of, layout_of, plain_rows, rows_in};
 ghost use Rattle.command_line.specs.declared.fault.ArgumentsFault.TheVariants as ArgumentsFault;
 
 use crate::fault::ArgumentsFault;
-use crate::options::{optional_option, value_or};
-use clap::{ArgMatches, Command};
+use crate::options::value_or;
+use clap::ArgMatches;
 use features::{Columns, ColumnsFault, Geometry};
 use layers::{Layer, Layout};
 use std::alloc::{AllocError, Global};
-
-/// Returns a command that also takes the options of layers.
-pub fn with_layer_options<'a>(
-    alloc: Global,
-    command: Command<'a>,
-) -> Result<Command<'a>, AllocError>
-    ensures { (name : Text) (rules : List Rule) → Takes name rules command.entry → IfOk result (Takes name (rules ++ layer_options)) }
-{
-    command
-        .arg(optional_option(
-            alloc,
-            "format",
-            "FORMAT",
-            "rows (the default), csv, or geojsonseq: a GeoJSON feature on each line",
-        ))?
-        .arg(optional_option(
-            alloc,
-            "columns",
-            "NAMES",
-            "The columns of csv and geojsonseq, with commas between their names; by default one for each field",
-        ))?
-        .arg(optional_option(
-            alloc,
-            "geometry",
-            "GEOMETRY",
-            "The geometry of csv and geojsonseq: none, line (the default), or shape, which needs the type 2 files",
-        ))
-}
 
 /// Returns the layer of the given format, by default rows.
 pub fn layer<'a>(alloc: Global, matches: &ArgMatches<'a>) -> Result<Layer, ArgumentsFault<'a>>

@@ -2,6 +2,7 @@
 #![tactic(auto)]
 
 mod address;
+mod argument;
 mod arguments;
 mod dispatch;
 mod fault;

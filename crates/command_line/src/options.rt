@@ -1,40 +1,18 @@
-//! Options and other arguments shared by several commands.
-ghost use Rattle.std.specs.Prelude.{◌≡◌, ◌≢◌, ◌≤◌, ◌⊎◌, IfOk, MatchResult, None, Some, codes, false, map, unwrap_or, vec_len};
+//! The values of arguments that several commands take.
+ghost use Rattle.std.specs.Prelude.{◌≡◌, ◌≢◌, ◌≤◌, ◌⊎◌, IfOk, MatchResult, None, Some, map, unwrap_or, vec_len};
 ghost use Rattle.decimal.specs.declared.numeral.TheConstants.{MAX_NUMBER_DIGITS};
-ghost use Rattle.clap.specs.Walk.{first_of, rule_of};
+ghost use Rattle.clap.specs.Walk.{first_of};
 ghost use Rattle.cql2_tokens.specs.Name.{column_named as column_of};
-ghost use Rattle.command_line.specs.Arguments.{counties as counties_rule, county, optional, required};
 ghost use Rattle.command_line.specs.Values.{code_in, code_of, codes_in, codes_of, file_of, language_of, number_of, numeric, rows_in, score_of};
 ghost use Rattle.command_line.specs.declared.fault.ArgumentsFault.TheVariants as ArgumentsFault;
 
 use crate::fault::{ArgumentsFault, CODE_LIMIT};
-use clap::{Arg, ArgAction, ArgMatches};
+use clap::ArgMatches;
 use cql2::{Column, NumericColumn};
 use cql2_text::column_named;
 use decimal::{are_digits, decimal_value};
 use filters::{FilterLanguage, FilterOptions};
 use std::alloc::Global;
-
-/// Returns the required option `--name VALUE`.
-pub fn option<'a>(alloc: Global, name: &'a str, value: &'a str, help: &'a str) -> Arg<'a>
-    ensures rule { rule_of result ≡ required name.entry.now }
-    ensures local { result.global ≡ false }
-{
-    Arg::new(alloc, name)
-        .long(name)
-        .value_name(value)
-        .help(help)
-        .required(true)
-        .action(ArgAction::Set)
-}
-
-/// Returns the option `--name VALUE`, which may be missing.
-pub fn optional_option<'a>(alloc: Global, name: &'a str, value: &'a str, help: &'a str) -> Arg<'a>
-    ensures rule { rule_of result ≡ optional name.entry.now }
-    ensures local { result.global ≡ false }
-{
-    option(alloc, name, value, help).required(false)
-}
 
 /// Returns the value of a required argument.
 #[tactic(auto, using(crate::proofs::ValueLemmas::first_value_in))]
@@ -70,37 +48,12 @@ pub fn file<'a>(matches: &ArgMatches<'a>, name: &'static str) -> Result<&'a str,
     }
 }
 
-/// Returns the required argument `CODE`, a county.
-pub fn county_option<'a>(alloc: Global) -> Arg<'a>
-    ensures rule { rule_of result ≡ county }
-    ensures local { result.global ≡ false }
-{
-    Arg::new(alloc, "code")
-        .value_name("CODE")
-        .help("The county, five digits")
-        .required(true)
-        .action(ArgAction::Set)
-}
-
 /// Returns the county's code: five digits.
 pub fn code<'a>(matches: &ArgMatches<'a>) -> Result<&'a str, ArgumentsFault<'a>>
     ensures { MatchResult result (λ code. code_of (rows_in matches.now) ≡ Some code.now)
         (λ fault. (code_of (rows_in matches.now) ≡ None) × (fault ≢ ArgumentsFault.Memory)) }
 {
     five_digits(value(matches, "code")?)
-}
-
-/// Returns the argument `CODE`, one or more counties.
-pub fn counties_option<'a>(alloc: Global) -> Arg<'a>
-    ensures rule { rule_of result ≡ counties_rule }
-    ensures local { result.global ≡ false }
-{
-    Arg::new(alloc, "code")
-        .value_name("CODE")
-        .help("The counties, five digits each")
-        .required(true)
-        .num_args(1..)
-        .action(ArgAction::Append)
 }
 
 /// Returns the counties' codes: at least one, five digits each.
@@ -146,32 +99,6 @@ fn five_digits<'a>(code: &'a str) -> Result<&'a str, ArgumentsFault<'a>>
         return Err(ArgumentsFault::Code(code));
     }
     Ok(code)
-}
-
-/// Returns the option `--score COLUMN`.
-pub fn score_option<'a>(alloc: Global) -> Arg<'a>
-    ensures rule { rule_of result ≡ optional (codes "score") }
-    ensures local { result.global ≡ false }
-{
-    optional_option(
-        alloc,
-        "score",
-        "COLUMN",
-        "The column whose number is a row's score, or 0 if it has none",
-    )
-}
-
-/// Returns the option `--filter-lang LANG`.
-pub fn language_option<'a>(alloc: Global) -> Arg<'a>
-    ensures rule { rule_of result ≡ optional (codes "filter-lang") }
-    ensures local { result.global ≡ false }
-{
-    optional_option(
-        alloc,
-        "filter-lang",
-        "LANG",
-        "The language of the filter: cql2-text (the default) or cql2-json",
-    )
 }
 
 /// Returns the options for compiling a filter.

@@ -1,23 +1,23 @@
 //! The arguments of `explain`.
-ghost use Rattle.std.specs.Prelude.{IfOk};
-ghost use Rattle.command_line.specs.Arguments.{Takes, arguments_of};
+ghost use Rattle.std.specs.Prelude.{◌≡◌, map};
+ghost use Rattle.command_line.specs.Arguments.{arguments_of, rule};
 ghost use Rattle.command_line.specs.Request.{IsExplain};
 ghost use Rattle.command_line.specs.Values.{Reads, rows_in};
 ghost use Rattle.command_line.specs.declared.arguments.subcommand.Subcommand.TheVariants as Subcommand;
 
+use crate::argument::{Argument, ArgumentKind, Declaration, PROGRAM};
 use crate::fault::ArgumentsFault;
-use crate::options::{option, value};
-use clap::{ArgMatches, Command};
+use crate::options::value;
+use clap::ArgMatches;
 use commands::Explain;
-use std::alloc::{AllocError, Global};
 
-/// Returns the command for the argument parser.
-pub fn command<'a>(alloc: Global, name: &'a str) -> Result<Command<'a>, AllocError>
-    ensures { IfOk result (Takes name.entry.now (arguments_of Subcommand.Explain)) }
+/// Returns what the command is for the argument parser.
+pub fn declaration() -> Declaration
+    ensures { map rule result.arguments.now ≡ arguments_of Subcommand.Explain }
 {
-    Command::new(alloc, name)
-        .about("Lists a program with what the verifier knows before each instruction")
-        .after_help(help_end!(
+    Declaration {
+        about: "Lists a program with what the verifier knows before each instruction",
+        after_help: help_end!(
             "Output, up to the end of the program or the instruction that is refused:
   PLACE: INSTRUCTION ; FACTS  what the instruction reads, and what changed since the line above
   ; TEXT                      a source line
@@ -26,20 +26,17 @@ pub fn command<'a>(alloc: Global, name: &'a str) -> Result<Command<'a>, AllocErr
 
 Example:
   extractd explain --program street.bpf"
-        ))
-        .arg(option(
-            alloc,
-            "program",
-            "FILE",
-            "The program, as BPF instruction words",
-        ))?
-        .arg(option(
-            alloc,
-            "lines",
-            "FILE",
-            "Source lines to list between the instructions, each PLACE, a tab and TEXT",
-        )
-        .required(false))
+        ),
+        arguments: &[
+            PROGRAM,
+            Argument {
+                name: "lines",
+                kind: ArgumentKind::Optional,
+                value: "FILE",
+                help: "Source lines to list between the instructions, each PLACE, a tab and TEXT",
+            },
+        ],
+    }
 }
 
 /// Returns the request that the matched arguments make.

@@ -1,24 +1,25 @@
 //! The arguments of `geocode-batch`.
-ghost use Rattle.std.specs.Prelude.{IfOk};
-ghost use Rattle.command_line.specs.Arguments.{Takes, arguments_of};
+ghost use Rattle.std.specs.Prelude.{◌≡◌, map};
+ghost use Rattle.command_line.specs.Arguments.{arguments_of, rule};
 ghost use Rattle.command_line.specs.Request.{IsGeocodeBatch};
 ghost use Rattle.command_line.specs.Values.{ReadsUnlessMemory, rows_in};
 ghost use Rattle.command_line.specs.declared.arguments.subcommand.Subcommand.TheVariants as Subcommand;
 
+use crate::argument::{Argument, ArgumentKind, COUNTIES, DATA, Declaration};
 use crate::fault::ArgumentsFault;
-use crate::flags::{flag, is_given};
-use crate::options::{codes, counties_option, file, option, value};
-use clap::{ArgMatches, Command};
+use crate::flags::is_given;
+use crate::options::{codes, file, value};
+use clap::ArgMatches;
 use commands::GeocodeBatch;
-use std::alloc::{AllocError, Global};
+use std::alloc::Global;
 
-/// Returns the command for the argument parser.
-pub fn command<'a>(alloc: Global, name: &'a str) -> Result<Command<'a>, AllocError>
-    ensures { IfOk result (Takes name.entry.now (arguments_of Subcommand.GeocodeBatch)) }
+/// Returns what the command is for the argument parser.
+pub fn declaration() -> Declaration
+    ensures { map rule result.arguments.now ≡ arguments_of Subcommand.GeocodeBatch }
 {
-    Command::new(alloc, name)
-        .about("Finds each address of a file")
-        .after_help(help_end!(
+    Declaration {
+        about: "Finds each address of a file",
+        after_help: help_end!(
             "Input, CSV with a header: the columns number and name, and optionally id, zip, predir, type and sufdir.
 
 Output, CSV with a header and one line for each match of an address, or one line with the reason why there is none:
@@ -35,25 +36,24 @@ Output, CSV with a header and one line for each match of an address, or one line
 Examples:
   extractd geocode-batch --addresses addresses.csv --data tiger 01001 > places.csv
   extractd geocode-batch --addresses addresses.csv --data tiger --shape 01001 > places.csv"
-        ))
-        .arg(option(
-            alloc,
-            "addresses",
-            "FILE",
-            "The addresses, as CSV; - is the standard input",
-        ))?
-        .arg(option(
-            alloc,
-            "data",
-            "DIR",
-            "The folder of the TIGER/Line 2006 files",
-        ))?
-        .arg(flag(
-            alloc,
-            "shape",
-            "Places along the shapes of the segments, from the files of record type 2",
-        ))?
-        .arg(counties_option(alloc))
+        ),
+        arguments: &[
+            Argument {
+                name: "addresses",
+                kind: ArgumentKind::Required,
+                value: "FILE",
+                help: "The addresses, as CSV; - is the standard input",
+            },
+            DATA,
+            Argument {
+                name: "shape",
+                kind: ArgumentKind::Flag,
+                value: "",
+                help: "Places along the shapes of the segments, from the files of record type 2",
+            },
+            COUNTIES,
+        ],
+    }
 }
 
 /// Returns the request that the matched arguments make.

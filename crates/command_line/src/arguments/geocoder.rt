@@ -1,48 +1,57 @@
 //! The arguments of `geocode`.
-ghost use Rattle.std.specs.Prelude.{◌≡◌, ◌≢◌, MatchResult, IfOk, IsErr, Ok};
+ghost use Rattle.std.specs.Prelude.{◌≡◌, ◌≢◌, MatchResult, IsErr, Ok, map};
 ghost use Rattle.std.specs.Option.{option_copied};
 ghost use Rattle.geocode.specs.Query.{parts_of, query_of};
-ghost use Rattle.command_line.specs.Arguments.{Takes, arguments_of};
+ghost use Rattle.command_line.specs.Arguments.{arguments_of, rule};
 ghost use Rattle.command_line.specs.Request.{IsGeocode};
 ghost use Rattle.command_line.specs.Values.{ReadsUnlessMemory, rows_in};
 ghost use Rattle.command_line.specs.declared.arguments.subcommand.Subcommand.TheVariants as Subcommand;
 ghost use Rattle.command_line.specs.declared.fault.ArgumentsFault.TheVariants as ArgumentsFault;
 
+use crate::argument::{Argument, ArgumentKind, COUNTIES, DATA, Declaration};
 use crate::fault::ArgumentsFault;
-use crate::options::{codes, counties_option, option, value};
-use clap::{ArgMatches, Command};
+use crate::options::{codes, value};
+use clap::ArgMatches;
 use commands::Geocode;
 use geocode::{MAX_HOUSE_NUMBER_DIGITS, Query, QueryFault};
-use std::alloc::{AllocError, Global};
+use std::alloc::Global;
 
-/// Returns the command for the argument parser.
-pub fn command<'a>(alloc: Global, name: &'a str) -> Result<Command<'a>, AllocError>
-    ensures { IfOk result (Takes name.entry.now (arguments_of Subcommand.Geocode)) }
+/// Returns what the command is for the argument parser.
+pub fn declaration() -> Declaration
+    ensures { map rule result.arguments.now ≡ arguments_of Subcommand.Geocode }
 {
-    Command::new(alloc, name)
-        .about("Finds a house number on the streets with a name")
-        .after_help(help_end!(
+    Declaration {
+        about: "Finds a house number on the streets with a name",
+        after_help: help_end!(
             "Output, one line for each side of a street that has the number:
   TLID, L or R, longitude, latitude  in millionths of a degree, with tabs between; - for an unknown place
 
 Example:
   extractd geocode --data tiger --number 151 --name main --zip 36067 01001"
-        ))
-        .arg(option(
-            alloc,
-            "data",
-            "DIR",
-            "The folder of the TIGER/Line 2006 files",
-        ))?
-        .arg(option(alloc, "number", "N", "The house number"))?
-        .arg(option(
-            alloc,
-            "name",
-            "TEXT",
-            "The street's name, without its type and direction",
-        ))?
-        .arg(option(alloc, "zip", "Z", "The ZIP Code that the address must have").required(false))?
-        .arg(counties_option(alloc))
+        ),
+        arguments: &[
+            DATA,
+            Argument {
+                name: "number",
+                kind: ArgumentKind::Required,
+                value: "N",
+                help: "The house number",
+            },
+            Argument {
+                name: "name",
+                kind: ArgumentKind::Required,
+                value: "TEXT",
+                help: "The street's name, without its type and direction",
+            },
+            Argument {
+                name: "zip",
+                kind: ArgumentKind::Optional,
+                value: "Z",
+                help: "The ZIP Code that the address must have",
+            },
+            COUNTIES,
+        ],
+    }
 }
 
 /// Returns the request that the matched arguments make.

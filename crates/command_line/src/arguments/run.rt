@@ -1,24 +1,25 @@
 //! The arguments of `run`.
-ghost use Rattle.std.specs.Prelude.{IfOk};
-ghost use Rattle.command_line.specs.Arguments.{Takes, arguments_of};
+ghost use Rattle.std.specs.Prelude.{◌≡◌, map};
+ghost use Rattle.command_line.specs.Arguments.{arguments_of, rule};
 ghost use Rattle.command_line.specs.Request.{IsRun};
 ghost use Rattle.command_line.specs.Values.{ReadsUnlessMemory, rows_in};
 ghost use Rattle.command_line.specs.declared.arguments.subcommand.Subcommand.TheVariants as Subcommand;
 
+use crate::argument::{COLUMNS, COUNTY, DATA, Declaration, FORMAT, GEOMETRY, PROGRAM};
 use crate::fault::ArgumentsFault;
-use crate::layer_options::{layer, with_layer_options};
-use crate::options::{code, county_option, option, value};
-use clap::{ArgMatches, Command};
+use crate::layer_options::layer;
+use crate::options::{code, value};
+use clap::ArgMatches;
 use commands::Run;
-use std::alloc::{AllocError, Global};
+use std::alloc::Global;
 
-/// Returns the command for the argument parser.
-pub fn command<'a>(alloc: Global, name: &'a str) -> Result<Command<'a>, AllocError>
-    ensures { IfOk result (Takes name.entry.now (arguments_of Subcommand.Run)) }
+/// Returns what the command is for the argument parser.
+pub fn declaration() -> Declaration
+    ensures { map rule result.arguments.now ≡ arguments_of Subcommand.Run }
 {
-    let command = Command::new(alloc, name)
-        .about("Writes the rows of the segments that a program selects")
-        .after_help(help_end!(
+    Declaration {
+        about: "Writes the rows of the segments that a program selects",
+        after_help: help_end!(
             "Output, one line for each segment, in the order of the file:
   rows        the score, a tab, and the segment's record of 228 bytes
   csv         the score, the columns, and the geometry as WKT, after a header
@@ -28,20 +29,9 @@ Examples:
   extractd run --program street.bpf --data tiger 01001 > rows.tsv
   extractd run --program street.bpf --data tiger --format csv --columns TLID,FENAME --geometry none 01001 > names.csv
   extractd run --program street.bpf --data tiger --format geojsonseq --geometry shape 01001 | ogr2ogr roads.gpkg '/vsistdin?buffer_limit=-1' -nln roads"
-        ))
-        .arg(option(
-            alloc,
-            "program",
-            "FILE",
-            "The program, as BPF instruction words",
-        ))?
-        .arg(option(
-            alloc,
-            "data",
-            "DIR",
-            "The folder of the TIGER/Line 2006 files",
-        ))?;
-    with_layer_options(alloc, command)?.arg(county_option(alloc))
+        ),
+        arguments: &[PROGRAM, DATA, FORMAT, COLUMNS, GEOMETRY, COUNTY],
+    }
 }
 
 /// Returns the request that the matched arguments make.

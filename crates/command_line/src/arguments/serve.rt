@@ -1,25 +1,26 @@
 //! The arguments of `serve`.
-ghost use Rattle.std.specs.Prelude.{IfOk};
-ghost use Rattle.command_line.specs.Arguments.{Takes, arguments_of};
+ghost use Rattle.std.specs.Prelude.{◌≡◌, map};
+ghost use Rattle.command_line.specs.Arguments.{arguments_of, rule};
 ghost use Rattle.command_line.specs.Request.{IsServe};
 ghost use Rattle.command_line.specs.Values.{ReadsUnlessMemory, rows_in};
 ghost use Rattle.command_line.specs.declared.arguments.subcommand.Subcommand.TheVariants as Subcommand;
 
-use crate::address::{address, any_port_option, host_option, port_option, public_option};
+use crate::address::address;
+use crate::argument::{Argument, ArgumentKind, COUNTIES, DATA, Declaration};
 use crate::fault::ArgumentsFault;
-use crate::flags::{is_given, log_option};
-use crate::options::{codes, counties_option, option, value};
+use crate::flags::is_given;
+use crate::options::{codes, value};
 use crate::serve::Serve;
-use clap::{ArgMatches, Command};
-use std::alloc::{AllocError, Global};
+use clap::ArgMatches;
+use std::alloc::Global;
 
-/// Returns the command for the argument parser.
-pub fn command<'a>(alloc: Global, name: &'a str) -> Result<Command<'a>, AllocError>
-    ensures { IfOk result (Takes name.entry.now (arguments_of Subcommand.Serve)) }
+/// Returns what the command is for the argument parser.
+pub fn declaration() -> Declaration
+    ensures { map rule result.arguments.now ≡ arguments_of Subcommand.Serve }
 {
-    Command::new(alloc, name)
-        .about("Answers requests over HTTP, one connection at a time")
-        .after_help(help_end!(
+    Declaration {
+        about: "Answers requests over HTTP, one connection at a time",
+        after_help: help_end!(
             "Output, once it listens:
   listening ADDRESS:PORT
 
@@ -30,19 +31,42 @@ It exits, with status 3, only if it can't accept a connection.
 Examples:
   extractd serve --data tiger --port 8080 01001
   extractd serve --data tiger --any-port --host ::1 01001"
-        ))
-        .arg(option(
-            alloc,
-            "data",
-            "DIR",
-            "The folder of the TIGER/Line 2006 files",
-        ))?
-        .arg(port_option(alloc))?
-        .arg(any_port_option(alloc))?
-        .arg(host_option(alloc))?
-        .arg(public_option(alloc))?
-        .arg(log_option(alloc))?
-        .arg(counties_option(alloc))
+        ),
+        arguments: &[
+            DATA,
+            Argument {
+                name: "port",
+                kind: ArgumentKind::Optional,
+                value: "P",
+                help: "The port, 1 to 65535",
+            },
+            Argument {
+                name: "any-port",
+                kind: ArgumentKind::Flag,
+                value: "",
+                help: "Takes a free port in place of --port; the output has its number",
+            },
+            Argument {
+                name: "host",
+                kind: ArgumentKind::Optional,
+                value: "ADDRESS",
+                help: "The IP address to listen at: 127.0.0.1 (the default), another one of 127.0.0.0/8, or ::1; any other needs --public",
+            },
+            Argument {
+                name: "public",
+                kind: ArgumentKind::Flag,
+                value: "",
+                help: "Allows any --host. The server has no TLS and no authentication: whoever reaches it can use all of it",
+            },
+            Argument {
+                name: "log",
+                kind: ArgumentKind::Flag,
+                value: "",
+                help: "Writes a line to standard error for each connection",
+            },
+            COUNTIES,
+        ],
+    }
 }
 
 /// Returns the request that the matched arguments make.

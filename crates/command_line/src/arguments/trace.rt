@@ -1,23 +1,23 @@
 //! The arguments of `trace`.
-ghost use Rattle.std.specs.Prelude.{IfOk};
-ghost use Rattle.command_line.specs.Arguments.{Takes, arguments_of};
+ghost use Rattle.std.specs.Prelude.{◌≡◌, map};
+ghost use Rattle.command_line.specs.Arguments.{arguments_of, rule};
 ghost use Rattle.command_line.specs.Request.{IsTrace};
 ghost use Rattle.command_line.specs.Values.{Reads, rows_in};
 ghost use Rattle.command_line.specs.declared.arguments.subcommand.Subcommand.TheVariants as Subcommand;
 
+use crate::argument::{Argument, ArgumentKind, COUNTY, DATA, Declaration, PROGRAM};
 use crate::fault::ArgumentsFault;
-use crate::options::{code, county_option, number, option, value};
-use clap::{ArgMatches, Command};
+use crate::options::{code, number, value};
+use clap::ArgMatches;
 use commands::Trace;
-use std::alloc::{AllocError, Global};
 
-/// Returns the command for the argument parser.
-pub fn command<'a>(alloc: Global, name: &'a str) -> Result<Command<'a>, AllocError>
-    ensures { IfOk result (Takes name.entry.now (arguments_of Subcommand.Trace)) }
+/// Returns what the command is for the argument parser.
+pub fn declaration() -> Declaration
+    ensures { map rule result.arguments.now ≡ arguments_of Subcommand.Trace }
 {
-    Command::new(alloc, name)
-        .about("Runs a program on one segment, step by step, even one that run would refuse")
-        .after_help(help_end!(
+    Declaration {
+        about: "Runs a program on one segment, step by step, even one that run would refuse",
+        after_help: help_end!(
             "Output:
   exit R0 score S        the program ended
   stuck place P cause N  it gets stuck at this place; N is the refusal's number
@@ -25,27 +25,25 @@ pub fn command<'a>(alloc: Global, name: &'a str) -> Result<Command<'a>, AllocErr
 
 Example:
   extractd trace --program street.bpf --data tiger --line 12 --limit 4096 01001"
-        ))
-        .arg(option(
-            alloc,
-            "program",
-            "FILE",
-            "The program, as BPF instruction words",
-        ))?
-        .arg(option(
-            alloc,
-            "data",
-            "DIR",
-            "The folder of the TIGER/Line 2006 files",
-        ))?
-        .arg(option(
-            alloc,
-            "line",
-            "N",
-            "The segment's line in the type 1 file, counted from 1",
-        ))?
-        .arg(option(alloc, "limit", "L", "The maximum number of steps"))?
-        .arg(county_option(alloc))
+        ),
+        arguments: &[
+            PROGRAM,
+            DATA,
+            Argument {
+                name: "line",
+                kind: ArgumentKind::Required,
+                value: "N",
+                help: "The segment's line in the type 1 file, counted from 1",
+            },
+            Argument {
+                name: "limit",
+                kind: ArgumentKind::Required,
+                value: "L",
+                help: "The maximum number of steps",
+            },
+            COUNTY,
+        ],
+    }
 }
 
 // The maximum number of digits of a number, so that each is below 2^64.

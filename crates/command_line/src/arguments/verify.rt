@@ -1,29 +1,25 @@
 //! The arguments of `verify`.
-ghost use Rattle.std.specs.Prelude.{IfOk};
-ghost use Rattle.command_line.specs.Arguments.{Takes, arguments_of};
+ghost use Rattle.std.specs.Prelude.{◌≡◌, map};
+ghost use Rattle.command_line.specs.Arguments.{arguments_of, rule};
 ghost use Rattle.command_line.specs.Request.{IsVerify};
 ghost use Rattle.command_line.specs.Values.{Reads, rows_in};
 ghost use Rattle.command_line.specs.declared.arguments.subcommand.Subcommand.TheVariants as Subcommand;
 
+use crate::argument::{Declaration, PROGRAM};
 use crate::fault::ArgumentsFault;
-use crate::options::{option, value};
-use clap::{ArgMatches, Command};
+use crate::options::value;
+use clap::ArgMatches;
 use commands::Verify;
-use std::alloc::{AllocError, Global};
 
-/// Returns the command for the argument parser.
-pub fn command<'a>(alloc: Global, name: &'a str) -> Result<Command<'a>, AllocError>
-    ensures { IfOk result (Takes name.entry.now (arguments_of Subcommand.Verify)) }
+/// Returns what the command is for the argument parser.
+pub fn declaration() -> Declaration
+    ensures { map rule result.arguments.now ≡ arguments_of Subcommand.Verify }
 {
-    Command::new(alloc, name)
-        .about("Reports whether run would accept a program")
-        .after_help(help_end!("Example:\n  extractd verify --program street.bpf"))
-        .arg(option(
-            alloc,
-            "program",
-            "FILE",
-            "The program, as BPF instruction words",
-        ))
+    Declaration {
+        about: "Reports whether run would accept a program",
+        after_help: help_end!("Example:\n  extractd verify --program street.bpf"),
+        arguments: &[PROGRAM],
+    }
 }
 
 /// Returns the request that the matched arguments make.

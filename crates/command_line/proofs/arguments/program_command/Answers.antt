@@ -11,8 +11,8 @@ loop-subcommand-init c = search rules
 pub loop-subcommand-preserved : goal.loop-subcommand-preserved
 loop-subcommand-preserved c =
     let index = c.loop-subcommand.subcommand-index in
-    offers_command (take index every) (get_or every index Select) c.loop-subcommand.program c.in_ok-arguments_of.field-0 c.in_ok-program.program
-    c.loop-subcommand.invariant c.in_ok-arguments_of.ensures c.in_ok-program.ensures
+    offers_command (take index every) (get_or every index Select) c.loop-subcommand.program c.in_ok-command_of.field-0 c.in_ok-program.program
+    c.loop-subcommand.invariant c.in_ok-command_of.ensures c.in_ok-program.ensures
     ∙ ap offering (sym (take_more every index Select c.loop-subcommand-test.true))
 
 pub returns : goal.returns
