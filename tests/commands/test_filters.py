@@ -57,3 +57,9 @@ def test_filter(files: Path, case: Case) -> None:
 @pytest.mark.parametrize("text", SHOWN.strip().splitlines())
 def test_shown(text: str) -> None:
     cases.check_shown(text)
+
+
+def test_rows_come_before_the_refusal(files: Path) -> None:
+    """Where both outputs are one stream, the refusal is below the rows."""
+    both = cases.check(Case("extractd select --where TRUE --data faulty 01001 01003 2>&1", 1, "*", ""))
+    assert both.splitlines()[400:] == [b"refused 1 rt1 line 1 WrongLength", b"county 01003"]
