@@ -42,20 +42,27 @@ def root_of(crate: str) -> str:
 
 
 def head_of(path: str) -> str:
-    """Returns the first sentence about a module, without its full stop. One of up to four words has the next one with it."""
+    """Returns the first sentence about a module, without its full stop. One of up to three words has the next one with it."""
     lines = re.match(r"(//! .*\n)+", source(path))
     if lines is None:
         raise ValueError(f"{path} doesn't begin with a comment on the module")
     sentences = BETWEEN.split(re.sub(r"(?m)^//! ", "", lines[0]).replace("\n", " ").strip())
-    return " ".join(sentences[: 2 if len(sentences[0].split()) < 5 else 1]).rstrip(".")
+    return " ".join(sentences[: 2 if len(sentences[0].split()) < 4 else 1]).rstrip(".")
 
 
 def crates_part() -> str:
-    """Returns the list of crates but those of tests: a name, and the first sentence about it without what it cites."""
+    """Returns the list of crates but those of tests: a name, and the first sentence about it without details and what it cites."""
     heads = {crate: head_of(root_of(crate)) for crate in crate_names() if not crate.endswith("_tests")}
     return "".join(
-        wrapped(f"- `{crate}`: {lowered(re.sub(CITATION, '', head))}", "  ") for crate, head in heads.items()
+        wrapped(f"- `{crate}`: {lowered(without_details(re.sub(CITATION, '', head)))}", "  ")
+        for crate, head in heads.items()
     )
+
+
+def without_details(sentence: str) -> str:
+    """Returns a sentence up to its colon, if that is a description by itself."""
+    start, _, _ = sentence.partition(": ")
+    return start if len(start.split()) > 2 else sentence
 
 
 def wrapped(text: str, indent: str = "") -> str:
@@ -105,10 +112,22 @@ def flags() -> list[Field]:
 
 
 def first_layout_part() -> str:
-    """Returns the table of the fields of type 1, in the order of the record."""
-    fields = sorted(fields_of("Type1") + flags(), key=lambda field: field.first)
-    rows = ((field.name, field.places(), field.meaning) for field in fields)
+    """Returns the table of the fields of type 1, in the order of the record. A row has the fields of both sides."""
+    fields = {field.name: field for field in sorted(fields_of("Type1") + flags(), key=lambda field: field.first)}
+    of_right = {f"{name[:-1]}R" for name in fields if name[-1] == "L" and f"{name[:-1]}R" in fields}
+    rows = []
+    for name, field in fields.items():
+        other = fields.get(f"{name[:-1]}R") if name[-1] == "L" else None
+        if name not in of_right:
+            rows.append(both_sides(field, other) if other else (name, field.places(), field.meaning))
     return table(("Field", "Places", "Meaning"), *rows)
+
+
+def both_sides(left: Field, right: Field) -> tuple[str, str, str]:
+    """Returns the row of two fields, which have the same meaning on the left and on the right."""
+    of = left.name.replace("IADD", "ADD")
+    meaning = left.meaning.replace(" on the left", ", left and right").replace(of, f"{of} or {of[:-1]}R")
+    return f"{left.name}, {right.name}", f"{left.places()}, {right.places()}", meaning
 
 
 def layout_part(record_type: str) -> str:

@@ -14,12 +14,14 @@ CONFORMANCE = (TOP / "docs/filters.md").read_text()
 
 
 def test_conformance_classes_are_those_of_the_page() -> None:
-    """The service declares the classes of CQL2 that hold, by the table, and the table has all classes."""
-    rows = re.findall(r"^\| [^|]+ \| (yes|no) \| `([a-z0-9-]+)` \|", CONFORMANCE, re.MULTILINE)
-    assert len({name for _, name in rows}) == len(rows) == 14
+    """The service declares the classes of CQL2 that the page lists, and the page has all others in its table."""
+    listed = re.search(r"^These are declared: (.*)\. The others lack something:$", CONFORMANCE, re.MULTILINE)
+    assert listed
+    held = re.findall(r"`([a-z0-9-]+)`", listed[1])
+    lacking = re.findall(r"^\| `([a-z0-9-]+)` \| [^|]+ \|$", CONFORMANCE, re.MULTILINE)
+    assert len({*held, *lacking}) == len(held) + len(lacking) == 14
     uri = "http://www.opengis.net/spec/cql2/1.0/conf/"
-    declared = [name.removeprefix(uri) for name in CONFORMS_TO if name.startswith(uri)]
-    assert declared == [name for answer, name in rows if answer == "yes"]
+    assert held == [name.removeprefix(uri) for name in CONFORMS_TO if name.startswith(uri)]
 
 
 def test_limits_are_those_of_the_page() -> None:

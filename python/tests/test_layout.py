@@ -17,8 +17,12 @@ FIELD_TEXT = st.text(st.sampled_from(" 0123456789+-\t\r\0a\xa0\xb2\xff"), min_si
 
 def test_fields_are_those_of_the_document() -> None:
     section = (TOP / "docs/records.md").read_text().split("### Type 1")[1].split("###")[0]
-    rows = re.findall(r"^\| ([A-Z0-9]+) \| ([0-9]+)(?:-([0-9]+))? \|", section, re.MULTILINE)
-    documented = [(name, int(first), int(last or first)) for name, first, last in rows]
+    documented = []
+    for names, places in re.findall(r"^\| ([A-Z0-9, ]+) \| ([0-9, -]+) \|", section, re.MULTILINE):
+        for name, place in zip(names.split(", "), places.split(", "), strict=True):
+            first, _, last = place.partition("-")
+            documented.append((name, int(first), int(last or first)))
+    documented.sort(key=lambda field: field[1])
     assert documented == [(field.name, field.first, field.last) for field in layout.FIELDS]
 
 

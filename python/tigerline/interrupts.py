@@ -23,7 +23,7 @@ class Interrupts:
         self._signals = signals or (signal.SIGINT,)
         self._previous: dict[signal.Signals, Any] = {}
         self._arrived: int | None = None
-        self._processes: set[subprocess.Popen[bytes]] = set()
+        self._processes: dict[subprocess.Popen[bytes], int] = {}
 
     def __enter__(self) -> Self:
         if threading.current_thread() is threading.main_thread():
@@ -42,8 +42,8 @@ class Interrupts:
 
     def _note(self, number: int, frame: FrameType | None) -> None:
         self._arrived = number
-        for process in tuple(self._processes):
-            kill_group(process)
+        for process, stop in tuple(self._processes.items()):
+            kill_group(process, stop)
 
     def check(self) -> None:
         """Raises KeyboardInterrupt if a signal has arrived."""
@@ -51,23 +51,23 @@ class Interrupts:
             raise KeyboardInterrupt
 
     @contextmanager
-    def watching(self, process: subprocess.Popen[bytes]) -> Iterator[None]:
-        """Kills a process and its group when a signal arrives, or if the block ends before the process.
+    def watching(self, process: subprocess.Popen[bytes], stop: int = signal.SIGKILL) -> Iterator[None]:
+        """Kills a process and its group when a signal arrives, or if the block ends before the process, by the signal `stop`.
 
         Several threads may watch processes of their own.
         """
-        self._processes.add(process)
+        self._processes[process] = stop
         try:
             if self._arrived is not None:
-                kill_group(process)
+                kill_group(process, stop)
             yield
         finally:
-            self._processes.discard(process)
+            del self._processes[process]
             if process.returncode is None:
-                kill_group(process)
+                kill_group(process, stop)
 
 
-def kill_group(process: subprocess.Popen[bytes]) -> None:
+def kill_group(process: subprocess.Popen[bytes], stop: int = signal.SIGKILL) -> None:
     """Kills a process that leads a group, and the processes that it has started."""
     with suppress(ProcessLookupError):
-        os.killpg(process.pid, signal.SIGKILL)
+        os.killpg(process.pid, stop)

@@ -6,6 +6,24 @@ from typing import Annotated, NamedTuple, get_args
 
 RECORD_LENGTH = 228
 
+# The fields of the other record types with their places, and lengths of lines. Those of type C are TIGER/Line's own.
+_OTHER_LAYOUTS = {
+    "2": "RT 1, VERSION 2-5, TLID 6-15, RTSQ 16-18, "
+    + ", ".join(
+        f"LONG{at + 1} {19 * at + 19}-{19 * at + 28}, LAT{at + 1} {19 * at + 29}-{19 * at + 37}" for at in range(10)
+    ),
+    "4": "RT 1, VERSION 2-5, TLID 6-15, RTSQ 16-18, FEAT1 19-26, FEAT2 27-34, FEAT3 35-42, FEAT4 43-50, FEAT5 51-58",
+    "5": "RT 1, VERSION 2-5, FILE 6-10, FEAT 11-18, FEDIRP 19-20, FENAME 21-50, FETYPE 51-54, FEDIRS 55-56",
+    "6": "RT 1, VERSION 2-5, TLID 6-15, RTSQ 16-18, FRADDL 19-29, TOADDL 30-40, FRADDR 41-51, TOADDR 52-62, "
+    "FRIADDL 63, TOIADDL 64, FRIADDR 65, TOIADDR 66, ZIPL 67-71, ZIPR 72-76",
+    "C": "RT 1, VERSION 2-5, FILE 6-10, DATAYR 11-14, FIPS 15-19, ENTITY 25, NAME 63-122",
+}
+
+
+def _places(text: str) -> dict[str, slice]:
+    rows = [row.replace("-", " ").split() for row in text.split(", ")]
+    return {name: slice(int(places[0]) - 1, int(places[-1])) for name, *places in rows}
+
 
 class Kind(Enum):
     """How a field is read. In filters, TEXT columns are texts and the others are numbers or coordinates."""
@@ -84,6 +102,8 @@ HOUSE_NUMBER_TEXTS = tuple(
 )
 NAMES = tuple(field.name for field in FIELDS)
 PLACES = {field.name: field.bytes for field in FIELDS}
+# The bytes of each field, by record type.
+LAYOUTS = {"1": PLACES} | {record_type: _places(text) for record_type, text in _OTHER_LAYOUTS.items()}
 
 _NUMBER = re.compile(r" *([0-9]{1,11}) *")
 _COORDINATE = re.compile(r" *([+-]?[0-9]{1,9}) *")

@@ -49,17 +49,30 @@ class PendingFile:
             self._move()
 
     def _move(self) -> None:
-        """Moves the file, after the other ones of a shapefile."""
+        """Moves the file, after the others that belong to it: of a shapefile, or of a county.
+
+        What stood in their places stays there if one of them can't be moved.
+        """
         beside = (path for path in sorted(self.path.parent.glob(f"{self.path.stem}.*")) if path != self.path)
-        for path in (*beside, self.path):
-            final = self.final.with_suffix(path.suffix) if path != self.path else self.final
+        finals = {path: self.final.with_suffix(path.suffix) for path in beside} | {self.path: self.final}
+        for path, final in finals.items():
             with rename_errors_to(final), open(path, "rb") as file:
                 os.fsync(file.fileno())  # The system may report only here that it can't write the file.
                 _refuse(final, self.overwrite)
-                if self.overwrite:
-                    os.replace(path, final)
-                else:
-                    _move_without_replacing(path, final)
+        with ExitStack() as undo:
+            for final in [*finals.values()][::-1] if len(finals) > 1 else ():
+                if final.exists():
+                    kept = self.path.with_name(f"kept {final.name}")
+                    os.replace(final, kept)
+                    undo.callback(os.replace, kept, final)
+            for path, final in finals.items():
+                with rename_errors_to(final):
+                    if self.overwrite:
+                        os.replace(path, final)
+                    else:
+                        _move_without_replacing(path, final)
+                undo.callback(final.unlink)
+            undo.pop_all()
 
 
 def is_file(out: str | Path) -> bool:

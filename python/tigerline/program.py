@@ -3,12 +3,13 @@
 import os
 import re
 import shutil
+import signal
 import subprocess
 import tempfile
-from collections.abc import Iterable, Iterator, Sequence
+from collections.abc import Callable, Iterable, Iterator, Sequence
 from contextlib import contextmanager
 from dataclasses import dataclass
-from typing import Any, Self
+from typing import IO, Any, Self
 
 from .interrupts import Interrupts
 from .version import __version__
@@ -18,6 +19,7 @@ _REFUSAL = re.compile(r"refused ([0-9]+)(?: ([a-z0-9/ ]+))? ([A-Z][A-Za-z0-9]*(?
 _ERRORS: dict[int, type[Exception]] = {2: ValueError, 3: OSError, 4: MemoryError}
 
 PathLike = str | os.PathLike[str]
+BLOCK = 1 << 20  # bytes of a pipe; so that a process that is read rarely waits
 
 
 @dataclass(frozen=True)
@@ -96,12 +98,14 @@ def run(
     return output
 
 
-def run_process(command: Sequence[str], interrupts: Interrupts, standard_input: bytes = b"") -> tuple[int, bytes, str]:
+def run_process(
+    command: Sequence[str], interrupts: Interrupts, standard_input: bytes = b"", stop: int = signal.SIGKILL
+) -> tuple[int, bytes, str]:
     """Runs a process to its end, and returns its status, its output and what it wrote to standard error.
 
-    Both are small enough for the memory.
+    Both are small enough for the memory. The signal `stop` ends it early: one other than SIGKILL lets it clean up.
     """
-    with _started(command, interrupts, stdout=subprocess.PIPE, stderr=subprocess.PIPE) as process:
+    with _started(command, interrupts, stop, stdout=subprocess.PIPE, stderr=subprocess.PIPE) as process:
         output, said = process.communicate(standard_input)
     interrupts.check()
     return process.returncode, output, _text(said)
@@ -123,15 +127,45 @@ def feed_process(command: Sequence[str], chunks: Iterable[bytes], interrupts: In
 
 
 @contextmanager
-def _started(command: Sequence[str], interrupts: Interrupts, **outputs: Any) -> Iterator[subprocess.Popen[bytes]]:
+def read_process(
+    command: Sequence[str], interrupts: Interrupts, check: Callable[[int, str], None]
+) -> Iterator[Iterator[bytes]]:
+    """Starts a process, and yields its output in blocks, which may be read while it goes on. It doesn't outlive the block.
+
+    After the last block calls `check` with its status and what it wrote to standard error.
+    """
+    with tempfile.TemporaryFile() as said:
+        with _started(command, interrupts, stdout=subprocess.PIPE, stderr=said, pipesize=BLOCK) as process:
+            assert process.stdin is not None
+            process.stdin.close()
+            yield _blocks(process, interrupts, said, check)
+
+
+def _blocks(
+    process: subprocess.Popen[bytes], interrupts: Interrupts, said: IO[bytes], check: Callable[[int, str], None]
+) -> Iterator[bytes]:
+    assert process.stdout is not None
+    while block := process.stdout.read(BLOCK):
+        interrupts.check()
+        yield block
+    process.wait()
+    interrupts.check()
+    said.seek(0)
+    check(process.returncode, _text(said.read()))
+
+
+@contextmanager
+def _started(
+    command: Sequence[str], interrupts: Interrupts, stop: int = signal.SIGKILL, **pipes: Any
+) -> Iterator[subprocess.Popen[bytes]]:
     """Starts a process, which doesn't outlive the block.
 
     It has a process group of its own, so that Ctrl-C reaches it only through `interrupts`. SIGPIPE and SIGXFSZ stay
     ignored as they are in Python, so that it reports a closed pipe or a file size limit as an error.
     """
     pipe = subprocess.PIPE
-    with subprocess.Popen(command, stdin=pipe, process_group=0, restore_signals=False, **outputs) as process:
-        with interrupts.watching(process):
+    with subprocess.Popen(command, stdin=pipe, process_group=0, restore_signals=False, **pipes) as process:
+        with interrupts.watching(process, stop):
             yield process
 
 

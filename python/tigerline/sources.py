@@ -2,19 +2,17 @@
 
 import os
 import re
-import stat
-import struct
 import warnings
 import zipfile
-import zlib
-from collections.abc import Container, Iterable, Iterator
+from collections.abc import Callable, Collection, Container, Iterable, Iterator, Sequence
 from contextlib import contextmanager
 from dataclasses import dataclass
-from pathlib import Path, PurePosixPath
-from typing import BinaryIO
+from pathlib import Path
+from typing import Protocol, TypeVar
 
+from .archives import members, opened_archive, require_regular, unpack
 from .interrupts import Interrupts
-from .scratch import rename_errors_to, scratch_folder
+from .scratch import scratch_folder
 
 # The states, the District of Columbia, and the territories in TIGER/Line: postal abbreviations, FIPS codes and names.
 _STATES = """
@@ -35,9 +33,22 @@ _ENTRIES = [entry.split() for entry in re.split(r"[|\n]", _STATES.strip())]
 STATES = {postal: code for postal, code, *_ in _ENTRIES}
 # What may be written for a state, in capitals and without dots, and its postal abbreviation.
 STATE_NAMES = {name.replace("_", " ").upper(): postal for postal, _, *names in _ENTRIES for name in (postal, *names)}
-UNPACKED_LIMIT = 1 << 30
-CHUNK = 1 << 20
 _FILE = re.compile(r"TGR([0-9]{5})\.(?:RT([12456C])|(ZIP))", re.IGNORECASE)
+
+
+class Placed(Protocol):
+    """Files in a folder, and the one to name in a message."""
+
+    @property
+    def folder(self) -> Path:
+        ...
+
+    @property
+    def place(self) -> Path:
+        ...
+
+
+AnyPlaced = TypeVar("AnyPlaced", bound=Placed)
 
 
 @dataclass(frozen=True)
@@ -62,11 +73,14 @@ def find_counties(data: Path) -> list[County]:
     """
     if not data.is_dir():
         return _counties_of_archive(data)
-    found: list[County] = []
+    return [county for folder, names in walk(data) for county in _counties_of_folder(folder, names)]
+
+
+def walk(data: Path) -> Iterator[tuple[Path, list[str]]]:
+    """Yields a folder and the folders in it, each with the sorted names of its files. Warns of those it can't read."""
     for folder, folders, names in os.walk(data, onerror=_report_folder):
         folders.sort()
-        found += _counties_of_folder(Path(folder), sorted(names))
-    return found
+        yield Path(folder), sorted(names)
 
 
 def _report_folder(error: OSError) -> None:
@@ -92,7 +106,7 @@ def _counties_of_folder(folder: Path, names: list[str]) -> Iterator[County]:
 def _counties_of_archive(path: Path) -> list[County]:
     if path.exists() and not path.is_file():
         raise OSError(f"{path} is neither a folder nor a zip file")
-    with _opened_archive(path) as archive:
+    with opened_archive(path) as archive:
         codes = {code for code, record_type in _members(archive, path) if record_type == "1"}
     if not codes:
         raise FileNotFoundError(f"{path} has no file of record type 1, such as TGR01001.RT1")
@@ -105,41 +119,58 @@ def counties_in(data: str | os.PathLike[str], counties: str | Iterable[str] | No
     "01001" is a county, "01" or "AL" means all counties of a state, and None all counties that are there.
     """
     data = Path(data)
-    found = find_counties(data)
-    wanted = sorted({county.code for county in found}) if counties is None else []
-    for name in [counties] if isinstance(counties, str) else counties or []:
-        wanted += _codes(name, found, data)
-    if not wanted:
-        raise FileNotFoundError(f"{data} has no county: no file such as TGR01001.RT1 or TGR01001.ZIP")
-    return [_only(code, found, data) for code in dict.fromkeys(wanted)]
-
-
-def _codes(name: str, found: list[County], data: Path) -> list[str]:
-    prefix = STATES.get(name.upper(), name)
-    if not re.fullmatch(r"[0-9]{2}|[0-9]{5}", prefix):
-        raise ValueError(f'{name!r} is no county: counties are written as "01001", or "AL" or "01" for all of a state')
-    codes = sorted({county.code for county in found if county.code.startswith(prefix)})
+    found: dict[str, list[County]] = {}
+    for county in find_counties(data):
+        found.setdefault(county.code, []).append(county)
+    codes = chosen_codes(counties, found, lambda pattern: f"{data} has no TGR{pattern}.RT1 and no TGR{pattern}.ZIP")
     if not codes:
-        pattern = prefix if len(prefix) == 5 else prefix + "???"
-        raise FileNotFoundError(f"{data} has no TGR{pattern}.RT1 and no TGR{pattern}.ZIP")
-    return codes
+        raise FileNotFoundError(f"{data} has no county: no file such as TGR01001.RT1 or TGR01001.ZIP")
+    return [nearest(found[code], f"{data} has county {code}") for code in codes]
 
 
-def _only(code: str, found: list[County], data: Path) -> County:
-    """Returns the county that is the fewest folders away from `data`. Raises OSError if two are equally far."""
-    candidates = [county for county in found if county.code == code]
-    least = min(len(county.folder.parts) for county in candidates)
-    nearest = [county for county in candidates if len(county.folder.parts) == least]
-    if len(nearest) > 1:
-        raise OSError(f"{data} has county {code} twice: {nearest[0].place} and {nearest[1].place}")
-    return nearest[0]
+def chosen_codes(
+    names: str | Iterable[str] | None, present: Collection[str], missing: Callable[[str], str]
+) -> list[str]:
+    """Returns the codes of the requested counties among those that are there, each once, in that order.
+
+    The names are those of `counties_in`. `missing` says that there is none with a code, or with a state's and ???.
+    """
+    if names is None:
+        return sorted(present)
+    chosen: list[str] = []
+    for name in [names] if isinstance(names, str) else names:
+        prefix = STATES.get(name.upper(), name)
+        if not re.fullmatch(r"[0-9]{2}|[0-9]{5}", prefix):
+            raise ValueError(
+                f'{name!r} is no county: counties are written as "01001", or "AL" or "01" for all of a state'
+            )
+        codes = sorted(code for code in present if code.startswith(prefix))
+        if not codes:
+            raise FileNotFoundError(missing(prefix if len(prefix) == 5 else prefix + "???"))
+        chosen += codes
+    return [*dict.fromkeys(chosen)]
+
+
+def nearest(candidates: Sequence[AnyPlaced], named: str) -> AnyPlaced:
+    """Returns what is the fewest folders away from the top. Raises OSError if two are equally far."""
+    least = min(len(one.folder.parts) for one in candidates)
+    first, *others = [one for one in candidates if len(one.folder.parts) == least]
+    if others:
+        raise OSError(f"{named} twice: {first.place} and {others[0].place}")
+    return first
+
+
+def files_of_county(folder: Path, code: str) -> list[Path]:
+    """Returns the files of a county in a folder, with names in any case, or its zip file. The folder may be missing."""
+    names = sorted(os.listdir(folder)) if folder.exists() else []
+    return [folder / name for name in names if (found := _FILE.fullmatch(name)) and found[1] == code]
 
 
 def has_shapes(county: County) -> bool:
     """Returns whether a county has a file of record type 2."""
     if county.archive is None:
         return "2" in county.files
-    with _opened_archive(county.archive) as archive:
+    with opened_archive(county.archive) as archive:
         return (county.code, "2") in _members(archive, county.archive)
 
 
@@ -161,7 +192,7 @@ def county_files(county: County, types: str, interrupts: Interrupts) -> Iterator
     with scratch_folder() as folder:
         if county.archive is None:
             for record_type in county.files.keys() & set(types):
-                _require_regular(county.files[record_type])
+                require_regular(county.files[record_type])
                 link = folder / f"TGR{county.code}.RT{record_type}"
                 link.symlink_to(county.files[record_type].absolute())
         else:
@@ -183,45 +214,18 @@ def missing_names(county: County, present: Container[str]) -> str | None:
     return f"{county.archive or county.folder} has no {', '.join(missing)}: names or address ranges may be missing"
 
 
-def _require_regular(path: Path) -> None:
-    """Raises OSError for a pipe or a device, which could block whoever opens it."""
-    if path.exists() and not path.is_file():
-        raise OSError(f"{path} isn't a regular file")
-
-
-@contextmanager
-def _opened_archive(path: Path) -> Iterator[zipfile.ZipFile]:
-    _require_regular(path)
-    try:
-        with zipfile.ZipFile(path) as archive:
-            yield archive
-    except (zipfile.BadZipFile, zlib.error, struct.error, EOFError, IndexError, OverflowError, ValueError) as error:
-        raise OSError(f"{path} isn't a whole zip file: {error}") from None
-    except (NotImplementedError, RuntimeError) as error:
-        raise OSError(f"{path} can't be unpacked: {error}") from None
-
-
 def _members(archive: zipfile.ZipFile, path: Path) -> dict[tuple[str, str], zipfile.ZipInfo]:
     """Returns the members with records, by county and record type.
 
-    Raises OSError for a member that is outside of the archive's folder, a link or another zip file, for repeated
-    members, and for several counties.
+    Raises OSError for another zip file, for repeated members, and for several counties.
     """
     found: dict[tuple[str, str], zipfile.ZipInfo] = {}
-    for member in archive.infolist():
-        inside = PurePosixPath(member.filename.replace("\\", "/"))
-        if inside.is_absolute() or ".." in inside.parts:
-            raise OSError(f"{path} has a member outside its folder: {member.filename!r}")
-        name = _FILE.fullmatch(inside.name)
-        if not name or member.is_dir():
-            continue
+    for name, member in members(archive, path, _FILE):
         if name[3]:
             raise OSError(f"{path} has the zip file {member.filename!r} in it: unpack it, and name the folder")
-        if stat.S_ISLNK(member.external_attr >> 16):
-            raise OSError(f"{path} has a link in place of a file: {member.filename!r}")
         key = name[1], name[2].upper()
         if key in found:
-            raise OSError(f"{path} has {inside.name} twice")
+            raise OSError(f"{path} has {name[0]} twice")
         found[key] = member
     codes = sorted({code for code, _ in found})
     if len(codes) > 1:
@@ -230,34 +234,7 @@ def _members(archive: zipfile.ZipFile, path: Path) -> dict[tuple[str, str], zipf
 
 
 def _unpack(path: Path, code: str, types: str, folder: Path, interrupts: Interrupts) -> None:
-    with _opened_archive(path) as archive:
-        members = _members(archive, path)
-        wanted = {record_type: members[code, record_type] for record_type in types if (code, record_type) in members}
-        if sum(member.file_size for member in wanted.values()) > UNPACKED_LIMIT:
-            raise OSError(f"{path} unpacks to more than {UNPACKED_LIMIT:,} bytes")
-        for record_type, member in wanted.items():
-            if member.compress_type not in (zipfile.ZIP_STORED, zipfile.ZIP_DEFLATED):
-                raise OSError(f"{path} can't be unpacked: {member.filename!r} isn't compressed by deflate")
-            unpacked = folder / f"TGR{code}.RT{record_type}"
-            with rename_errors_to(unpacked), open(unpacked, "wb") as file:
-                _unpack_member(archive, member, path, file, interrupts)
-
-
-def _unpack_member(
-    archive: zipfile.ZipFile, member: zipfile.ZipInfo, path: Path, file: BinaryIO, interrupts: Interrupts
-) -> None:
-    """Writes a member to a file. Raises OSError if it doesn't have the stated size.
-
-    `zipfile` stops after the stated size without an error, so it is given one byte more.
-    """
-    stated = member.file_size
-    member.file_size = stated + 1
-    with archive.open(member) as content:
-        while chunk := content.read(CHUNK):
-            interrupts.check()
-            file.write(chunk)
-    if file.tell() != stated:
-        more_or_less = "more" if file.tell() > stated else "less"
-        raise OSError(
-            f"{path} isn't a whole zip file: {member.filename!r} has {more_or_less} than the stated {stated} bytes"
-        )
+    with opened_archive(path) as archive:
+        found = _members(archive, path)
+        wanted = {folder / f"TGR{code}.RT{one}": found[code, one] for one in types if (code, one) in found}
+        unpack(archive, path, wanted, interrupts)

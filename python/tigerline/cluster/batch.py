@@ -21,7 +21,7 @@ from dataclasses import astuple, dataclass, replace
 from functools import cache, partial
 from pathlib import Path
 from queue import Empty, SimpleQueue
-from typing import Any, TypeVar
+from typing import Any, Protocol, TypeVar
 
 from ..extract import CountyTexts, Output, Request, county_texts, outputs_of, record_types, reported
 from ..interrupts import Interrupts
@@ -114,10 +114,21 @@ class PartTask:
         return host()
 
 
-AnyTask = TypeVar("AnyTask", CountyTask, PartTask)
+class Task(Protocol):
+    """The work on one county."""
+
+    @property
+    def code(self) -> str:
+        ...
+
+    def run(self, interrupts: Interrupts) -> object:
+        ...
 
 
-def run_task(task: CountyTask | PartTask) -> Any:
+AnyTask = TypeVar("AnyTask", bound=Task)
+
+
+def run_task(task: Task) -> Any:
     """Runs a task in a process that this package didn't start, and returns its result."""
     with Interrupts() as interrupts:
         return task.run(interrupts)

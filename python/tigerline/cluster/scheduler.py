@@ -14,7 +14,7 @@ from ..extract import CountyTexts, Output, Request, reported
 from ..interrupts import Interrupts
 from ..optional import required
 from ..progress import with_progress
-from .batch import LOOK_SECONDS, AnyTask, CountyTask, PartTask, completed, county_tasks, run_task
+from .batch import LOOK_SECONDS, AnyTask, CountyTask, completed, county_tasks, run_task
 
 CONNECT_SECONDS = 3
 WORKER_SECONDS = 3
@@ -22,9 +22,9 @@ CLOSE_SECONDS = 2
 
 
 def run_there(
-    address: str, tasks: Sequence[PartTask], interrupts: Interrupts
-) -> Generator[tuple[PartTask, str], None, None]:
-    """Yields the tasks as they finish, with the worker's machine. Raises the exception of the first that fails."""
+    address: str, tasks: Sequence[AnyTask], interrupts: Interrupts
+) -> Generator[tuple[AnyTask, Any], None, None]:
+    """Yields the tasks with their results as they finish. Raises the exception of the first that fails."""
     with connected(address, interrupts.check) as client:
         yield from results(client, tasks, interrupts.check)
 

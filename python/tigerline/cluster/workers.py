@@ -5,15 +5,16 @@
 
 from collections.abc import Generator, Sequence
 from concurrent.futures import ThreadPoolExecutor
+from typing import Any
 
 from ..interrupts import Interrupts
-from .batch import PartTask, completed
+from .batch import AnyTask, completed
 
 
 def run_here(
-    workers: int, tasks: Sequence[PartTask], interrupts: Interrupts
-) -> Generator[tuple[PartTask, str], None, None]:
-    """Yields the tasks as they finish, with this machine's name. Raises the exception of the first that fails."""
+    workers: int, tasks: Sequence[AnyTask], interrupts: Interrupts
+) -> Generator[tuple[AnyTask, Any], None, None]:
+    """Yields the tasks with their results as they finish. Raises the exception of the first that fails."""
     with ThreadPoolExecutor(workers) as pool:
         try:
             for task, future in completed(lambda task: pool.submit(task.run, interrupts), tasks, interrupts.check):

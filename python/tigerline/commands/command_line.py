@@ -8,6 +8,7 @@ from typing import NoReturn
 from ..terminal import visible
 from ..version import __version__
 from .geocode import GEOCODE
+from .import_shapefiles import IMPORT
 from .map import MAP
 from .reverse import REVERSE
 from .select import SELECT
@@ -15,7 +16,7 @@ from .serve import SERVE
 from .status import STATUSES_TEXT, Status, exit_status
 from .subcommand import Subcommand
 
-SUBCOMMANDS = {command.name: command for command in (SELECT, GEOCODE, REVERSE, MAP, SERVE)}
+SUBCOMMANDS = {command.name: command for command in (SELECT, GEOCODE, REVERSE, MAP, SERVE, IMPORT)}
 # Their values may begin with a minus, which argparse takes for an option.
 NUMBERS = ("--bbox",)
 

@@ -2,10 +2,9 @@
 
 import argparse
 import os
-from collections.abc import Iterable, Iterator, Sequence
+from collections.abc import Generator, Iterable, Iterator, Sequence
 from contextlib import ExitStack, closing
 from dataclasses import replace
-from functools import partial
 from pathlib import Path
 from typing import Any
 
@@ -124,13 +123,23 @@ def _counties(
     """
     if not (options.workers or options.scheduler is not None or options.resume):
         return extract(request, outputs, progress=options.progress, interrupts=interrupts)
-    engine: batch.Engine = partial(workers.run_here, options.workers or 1)
-    if options.scheduler is not None:
-        engine = partial(scheduler.run_there, options.scheduler)
     sources = batch.county_tasks(request, outputs, interrupts)
     store = files.enter_context(batch.part_store(table.final, options.resume))
     tasks = [batch.part_task(source, store) for source in sources]
-    return files.enter_context(closing(batch.run_tasks(tasks, store, engine, options.progress, interrupts)))
+    return files.enter_context(closing(batch.run_tasks(tasks, store, _engine(options), options.progress, interrupts)))
+
+
+def _engine(options: argparse.Namespace) -> batch.Engine:
+    """Returns what runs the tasks, here or on the workers of a scheduler."""
+
+    def engine(
+        tasks: Sequence[batch.PartTask], interrupts: Interrupts
+    ) -> Generator[tuple[batch.PartTask, str], None, None]:
+        if options.scheduler is not None:
+            return scheduler.run_there(options.scheduler, tasks, interrupts)
+        return workers.run_here(options.workers or 1, tasks, interrupts)
+
+    return engine
 
 
 def _added(counties: Iterable[CountyTexts], content: MapContent) -> Iterator[CountyTexts]:

@@ -47,7 +47,7 @@ def exit_status(work: Callable[[], bytes]) -> Status:
         with warnings.catch_warnings():
             warnings.simplefilter("default", UserWarning)
             warnings.showwarning = lambda message, *_: report(f"warning: {message}")
-            return _write(work())
+            return write_output(work())
     except tuple(_STATUSES) as error:
         report(_message(error), keep_lines=isinstance(error, RefusedError))
         return next(status for kind, status in _STATUSES.items() if isinstance(error, kind))
@@ -64,7 +64,8 @@ def _message(error: Exception) -> str:
     return f"error: {text}"
 
 
-def _write(output: bytes) -> Status:
+def write_output(output: bytes) -> Status:
+    """Writes to standard output. Raises OSError if that fails."""
     if not output:
         return Status.DONE
     if sys.stdout is None:

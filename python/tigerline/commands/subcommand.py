@@ -12,6 +12,7 @@ from ..output import DATABASE, STANDARD_OUTPUT, is_file
 from ..terminal import visible
 
 DATA = "a folder with counties, searched with its subfolders, or a zip file"
+COUNTIES = "01001 is a county, 01 or AL all of a state (default: all that are there)"
 
 
 @dataclass(frozen=True)
@@ -36,8 +37,7 @@ def add_data(parser: argparse.ArgumentParser) -> None:
 
 def add_counties(parser: argparse.ArgumentParser) -> None:
     """Adds the options that say which counties are read, and by which program."""
-    counties = "01001 is a county, 01 or AL all of a state (default: all that are there)"
-    parser.add_argument("--counties", metavar="CODE", nargs="+", help=counties)
+    parser.add_argument("--counties", metavar="CODE", nargs="+", help=COUNTIES)
     add_extractd(parser)
 
 

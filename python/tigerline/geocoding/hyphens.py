@@ -8,14 +8,14 @@ the copy isn't proved.
 import re
 from pathlib import Path
 
-from ..layout import PLACES
+from ..layout import LAYOUTS
 
 SHIFT = 100_000  # Even, so that a number keeps the parity of its last part.
 LONGEST_PART = 5  # digits; with the hyphen, two parts are as long as a field.
 _END = re.compile(rb" *([0-9]{1,5})-([0-9]{1,5}) *")
 _WIDTH = 11
 # Where the range of the left side begins. That of the right side follows it.
-_RANGES = {"1": PLACES["FRADDL"].start, "6": 18}
+_RANGES = {record_type: LAYOUTS[record_type]["FRADDL"].start for record_type in "16"}
 
 
 def is_range(first: str, second: str) -> bool:

@@ -9,7 +9,7 @@ from functools import cached_property
 from pathlib import Path
 from typing import NamedTuple
 
-from ..layout import PLACES
+from ..layout import LAYOUTS, PLACES
 from .addresses import Reading, Reason, Stage
 from .choice import Answer, compare_street
 from .near_names import NearNames
@@ -21,10 +21,11 @@ STREET = slice(PLACES["FEDIRP"].start, PLACES["FEDIRS"].stop)
 _RANGES = slice(PLACES["FRADDL"].start, PLACES["TOADDR"].stop)
 AREAS = tuple(tuple(PLACES[name + side] for name in ("ZIP", "PLACE", "COUSUB")) for side in "LR")
 # Of types 4, 5 and 6: the numbers of alternate names, a name with its number, and the ZIP Codes of a further range.
-_FEATURES = tuple(slice(at, at + 8) for at in range(18, 58, 8))
+_FEATURES = tuple(LAYOUTS["4"][f"FEAT{at}"] for at in range(1, 6))
 _NAME = PLACES["FENAME"]
-_FEATURE, _FEATURE_STREET, _FEATURE_NAME = slice(10, 18), slice(18, 56), slice(20, 50)
-_FURTHER_ZIPS = (slice(66, 71), slice(71, 76))
+_FEATURE, _FEATURE_NAME = LAYOUTS["5"]["FEAT"], LAYOUTS["5"]["FENAME"]
+_FEATURE_STREET = slice(LAYOUTS["5"]["FEDIRP"].start, LAYOUTS["5"]["FEDIRS"].stop)
+_FURTHER_ZIPS = (LAYOUTS["6"]["ZIPL"], LAYOUTS["6"]["ZIPR"])
 
 
 OTHER_NAMES = b""  # the key of names that are not ASCII

@@ -10,7 +10,7 @@ from typing import NamedTuple
 
 from ..extract import Output, record_types, with_own_paths
 from ..interrupts import Interrupts
-from ..layout import number
+from ..layout import LAYOUTS, number
 from ..program import run
 from ..sources import County, opened_county
 from ..tuples import Line, Point, read_lines
@@ -21,6 +21,8 @@ COLUMNS = (
     "TLID", "FEDIRP", "FENAME", "FETYPE", "FEDIRS", "FRADDL", "TOADDL", "FRADDR", "TOADDR", "ZIPL", "ZIPR", "COUSUBL",
     "COUSUBR", "PLACEL", "PLACER",
 )  # fmt: skip
+
+_FURTHER = LAYOUTS["6"]
 
 
 class Range(NamedTuple):
@@ -75,12 +77,15 @@ def further_ranges(path: Path, chosen: Collection[int]) -> Mapping[int, list[Ran
     found: defaultdict[int, list[Ranges]] = defaultdict(list)
     with open(path, encoding="latin-1", newline="\n") as file:
         for record in file:
-            tlid = number(record[5:15])
+            tlid = number(record[_FURTHER["TLID"]])
             if tlid is not None and tlid in chosen:
-                left = Range(number(record[18:29]), number(record[29:40]), record[66:71].strip(" "))
-                right = Range(number(record[40:51]), number(record[51:62]), record[71:76].strip(" "))
-                found[tlid].append((left, right))
+                found[tlid].append((_further_range(record, "L"), _further_range(record, "R")))
     return found
+
+
+def _further_range(record: str, side: str) -> Range:
+    first, last, zip_code = (record[_FURTHER[f"{name}{side}"]] for name in ("FRADD", "TOADD", "ZIP"))
+    return Range(number(first), number(last), zip_code.strip(" "))
 
 
 def _street(

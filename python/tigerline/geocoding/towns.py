@@ -11,11 +11,11 @@ from functools import lru_cache
 from pathlib import Path
 from typing import NamedTuple
 
-from ..layout import PLACES, number
+from ..layout import LAYOUTS, PLACES, number
 from ..sources import STATE_NAMES, STATES
 
-NAME_LENGTH = 122
-_FIPS, _NAME = slice(14, 19), slice(62, 122)
+_FIPS, _NAME = LAYOUTS["C"]["FIPS"], LAYOUTS["C"]["NAME"]
+NAME_LENGTH = _NAME.stop
 _TLID = PLACES["TLID"]
 _CITY_CODES = tuple((PLACES[f"PLACE{side}"], PLACES[f"COUSUB{side}"]) for side in "LR")
 
