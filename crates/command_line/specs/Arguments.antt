@@ -34,6 +34,7 @@ optional name = record (required name) { required = false }
 abbrev pub flag : Text → Rule
 flag name = record (new_rule name) { long = Some name; action = Some SetTrue }
 
+-- what the parser takes for an argument of this name
 abbrev pub rule_by_kind : Text → ArgumentKind → Rule
 rule_by_kind name Required = required name
 rule_by_kind name Optional = optional name
@@ -41,7 +42,6 @@ rule_by_kind name Flag = flag name
 rule_by_kind name One = valued name
 rule_by_kind name Several = several name
 
--- what the parser takes for an argument
 abbrev pub rule : Argument → Rule
 rule argument = rule_by_kind argument.name.now argument.kind
 

@@ -41,77 +41,31 @@ pub enum ArgumentKind {
     Several,
 }
 
-/// The folder of the counties' files.
-pub const DATA: Argument = Argument {
-    name: "data",
-    kind: ArgumentKind::Required,
-    value: "DIR",
-    help: "The folder of the TIGER/Line 2006 files",
-};
+// What several commands take.
+pub const DATA: Argument =
+    argument!(Required "data" "DIR": "The folder of the TIGER/Line 2006 files");
 
-/// A program.
-pub const PROGRAM: Argument = Argument {
-    name: "program",
-    kind: ArgumentKind::Required,
-    value: "FILE",
-    help: "The program, as BPF instruction words",
-};
+pub const PROGRAM: Argument =
+    argument!(Required "program" "FILE": "The program, as BPF instruction words");
 
-/// A county.
-pub const COUNTY: Argument = Argument {
-    name: "code",
-    kind: ArgumentKind::One,
-    value: "CODE",
-    help: "The county, five digits",
-};
+pub const COUNTY: Argument = argument!(One "code" "CODE": "The county, five digits");
 
-/// Counties.
-pub const COUNTIES: Argument = Argument {
-    name: "code",
-    kind: ArgumentKind::Several,
-    value: "CODE",
-    help: "The counties, five digits each",
-};
+pub const COUNTIES: Argument = argument!(Several "code" "CODE": "The counties, five digits each");
 
-/// The language of a filter.
-pub const LANGUAGE: Argument = Argument {
-    name: "filter-lang",
-    kind: ArgumentKind::Optional,
-    value: "LANG",
-    help: "The language of the filter: cql2-text (the default) or cql2-json",
-};
+pub const LANGUAGE: Argument =
+    argument!(Optional "filter-lang" "LANG": "The language of the filter: cql2-text (the default) or cql2-json");
 
-/// The score of a filter's rows.
-pub const SCORE: Argument = Argument {
-    name: "score",
-    kind: ArgumentKind::Optional,
-    value: "COLUMN",
-    help: "The column whose number is a row's score, or 0 if it has none",
-};
+pub const SCORE: Argument =
+    argument!(Optional "score" "COLUMN": "The column whose number is a row's score, or 0 if it has none");
 
-/// The format of a layer.
-pub const FORMAT: Argument = Argument {
-    name: "format",
-    kind: ArgumentKind::Optional,
-    value: "FORMAT",
-    help: "rows (the default), csv, or geojsonseq: a GeoJSON feature on each line",
-};
+pub const FORMAT: Argument =
+    argument!(Optional "format" "FORMAT": "rows (the default), csv, or geojsonseq: a GeoJSON feature on each line");
 
-/// The columns of a layer.
-pub const COLUMNS: Argument = Argument {
-    name: "columns",
-    kind: ArgumentKind::Optional,
-    value: "NAMES",
-    help: "The columns of csv and geojsonseq, with commas between their names; by default one for each field",
-};
+pub const COLUMNS: Argument =
+    argument!(Optional "columns" "NAMES": "The columns of csv and geojsonseq, with commas between their names; by default one for each field");
 
-/// The geometry of a layer.
-pub const GEOMETRY: Argument = Argument {
-    name: "geometry",
-    kind: ArgumentKind::Optional,
-    value: "GEOMETRY",
-    help: "The geometry of csv and geojsonseq: none, line (the default), or shape, which needs the type 2 files",
-};
+pub const GEOMETRY: Argument =
+    argument!(Optional "geometry" "GEOMETRY": "The geometry of csv and geojsonseq: none, line (the default), or shape, which needs the type 2 files");
 
 impl Argument {
     /// Returns the argument for the argument parser.

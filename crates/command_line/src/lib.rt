@@ -1,6 +1,18 @@
 //! The command line: reads the arguments and carries out their request, over files, an output and an error writer that the caller passes in.
 #![tactic(auto)]
 
+// Expands to an argument: its kind, its name, what the help calls its value, and its help.
+macro_rules! argument {
+    ($kind:ident $name:literal $value:literal: $help:literal) => {
+        $crate::argument::Argument {
+            name: $name,
+            kind: $crate::argument::ArgumentKind::$kind,
+            value: $value,
+            help: $help,
+        }
+    };
+}
+
 mod address;
 mod argument;
 mod arguments;

@@ -5,7 +5,7 @@ ghost use Rattle.command_line.specs.Request.{IsAssemble};
 ghost use Rattle.command_line.specs.Values.{Reads, rows_in};
 ghost use Rattle.command_line.specs.declared.arguments.subcommand.Subcommand.TheVariants as Subcommand;
 
-use crate::argument::{Argument, ArgumentKind, Declaration};
+use crate::argument::Declaration;
 use crate::fault::ArgumentsFault;
 use crate::options::value;
 use clap::ArgMatches;
@@ -18,12 +18,7 @@ pub fn declaration() -> Declaration
     Declaration {
         about: "Assembles a program's text into BPF instruction words",
         after_help: help_end!("Example:\n  extractd asm --source street.s > street.bpf"),
-        arguments: &[Argument {
-            name: "source",
-            kind: ArgumentKind::Required,
-            value: "FILE",
-            help: "The program, as text",
-        }],
+        arguments: &[argument!(Required "source" "FILE": "The program, as text")],
     }
 }
 

@@ -5,7 +5,7 @@ ghost use Rattle.command_line.specs.Request.{IsCompile};
 ghost use Rattle.command_line.specs.Values.{Reads, rows_in};
 ghost use Rattle.command_line.specs.declared.arguments.subcommand.Subcommand.TheVariants as Subcommand;
 
-use crate::argument::{Argument, ArgumentKind, Declaration, LANGUAGE, SCORE};
+use crate::argument::{Declaration, LANGUAGE, SCORE};
 use crate::fault::ArgumentsFault;
 use crate::options::{file, filter_options};
 use clap::ArgMatches;
@@ -24,12 +24,7 @@ pub fn declaration() -> Declaration
   echo '{\"op\":\"=\",\"args\":[{\"property\":\"ZIPL\"},36067]}' | extractd compile --filter - --filter-lang cql2-json > zip.bpf"
         ),
         arguments: &[
-            Argument {
-                name: "filter",
-                kind: ArgumentKind::Required,
-                value: "FILE",
-                help: "The filter, in CQL2; - is the standard input",
-            },
+            argument!(Required "filter" "FILE": "The filter, in CQL2; - is the standard input"),
             LANGUAGE,
             SCORE,
         ],

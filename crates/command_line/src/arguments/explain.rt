@@ -5,7 +5,7 @@ ghost use Rattle.command_line.specs.Request.{IsExplain};
 ghost use Rattle.command_line.specs.Values.{Reads, rows_in};
 ghost use Rattle.command_line.specs.declared.arguments.subcommand.Subcommand.TheVariants as Subcommand;
 
-use crate::argument::{Argument, ArgumentKind, Declaration, PROGRAM};
+use crate::argument::{Declaration, PROGRAM};
 use crate::fault::ArgumentsFault;
 use crate::options::value;
 use clap::ArgMatches;
@@ -29,12 +29,7 @@ Example:
         ),
         arguments: &[
             PROGRAM,
-            Argument {
-                name: "lines",
-                kind: ArgumentKind::Optional,
-                value: "FILE",
-                help: "Source lines to list between the instructions, each PLACE, a tab and TEXT",
-            },
+            argument!(Optional "lines" "FILE": "Source lines to list between the instructions, each PLACE, a tab and TEXT"),
         ],
     }
 }

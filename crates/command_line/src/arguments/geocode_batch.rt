@@ -5,7 +5,7 @@ ghost use Rattle.command_line.specs.Request.{IsGeocodeBatch};
 ghost use Rattle.command_line.specs.Values.{ReadsUnlessMemory, rows_in};
 ghost use Rattle.command_line.specs.declared.arguments.subcommand.Subcommand.TheVariants as Subcommand;
 
-use crate::argument::{Argument, ArgumentKind, COUNTIES, DATA, Declaration};
+use crate::argument::{COUNTIES, DATA, Declaration};
 use crate::fault::ArgumentsFault;
 use crate::flags::is_given;
 use crate::options::{codes, file, value};
@@ -38,19 +38,9 @@ Examples:
   extractd geocode-batch --addresses addresses.csv --data tiger --shape 01001 > places.csv"
         ),
         arguments: &[
-            Argument {
-                name: "addresses",
-                kind: ArgumentKind::Required,
-                value: "FILE",
-                help: "The addresses, as CSV; - is the standard input",
-            },
+            argument!(Required "addresses" "FILE": "The addresses, as CSV; - is the standard input"),
             DATA,
-            Argument {
-                name: "shape",
-                kind: ArgumentKind::Flag,
-                value: "",
-                help: "Places along the shapes of the segments, from the files of record type 2",
-            },
+            argument!(Flag "shape" "": "Places along the shapes of the segments, from the files of record type 2"),
             COUNTIES,
         ],
     }

@@ -8,7 +8,7 @@ ghost use Rattle.command_line.specs.Values.{ReadsUnlessMemory, rows_in};
 ghost use Rattle.command_line.specs.declared.arguments.subcommand.Subcommand.TheVariants as Subcommand;
 ghost use Rattle.command_line.specs.declared.fault.ArgumentsFault.TheVariants as ArgumentsFault;
 
-use crate::argument::{Argument, ArgumentKind, COUNTIES, DATA, Declaration};
+use crate::argument::{COUNTIES, DATA, Declaration};
 use crate::fault::ArgumentsFault;
 use crate::options::{codes, value};
 use clap::ArgMatches;
@@ -31,24 +31,9 @@ Example:
         ),
         arguments: &[
             DATA,
-            Argument {
-                name: "number",
-                kind: ArgumentKind::Required,
-                value: "N",
-                help: "The house number",
-            },
-            Argument {
-                name: "name",
-                kind: ArgumentKind::Required,
-                value: "TEXT",
-                help: "The street's name, without its type and direction",
-            },
-            Argument {
-                name: "zip",
-                kind: ArgumentKind::Optional,
-                value: "Z",
-                help: "The ZIP Code that the address must have",
-            },
+            argument!(Required "number" "N": "The house number"),
+            argument!(Required "name" "TEXT": "The street's name, without its type and direction"),
+            argument!(Optional "zip" "Z": "The ZIP Code that the address must have"),
             COUNTIES,
         ],
     }

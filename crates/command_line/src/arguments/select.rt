@@ -31,12 +31,7 @@ Examples:
   extractd select --where \"CFCC LIKE 'A4%'\" --data tiger --format geojsonseq 01001 | ogr2ogr roads.gpkg '/vsistdin?buffer_limit=-1' -nln roads"
         ),
         arguments: &[
-            Argument {
-                name: "where",
-                kind: ArgumentKind::Required,
-                value: "TEXT",
-                help: "The filter, in CQL2",
-            },
+            argument!(Required "where" "TEXT": "The filter, in CQL2"),
             LANGUAGE,
             SCORE,
             DATA,

@@ -6,7 +6,7 @@ ghost use Rattle.command_line.specs.Values.{ReadsUnlessMemory, rows_in};
 ghost use Rattle.command_line.specs.declared.arguments.subcommand.Subcommand.TheVariants as Subcommand;
 
 use crate::address::address;
-use crate::argument::{Argument, ArgumentKind, COUNTIES, DATA, Declaration};
+use crate::argument::{COUNTIES, DATA, Declaration};
 use crate::fault::ArgumentsFault;
 use crate::flags::is_given;
 use crate::options::{codes, value};
@@ -34,36 +34,12 @@ Examples:
         ),
         arguments: &[
             DATA,
-            Argument {
-                name: "port",
-                kind: ArgumentKind::Optional,
-                value: "P",
-                help: "The port, 1 to 65535",
-            },
-            Argument {
-                name: "any-port",
-                kind: ArgumentKind::Flag,
-                value: "",
-                help: "Takes a free port in place of --port; the output has its number",
-            },
-            Argument {
-                name: "host",
-                kind: ArgumentKind::Optional,
-                value: "ADDRESS",
-                help: "The IP address to listen at: 127.0.0.1 (the default), another one of 127.0.0.0/8, or ::1; any other needs --public",
-            },
-            Argument {
-                name: "public",
-                kind: ArgumentKind::Flag,
-                value: "",
-                help: "Allows any --host. The server has no TLS and no authentication: whoever reaches it can use all of it",
-            },
-            Argument {
-                name: "log",
-                kind: ArgumentKind::Flag,
-                value: "",
-                help: "Writes a line to standard error for each connection",
-            },
+            argument!(Optional "port" "P": "The port, 1 to 65535"),
+            argument!(Flag "any-port" "": "Takes a free port in place of --port; the output has its number"),
+            argument!(Optional "host" "ADDRESS":
+                "The IP address to listen at: 127.0.0.1 (the default), another one of 127.0.0.0/8, or ::1; any other needs --public"),
+            argument!(Flag "public" "": "Allows any --host. The server has no TLS and no authentication: whoever reaches it can use all of it"),
+            argument!(Flag "log" "": "Writes a line to standard error for each connection"),
             COUNTIES,
         ],
     }

@@ -5,7 +5,7 @@ ghost use Rattle.command_line.specs.Request.{IsTrace};
 ghost use Rattle.command_line.specs.Values.{Reads, rows_in};
 ghost use Rattle.command_line.specs.declared.arguments.subcommand.Subcommand.TheVariants as Subcommand;
 
-use crate::argument::{Argument, ArgumentKind, COUNTY, DATA, Declaration, PROGRAM};
+use crate::argument::{COUNTY, DATA, Declaration, PROGRAM};
 use crate::fault::ArgumentsFault;
 use crate::options::{code, number, value};
 use clap::ArgMatches;
@@ -29,18 +29,8 @@ Example:
         arguments: &[
             PROGRAM,
             DATA,
-            Argument {
-                name: "line",
-                kind: ArgumentKind::Required,
-                value: "N",
-                help: "The segment's line in the type 1 file, counted from 1",
-            },
-            Argument {
-                name: "limit",
-                kind: ArgumentKind::Required,
-                value: "L",
-                help: "The maximum number of steps",
-            },
+            argument!(Required "line" "N": "The segment's line in the type 1 file, counted from 1"),
+            argument!(Required "limit" "L": "The maximum number of steps"),
             COUNTY,
         ],
     }

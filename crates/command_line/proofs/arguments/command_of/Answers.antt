@@ -19,5 +19,5 @@ loop-argument-preserved c =
 pub returns : goal.returns
 returns c =
     let arguments = c.declaration_of-declaration.result.arguments.now in
-    let all : take c.loop-argument.argument-index arguments ≡ arguments = take_all c.loop-argument.argument-index arguments c.loop-argument-test.false in
-    subst (λ rules. Takes (name_of c.args.subcommand) rules c.loop-argument.command) (ap (map rule) all ∙ c.declaration_of-declaration.ensures) c.loop-argument.invariant
+    let all = ap (map rule) (take_all c.loop-argument.argument-index arguments c.loop-argument-test.false) ∙ c.declaration_of-declaration.ensures in
+    subst (λ rules. Takes (name_of c.args.subcommand) rules c.loop-argument.command) all c.loop-argument.invariant
