@@ -361,12 +361,10 @@ class TestLines:
 
 
 def columns_of_page() -> Iterator[tuple[str, str, str]]:
-    """Yields the kinds, columns and rules in the list of the page."""
+    """Yields the kinds, columns and rules in the table of the page."""
     section = (TOP / "docs/shapefiles.md").read_text().split("\n## Columns\n\n")[1].split("\n\n")[0]
-    for kind, text in re.findall(r"^- `([a-z]+)`: ((?:.|\n(?!- ))*)", section, re.MULTILINE):
-        for rule in " ".join(text.split()).split("; "):
-            names, _, becomes = rule.partition(": ")
-            yield from ((kind, name, becomes) for name in names.split(", "))
+    for kind, names, becomes in re.findall(r"^\| `([a-z]+)` \| (.+) \| (.+) \|$", section, re.MULTILINE):
+        yield from ((kind, name, becomes) for name in names.split(", "))
 
 
 def test_page_has_all_columns() -> None:
@@ -381,7 +379,7 @@ def test_page_has_all_columns() -> None:
 
 def test_page_has_all_classes() -> None:
     page = (TOP / "docs/shapefiles.md").read_text()
-    assert dict(re.findall(r"\b([SRHLP][0-9]{4})\s([A-Z][0-9]{2})\b", page)) == CLASSES
+    assert dict(re.findall(r"\b([SRHLP][0-9]{4}) \| ([A-Z][0-9]{2})\b", page)) == CLASSES
 
 
 def test_layouts() -> None:

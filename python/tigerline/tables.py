@@ -1,4 +1,7 @@
-"""Writes tables of `extractd` to files: CSV as it is, other formats by ogr2ogr, which reads it from a pipe."""
+"""Writes tables of `extractd` to files: CSV as it is, other formats by ogr2ogr, which reads it from a pipe.
+
+GDAL gets CSV, as it would read GeoJSON twice.
+"""
 
 import re
 from collections.abc import Iterable, Iterator

@@ -1,4 +1,7 @@
-"""Reads tables of `extractd` as typed tuples, with the standard library alone."""
+"""Reads tables of `extractd` as typed tuples, with the standard library alone.
+
+Data frames are made of these rows, too: pandas would end a text at NUL, and numpy would need four times the code.
+"""
 
 import csv
 from collections.abc import Callable, Iterable, Iterator

@@ -1,4 +1,8 @@
-"""Chooses among the hits of `extractd geocode-batch` for an address."""
+"""Chooses among the hits of `extractd geocode-batch` for an address.
+
+Of a stated ZIP Code and city, the data has to confirm one, or an address would get another town's place. Equal hits at
+different places are a tie, as a guess would look like an answer.
+"""
 
 from collections.abc import Iterable
 from dataclasses import dataclass, field

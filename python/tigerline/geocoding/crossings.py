@@ -1,4 +1,7 @@
-"""Finds crossings such as `Main St & Broad St`: where segments of both streets share an end. Nothing here is proved."""
+"""Finds crossings such as `Main St & Broad St`: where segments of both streets share an end. Nothing here is proved.
+
+The files are read here, as `geocode-batch` doesn't write the ends of segments.
+"""
 
 from collections import defaultdict
 from collections.abc import Iterable, Sequence

@@ -138,6 +138,7 @@ class Lookup:
         """
         if not any(asked):
             return
+        # About a quarter of the readings have a name that a segment has. The others needn't be looked up.
         names = street_names(opened.files)
         plain, with_hyphen = (questions.of(names) for questions in asked)
         self._run(opened, plain, interrupts)

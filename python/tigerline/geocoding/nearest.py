@@ -61,6 +61,7 @@ class StreetIndex:
 
 def meters_per_degree(latitude: float) -> tuple[float, float]:
     """Returns the lengths of a degree of longitude and of latitude, by the usual series for the ellipsoid."""
+    # Exact enough within a few hundred meters, and no projection has to be chosen.
     angle = math.radians(latitude)
     longitude = 111_412.84 * math.cos(angle) - 93.5 * math.cos(3 * angle) + 0.118 * math.cos(5 * angle)
     return max(longitude, 1.0), 111_132.92 - 559.82 * math.cos(2 * angle) + 1.175 * math.cos(4 * angle)

@@ -1,6 +1,7 @@
 """Finds the streets next to points.
 
-`extractd` selects the streets. Which one is nearest, its side and the house number there aren't proved.
+`extractd` selects the streets. Which one is nearest, its side and the house number there aren't proved. A street needs
+a name but no house numbers, as the nearest one with numbers may be across a highway.
 """
 
 from collections.abc import Iterable, Iterator, Sequence

@@ -1,4 +1,7 @@
-"""The segments of a map: the selected ones, and those around them."""
+"""The segments of a map: the selected ones, and those around them.
+
+Those around them are all segments without the selection's lines, so `extractd` alone reads records.
+"""
 
 import warnings
 from collections.abc import Iterable, Iterator

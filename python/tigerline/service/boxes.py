@@ -1,4 +1,7 @@
-"""Finds the lines that meet a box, exactly: coordinates are millionths of a degree, and the box has fractions."""
+"""Finds the lines that meet a box, exactly: coordinates are millionths of a degree, and the box has fractions.
+
+`extractd` can't do this, as its filters see the ends of a segment but not its shape.
+"""
 
 import math
 from array import array

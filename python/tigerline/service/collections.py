@@ -1,4 +1,7 @@
-"""The collections of the service: each county, each state, and all counties."""
+"""The collections of the service: each county, each state, and all counties.
+
+A state is its counties one after the other, so nothing grows with the nation.
+"""
 
 from collections.abc import Iterable
 from dataclasses import dataclass

@@ -1,4 +1,7 @@
-"""The ids of features: a feature's TLID, plus a number for each earlier segment with this TLID in the county's file."""
+"""The ids of features: a feature's TLID, plus a number for each earlier segment with this TLID in the county's file.
+
+So an id is unique, an integer, and the same for every selection.
+"""
 
 from collections import Counter
 from collections.abc import Callable, Iterable

@@ -1,4 +1,7 @@
-"""Has `extractd` select segments within limits, and caches the features of the latest selections."""
+"""Has `extractd` select segments within limits, and caches the features of the latest selections.
+
+Each box, order or choice of columns makes a file of its own, so a page is a slice of a file.
+"""
 
 import subprocess
 import tempfile

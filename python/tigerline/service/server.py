@@ -1,4 +1,8 @@
-"""Serves a WSGI application by waitress, with the limits that none of its settings gives."""
+"""Serves a WSGI application by waitress, with the limits that none of its settings gives.
+
+waitress reads a reply from a file as its client takes it, so silent clients hold neither a thread nor memory. asyncio is
+a hundred times slower with silent clients, and uvicorn doesn't stop.
+"""
 
 import logging
 import signal

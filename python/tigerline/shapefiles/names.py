@@ -1,4 +1,7 @@
-"""The names of segments and places as the fields of record types 1, 5 and C have them."""
+"""The names of segments and places as the fields of record types 1, 5 and C have them.
+
+A name that doesn't fit is cut and counted, as refusing it would lose its county.
+"""
 
 import unicodedata
 from collections.abc import Iterable

@@ -1,4 +1,7 @@
-"""Joins the shapefiles of a county. Edges, names and ranges are read side by side in the order of TLID, and not kept."""
+"""Joins the shapefiles of a county. Edges, names and ranges are read side by side in the order of TLID, and not kept.
+
+ogr2ogr sorts them, which also shows a repeated TLID, and writes text for COPY: reading WKT takes five times as long.
+"""
 
 from collections.abc import Iterable, Iterator
 from contextlib import ExitStack, contextmanager
