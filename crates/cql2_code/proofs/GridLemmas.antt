@@ -58,10 +58,7 @@ row_ends row at (start ∷ starts) skip rest =
     let others = row_ends row (at + 1) starts skip rest in
     let code = (lay_row row (at + 1) starts skip rest).code in
     let cell = question_code (row at) false (word_count code - start) in
-    record {
-      front = cell ++ others.front;
-      is = ap (λ (insns : List Insn). cell ++ insns) others.is ∙ sym (append_assoc cell others.front rest);
-    }
+    record { front = cell ++ others.front; is = ap (λ (insns : List Insn). cell ++ insns) others.is ∙ sym (append_assoc cell others.front rest) }
 
 -- it has no fewer words
 pub row_words : (row : ℕ → Question) (at : ℕ) (starts : List ℕ) (skip : ℕ) (rest : List Insn)
@@ -71,20 +68,43 @@ row_words row at starts skip rest =
     let sum = ap word_count ends.is ∙ word_count-append ends.front rest in
     omega arith
 
+-- a row's code before a code that needs only the record's pointer, and the words that a run skips past the last cell
+record RowCode : Type 0 where
+  keeps : Bool
+  row : ℕ → Question
+  skip : ℕ
+  rest : List Insn
+  needs : needed_by keeps rest (resting keeps) ≡ resting keeps
+
+-- from a column on
+abbrev laid : RowCode → ℕ → List ℕ → Laid
+laid r at starts = lay_row r.row at starts r.skip r.rest
+
+-- a code at a place up to an end
+record EndsAt (code insns : List Insn) (place end : ℕ) : Type 0 where
+  has : HasAt code place insns
+  is : place + word_count insns ≡ end
+
+ends_back : (code a b : List Insn) (place end : ℕ) → EndsAt code (a ++ b) place end → EndsAt code b (place + word_count a) end
+ends_back code a b place end ends =
+    let count = word_count-append a b in
+    let is = ends.is in
+    record { has = has_back code place a b ends.has; is = omega arith }
+
 -- What the code needs
 
-row_needs : (keeps : Bool) (row : ℕ → Question) (at : ℕ) (starts : List ℕ) (skip : ℕ) (rest : List Insn) → SoundCells row at (length starts)
-    → needed_by keeps rest (resting keeps) ≡ resting keeps → needed_by keeps (lay_row row at starts skip rest).code (resting keeps) ≡ resting keeps
+row_needs : (r : RowCode) (at : ℕ) (starts : List ℕ) → SoundCells r.row at (length starts)
+    → needed_by r.keeps (laid r at starts).code (resting r.keeps) ≡ resting r.keeps
 unfolding lay_row
-row_needs keeps row at [] skip rest sound needs =
-    needed_by-append keeps (question_code (Decided false) true skip) rest (resting keeps)
-    ∙ ap (needed_by keeps (question_code (Decided false) true skip)) needs ∙ decided_needs keeps false true skip
-row_needs keeps row at (start ∷ starts) skip rest sound needs =
-    let code = (lay_row row (at + 1) starts skip rest).code in
-    let cell = question_code (row at) false (word_count code - start) in
-    needed_by-append keeps cell code (resting keeps)
-    ∙ ap (needed_by keeps cell) (row_needs keeps row (at + 1) starts skip rest sound.1 needs)
-    ∙ question_needs keeps (row at) false (word_count code - start) sound.0
+row_needs r at [] sound =
+    let jump = question_code (Decided false) true r.skip in
+    needed_by-append r.keeps jump r.rest (resting r.keeps) ∙ ap (needed_by r.keeps jump) r.needs ∙ decided_needs r.keeps false true r.skip
+row_needs r at (start ∷ starts) sound =
+    let code = (laid r (at + 1) starts).code in
+    let cell = question_code (r.row at) false (word_count code - start) in
+    needed_by-append r.keeps cell code (resting r.keeps)
+    ∙ ap (needed_by r.keeps cell) (row_needs r (at + 1) starts sound.1)
+    ∙ question_needs r.keeps (r.row at) false (word_count code - start) sound.0
 
 -- the starts of cells, by their numbers of words before the end: at each of these places something holds
 abbrev Stand : (ℕ → Type 0) → ℕ → ℕ → List ℕ → Type 0
@@ -107,64 +127,81 @@ abbrev GoesBack : Bool → List Insn → (ℕ → Type 0) → Type 0
 GoesBack keeps code Property = (place : ℕ) (insns : List Insn) → HasAt code place insns → needed_by keeps insns (resting keeps) ≡ resting keeps
     → Property (place + word_count insns) → Property place
 
-row_stands : (keeps : Bool) (code : List Insn) (Property : ℕ → Type 0) → GoesBack keeps code Property → (row : ℕ → Question) (at : ℕ)
-    (starts : List ℕ) (skip : ℕ) (rest : List Insn) (place end : ℕ) → SoundCells row at (length starts) → needed_by keeps rest (resting keeps) ≡ resting keeps
-    → (let laid = lay_row row at starts skip rest in HasAt code place laid.code → place + word_count laid.code ≡ end → Property end
-    → Stand Property end (word_count laid.code) laid.starts)
+-- what holds at places of a code, among them its end
+record Ground (keeps : Bool) : Type 1 where
+  code : List Insn
+  end : ℕ
+  holds : ℕ → Type 0
+  back : GoesBack keeps code holds
+  there : holds end
+
+row_stands : (r : RowCode) (ground : Ground r.keeps) (at : ℕ) (starts : List ℕ) (place : ℕ) → SoundCells r.row at (length starts)
+    → EndsAt ground.code (laid r at starts).code place ground.end
+    → Stand ground.holds ground.end (word_count (laid r at starts).code) (laid r at starts).starts
 unfolding lay_row
-row_stands keeps code Property back row at [] skip rest place end sound needs has is there = tt
-row_stands keeps code Property back row at (start ∷ starts) skip rest place end sound needs has is there =
-    let others = lay_row row (at + 1) starts skip rest in
-    let cell = question_code (row at) false (word_count others.code - start) in
+row_stands r ground at [] place sound ends = tt
+row_stands r ground at (start ∷ starts) place sound ends =
+    let others = laid r (at + 1) starts in
+    let cell = question_code (r.row at) false (word_count others.code - start) in
     let count = word_count-append cell others.code in
-    let here : end - word_count (cell ++ others.code) ≡ place = omega arith in
-    let first = back place (cell ++ others.code) has (row_needs keeps row at (start ∷ starts) skip rest sound needs) (subst Property (sym is) there) in (
-      (omega arith, subst Property (sym here) first),
-      stand_more Property end (word_count others.code) (word_count (cell ++ others.code)) others.starts (omega arith)
-          (row_stands keeps code Property back row (at + 1) starts skip rest (place + word_count cell) end sound.1 needs
-          (has_back code place cell others.code has) (omega arith) there),
+    let is : place + word_count (cell ++ others.code) ≡ ground.end = ends.is in
+    let here : ground.end - word_count (cell ++ others.code) ≡ place = omega arith in
+    let first = ground.back place (cell ++ others.code) ends.has (row_needs r at (start ∷ starts) sound)
+    (subst ground.holds (sym is) ground.there) in (
+      (omega arith, subst ground.holds (sym here) first),
+      stand_more ground.holds ground.end (word_count others.code) (word_count (cell ++ others.code)) others.starts (omega arith)
+          (row_stands r ground (at + 1) starts (place + word_count cell) sound.1 (ends_back ground.code cell others.code place ground.end ends)),
     )
 
 -- The code of a row is good
 
-row_good : (keeps : Bool) (code : List Insn) (row : ℕ → Question) (at : ℕ) (starts : List ℕ) (skip : ℕ) (rest : List Insn) (place middle end : ℕ)
-    → SoundCells row at (length starts) → needed_by keeps rest (resting keeps) ≡ resting keeps → middle + word_count rest ≡ end
-    → Rests keeps code middle → Rests keeps code (middle + skip) → Rests keeps code end → Stand (Rests keeps code) end (word_count rest) starts
-    → AreGoodAt keeps code middle rest
-    → (let laid = lay_row row at starts skip rest in HasAt code place laid.code → place + word_count laid.code ≡ end
-    → Keeps keeps laid.code → AreGoodAt keeps code place laid.code)
+-- the code below a row is good, and so are its exits
+record GoodBelow (r : RowCode) : Type 0 where
+  code : List Insn
+  middle : ℕ
+  end : ℕ
+  ended : middle + word_count r.rest ≡ end
+  there : Rests r.keeps code middle
+  target : Rests r.keeps code (middle + r.skip)
+  last : Rests r.keeps code end
+  good : AreGoodAt r.keeps code middle r.rest
+
+row_good : (r : RowCode) (below : GoodBelow r) (at : ℕ) (starts : List ℕ) (place : ℕ) → SoundCells r.row at (length starts)
+    → Stand (Rests r.keeps below.code) below.end (word_count r.rest) starts
+    → EndsAt below.code (laid r at starts).code place below.end → Keeps r.keeps (laid r at starts).code
+    → AreGoodAt r.keeps below.code place (laid r at starts).code
 unfolding lay_row
-row_good keeps code row at [] skip rest place middle end sound needs behind there target last stand good has is kept =
-    let jump = question_code (Decided false) true skip in
-    let count = word_count-append jump rest in
-    let e : middle ≡ place + word_count jump = omega arith in
-    good-append keeps code place jump rest
-    (decided_good keeps code false true skip place
+row_good r below at [] place sound stand ends kept =
+    let jump = question_code (Decided false) true r.skip in
+    let count = word_count-append jump r.rest in
+    let is : place + word_count (jump ++ r.rest) ≡ below.end = ends.is in
+    let ended = below.ended in
+    let e : below.middle ≡ place + word_count jump = omega arith in
+    good-append r.keeps below.code place jump r.rest
+    (decided_good r.keeps below.code false true r.skip place
     (record {
-      has = has_front code place jump rest has;
-      end = subst (Rests keeps code) e there;
-      target = subst (λ (p : ℕ). Rests keeps code (p + skip)) e target;
-    })) (subst (λ (p : ℕ). AreGoodAt keeps code p rest) e good)
-row_good keeps code row at (start ∷ starts) skip rest place middle end sound needs behind there target last stand good has is kept =
-    let others = lay_row row (at + 1) starts skip rest in
+      has = has_front below.code place jump r.rest ends.has;
+      end = subst (Rests r.keeps below.code) e below.there;
+      target = subst (λ (p : ℕ). Rests r.keeps below.code (p + r.skip)) e below.target;
+    })) (subst (λ (p : ℕ). AreGoodAt r.keeps below.code p r.rest) e below.good)
+row_good r below at (start ∷ starts) place sound stand ends kept =
+    let others = laid r (at + 1) starts in
     let over = word_count others.code - start in
-    let cell = question_code (row at) false over in
-    let count = word_count-append cell others.code in
-    let more = row_words row (at + 1) starts skip rest in
+    let cell = question_code (r.row at) false over in
+    let more : word_count r.rest ≤ word_count others.code = row_words r.row (at + 1) starts r.skip r.rest in
     let few = stand.0.0 in
-    let e : place + word_count cell + word_count others.code ≡ end = omega arith in
-    let below : end - start ≡ place + word_count cell + over = omega arith in
-    let after = has_back code place cell others.code has in
-    good-append keeps code place cell others.code
-    (question_good keeps code (row at) false over place sound.0 (keeps_front keeps cell others.code kept)
+    let after = ends_back below.code cell others.code place below.end ends in
+    let e : place + word_count cell + word_count others.code ≡ below.end = after.is in
+    let down : below.end - start ≡ place + word_count cell + over = omega arith in
+    good-append r.keeps below.code place cell others.code
+    (question_good r.keeps below.code (r.row at) false over place sound.0 (keeps_front r.keeps cell others.code kept)
     (record {
-      has = has_front code place cell others.code has;
-      end = rests_at keeps code (place + word_count cell) others.code after (row_needs keeps row (at + 1) starts skip rest sound.1 needs)
-          (subst (Rests keeps code) (sym e) last);
-      target = subst (Rests keeps code) below stand.0.1;
+      has = has_front below.code place cell others.code ends.has;
+      end = rests_at r.keeps below.code (place + word_count cell) others.code after.has (row_needs r (at + 1) starts sound.1)
+          (subst (Rests r.keeps below.code) (sym e) below.last);
+      target = subst (Rests r.keeps below.code) down stand.0.1;
     }))
-    (row_good keeps code row (at + 1) starts skip rest (place + word_count cell) middle end sound.1 needs behind there target last stand.1 good after e
-    (keeps_back keeps cell others.code kept))
+    (row_good r below (at + 1) starts (place + word_count cell) sound.1 stand.1 after (keeps_back r.keeps cell others.code kept))
 
 -- Runs of a row
 
@@ -188,84 +225,114 @@ lead_same : (on : Setting) (exit : Exit) (at start count : ℕ) → Leads on (ex
 lead_same on exit at start zero there = tt
 lead_same on exit at start (suc count) there = (there, lead_same on exit (at + 1) start count there)
 
--- a run of a cell goes on below on yes, and to the right on no
-cell_leads : (on : Setting) (found : Bool) (place next skip below : ℕ) (exit : Exit) (down right : Bool)
-    → Leads on place (exit_of false found next skip) → next + skip ≡ below → Leads on below (leaving exit down)
-    → Leads on next (leaving exit right) → Leads on place (leaving exit (if found then down else right))
-cell_leads on true place next skip below exit down right first is second third =
-    leads_on on place below (leaving exit down) (subst (Leads on place) is first) second
-cell_leads on false place next skip below exit down right first is second third =
-    leads_on on place next (leaving exit right) first third
+-- runs of a cell: on no to the next one, and on yes past some words
+record CellLeads (on : Setting) (exit : Exit) (found down right : Bool) (place : ℕ) : Type 0 where
+  next : ℕ
+  skip : ℕ
+  first : Leads on place (exit_of false found next skip)
+  yes : Leads on (next + skip) (leaving exit down)
+  no : Leads on next (leaving exit right)
+
+cell_leads : (on : Setting) (exit : Exit) (found down right : Bool) (place : ℕ) → CellLeads on exit found down right place
+    → Leads on place (leaving exit (if found then down else right))
+cell_leads on exit true down right place cell = leads_on on place (cell.next + cell.skip) (leaving exit down) cell.first cell.yes
+cell_leads on exit false down right place cell = leads_on on place cell.next (leaving exit right) cell.first cell.no
 
 record RowLeads (on : Setting) (exit : Exit) (rows : List (ℕ → Question)) (at left place : ℕ) (starts : List ℕ) : Type 0 where
   first : Leads on place (leaving exit (finds rows at left on.segment))
   all : LeadAll on exit rows at starts
 
-row_leads : (keeps : Bool) (on : Setting) (exit : Exit) (rows : List (ℕ → Question)) (row : ℕ → Question) (at : ℕ) (starts : List ℕ) (skip : ℕ)
-    (rest : List Insn) (place middle : ℕ) → SoundCells row at (length starts) → needed_by keeps rest (resting keeps) ≡ resting keeps → IsSegment on.segment
-    → middle + word_count rest ≡ exit.end → middle + skip ≡ leaving exit false
-    → Begins on.code middle → Begins on.code (middle + skip) → Begins on.code exit.end
-    → Stand (Begins on.code) exit.end (word_count rest) starts → LeadAll on exit rows at starts
-    → (let laid = lay_row row at starts skip rest in HasAt on.code place laid.code → place + word_count laid.code ≡ exit.end
-    → RowLeads on exit (row ∷ rows) at (length starts) place laid.starts)
+-- a run on a segment, and the code below a row with its exits, where instructions begin
+record LeadsBelow (r : RowCode) : Type 0 where
+  on : Setting
+  exit : Exit
+  rows : List (ℕ → Question)
+  middle : ℕ
+  segment : IsSegment on.segment
+  ended : middle + word_count r.rest ≡ exit.end
+  out : middle + r.skip ≡ leaving exit false
+  there : Begins on.code middle
+  target : Begins on.code (middle + r.skip)
+  last : Begins on.code exit.end
+
+row_leads : (r : RowCode) (below : LeadsBelow r) (at : ℕ) (starts : List ℕ) (place : ℕ) → SoundCells r.row at (length starts)
+    → Stand (Begins below.on.code) below.exit.end (word_count r.rest) starts → LeadAll below.on below.exit below.rows at starts
+    → EndsAt below.on.code (laid r at starts).code place below.exit.end
+    → RowLeads below.on below.exit (r.row ∷ below.rows) at (length starts) place (laid r at starts).starts
 unfolding lay_row
-row_leads keeps on exit rows row at [] skip rest place middle sound needs segment behind out there target last stand leads has is =
-    let jump = question_code (Decided false) true skip in
-    let count = word_count-append jump rest in
-    let e : middle ≡ place + word_count jump = omega arith in
-    let leaves = decided_leads on false true skip place
+row_leads r below at [] place sound stand leads ends =
+    let jump = question_code (Decided false) true r.skip in
+    let count = word_count-append jump r.rest in
+    let is : place + word_count (jump ++ r.rest) ≡ below.exit.end = ends.is in
+    let ended = below.ended in
+    let e : below.middle ≡ place + word_count jump = omega arith in
+    let leaves = decided_leads below.on false true r.skip place
     (record {
-      has = has_front on.code place jump rest has;
-      end = subst (Begins on.code) e there;
-      target = subst (λ (p : ℕ). Begins on.code (p + skip)) e target;
+      has = has_front below.on.code place jump r.rest ends.has;
+      end = subst (Begins below.on.code) e below.there;
+      target = subst (λ (p : ℕ). Begins below.on.code (p + r.skip)) e below.target;
     }) in
-    record {
-      first = subst (Leads on place) (ap (λ (p : ℕ). p + skip) (sym e) ∙ out) leaves;
-      all = tt;
-    }
-row_leads keeps on exit rows row at (start ∷ starts) skip rest place middle sound needs segment behind out there target last stand leads has is =
-    let others = lay_row row (at + 1) starts skip rest in
+    record { first = subst (Leads below.on place) (ap (λ (p : ℕ). p + r.skip) (sym e) ∙ below.out) leaves; all = tt }
+row_leads r below at (start ∷ starts) place sound stand leads ends =
+    let on = below.on in
+    let exit = below.exit in
+    let rows = r.row ∷ below.rows in
+    let others = laid r (at + 1) starts in
     let over = word_count others.code - start in
-    let cell = question_code (row at) false over in
+    let cell = question_code (r.row at) false over in
     let count = word_count-append cell others.code in
-    let more = row_words row (at + 1) starts skip rest in
+    let more : word_count r.rest ≤ word_count others.code = row_words r.row (at + 1) starts r.skip r.rest in
     let few = stand.0.0 in
-    let e : place + word_count cell + word_count others.code ≡ exit.end = omega arith in
-    let below : place + word_count cell + over ≡ exit.end - start = omega arith in
+    let after = ends_back on.code cell others.code place exit.end ends in
+    let e : place + word_count cell + word_count others.code ≡ exit.end = after.is in
+    let down : exit.end - start ≡ place + word_count cell + over = omega arith in
     let here : exit.end - word_count (cell ++ others.code) ≡ place = omega arith in
-    let after = has_back on.code place cell others.code has in
-    let right = row_leads keeps on exit rows row (at + 1) starts skip rest (place + word_count cell) middle sound.1 needs segment behind out there target
-    last stand.1 leads.1 after e in
-    let first = question_leads on (row at) false over place sound.0 segment
+    let right = row_leads r below (at + 1) starts (place + word_count cell) sound.1 stand.1 leads.1 after in
+    let first = question_leads on (r.row at) false over place sound.0 below.segment
     (record {
-      has = has_front on.code place cell others.code has;
-      end = begins_at on.code (place + word_count cell) others.code after (subst (Begins on.code) (sym e) last);
-      target = subst (Begins on.code) (sym below) stand.0.1;
+      has = has_front on.code place cell others.code ends.has;
+      end = begins_at on.code (place + word_count cell) others.code after.has (subst (Begins on.code) (sym e) below.last);
+      target = subst (Begins on.code) down stand.0.1;
     }) in
-    let all = cell_leads on (answer (row at) on.segment) place (place + word_count cell) over (exit.end - start) exit
-    (finds rows at (suc (length starts)) on.segment) (finds (row ∷ rows) (at + 1) (length starts) on.segment) first below leads.0 right.first in
+    let all = cell_leads on exit (answer (r.row at) on.segment) (finds below.rows at (suc (length starts)) on.segment)
+    (finds rows (at + 1) (length starts) on.segment) place
+    (record {
+      next = place + word_count cell;
+      skip = over;
+      first = first;
+      yes = subst (λ (p : ℕ). Leads on p (leaving exit (finds below.rows at (suc (length starts)) on.segment))) down leads.0;
+      no = right.first;
+    }) in
     record {
       first = all;
       all = (
-        subst (λ (p : ℕ). Leads on p (leaving exit (finds (row ∷ rows) at (suc (length others.starts)) on.segment))) (sym here)
-            (subst (λ (left : ℕ). Leads on place (leaving exit (finds (row ∷ rows) at (suc left) on.segment)))
-            (sym (row_length row (at + 1) starts skip rest)) all),
+        subst (λ (p : ℕ). Leads on p (leaving exit (finds rows at (suc (length others.starts)) on.segment))) (sym here)
+            (subst (λ (left : ℕ). Leads on place (leaving exit (finds rows at (suc left) on.segment)))
+            (sym (row_length r.row (at + 1) starts r.skip r.rest)) all),
         right.all,
       );
     }
 
 -- Whole grids
 
+-- the code below rows, with as many cells as these have
+record RowsEnd (keeps : Bool) (columns : ℕ) (below : Laid) : Type 0 where
+  count : length below.starts ≡ columns
+  needs : needed_by keeps below.code (resting keeps) ≡ resting keeps
+
 rows_needs : (keeps : Bool) (rows : List (ℕ → Question)) (columns : ℕ) (falls : Bool) (skip words : ℕ) (below : Laid) → SoundRows rows columns
-    → length below.starts ≡ columns → needed_by keeps below.code (resting keeps) ≡ resting keeps
-    → needed_by keeps (lay_rows rows falls skip words below).code (resting keeps) ≡ resting keeps
+    → RowsEnd keeps columns below → needed_by keeps (lay_rows rows falls skip words below).code (resting keeps) ≡ resting keeps
 unfolding lay_rows
-rows_needs keeps [] columns falls skip words below sound count needs = needs
-rows_needs keeps (row ∷ rows) columns falls skip words below sound count needs =
+rows_needs keeps [] columns falls skip words below sound end = end.needs
+rows_needs keeps (row ∷ rows) columns falls skip words below sound end =
     let rest = lay_rows rows falls skip words below in
-    row_needs keeps row 0 rest.starts (first_skip falls true (word_count rest.code - words) skip) rest.code
-    (subst (SoundCells row 0) (sym (rows_length rows falls skip words below ∙ count)) sound.0)
-    (rows_needs keeps rows columns falls skip words below sound.1 count needs)
+    row_needs (record {
+      keeps = keeps;
+      row = row;
+      skip = first_skip falls true (word_count rest.code - words) skip;
+      rest = rest.code;
+      needs = rows_needs keeps rows columns falls skip words below sound.1 end;
+    }) 0 rest.starts (subst (SoundCells row 0) (sym (rows_length rows falls skip words below ∙ end.count)) sound.0)
 
 -- the end of a grid, and its rows
 
@@ -276,8 +343,8 @@ end_needs keeps columns falls skip =
 grid_needs : (keeps : Bool) (rows : List (ℕ → Question)) (columns : ℕ) (falls : Bool) (skip : ℕ) → SoundRows rows columns
     → needed_by keeps (lay rows columns falls skip []).code (resting keeps) ≡ resting keeps
 grid_needs keeps rows columns falls skip sound =
-    rows_needs keeps rows columns falls skip (word_count []) (lay_end columns falls skip []) sound (length-replicate columns _)
-    (end_needs keeps columns falls skip)
+    rows_needs keeps rows columns falls skip (word_count []) (lay_end columns falls skip []) sound
+    (record { count = length-replicate columns _; needs = end_needs keeps columns falls skip })
 
 starts_count : (rows : List (ℕ → Question)) (columns : ℕ) (falls : Bool) (skip : ℕ)
     → length (lay rows columns falls skip []).starts ≡ columns
@@ -285,39 +352,33 @@ starts_count rows columns falls skip =
     rows_length rows falls skip (word_count []) (lay_end columns falls skip []) ∙ length-replicate columns _
 
 -- a code at a place, with its exits
-abbrev IsThere : (ℕ → Type 0) → List Insn → List Insn → ℕ → ℕ → ℕ → Type 0
-IsThere Property code insns skip place end =
-    HasAt code place insns × (place + word_count insns ≡ end) × Property end × Property (end + skip)
+record IsThere (Property : ℕ → Type 0) (code insns : List Insn) (exit : Exit) (place : ℕ) : Type 0 where
+  ends : EndsAt code insns place exit.end
+  last : Property exit.end
+  target : Property (exit.end + exit.skip)
 
--- the code after a row's, and the place that the row leaves to on no
-pub record Behind (Property : ℕ → Type 0) (code : List Insn) (rest : Laid) (falls : Bool) (skip end : ℕ) : Type 0 where
-  pub middle : ℕ
-  pub has : HasAt code middle rest.code
-  pub is : middle + word_count rest.code ≡ end
-  pub target : Property (middle + first_skip falls true (word_count rest.code - word_count []) skip)
+-- the code below a row, and the place that the row leaves to on no
+record Below (Property : ℕ → Type 0) (code : List Insn) (rest : Laid) (exit : Exit) : Type 0 where
+  middle : ℕ
+  ends : EndsAt code rest.code middle exit.end
+  target : Property (middle + first_skip exit.falls true (word_count rest.code - word_count []) exit.skip)
 
-behind_row : (Property : ℕ → Type 0) (code : List Insn) (row : ℕ → Question) (starts : List ℕ) (past : ℕ) (rest : Laid) (falls : Bool)
-    (skip place end : ℕ) → IsThere Property code (lay_row row 0 starts past rest.code).code skip place end
-    → Behind Property code rest falls skip end
-behind_row Property code row starts past rest falls skip place end there =
-    let ends = row_ends row 0 starts past rest.code in
-    let has = subst (HasAt code place) ends.is there.0 in
-    let sum = ap word_count ends.is ∙ word_count-append ends.front rest.code in
-    let is : place + word_count ends.front + word_count rest.code ≡ end = omega (arith, sum, there.1) in
+below_row : (Property : ℕ → Type 0) (code : List Insn) (row : ℕ → Question) (starts : List ℕ) (past : ℕ) (rest : Laid) (exit : Exit) (place : ℕ)
+    → IsThere Property code (lay_row row 0 starts past rest.code).code exit place → Below Property code rest exit
+below_row Property code row starts past rest exit place there =
+    let front = row_ends row 0 starts past rest.code in
+    let ends = ends_back code front.front rest.code place exit.end
+    (subst (λ (insns : List Insn). EndsAt code insns place exit.end) front.is there.ends) in
+    let is : place + word_count front.front + word_count rest.code ≡ exit.end = ends.is in
     let joint : Joint = record {
       start = place;
-      middle = place + word_count ends.front;
-      end = end;
+      middle = place + word_count front.front;
+      end = exit.end;
       words = word_count rest.code - word_count [];
-      skip = skip;
+      skip = exit.skip;
       is = omega arith;
     } in
-    record {
-      middle = place + word_count ends.front;
-      has = has_back code place ends.front rest.code has;
-      is = is;
-      target = first_target Property joint falls true there.2 there.3;
-    }
+    record { middle = place + word_count front.front; ends = ends; target = first_target Property joint exit.falls true there.last there.target }
 
 -- the whole code is good
 
@@ -325,43 +386,52 @@ record GridGood (keeps : Bool) (code : List Insn) (laid : Laid) (place end : ℕ
   good : AreGoodAt keeps code place laid.code
   stand : Stand (Rests keeps code) end (word_count laid.code) laid.starts
 
-grid_good : (keeps : Bool) (code : List Insn) (rows : List (ℕ → Question)) (columns : ℕ) (falls : Bool) (skip place end : ℕ) → SoundRows rows columns
-    → IsThere (Rests keeps code) code (lay rows columns falls skip []).code skip place end → Keeps keeps (lay rows columns falls skip []).code
-    → GridGood keeps code (lay rows columns falls skip []) place end
+grid_good : (keeps : Bool) (code : List Insn) (rows : List (ℕ → Question)) (columns : ℕ) (exit : Exit) (place : ℕ) → SoundRows rows columns
+    → IsThere (Rests keeps code) code (lay rows columns exit.falls exit.skip []).code exit place
+    → Keeps keeps (lay rows columns exit.falls exit.skip []).code → GridGood keeps code (lay rows columns exit.falls exit.skip []) place exit.end
 unfolding lay_rows
-grid_good keeps code [] columns falls skip place end sound there kept =
-    let yes = question_code (Decided true) falls skip in
+grid_good keeps code [] columns exit place sound there kept =
+    let yes = question_code (Decided true) exit.falls exit.skip in
     let count = word_count-append yes [] in
-    let is = there.1 in
-    let e : end ≡ place + word_count yes = omega arith in
-    let here : end - word_count (yes ++ []) ≡ place = omega arith in
-    let rests = rests_at keeps code place (yes ++ []) there.0 (end_needs keeps columns falls skip) (subst (Rests keeps code) (sym is) there.2) in
+    let is : place + word_count (yes ++ []) ≡ exit.end = there.ends.is in
+    let e : exit.end ≡ place + word_count yes = omega arith in
+    let here : exit.end - word_count (yes ++ []) ≡ place = omega arith in
+    let rests = rests_at keeps code place (yes ++ []) there.ends.has (end_needs keeps columns exit.falls exit.skip)
+    (subst (Rests keeps code) (sym is) there.last) in
     record {
       good = good-append keeps code place yes []
-          (decided_good keeps code true falls skip place
+          (decided_good keeps code true exit.falls exit.skip place
           (record {
-            has = has_front code place yes [] there.0;
-            end = subst (Rests keeps code) e there.2;
-            target = subst (λ (p : ℕ). Rests keeps code (p + skip)) e there.3;
+            has = has_front code place yes [] there.ends.has;
+            end = subst (Rests keeps code) e there.last;
+            target = subst (λ (p : ℕ). Rests keeps code (p + exit.skip)) e there.target;
           })) tt;
-      stand = stand_same (Rests keeps code) end (word_count (yes ++ [])) (word_count (yes ++ [])) columns (omega arith)
+      stand = stand_same (Rests keeps code) exit.end (word_count (yes ++ [])) (word_count (yes ++ [])) columns (omega arith)
           (subst (Rests keeps code) (sym here) rests);
     }
-grid_good keeps code (row ∷ rows) columns falls skip place end sound there kept =
-    let rest = lay rows columns falls skip [] in
-    let past = first_skip falls true (word_count rest.code - word_count []) skip in
-    let behind = behind_row (Rests keeps code) code row rest.starts past rest falls skip place end there in
-    let ends = row_ends row 0 rest.starts past rest.code in
-    let keeps_rest = keeps_back keeps ends.front rest.code (subst (Keeps keeps) ends.is kept) in
-    let below = grid_good keeps code rows columns falls skip behind.middle end sound.1 (behind.has, behind.is, there.2, there.3) keeps_rest in
-    let cells = subst (SoundCells row 0) (sym (starts_count rows columns falls skip)) sound.0 in
-    let needs = grid_needs keeps rows columns falls skip sound.1 in
-    let rests = rests_at keeps code behind.middle rest.code behind.has needs (subst (Rests keeps code) (sym behind.is) there.2) in
-    record {
-      good = row_good keeps code row 0 rest.starts past rest.code place behind.middle end cells needs behind.is rests behind.target there.2
-          below.stand below.good there.0 there.1 kept;
-      stand = row_stands keeps code (Rests keeps code) (rests_at keeps code) row 0 rest.starts past rest.code place end cells needs there.0 there.1 there.2;
-    }
+grid_good keeps code (row ∷ rows) columns exit place sound there kept =
+    let rest = lay rows columns exit.falls exit.skip [] in
+    let past = first_skip exit.falls true (word_count rest.code - word_count []) exit.skip in
+    let below = below_row (Rests keeps code) code row rest.starts past rest exit place there in
+    let front = row_ends row 0 rest.starts past rest.code in
+    let keeps_rest = keeps_back keeps front.front rest.code (subst (Keeps keeps) front.is kept) in
+    let others = grid_good keeps code rows columns exit below.middle sound.1
+    (record { ends = below.ends; last = there.last; target = there.target }) keeps_rest in
+    let cells = subst (SoundCells row 0) (sym (starts_count rows columns exit.falls exit.skip)) sound.0 in
+    let needs = grid_needs keeps rows columns exit.falls exit.skip sound.1 in
+    let r : RowCode = record { keeps = keeps; row = row; skip = past; rest = rest.code; needs = needs } in
+    let ground : Ground keeps = record { code = code; end = exit.end; holds = Rests keeps code; back = rests_at keeps code; there = there.last } in
+    let good : GoodBelow r = record {
+      code = code;
+      middle = below.middle;
+      end = exit.end;
+      ended = below.ends.is;
+      there = rests_at keeps code below.middle rest.code below.ends.has needs (subst (Rests keeps code) (sym below.ends.is) there.last);
+      target = below.target;
+      last = there.last;
+      good = others.good;
+    } in
+    record { good = row_good r good 0 rest.starts place cells others.stand there.ends kept; stand = row_stands r ground 0 rest.starts place cells there.ends }
 
 -- a run takes the exit for the grid's answer
 
@@ -375,21 +445,21 @@ record GridLeads (on : Setting) (exit : Exit) (rows : List (ℕ → Question)) (
   stand : Stand (Begins on.code) exit.end (word_count laid.code) laid.starts
 
 grid_leads : (keeps : Bool) (on : Setting) (exit : Exit) (rows : List (ℕ → Question)) (columns place : ℕ) → SoundRows rows columns → IsSegment on.segment
-    → IsThere (Begins on.code) on.code (lay rows columns exit.falls exit.skip []).code exit.skip place exit.end
+    → IsThere (Begins on.code) on.code (lay rows columns exit.falls exit.skip []).code exit place
     → GridLeads on exit rows columns (lay rows columns exit.falls exit.skip []) place
 unfolding lay_rows
 grid_leads keeps on exit [] columns place sound segment there =
     let yes = question_code (Decided true) exit.falls exit.skip in
     let count = word_count-append yes [] in
-    let is = there.1 in
+    let is : place + word_count (yes ++ []) ≡ exit.end = there.ends.is in
     let e : exit.end ≡ place + word_count yes = omega arith in
     let here : exit.end - word_count (yes ++ []) ≡ place = omega arith in
-    let begins = begins_at on.code place (yes ++ []) there.0 (subst (Begins on.code) (sym is) there.2) in
+    let begins = begins_at on.code place (yes ++ []) there.ends.has (subst (Begins on.code) (sym is) there.last) in
     let leaves = decided_leads on true exit.falls exit.skip place
     (record {
-      has = has_front on.code place yes [] there.0;
-      end = subst (Begins on.code) e there.2;
-      target = subst (λ (p : ℕ). Begins on.code (p + exit.skip)) e there.3;
+      has = has_front on.code place yes [] there.ends.has;
+      end = subst (Begins on.code) e there.last;
+      target = subst (λ (p : ℕ). Begins on.code (p + exit.skip)) e there.target;
     }) in
     let first = subst (λ (p : ℕ). Leads on place (exit_of exit.falls true p exit.skip)) (sym e) leaves in
     record {
@@ -403,23 +473,38 @@ grid_leads keeps on exit [] columns place sound segment there =
 grid_leads keeps on exit (row ∷ rows) columns place sound segment there =
     let rest = lay rows columns exit.falls exit.skip [] in
     let past = first_skip exit.falls true (word_count rest.code - word_count []) exit.skip in
-    let behind = behind_row (Begins on.code) on.code row rest.starts past rest exit.falls exit.skip place exit.end there in
-    let below = grid_leads keeps on exit rows columns behind.middle sound.1 segment (behind.has, behind.is, there.2, there.3) in
+    let below = below_row (Begins on.code) on.code row rest.starts past rest exit place there in
+    let others = grid_leads keeps on exit rows columns below.middle sound.1 segment
+    (record { ends = below.ends; last = there.last; target = there.target }) in
     let cells = subst (SoundCells row 0) (sym (starts_count rows columns exit.falls exit.skip)) sound.0 in
-    let needs = grid_needs keeps rows columns exit.falls exit.skip sound.1 in
-    let begins = begins_at on.code behind.middle rest.code behind.has (subst (Begins on.code) (sym behind.is) there.2) in
-    let is = behind.is in
-    let out = leaves_on_no exit.falls behind.middle (word_count rest.code - word_count []) exit.end exit.skip (omega arith) in
-    let leads = row_leads keeps on exit rows row 0 rest.starts past rest.code place behind.middle cells needs segment behind.is out begins
-    behind.target there.2 below.stand below.leads.all there.0 there.1 in
+    let r : RowCode = record { keeps = keeps; row = row; skip = past; rest = rest.code; needs = grid_needs keeps rows columns exit.falls exit.skip sound.1 } in
+    let ground : Ground keeps = record {
+      code = on.code;
+      end = exit.end;
+      holds = Begins on.code;
+      back = λ place insns has needs end. begins_at on.code place insns has end;
+      there = there.last;
+    } in
+    let is = below.ends.is in
+    let leads = row_leads r (record {
+      on = on;
+      exit = exit;
+      rows = rows;
+      middle = below.middle;
+      segment = segment;
+      ended = is;
+      out = leaves_on_no exit.falls below.middle (word_count rest.code - word_count []) exit.end exit.skip (omega arith);
+      there = begins_at on.code below.middle rest.code below.ends.has (subst (Begins on.code) (sym is) there.last);
+      target = below.target;
+      last = there.last;
+    }) 0 rest.starts place cells others.stand others.leads.all there.ends in
     record {
       leads = record {
         first = subst (λ (left : ℕ). Leads on place (leaving exit (finds (row ∷ rows) 0 left on.segment)))
             (starts_count rows columns exit.falls exit.skip) leads.first;
         all = leads.all;
       };
-      stand = row_stands keeps on.code (Begins on.code) (λ place insns has needs end. begins_at on.code place insns has end) row 0 rest.starts past
-          rest.code place exit.end cells needs there.0 there.1 there.2;
+      stand = row_stands r ground 0 rest.starts place cells there.ends;
     }
 
 -- a grid of sound cells is sound
@@ -427,10 +512,11 @@ pub grid_sound : (rows : List (ℕ → Question)) (columns : ℕ) → SoundRows 
 grid_sound rows columns sound = record {
   needs = λ keeps falls skip. grid_needs keeps rows columns falls skip sound;
   good = λ keeps code falls skip place kept settled.
-      let end = place + word_count (lay rows columns falls skip []).code in
-      (grid_good keeps code rows columns falls skip place end sound (settled.has, refl, settled.end, settled.target) kept).good;
+      let exit : Exit = record { falls = falls; end = place + word_count (lay rows columns falls skip []).code; skip = skip } in
+      (grid_good keeps code rows columns exit place sound
+      (record { ends = record { has = settled.has; is = refl }; last = settled.end; target = settled.target }) kept).good;
   leads = λ on falls skip place segment placed.
-      let end = place + word_count (lay rows columns falls skip []).code in
-      (grid_leads false on (record { falls = falls; end = end; skip = skip }) rows columns place sound segment
-      (placed.has, refl, placed.end, placed.target)).leads.first;
+      let exit : Exit = record { falls = falls; end = place + word_count (lay rows columns falls skip []).code; skip = skip } in
+      (grid_leads false on exit rows columns place sound segment
+      (record { ends = record { has = placed.has; is = refl }; last = placed.end; target = placed.target })).leads.first;
 }

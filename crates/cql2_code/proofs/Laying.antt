@@ -25,16 +25,19 @@ longer_refused front is refused = record { too_long = λ too_long. subst IsTooLo
 
 -- Rows
 
--- after the last cell
+-- after the last cell, with the row's exit on no
+pub record IsRowEnd (starts : List ℕ) (past : Exits) : Type 0 where
+  pub none : length starts ≡ 0
+  pub falls : past.falls ≡ true
+
 pub cells_none : {T : Type 0} (row : ℕ → Question) (at : ℕ) (starts : List ℕ) (past : Exits) (old new : List Insn) (result : Result T CompileFault)
-    → length starts ≡ 0 → past.falls ≡ true → Prepends result (Decided false) past old new
-    → IsLaid result (lay_row row at starts past.skip old) new starts
+    → IsRowEnd starts past → Prepends result (Decided false) past old new → IsLaid result (lay_row row at starts past.skip old) new starts
 unfolding lay_row
-cells_none row at [] past old new result none falls puts =
-    let same = ap (λ (b : Bool). question_code (Decided false) b past.skip ++ old) falls in
+cells_none row at [] past old new result last puts =
+    let same = ap (λ (b : Bool). question_code (Decided false) b past.skip ++ old) last.falls in
     MatchResult-weaker result puts (λ _ written. record { code = written.code ∙ same; starts = refl })
     (λ fault refused. record { too_long = λ too_long. subst IsTooLong same (refused.too_long too_long) })
-cells_none row at (start ∷ starts) past old new result none falls puts = absurd (omega arith)
+cells_none row at (start ∷ starts) past old new result last puts = let none = last.none in absurd (omega arith)
 
 -- a cell's exits, by the start of the cell below
 pub record IsCell (start : ℕ) (exits : Exits) (middle : List Insn) : Type 0 where

@@ -175,22 +175,18 @@ module _ (field : Field) (lies : IsInside field) (piece : List PatternPart) (are
   piece_sound : IsSound (is_piece field piece is_open)
   piece_sound = piece_by (nat_le (length piece) field.width) refl
 
--- the pieces after a `%`
-
-cells_sound : (field : Field) (lies : IsInside field) (piece : List PatternPart) (last is_open : Bool) (from at left : ℕ) → IsPiece piece
-    → from + at + length piece + left ≤ suc field.width
-    → SoundCells (λ shift. cell field piece last is_open (from + shift)) at left
-cells_sound field lies piece last is_open from at zero are fits = tt
-cells_sound field lies piece last is_open from at (suc left) are fits = (
-  cell_sound field lies (from + at) piece (record { within = omega arith; are = are }) last is_open,
-  cells_sound field lies piece last is_open from (at + 1) left are (omega arith),
-)
+  -- the cells of a piece after a `%`
+  cells_sound : (last : Bool) (from at left : ℕ) → from + at + length piece + left ≤ suc field.width
+      → SoundCells (λ shift. cell field piece last is_open (from + shift)) at left
+  cells_sound last from at zero fits = tt
+  cells_sound last from at (suc left) fits =
+      (cell_sound field lies (from + at) piece (record { within = omega arith; are = are }) last is_open, cells_sound last from (at + 1) left (omega arith))
 
 rows_sound : (field : Field) (lies : IsInside field) (is_open : Bool) (from columns : ℕ) (pieces : List (List PatternPart)) → ArePieces pieces
     → from + lengths pieces + columns ≤ suc field.width → SoundRows (rows_of field is_open from pieces) columns
 rows_sound field lies is_open from columns [] are fits = tt
 rows_sound field lies is_open from columns (piece ∷ pieces) are fits = (
-  cells_sound field lies piece (is_last pieces) is_open from 0 columns are.0.are (omega arith),
+  cells_sound field lies piece are.0.are is_open (is_last pieces) from 0 columns (omega arith),
   rows_sound field lies is_open (from + length piece) columns pieces are.1 (omega arith),
 )
 

@@ -7,120 +7,131 @@ use Rattle.cql2_json.specs.Translation.{Translation, array_text, at, items_text,
 use Rattle.cql2_json.specs.Writer.{Writes}
 use Rattle.cql2_json.specs.declared.fault.Flaw.{Flaw}
 use Rattle.cql2_json.specs.declared.form.Form.{Form}
-use Rattle.cql2_json.specs.declared.form.Kind.{Kind}
+use Rattle.cql2_json.specs.declared.form.ValueKind.{ValueKind}
+use Rattle.cql2_json.specs.declared.pointer.Step.{Step}
 use Rattle.cql2_json.specs.declared.pointer.Step.TheVariants.{Item}
 use Rattle.cql2_json.specs.declared.writer.Writer.{Writer}
 use Rattle.cql2_json.proofs.TranslationLemmas.{array-enclosed, items-step}
 use Rattle.cql2_json.proofs.WriterLemmas.{path-kept, stops-first, writes-then}
 
--- the value at a place of an array: the writer before its separator, after that and after the value
-pub record Turn {A : Type 0} (values : List (Value A)) (place index : ℕ) (value : Value A) (form : Form) (text : List ℕ) (kind : Kind) : Type 0 where
+-- the value at a place of an array, and the separator before it
+pub record Turn (A : Type 0) : Type 0 where
+  pub values : List (Value A)
+  pub form : Form
+  pub place : ℕ
+  pub index : ℕ
+  pub value : Value A
+  pub text : List ℕ
+  pub kind : ValueKind
   pub counted : index ≡ place
   pub inside : place < length values
   pub is : value ≡ get_or values place value
   pub separated : text ≡ separator form index
   pub kind_is : kind ≡ item_kind form index
 
+abbrev pub turn_text : {A : Type 0} → Turn A → List Step → Translation
+turn_text turn path = translation (value_view turn.value) turn.kind (at path (Item turn.index))
+
 -- what the values from a place on write
-abbrev pub from_place : {A : Type 0} → List (Value A) → Form → Writer A → ℕ → Translation
-from_place values form writer place = items_text (items_view (drop place values)) form writer.path.items place
+abbrev pub text_from : {A : Type 0} → Turn A → Writer A → ℕ → Translation
+text_from turn writer place = items_text (items_view (drop place turn.values)) turn.form writer.path.items place
 
-separates : {A : Type 0} (old new : Writer A) (text wanted : List ℕ) (result : Result (Unit {0}) Flaw) → text ≡ wanted
-    → Writes old (own old.path.items text) new result → Writes old (own old.path.items wanted) new result
-separates old new text wanted result is w = subst (λ t. Writes old (own old.path.items t) new result) is w
+-- the separator and the value are written
+pub record WritesTurn {A : Type 0} (turn : Turn A) (old next : Writer A) : Type 0 where
+  pub mid : Writer A
+  pub separator_written : Writes old (own old.path.items turn.text) mid (Ok tt)
+  pub value_written : Writes mid (turn_text turn mid.path.items) next (Ok tt)
 
-steps : {A : Type 0} (values : List (Value A)) (place index : ℕ) (value : Value A) (form : Form) (text : List ℕ) (kind : Kind)
-    (old end : Writer A) (result : Result (Unit {0}) Flaw) → Turn values place index value form text kind
-    → Writes old (own old.path.items text ▷ translation (value_view value) kind (at old.path.items (Item index))
-    ▷ items_text (items_view (drop (place + 1) values)) form old.path.items (place + 1)) end result
-    → Writes old (from_place values form old place) end result
-steps values place index value form text kind old end result turn w =
+steps : {A : Type 0} (turn : Turn A) (old end : Writer A) (result : Result (Unit {0}) Flaw)
+    → Writes old (own old.path.items turn.text ▷ turn_text turn old.path.items ▷ text_from turn old (turn.place + 1)) end result
+    → Writes old (text_from turn old turn.place) end result
+steps turn old end result w =
     let path = old.path.items in
-    let rest = items_text (items_view (drop (place + 1) values)) form path (place + 1) in
-    let text_is : text ≡ separator form place = turn.separated ∙ ap (separator form) turn.counted in
-    let kind_is : kind ≡ item_kind form place = turn.kind_is ∙ ap (item_kind form) turn.counted in
-    let a = subst (λ t. Writes old (own path t ▷ translation (value_view value) kind (at path (Item index)) ▷ rest) end result) text_is w in
-    let first = own path (separator form place) in
-    let b = subst (λ k. Writes old (first ▷ translation (value_view value) k (at path (Item index)) ▷ rest) end result) kind_is a in
-    let c = subst (λ n. Writes old (first ▷ translation (value_view value) (item_kind form place) (at path (Item n)) ▷ rest) end result)
-    turn.counted b in
-    subst (λ t. Writes old t end result) (sym (items-step values place value form path turn.inside turn.is)) c
+    let value = value_view turn.value in
+    let rest = text_from turn old (turn.place + 1) in
+    let text_is : turn.text ≡ separator turn.form turn.place = turn.separated ∙ ap (separator turn.form) turn.counted in
+    let kind_is : turn.kind ≡ item_kind turn.form turn.place = turn.kind_is ∙ ap (item_kind turn.form) turn.counted in
+    let a = subst (λ t. Writes old (own path t ▷ turn_text turn path ▷ rest) end result) text_is w in
+    let first = own path (separator turn.form turn.place) in
+    let b = subst (λ k. Writes old (first ▷ translation value k (at path (Item turn.index)) ▷ rest) end result) kind_is a in
+    let c = subst (λ n. Writes old (first ▷ translation value (item_kind turn.form turn.place) (at path (Item n)) ▷ rest) end result) turn.counted b in
+    subst (λ t. Writes old t end result) (sym (items-step turn.values turn.place turn.value turn.form path turn.inside turn.is)) c
 
-pub writes-on : {A : Type 0} (values : List (Value A)) (place index : ℕ) (value : Value A) (form : Form) (text : List ℕ) (kind : Kind)
-    (old mid next end : Writer A) (result : Result (Unit {0}) Flaw) → Turn values place index value form text kind
-    → Writes old (own old.path.items text) mid (Ok tt)
-    → Writes mid (translation (value_view value) kind (at mid.path.items (Item index))) next (Ok tt)
-    → Writes next (from_place values form next (place + 1)) end result
-    → Writes old (from_place values form old place) end result
-writes-on values place index value form text kind old mid next end result turn first second rest =
+pub writes-on : {A : Type 0} (turn : Turn A) (old next end : Writer A) (result : Result (Unit {0}) Flaw) → WritesTurn turn old next
+    → Writes next (text_from turn next (turn.place + 1)) end result → Writes old (text_from turn old turn.place) end result
+writes-on turn old next end result written rest =
     let path = old.path.items in
-    let mid_path : mid.path.items ≡ path = path-kept old mid (own path text) first in
-    let inner = subst (λ p. Writes mid (translation (value_view value) kind (at p (Item index))) next (Ok tt)) mid_path second in
-    let next_path : next.path.items ≡ path = path-kept mid next (translation (value_view value) kind (at path (Item index))) inner ∙ mid_path in
-    let left = subst (λ p. Writes next (items_text (items_view (drop (place + 1) values)) form p (place + 1)) end result) next_path rest in
-    steps values place index value form text kind old end result turn
-    (writes-then old mid end (own path text) _ result first (writes-then mid next end _ _ result inner left))
+    let mid = written.mid in
+    let mid_path : mid.path.items ≡ path = path-kept old mid (own path turn.text) written.separator_written in
+    let inner = subst (λ p. Writes mid (turn_text turn p) next (Ok tt)) mid_path written.value_written in
+    let next_path : next.path.items ≡ path = path-kept mid next (turn_text turn path) inner ∙ mid_path in
+    let left = subst (λ p. Writes next (items_text (items_view (drop (turn.place + 1) turn.values)) turn.form p (turn.place + 1)) end result)
+    next_path rest in
+    steps turn old end result
+    (writes-then old mid end (own path turn.text) _ result written.separator_written (writes-then mid next end _ _ result inner left))
 
-pub stops-at-separator : {A : Type 0} (values : List (Value A)) (place index : ℕ) (value : Value A) (form : Form) (text : List ℕ)
-    (old end : Writer A) (flaw : Flaw) → Turn values place index value form text (item_kind form index)
-    → Writes old (own old.path.items text) end (Err flaw) → Writes old (from_place values form old place) end (Err flaw)
-stops-at-separator values place index value form text old end flaw turn first =
-    steps values place index value form text (item_kind form index) old end (Err flaw) turn (stops-first old end (own old.path.items text) _ flaw first)
+pub stops-at-separator : {A : Type 0} (turn : Turn A) (old end : Writer A) (flaw : Flaw) → Writes old (own old.path.items turn.text) end (Err flaw)
+    → Writes old (text_from turn old turn.place) end (Err flaw)
+stops-at-separator turn old end flaw first = steps turn old end (Err flaw) (stops-first old end (own old.path.items turn.text) _ flaw first)
 
-pub stops-at-value : {A : Type 0} (values : List (Value A)) (place index : ℕ) (value : Value A) (form : Form) (text : List ℕ) (kind : Kind)
-    (old mid end : Writer A) (flaw : Flaw) → Turn values place index value form text kind
-    → Writes old (own old.path.items text) mid (Ok tt)
-    → Writes mid (translation (value_view value) kind (at mid.path.items (Item index))) end (Err flaw)
-    → Writes old (from_place values form old place) end (Err flaw)
-stops-at-value values place index value form text kind old mid end flaw turn first second =
+pub stops-at-value : {A : Type 0} (turn : Turn A) (old mid end : Writer A) (flaw : Flaw) → Writes old (own old.path.items turn.text) mid (Ok tt)
+    → Writes mid (turn_text turn mid.path.items) end (Err flaw) → Writes old (text_from turn old turn.place) end (Err flaw)
+stops-at-value turn old mid end flaw first second =
     let path = old.path.items in
-    let mid_path : mid.path.items ≡ path = path-kept old mid (own path text) first in
-    let inner = subst (λ p. Writes mid (translation (value_view value) kind (at p (Item index))) end (Err flaw)) mid_path second in
-    steps values place index value form text kind old end (Err flaw) turn
-    (writes-then old mid end (own path text) _ (Err flaw) first (stops-first mid end _ _ flaw inner))
+    let mid_path : mid.path.items ≡ path = path-kept old mid (own path turn.text) first in
+    let inner = subst (λ p. Writes mid (turn_text turn p) end (Err flaw)) mid_path second in
+    steps turn old end (Err flaw) (writes-then old mid end (own path turn.text) _ (Err flaw) first (stops-first mid end _ _ flaw inner))
 
--- an array that has as many values as its form wants
-pub record Enclosed {A : Type 0} (values : List (Value A)) (form : Form) (text : List ℕ) : Type 0 where
+-- an array that has as many values as its form requires, and the text before them
+pub record Enclosed (A : Type 0) : Type 0 where
+  pub values : List (Value A)
+  pub form : Form
+  pub text : List ℕ
   pub admitted : admits (count_of form) (length values) ≡ true
   pub opened : text ≡ opening form
 
-encloses : {A : Type 0} (values : List (Value A)) (form : Form) (text : List ℕ) (old end : Writer A) (result : Result (Unit {0}) Flaw)
-    → Enclosed values form text
-    → Writes old (own old.path.items text ▷ items_text (items_view values) form old.path.items 0 ▷ own old.path.items (closing form)) end result
-    → Writes old (array_text (items_view values) form old.path.items) end result
-encloses values form text old end result is w =
-    let path = old.path.items in
-    let a = subst (λ t. Writes old (own path t ▷ items_text (items_view values) form path 0 ▷ own path (closing form)) end result) is.opened w in
-    subst (λ t. Writes old t end result) (sym (array-enclosed values form path is.admitted)) a
+abbrev pub values_text : {A : Type 0} → Enclosed A → List Step → Translation
+values_text array path = items_text (items_view array.values) array.form path 0
 
-pub array-stops-open : {A : Type 0} (values : List (Value A)) (form : Form) (text : List ℕ) (old end : Writer A) (flaw : Flaw)
-    → Enclosed values form text → Writes old (own old.path.items text) end (Err flaw)
-    → Writes old (array_text (items_view values) form old.path.items) end (Err flaw)
-array-stops-open values form text old end flaw is first =
-    encloses values form text old end (Err flaw) is (stops-first old end (own old.path.items text) _ flaw first)
+abbrev pub enclosed_text : {A : Type 0} → Enclosed A → List Step → Translation
+enclosed_text array path = array_text (items_view array.values) array.form path
 
-pub array-stops-inside : {A : Type 0} (values : List (Value A)) (form : Form) (text : List ℕ) (old mid end : Writer A) (flaw : Flaw)
-    → Enclosed values form text → Writes old (own old.path.items text) mid (Ok tt)
-    → Writes mid (items_text (items_view values) form mid.path.items 0) end (Err flaw)
-    → Writes old (array_text (items_view values) form old.path.items) end (Err flaw)
-array-stops-inside values form text old mid end flaw is first second =
-    let path = old.path.items in
-    let mid_path : mid.path.items ≡ path = path-kept old mid (own path text) first in
-    let inner = subst (λ p. Writes mid (items_text (items_view values) form p 0) end (Err flaw)) mid_path second in
-    encloses values form text old end (Err flaw) is
-    (writes-then old mid end (own path text) _ (Err flaw) first (stops-first mid end _ (own path (closing form)) flaw inner))
+-- the text before the values and these are written
+pub record WritesItems {A : Type 0} (array : Enclosed A) (old next : Writer A) : Type 0 where
+  pub mid : Writer A
+  pub opening_written : Writes old (own old.path.items array.text) mid (Ok tt)
+  pub items_written : Writes mid (values_text array mid.path.items) next (Ok tt)
 
-pub array-writes : {A : Type 0} (values : List (Value A)) (form : Form) (text last : List ℕ) (old mid next end : Writer A) (result : Result (Unit {0}) Flaw)
-    → Enclosed values form text → last ≡ closing form → Writes old (own old.path.items text) mid (Ok tt)
-    → Writes mid (items_text (items_view values) form mid.path.items 0) next (Ok tt)
-    → Writes next (own next.path.items last) end result
-    → Writes old (array_text (items_view values) form old.path.items) end result
-array-writes values form text last old mid next end result is closes first second third =
+encloses : {A : Type 0} (array : Enclosed A) (old end : Writer A) (result : Result (Unit {0}) Flaw)
+    → Writes old (own old.path.items array.text ▷ values_text array old.path.items ▷ own old.path.items (closing array.form)) end result
+    → Writes old (enclosed_text array old.path.items) end result
+encloses array old end result w =
     let path = old.path.items in
-    let mid_path : mid.path.items ≡ path = path-kept old mid (own path text) first in
-    let inner = subst (λ p. Writes mid (items_text (items_view values) form p 0) next (Ok tt)) mid_path second in
-    let next_path : next.path.items ≡ path = path-kept mid next (items_text (items_view values) form path 0) inner ∙ mid_path in
-    let a = subst (λ p. Writes next (own p last) end result) next_path third in
-    let b = subst (λ t. Writes next (own path t) end result) closes a in
-    encloses values form text old end result is
-    (writes-then old mid end (own path text) _ result first (writes-then mid next end _ (own path (closing form)) result inner b))
+    let a = subst (λ t. Writes old (own path t ▷ values_text array path ▷ own path (closing array.form)) end result) array.opened w in
+    subst (λ t. Writes old t end result) (sym (array-enclosed array.values array.form path array.admitted)) a
+
+pub array-stops-open : {A : Type 0} (array : Enclosed A) (old end : Writer A) (flaw : Flaw) → Writes old (own old.path.items array.text) end (Err flaw)
+    → Writes old (enclosed_text array old.path.items) end (Err flaw)
+array-stops-open array old end flaw first = encloses array old end (Err flaw) (stops-first old end (own old.path.items array.text) _ flaw first)
+
+pub array-stops-inside : {A : Type 0} (array : Enclosed A) (old mid end : Writer A) (flaw : Flaw) → Writes old (own old.path.items array.text) mid (Ok tt)
+    → Writes mid (values_text array mid.path.items) end (Err flaw) → Writes old (enclosed_text array old.path.items) end (Err flaw)
+array-stops-inside array old mid end flaw first second =
+    let path = old.path.items in
+    let mid_path : mid.path.items ≡ path = path-kept old mid (own path array.text) first in
+    let inner = subst (λ p. Writes mid (values_text array p) end (Err flaw)) mid_path second in
+    encloses array old end (Err flaw)
+    (writes-then old mid end (own path array.text) _ (Err flaw) first (stops-first mid end _ (own path (closing array.form)) flaw inner))
+
+pub array-writes : {A : Type 0} (array : Enclosed A) (old next end : Writer A) (result : Result (Unit {0}) Flaw) → WritesItems array old next
+    → Writes next (own next.path.items (closing array.form)) end result → Writes old (enclosed_text array old.path.items) end result
+array-writes array old next end result written last =
+    let path = old.path.items in
+    let mid = written.mid in
+    let mid_path : mid.path.items ≡ path = path-kept old mid (own path array.text) written.opening_written in
+    let inner = subst (λ p. Writes mid (values_text array p) next (Ok tt)) mid_path written.items_written in
+    let next_path : next.path.items ≡ path = path-kept mid next (values_text array path) inner ∙ mid_path in
+    let closed = subst (λ p. Writes next (own p (closing array.form)) end result) next_path last in
+    encloses array old end result
+    (writes-then old mid end (own path array.text) _ result written.opening_written
+    (writes-then mid next end _ (own path (closing array.form)) result inner closed))

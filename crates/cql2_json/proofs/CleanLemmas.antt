@@ -6,24 +6,24 @@ use Rattle.std.proofs.lemmas.Bool.Decides.{nat_tests}
 use Rattle.json.specs.Json.{Json, null, boolean, number, string, array, object, Items, no_items, item, Members, no_members, member}
 use Rattle.json.specs.Tree.{HasNumbers, ItemsHaveNumbers, MembersHaveNumbers}
 use Rattle.cql2_json.specs.Form.{admits, closing, count_of, item_kind, opening, separator}
-use Rattle.cql2_json.specs.Geometry.{coordinates_form, geometry_named, geometry_tag}
-use Rattle.cql2_json.specs.Members.{pair_named}
-use Rattle.cql2_json.specs.Operation.{first_separator, later_separator, operation_close, operation_named, operation_open}
-use Rattle.cql2_json.specs.Quoted.{is_control, is_name, is_name_byte, is_printable, quoted, quoted_byte}
+use Rattle.cql2_json.specs.GeometryType.{coordinates_form, geometry_type_of_name, geometry_tag}
+use Rattle.cql2_json.specs.Members.{pair_of_names}
+use Rattle.cql2_json.specs.Operator.{first_separator, later_separator, operator_closing, operator_of_name, operator_opening}
+use Rattle.cql2_json.specs.Quoted.{is_control, is_name, is_name_byte, is_printable, quoted_text, quoted_byte}
 use Rattle.cql2_json.specs.Translation.{Translation, arguments_text, at, boolean_text, coordinates_text, enclosed, filter_translation, geometry_text}
 use Rattle.cql2_json.specs.Translation.{items_count, items_text, joined, joined_text, members_text, number_text, object_text, of_pair}
 use Rattle.cql2_json.specs.Translation.{operation_text, own, property_text, refused, string_text, text_of, translation, ◌▷◌}
-use Rattle.cql2_json.specs.declared.fault.Expected.TheVariants as needed
+use Rattle.cql2_json.specs.declared.fault.ExpectedValue.TheVariants as needed
 use Rattle.cql2_json.specs.declared.form.Form.{Form}
 use Rattle.cql2_json.specs.declared.form.Form.TheVariants.{Operands, Arguments, Box}
-use Rattle.cql2_json.specs.declared.form.Kind.{Kind}
-use Rattle.cql2_json.specs.declared.form.Kind.TheVariants.{Expression, Number, Array}
-use Rattle.cql2_json.specs.declared.geometry.Geometry.{Geometry}
-use Rattle.cql2_json.specs.declared.geometry.Geometry.TheVariants as geometry
+use Rattle.cql2_json.specs.declared.form.ValueKind.{ValueKind}
+use Rattle.cql2_json.specs.declared.form.ValueKind.TheVariants.{Expression, Number, Array}
+use Rattle.cql2_json.specs.declared.geometry_type.GeometryType.{GeometryType}
+use Rattle.cql2_json.specs.declared.geometry_type.GeometryType.TheVariants as geometry
 use Rattle.cql2_json.specs.declared.members.Pair.{Pair}
 use Rattle.cql2_json.specs.declared.members.Pair.TheVariants.{OpArgs, ArgsOp, TypeCoordinates, CoordinatesType, Other}
-use Rattle.cql2_json.specs.declared.operation.Operation.{Operation}
-use Rattle.cql2_json.specs.declared.operation.Operation.TheVariants as operation
+use Rattle.cql2_json.specs.declared.operator.JsonOperator.{JsonOperator}
+use Rattle.cql2_json.specs.declared.operator.JsonOperator.TheVariants as operator
 use Rattle.cql2_json.specs.declared.pointer.Member.TheVariants.{Op, Args, Property, Bbox, TypeName, Coordinates}
 use Rattle.cql2_json.specs.declared.pointer.Step.{Step}
 use Rattle.cql2_json.specs.declared.pointer.Step.TheVariants.{Member, Item}
@@ -49,29 +49,29 @@ choose-clean false x y if_true if_false = if_false refl
 
 -- ---- the texts of forms
 
-operation_open-clean : (o : Operation) → IsClean (operation_open o)
-operation_open-clean operation.Not = refl
-operation_open-clean o = refl
+operator_opening-clean : (o : JsonOperator) → IsClean (operator_opening o)
+operator_opening-clean operator.Not = refl
+operator_opening-clean o = refl
 
-operation_close-clean : (o : Operation) → IsClean (operation_close o)
-operation_close-clean operation.IsNull = refl
-operation_close-clean o = refl
+operator_closing-clean : (o : JsonOperator) → IsClean (operator_closing o)
+operator_closing-clean operator.IsNull = refl
+operator_closing-clean o = refl
 
-first_separator-clean : (o : Operation) → IsClean (first_separator o)
-first_separator-clean operation.And = refl
+first_separator-clean : (o : JsonOperator) → IsClean (first_separator o)
+first_separator-clean operator.And = refl
 first_separator-clean o = refl
 
-later_separator-clean : (o : Operation) → IsClean (later_separator o)
-later_separator-clean operation.Between = refl
+later_separator-clean : (o : JsonOperator) → IsClean (later_separator o)
+later_separator-clean operator.Between = refl
 later_separator-clean o = refl
 
 opening-clean : (form : Form) → IsClean (opening form)
-opening-clean (Operands o) = operation_open-clean o
+opening-clean (Operands o) = operator_opening-clean o
 opening-clean Box = refl
 opening-clean form = refl
 
 closing-clean : (form : Form) → IsClean (closing form)
-closing-clean (Operands o) = operation_close-clean o
+closing-clean (Operands o) = operator_closing-clean o
 closing-clean form = refl
 
 separator-clean : (form : Form) (index : ℕ) → IsClean (separator form index)
@@ -81,7 +81,7 @@ separator-clean (Operands o) (suc (suc index)) = later_separator-clean o
 separator-clean form zero = refl
 separator-clean form (suc index) = refl
 
-tag-clean : (g : Geometry) → IsClean (geometry_tag g)
+tag-clean : (g : GeometryType) → IsClean (geometry_tag g)
 tag-clean geometry.Point = refl
 tag-clean g = refl
 
@@ -126,53 +126,53 @@ bytes-clean quote (byte ∷ rest) q clean =
     clean-append (quoted_byte quote byte) (flat_map (quoted_byte quote) rest) (byte-clean quote byte (byte == quote) q parts.0)
     (bytes-clean quote rest q parts.1)
 
-quoted-clean : (quote : ℕ) (s : List ℕ) → is_control quote ≡ false → IsClean s → IsClean (quoted quote s)
-quoted-clean quote s q clean =
+quoted_text-clean : (quote : ℕ) (s : List ℕ) → is_control quote ≡ false → IsClean s → IsClean (quoted_text quote s)
+quoted_text-clean quote s q clean =
     clean-cons quote (flat_map (quoted_byte quote) s ++ quote ∷ []) q
     (clean-append (flat_map (quoted_byte quote) s) (quote ∷ []) (bytes-clean quote s q clean) (clean-cons quote [] q refl))
 
-string-clean : (s : List ℕ) (kind : Kind) (path : List Step) → Clean (string_text s kind path)
+string-clean : (s : List ℕ) (kind : ValueKind) (path : List Step) → Clean (string_text s kind path)
 string-clean s Expression path =
-    choose-clean (is_printable s) (own path (quoted 39 s)) (refused path needed.Printable)
-    (λ good. clean-own path (quoted 39 s) (quoted-clean 39 s refl (printable-clean s good))) (λ bad. tt)
+    choose-clean (is_printable s) (own path (quoted_text 39 s)) (refused path needed.Printable)
+    (λ good. clean-own path (quoted_text 39 s) (quoted_text-clean 39 s refl (printable-clean s good))) (λ bad. tt)
 string-clean s Number path = tt
 string-clean s (Array form) path = tt
 
-boolean-clean : (b : Bool) (kind : Kind) (path : List Step) → Clean (boolean_text b kind path)
+boolean-clean : (b : Bool) (kind : ValueKind) (path : List Step) → Clean (boolean_text b kind path)
 boolean-clean true Expression path = refl
 boolean-clean false Expression path = refl
 boolean-clean b Number path = tt
 boolean-clean b (Array form) path = tt
 
-numeral-clean : (s : List ℕ) (kind : Kind) (path : List Step) → IsClean s → Clean (number_text s kind path)
+numeral-clean : (s : List ℕ) (kind : ValueKind) (path : List Step) → IsClean s → Clean (number_text s kind path)
 numeral-clean s Expression path clean = clean-own path s clean
 numeral-clean s Number path clean = clean-own path s clean
 numeral-clean s (Array form) path clean = tt
 
 property-clean : (value : Json) (path : List Step) → Clean (property_text value path)
 property-clean (string s) path =
-    choose-clean (is_name s) (own path (quoted 34 s)) (refused path needed.Name)
-    (λ good. clean-own path (quoted 34 s) (quoted-clean 34 s refl (name-clean s good))) (λ bad. tt)
+    choose-clean (is_name s) (own path (quoted_text 34 s)) (refused path needed.Name)
+    (λ good. clean-own path (quoted_text 34 s) (quoted_text-clean 34 s refl (name-clean s good))) (λ bad. tt)
 property-clean value path = tt
 
 -- ---- operations and geometries
 
-named-cases : (s : List ℕ) (path : List Step) (arguments : Form → Translation) (o : Option Operation) → ((form : Form) → Clean (arguments form))
+named-cases : (s : List ℕ) (path : List Step) (arguments : Form → Translation) (o : Option JsonOperator) → ((form : Form) → Clean (arguments form))
     → Clean (elim o [
-      | Some operation ↦ arguments (Operands operation)
+      | Some operator ↦ arguments (Operands operator)
       | None ↦ (if is_name s then own path s ▷ arguments Arguments else refused (at path (Member Op)) needed.Operator)
     ])
-named-cases s path arguments (Some operation) all = all (Operands operation)
+named-cases s path arguments (Some operator) all = all (Operands operator)
 named-cases s path arguments None all =
     choose-clean (is_name s) (own path s ▷ arguments Arguments) (refused (at path (Member Op)) needed.Operator)
     (λ good. clean-then (own path s) (arguments Arguments) (clean-own path s (name-clean s good)) (all Arguments)) (λ bad. tt)
 
 operation-clean : (name : Json) (path : List Step) (arguments : Form → Translation) → ((form : Form) → Clean (arguments form))
     → Clean (operation_text name path arguments)
-operation-clean (string s) path arguments all = named-cases s path arguments (operation_named s) all
+operation-clean (string s) path arguments all = named-cases s path arguments (operator_of_name s) all
 operation-clean name path arguments all = tt
 
-tagged-cases : (path : List Step) (coordinates : Form → Translation) (o : Option Geometry) → ((form : Form) → Clean (coordinates form))
+tagged-cases : (path : List Step) (coordinates : Form → Translation) (o : Option GeometryType) → ((form : Form) → Clean (coordinates form))
     → Clean (elim o [
       | Some geometry ↦ own path (geometry_tag geometry) ▷ coordinates (coordinates_form geometry)
       | None ↦ refused (at path (Member TypeName)) needed.Geometry
@@ -183,22 +183,29 @@ tagged-cases path coordinates None all = tt
 
 geometry-clean : (name : Json) (path : List Step) (coordinates : Form → Translation) → ((form : Form) → Clean (coordinates form))
     → Clean (geometry_text name path coordinates)
-geometry-clean (string s) path coordinates all = tagged-cases path coordinates (geometry_named s) all
+geometry-clean (string s) path coordinates all = tagged-cases path coordinates (geometry_type_of_name s) all
 geometry-clean name path coordinates all = tt
 
-pair-clean : (pair : Pair) (path : List Step) (a b c d : Translation) → Clean a → Clean b → Clean c → Clean d → Clean (of_pair pair path a b c d)
-pair-clean OpArgs path a b c d first second third fourth = first
-pair-clean ArgsOp path a b c d first second third fourth = second
-pair-clean TypeCoordinates path a b c d first second third fourth = third
-pair-clean CoordinatesType path a b c d first second third fourth = fourth
-pair-clean Other path a b c d first second third fourth = tt
+-- no text of two members, by their names, has control characters
+record CleanPairs (op_args args_op type_coordinates coordinates_type : Translation) : Type 0 where
+  of_op_args : Clean op_args
+  of_args_op : Clean args_op
+  of_type_coordinates : Clean type_coordinates
+  of_coordinates_type : Clean coordinates_type
+
+pair-clean : (pair : Pair) (path : List Step) (a b c d : Translation) → CleanPairs a b c d → Clean (of_pair pair path a b c d)
+pair-clean OpArgs path a b c d clean = clean.of_op_args
+pair-clean ArgsOp path a b c d clean = clean.of_args_op
+pair-clean TypeCoordinates path a b c d clean = clean.of_type_coordinates
+pair-clean CoordinatesType path a b c d clean = clean.of_coordinates_type
+pair-clean Other path a b c d clean = tt
 
 -- ---- all values
 
 mutual
   unfolding translation items_text object_text members_text
 
-  pub value-clean : (value : Json) (kind : Kind) (path : List Step) → HasNumbers value → Clean (translation value kind path)
+  pub value-clean : (value : Json) (kind : ValueKind) (path : List Step) → HasNumbers value → Clean (translation value kind path)
   value-clean null kind path has = tt
   value-clean (boolean b) kind path has = boolean-clean b kind path
   value-clean (number s) kind path has = numeral-clean s kind path (number-clean s has)
@@ -234,13 +241,15 @@ mutual
       (λ other. choose-clean (bytes_eq k (codes "bbox")) (translation j (Array Box) (at path (Member Bbox))) (refused path needed.Object)
       (λ is. value-clean j (Array Box) (at path (Member Bbox)) has.0) (λ bad. tt))
   object-clean (member k j (member l h no_members)) path has =
-      pair-clean (pair_named k l) path
+      pair-clean (pair_of_names k l) path
       (operation_text j path (arguments_text h path)) (operation_text h path (arguments_text j path))
       (geometry_text j path (coordinates_text h path)) (geometry_text h path (coordinates_text j path))
-      (operation-clean j path (arguments_text h path) (λ form. value-clean h (Array form) (at path (Member Args)) has.1.0))
-      (operation-clean h path (arguments_text j path) (λ form. value-clean j (Array form) (at path (Member Args)) has.0))
-      (geometry-clean j path (coordinates_text h path) (λ form. value-clean h (Array form) (at path (Member Coordinates)) has.1.0))
-      (geometry-clean h path (coordinates_text j path) (λ form. value-clean j (Array form) (at path (Member Coordinates)) has.0))
+      (record {
+        of_op_args = operation-clean j path (arguments_text h path) (λ form. value-clean h (Array form) (at path (Member Args)) has.1.0);
+        of_args_op = operation-clean h path (arguments_text j path) (λ form. value-clean j (Array form) (at path (Member Args)) has.0);
+        of_type_coordinates = geometry-clean j path (coordinates_text h path) (λ form. value-clean h (Array form) (at path (Member Coordinates)) has.1.0);
+        of_coordinates_type = geometry-clean h path (coordinates_text j path) (λ form. value-clean j (Array form) (at path (Member Coordinates)) has.0);
+      })
   object-clean (member k j (member l h (member m i rest))) path has = tt
 
 clean-text : (translation : Translation) (text : List ℕ) → Clean translation → joined_text translation ≡ Some text → IsClean text

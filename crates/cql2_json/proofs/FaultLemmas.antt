@@ -85,28 +85,37 @@ split : (translation : Translation) (text : List ℕ) → joined_text translatio
 split (Ok pieces) text is = (pieces, refl, some-same (joined pieces) text is)
 split (Err fault) text is = let never : ⊥ = cc in absurd never
 
-refused-only : {A : Type 0} (json text : List ℕ) (limit : ℕ) (value : Json) (fault : JsonFault A) → length json ≤ MAX_LENGTH → IsUtf8 json
-    → document json ≡ Some value → text_of value ≡ Some text → length text ≤ limit → Refuses json limit fault → fault ≡ Memory
-refused-only json text limit value (Unread line column flaw) short utf8 is has few refuses = absurd (no_flaw json flaw value short utf8 is refuses.0)
-refused-only json text limit value (Value pointer (Expected needs)) short utf8 is has few fault =
-    let parts = split (filter_translation value) text has in
-    let same : fault.0 ≡ value = same-value json fault.0 value fault.1 is in
+-- JSON within its limit, whose value has a text within another
+pub record HasText (json text : List ℕ) (limit : ℕ) (value : Json) : Type 0 where
+  pub short : length json ≤ MAX_LENGTH
+  pub utf8 : IsUtf8 json
+  pub is : document json ≡ Some value
+  pub has : text_of value ≡ Some text
+  pub few : length text ≤ limit
+
+refused-only : {A : Type 0} (json text : List ℕ) (limit : ℕ) (value : Json) (fault : JsonFault A) → HasText json text limit value
+    → Refuses json limit fault → fault ≡ Memory
+refused-only json text limit value (Unread line column flaw) known refuses =
+    absurd (no_flaw json flaw value known.short known.utf8 known.is refuses.0)
+refused-only json text limit value (Value pointer (Expected needs)) known fault =
+    let parts = split (filter_translation value) text known.has in
+    let same : fault.0 ≡ value = same-value json fault.0 value fault.1 known.is in
     let wrong : Err fault.2.0 ≡ Ok parts.0 = sym fault.2.1 ∙ ap filter_translation same ∙ parts.1 in
     let never : ⊥ = cc in
     absurd never
-refused-only json text limit value (Value pointer TooLong) short utf8 is has few fault =
-    let parts = split (filter_translation value) text has in
-    let same : fault.0 ≡ value = same-value json fault.0 value fault.1 is in
+refused-only json text limit value (Value pointer TooLong) known fault =
+    let parts = split (filter_translation value) text known.has in
+    let same : fault.0 ≡ value = same-value json fault.0 value fault.1 known.is in
     let size : length (joined parts.0) ≡ length text = ap length parts.2 in
+    let few : length text ≤ limit = known.few in
     let here : path_at parts.0 limit ≡ Some fault.2.0 =
     ap (λ t. path_at (written t) limit) (sym (ap filter_translation same ∙ parts.1)) ∙ fault.2.1 in
     absurd (inside parts.0 limit fault.2.0 here (omega arith))
-refused-only json text limit value Memory short utf8 is has few fault = refl
+refused-only json text limit value Memory known fault = refl
 
-pub only-text : {A : Type 0} (json text : List ℕ) (limit : ℕ) (value : Json) (result : Result (Vec ℕ A) (JsonFault A)) → length json ≤ MAX_LENGTH
-    → IsUtf8 json → document json ≡ Some value → text_of value ≡ Some text → length text ≤ limit
+pub only-text : {A : Type 0} (json text : List ℕ) (limit : ℕ) (value : Json) (result : Result (Vec ℕ A) (JsonFault A)) → HasText json text limit value
     → MatchResult result (IsTranslated json limit) (Refuses json limit)
     → MatchResult result (λ made. made.items ≡ text) (λ fault. fault ≡ Memory)
-only-text json text limit value (Ok made) short utf8 is has few done =
-    some-same made.items text (sym done.2 ∙ ap text_of (same-value json done.0 value done.1 is) ∙ has)
-only-text json text limit value (Err fault) short utf8 is has few done = refused-only json text limit value fault short utf8 is has few done
+only-text json text limit value (Ok made) known done =
+    some-same made.items text (sym done.2 ∙ ap text_of (same-value json done.0 value done.1 known.is) ∙ known.has)
+only-text json text limit value (Err fault) known done = refused-only json text limit value fault known done

@@ -5,26 +5,26 @@ use Rattle.std.specs.Prelude.{bytes_eq, codes, if◌then◌else◌, is_some, nat
 use Rattle.std.proofs.lemmas.Slice.Eq.{bytes_eq-Decides}
 use Rattle.json.specs.Find.{get_item, later_or}
 use Rattle.json.specs.Json.{Json, null, boolean, number, string, array, object, Items, no_items, item, Members, no_members, member}
-use Rattle.cql2_json.specs.Form.{admits, closing, count_of, expected, item_kind, opening, separator}
-use Rattle.cql2_json.specs.Geometry.{coordinates_form, geometry_named, geometry_tag}
+use Rattle.cql2_json.specs.Form.{admits, closing, count_of, expected_value, item_kind, opening, separator}
+use Rattle.cql2_json.specs.GeometryType.{coordinates_form, geometry_type_of_name, geometry_tag}
 use Rattle.cql2_json.specs.Meets.{is_pair, meets}
-use Rattle.cql2_json.specs.Members.{pair_named}
-use Rattle.cql2_json.specs.Operation.{operation_named}
+use Rattle.cql2_json.specs.Members.{pair_of_names}
+use Rattle.cql2_json.specs.Operator.{operator_of_name}
 use Rattle.cql2_json.specs.Pointer.{member_name, step_to, value_at}
-use Rattle.cql2_json.specs.Quoted.{is_name, is_printable, quoted}
+use Rattle.cql2_json.specs.Quoted.{is_name, is_printable, quoted_text}
 use Rattle.cql2_json.specs.Translation.{Misplaced, Piece, Translation, arguments_text, at, boolean_text, coordinates_text, enclosed, filter_translation}
 use Rattle.cql2_json.specs.Translation.{geometry_text, items_count}
 use Rattle.cql2_json.specs.Translation.{items_text, members_text, number_text, object_text, of_pair, operation_text, own, property_text}
 use Rattle.cql2_json.specs.Translation.{path_at, refused, string_text, translation, ◌▷◌}
-use Rattle.cql2_json.specs.declared.fault.Expected.TheVariants as needed
+use Rattle.cql2_json.specs.declared.fault.ExpectedValue.TheVariants as needed
 use Rattle.cql2_json.specs.declared.form.Form.{Form}
 use Rattle.cql2_json.specs.declared.form.Form.TheVariants.{Operands, Arguments, Box}
-use Rattle.cql2_json.specs.declared.form.Kind.{Kind}
-use Rattle.cql2_json.specs.declared.form.Kind.TheVariants.{Expression, Number, Array}
-use Rattle.cql2_json.specs.declared.geometry.Geometry.{Geometry}
+use Rattle.cql2_json.specs.declared.form.ValueKind.{ValueKind}
+use Rattle.cql2_json.specs.declared.form.ValueKind.TheVariants.{Expression, Number, Array}
+use Rattle.cql2_json.specs.declared.geometry_type.GeometryType.{GeometryType}
 use Rattle.cql2_json.specs.declared.members.Pair.{Pair}
 use Rattle.cql2_json.specs.declared.members.Pair.TheVariants.{OpArgs, ArgsOp, TypeCoordinates, CoordinatesType, Other}
-use Rattle.cql2_json.specs.declared.operation.Operation.{Operation}
+use Rattle.cql2_json.specs.declared.operator.JsonOperator.{JsonOperator}
 use Rattle.cql2_json.specs.declared.pointer.Member.{Member as AMember}
 use Rattle.cql2_json.specs.declared.pointer.Member.TheVariants.{Op, Args, Property, Bbox, TypeName, Coordinates}
 use Rattle.cql2_json.specs.declared.pointer.Step.{Step}
@@ -33,24 +33,24 @@ use Rattle.cql2_json.proofs.WithinLemmas.{Leads, Within, choose-within, inside-w
 
 -- ---- values without others in them
 
-boolean-within : (b : Bool) (kind : Kind) (path : List Step) → Within (boolean b) path (boolean_text b kind path)
+boolean-within : (b : Bool) (kind : ValueKind) (path : List Step) → Within (boolean b) path (boolean_text b kind path)
 boolean-within b Expression path = own-within (boolean b) path (if b then codes "TRUE" else codes "FALSE")
 boolean-within b Number path = refused-within _ path _ refl
 boolean-within b (Array form) path = refused-within _ path _ refl
 
-number-within : (s : List ℕ) (kind : Kind) (path : List Step) → Within (number s) path (number_text s kind path)
+number-within : (s : List ℕ) (kind : ValueKind) (path : List Step) → Within (number s) path (number_text s kind path)
 number-within s Expression path = own-within (number s) path s
 number-within s Number path = own-within (number s) path s
 number-within s (Array form) path = refused-within _ path _ refl
 
-string-within : (s : List ℕ) (kind : Kind) (path : List Step) → Within (string s) path (string_text s kind path)
+string-within : (s : List ℕ) (kind : ValueKind) (path : List Step) → Within (string s) path (string_text s kind path)
 string-within s Expression path =
-    choose-within (string s) path (is_printable s) (own path (quoted 39 s)) (refused path needed.Printable) (λ good. own-within (string s) path (quoted 39 s))
-    (λ lacks. refused-within (string s) path needed.Printable lacks)
+    choose-within (string s) path (is_printable s) (own path (quoted_text 39 s)) (refused path needed.Printable)
+    (λ good. own-within (string s) path (quoted_text 39 s)) (λ lacks. refused-within (string s) path needed.Printable lacks)
 string-within s Number path = refused-within _ path _ refl
 string-within s (Array form) path = refused-within _ path _ refl
 
-null-within : (kind : Kind) (path : List Step) → Within null path (refused path (expected kind))
+null-within : (kind : ValueKind) (path : List Step) → Within null path (refused path (expected_value kind))
 null-within Expression path = refused-within _ path _ refl
 null-within Number path = refused-within _ path _ refl
 null-within (Array form) path = refused-within _ path _ refl
@@ -60,29 +60,29 @@ property-within null path = refused-within _ path _ refl
 property-within (boolean b) path = refused-within _ path _ refl
 property-within (number s) path = refused-within _ path _ refl
 property-within (string s) path =
-    choose-within (string s) path (is_name s) (own path (quoted 34 s)) (refused path needed.Name) (λ good. own-within (string s) path (quoted 34 s))
+    choose-within (string s) path (is_name s) (own path (quoted_text 34 s)) (refused path needed.Name) (λ good. own-within (string s) path (quoted_text 34 s))
     (λ lacks. refused-within (string s) path needed.Name lacks)
 property-within (array values) path = refused-within _ path _ refl
 property-within (object ms) path = refused-within _ path _ refl
 
 -- ---- operations and geometries, whose arguments and coordinates lead to parts
 
-neither : (o : Option Operation) (b : Bool) → o ≡ None → b ≡ false → (is_some o || b) ≡ false
+neither : (o : Option JsonOperator) (b : Bool) → o ≡ None → b ≡ false → (is_some o || b) ≡ false
 neither None b none lacks = lacks
-neither (Some operation) b none lacks = let never : ⊥ = cc in absurd never
+neither (Some operator) b none lacks = let never : ⊥ = cc in absurd never
 
-named-cases : (value : Json) (s : List ℕ) (path : List Step) (arguments : Form → Translation) (o : Option Operation) → operation_named s ≡ o
+named-cases : (value : Json) (s : List ℕ) (path : List Step) (arguments : Form → Translation) (o : Option JsonOperator) → operator_of_name s ≡ o
     → step_to (Member Op) value ≡ Some (string s) → ((form : Form) → Within value path (arguments form))
     → Within value path (elim o [
-      | Some operation ↦ arguments (Operands operation)
+      | Some operator ↦ arguments (Operands operator)
       | None ↦ (if is_name s then own path s ▷ arguments Arguments else refused (at path (Member Op)) needed.Operator)
     ])
-named-cases value s path arguments (Some operation) is found all = all (Operands operation)
+named-cases value s path arguments (Some operator) is found all = all (Operands operator)
 named-cases value s path arguments None is found all =
     choose-within value path (is_name s) (own path s ▷ arguments Arguments) (refused (at path (Member Op)) needed.Operator)
     (λ good. then-within value path (own path s) (arguments Arguments) (own-within value path s) (all Arguments))
     (λ lacks. inside-within value (string s) path (Member Op) (refused (at path (Member Op)) needed.Operator) found
-    (refused-within (string s) (at path (Member Op)) needed.Operator (neither (operation_named s) (is_name s) is lacks)))
+    (refused-within (string s) (at path (Member Op)) needed.Operator (neither (operator_of_name s) (is_name s) is lacks)))
 
 bad-operator : (value name : Json) (path : List Step) → step_to (Member Op) value ≡ Some name → meets needed.Operator name ≡ false
     → Within value path (refused (at path (Member Op)) needed.Operator)
@@ -95,7 +95,7 @@ operation-within : (value name : Json) (path : List Step) (arguments : Form → 
 operation-within value null path arguments found all = bad-operator value null path found refl
 operation-within value (boolean b) path arguments found all = bad-operator value (boolean b) path found refl
 operation-within value (number s) path arguments found all = bad-operator value (number s) path found refl
-operation-within value (string s) path arguments found all = named-cases value s path arguments (operation_named s) refl found all
+operation-within value (string s) path arguments found all = named-cases value s path arguments (operator_of_name s) refl found all
 operation-within value (array values) path arguments found all = bad-operator value (array values) path found refl
 operation-within value (object ms) path arguments found all = bad-operator value (object ms) path found refl
 
@@ -105,7 +105,7 @@ bad-type value name path found lacks =
     inside-within value name path (Member TypeName) (refused (at path (Member TypeName)) needed.Geometry) found
     (refused-within name (at path (Member TypeName)) needed.Geometry lacks)
 
-tagged-cases : (value : Json) (s : List ℕ) (path : List Step) (coordinates : Form → Translation) (o : Option Geometry) → geometry_named s ≡ o
+tagged-cases : (value : Json) (s : List ℕ) (path : List Step) (coordinates : Form → Translation) (o : Option GeometryType) → geometry_type_of_name s ≡ o
     → step_to (Member TypeName) value ≡ Some (string s) → ((form : Form) → Within value path (coordinates form))
     → Within value path (elim o [
       | Some geometry ↦ own path (geometry_tag geometry) ▷ coordinates (coordinates_form geometry)
@@ -121,7 +121,7 @@ geometry-within : (value name : Json) (path : List Step) (coordinates : Form →
 geometry-within value null path coordinates found all = bad-type value null path found refl
 geometry-within value (boolean b) path coordinates found all = bad-type value (boolean b) path found refl
 geometry-within value (number s) path coordinates found all = bad-type value (number s) path found refl
-geometry-within value (string s) path coordinates found all = tagged-cases value s path coordinates (geometry_named s) refl found all
+geometry-within value (string s) path coordinates found all = tagged-cases value s path coordinates (geometry_type_of_name s) refl found all
 geometry-within value (array values) path coordinates found all = bad-type value (array values) path found refl
 geometry-within value (object ms) path coordinates found all = bad-type value (object ms) path found refl
 
@@ -154,49 +154,53 @@ pair-if k l first second pair fits is =
     choose-pair k l (bytes_eq l (member_name second)) pair Other
     (λ also. fits (record { first_is = same-name k (member_name first) is; second_is = same-name l (member_name second) also })) (λ other. tt)
 
-fits : (k l : List ℕ) → Fits k l (pair_named k l)
+fits : (k l : List ℕ) → Fits k l (pair_of_names k l)
 fits k l =
     choose-pair k l (bytes_eq k (codes "op")) _ _ (pair-if k l Op Args OpArgs (λ names. names)) (λ not_op.
     choose-pair k l (bytes_eq k (codes "args")) _ _ (pair-if k l Args Op ArgsOp (λ names. names)) (λ not_args.
     choose-pair k l (bytes_eq k (codes "type")) _ _ (pair-if k l TypeName Coordinates TypeCoordinates (λ names. names)) (λ not_type.
     choose-pair k l (bytes_eq k (codes "coordinates")) _ _ (pair-if k l Coordinates TypeName CoordinatesType (λ names. names)) (λ other. tt))))
 
-abbrev two : List ℕ → Json → List ℕ → Json → Json
-two k j l h = object (member k j (member l h no_members))
+-- a member: its name and its value
+abbrev NamedValue : Type 0
+NamedValue = List ℕ × Json
 
-found-in : (k l : List ℕ) (first second wanted : AMember) (j h part : Json) → Names k l first second
-    → step_to (Member wanted) (two (member_name first) j (member_name second) h) ≡ Some part → step_to (Member wanted) (two k j l h) ≡ Some part
-found-in k l first second wanted j h part names is =
-    ap (λ n. step_to (Member wanted) (two n j l h)) names.first_is
-    ∙ ap (λ n. step_to (Member wanted) (two (member_name first) j n h)) names.second_is ∙ is
+abbrev two : NamedValue → NamedValue → Json
+two a b = object (member a.0 a.1 (member b.0 b.1 no_members))
+
+found-in : (a b : NamedValue) (first second name : AMember) (part : Json) → Names a.0 b.0 first second
+    → step_to (Member name) (two (member_name first, a.1) (member_name second, b.1)) ≡ Some part → step_to (Member name) (two a b) ≡ Some part
+found-in a b first second name part names is =
+    ap (λ n. step_to (Member name) (two (n, a.1) b)) names.first_is
+    ∙ ap (λ n. step_to (Member name) (two (member_name first, a.1) (n, b.1))) names.second_is ∙ is
 
 -- the arguments or the coordinates of an object
 part-within : (value part : Json) (path : List Step) (wanted : AMember) → step_to (Member wanted) value ≡ Some part
-    → ((kind : Kind) (inner : List Step) → Within part inner (translation part kind inner))
+    → ((kind : ValueKind) (inner : List Step) → Within part inner (translation part kind inner))
     → (form : Form) → Within value path (translation part (Array form) (at path (Member wanted)))
 part-within value part path wanted found all form =
     inside-within value part path (Member wanted) (translation part (Array form) (at path (Member wanted))) found
     (all (Array form) (at path (Member wanted)))
 
-pair-within : (k l : List ℕ) (j h : Json) (path : List Step) (pair : Pair) → pair_named k l ≡ pair → Fits k l pair
-    → ((kind : Kind) (inner : List Step) → Within j inner (translation j kind inner))
-    → ((kind : Kind) (inner : List Step) → Within h inner (translation h kind inner))
-    → Within (two k j l h) path (of_pair pair path
-    (operation_text j path (arguments_text h path)) (operation_text h path (arguments_text j path))
-    (geometry_text j path (coordinates_text h path)) (geometry_text h path (coordinates_text j path)))
-pair-within k l j h path OpArgs is names of_j of_h =
-    operation-within (two k j l h) j path (arguments_text h path) (found-in k l Op Args Op j h j names refl)
-    (part-within (two k j l h) h path Args (found-in k l Op Args Args j h h names refl) of_h)
-pair-within k l j h path ArgsOp is names of_j of_h =
-    operation-within (two k j l h) h path (arguments_text j path) (found-in k l Args Op Op j h h names refl)
-    (part-within (two k j l h) j path Args (found-in k l Args Op Args j h j names refl) of_j)
-pair-within k l j h path TypeCoordinates is names of_j of_h =
-    geometry-within (two k j l h) j path (coordinates_text h path) (found-in k l TypeName Coordinates TypeName j h j names refl)
-    (part-within (two k j l h) h path Coordinates (found-in k l TypeName Coordinates Coordinates j h h names refl) of_h)
-pair-within k l j h path CoordinatesType is names of_j of_h =
-    geometry-within (two k j l h) h path (coordinates_text j path) (found-in k l Coordinates TypeName TypeName j h h names refl)
-    (part-within (two k j l h) j path Coordinates (found-in k l Coordinates TypeName Coordinates j h j names refl) of_j)
-pair-within k l j h path Other is names of_j of_h = refused-within (two k j l h) path needed.Object (ap is_pair is)
+pair-within : (a b : NamedValue) (path : List Step) (pair : Pair) → pair_of_names a.0 b.0 ≡ pair → Fits a.0 b.0 pair
+    → ((kind : ValueKind) (inner : List Step) → Within a.1 inner (translation a.1 kind inner))
+    → ((kind : ValueKind) (inner : List Step) → Within b.1 inner (translation b.1 kind inner))
+    → Within (two a b) path (of_pair pair path
+    (operation_text a.1 path (arguments_text b.1 path)) (operation_text b.1 path (arguments_text a.1 path))
+    (geometry_text a.1 path (coordinates_text b.1 path)) (geometry_text b.1 path (coordinates_text a.1 path)))
+pair-within a b path OpArgs is names of_a of_b =
+    operation-within (two a b) a.1 path (arguments_text b.1 path) (found-in a b Op Args Op a.1 names refl)
+    (part-within (two a b) b.1 path Args (found-in a b Op Args Args b.1 names refl) of_b)
+pair-within a b path ArgsOp is names of_a of_b =
+    operation-within (two a b) b.1 path (arguments_text a.1 path) (found-in a b Args Op Op b.1 names refl)
+    (part-within (two a b) a.1 path Args (found-in a b Args Op Args a.1 names refl) of_a)
+pair-within a b path TypeCoordinates is names of_a of_b =
+    geometry-within (two a b) a.1 path (coordinates_text b.1 path) (found-in a b TypeName Coordinates TypeName a.1 names refl)
+    (part-within (two a b) b.1 path Coordinates (found-in a b TypeName Coordinates Coordinates b.1 names refl) of_b)
+pair-within a b path CoordinatesType is names of_a of_b =
+    geometry-within (two a b) b.1 path (coordinates_text a.1 path) (found-in a b Coordinates TypeName TypeName b.1 names refl)
+    (part-within (two a b) a.1 path Coordinates (found-in a b Coordinates TypeName Coordinates a.1 names refl) of_a)
+pair-within a b path Other is names of_a of_b = refused-within (two a b) path needed.Object (ap is_pair is)
 
 found-one : (k : List ℕ) (j : Json) (wanted : AMember) → bytes_eq k (member_name wanted) ≡ true
     → step_to (Member wanted) (object (member k j no_members)) ≡ Some j
@@ -206,7 +210,7 @@ no-name : (a b : Bool) → a ≡ false → b ≡ false → (a || b) ≡ false
 no-name true b first second = let never : ⊥ = cc in absurd never
 no-name false b first second = second
 
-one-within : (k : List ℕ) (j : Json) (path : List Step) → ((kind : Kind) (inner : List Step) → Within j inner (translation j kind inner))
+one-within : (k : List ℕ) (j : Json) (path : List Step) → ((kind : ValueKind) (inner : List Step) → Within j inner (translation j kind inner))
     → Within (object (member k j no_members)) path (object_text (member k j no_members) path)
 unfolding object_text members_text
 one-within k j path of_j =
@@ -227,7 +231,7 @@ same-items values k = let same : k ≡ 0 + k = omega arith in ap (λ n. get_item
 mutual
   unfolding translation items_text object_text members_text
 
-  pub value-within : (value : Json) (kind : Kind) (path : List Step) → Within value path (translation value kind path)
+  pub value-within : (value : Json) (kind : ValueKind) (path : List Step) → Within value path (translation value kind path)
   value-within null kind path = null-within kind path
   value-within (boolean b) kind path = boolean-within b kind path
   value-within (number s) kind path = number-within s kind path
@@ -264,7 +268,7 @@ mutual
   object-within no_members path = refused-within (object no_members) path needed.Object refl
   object-within (member k j no_members) path = one-within k j path (value-within j)
   object-within (member k j (member l h no_members)) path =
-      pair-within k l j h path (pair_named k l) refl (fits k l) (value-within j) (value-within h)
+      pair-within (k, j) (l, h) path (pair_of_names k l) refl (fits k l) (value-within j) (value-within h)
   object-within (member k j (member l h (member m i rest))) path = refused-within (object (member k j (member l h (member m i rest)))) path needed.Object refl
 
 same-path : (a b : List Step) → Some a ≡ Some b → a ≡ b

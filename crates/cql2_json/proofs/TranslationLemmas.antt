@@ -7,11 +7,12 @@ use Rattle.std.proofs.Math.ListN.{drop_of_length-le}
 use Rattle.json.specs.Value.{value_view, items_view, members_view}
 use Rattle.json.specs.declared.value.Value.{Value}
 use Rattle.cql2_json.specs.Form.{admits, count_of, item_kind, separator}
-use Rattle.cql2_json.specs.Members.{pair_named}
+use Rattle.cql2_json.specs.Members.{pair_of_names}
 use Rattle.cql2_json.specs.Translation.{Translation, arguments_text, array_text, at, coordinates_text, enclosed, geometry_text, items_count, items_text}
 use Rattle.cql2_json.specs.Translation.{members_text, object_text, of_pair, operation_text, own, refused, translation, ◌▷◌}
-use Rattle.cql2_json.specs.declared.fault.Expected.TheVariants as needed
+use Rattle.cql2_json.specs.declared.fault.ExpectedValue.TheVariants as needed
 use Rattle.cql2_json.specs.declared.form.Form.{Form}
+use Rattle.cql2_json.specs.declared.members.Pair.{Pair}
 use Rattle.cql2_json.specs.declared.pointer.Step.{Step}
 use Rattle.cql2_json.specs.declared.pointer.Step.TheVariants.{Item}
 
@@ -27,16 +28,17 @@ one-of (x ∷ []) a some few first = cc
 one-of (x ∷ y ∷ xs) a some few first = absurd (omega arith)
 
 -- an object with two members
-abbrev pub pair_text : {A : Type 0} → Bor (List ℕ) × Value A → Bor (List ℕ) × Value A → List Step → Translation
-pair_text first second path =
-    of_pair (pair_named first.0.now second.0.now) path
+abbrev pub pair_text : {A : Type 0} → Pair → Bor (List ℕ) × Value A → Bor (List ℕ) × Value A → List Step → Translation
+pair_text pair first second path =
+    of_pair pair path
     (operation_text (value_view first.1) path (arguments_text (value_view second.1) path))
     (operation_text (value_view second.1) path (arguments_text (value_view first.1) path))
     (geometry_text (value_view first.1) path (coordinates_text (value_view second.1) path))
     (geometry_text (value_view second.1) path (coordinates_text (value_view first.1) path))
 
 pub object-pair : {A : Type 0} (ms : List (Bor (List ℕ) × Value A)) (a b : Bor (List ℕ) × Value A) (path : List Step)
-    → 2 ≤ length ms → length ms < 3 → a ≡ get_or ms 0 a → b ≡ get_or ms 1 b → object_text (members_view ms) path ≡ pair_text a b path
+    → 2 ≤ length ms → length ms < 3 → a ≡ get_or ms 0 a → b ≡ get_or ms 1 b → object_text (members_view ms) path
+    ≡ pair_text (pair_of_names a.0.now b.0.now) a b path
 unfolding object_text members_text
 object-pair ms a b path some few first second = ap (λ xs. object_text (members_view xs) path) (two-of ms a b some few first second)
 

@@ -7,7 +7,7 @@ use Rattle.json.specs.Json.{Json}
 use Rattle.cql2_json.specs.Meets.{meets}
 use Rattle.cql2_json.specs.Pointer.{step_to, value_at}
 use Rattle.cql2_json.specs.Translation.{Misplaced, Piece, Translation, at, own, refused, ◌▷◌}
-use Rattle.cql2_json.specs.declared.fault.Expected.{Expected}
+use Rattle.cql2_json.specs.declared.fault.ExpectedValue.{ExpectedValue}
 use Rattle.cql2_json.specs.declared.pointer.Step.{Step}
 
 -- a path, after that of a value, leads to a part of it
@@ -33,7 +33,7 @@ here value path = record { rest = []; part = value; path_is = sym (append-nil pa
 pub own-within : (value : Json) (path : List Step) (text : List ℕ) → Within value path (own path text)
 own-within value path text = (here value path, tt)
 
-pub refused-within : (value : Json) (path : List Step) (needs : Expected) → meets needs value ≡ false → Within value path (refused path needs)
+pub refused-within : (value : Json) (path : List Step) (needs : ExpectedValue) → meets needs value ≡ false → Within value path (refused path needs)
 refused-within value path needs lacks = record { leads = here value path; lacks = lacks }
 
 all-append : (P : Piece → Type 0) (ps qs : List Piece) → AllByRecursion P ps → AllByRecursion P qs → AllByRecursion P (ps ++ qs)

@@ -7,7 +7,7 @@ use Rattle.std.proofs.lemmas.List.{append_assoc, append-nil, length-append}
 use Rattle.std.proofs.lemmas.List.Concat.{flat_map-append}
 use Rattle.cql2_json.specs.Translation.{Piece, Translation, joined, joined_text, path_at, refused, written, at, ◌▷◌}
 use Rattle.cql2_json.specs.Writer.{Appends, IsWithin, Writes}
-use Rattle.cql2_json.specs.declared.fault.Expected.{Expected as AExpected}
+use Rattle.cql2_json.specs.declared.fault.ExpectedValue.{ExpectedValue}
 use Rattle.cql2_json.specs.declared.fault.Flaw.{Flaw}
 use Rattle.cql2_json.specs.declared.fault.Flaw.TheVariants.{Expected, TooLong, Memory}
 use Rattle.cql2_json.specs.declared.pointer.Step.{Step}
@@ -42,7 +42,7 @@ pub joined-append : (ps qs : List Piece) → joined (ps ++ qs) ≡ joined ps ++ 
 joined-append ps qs = flat_map-append _ ps qs
 
 -- the value at the path is refused
-pub refuses : {A : Type 0} (old : Writer A) (needs : AExpected) (translation : Translation) → IsWithin old
+pub refuses : {A : Type 0} (old : Writer A) (needs : ExpectedValue) (translation : Translation) → IsWithin old
     → translation ≡ refused old.path.items needs → Writes old translation old (Err (Expected needs))
 refuses old needs translation within is = subst (λ t. Writes old t old (Err (Expected needs))) (sym is) (refl, refl, omega arith)
 
@@ -104,31 +104,35 @@ pub within-kept : {A : Type 0} (old new : Writer A) (translation : Translation) 
 within-kept old new (Ok ps) a = a.within
 within-kept old new (Err fault) a = absurd a
 
-same-text : {A : Type 0} (old entered new left : Writer A) (translation : Translation)
-    → entered.text ≡ old.text → entered.limit ≡ old.limit → Writes entered translation new (Ok tt)
-    → left.path.items ≡ old.path.items → left.text ≡ new.text → left.limit ≡ new.limit → Writes old translation left (Ok tt)
-same-text {A} old entered new left (Ok ps) text limit a left_path left_text left_limit =
-    let left_items : left.text.items ≡ new.text.items = ap (λ (v : Vec ℕ A). v.items) left_text in
-    let old_items : entered.text.items ≡ old.text.items = ap (λ (v : Vec ℕ A). v.items) text in
+-- a value in the one at the path, with the writers after the step into it, after its text and after the step back
+pub record Inside {A : Type 0} (old left : Writer A) (step : Step) : Type 0 where
+  pub entered : Writer A
+  pub new : Writer A
+  pub path_entered : entered.path.items ≡ at old.path.items step
+  pub text_entered : (entered.text ≡ old.text) × (entered.limit ≡ old.limit)
+  pub path_left : (path : List Step) (last : Step) → new.path.items ≡ path ++ last ∷ [] → left.path.items ≡ path
+  pub text_left : (left.text ≡ new.text) × (left.limit ≡ new.limit)
+
+same-text : {A : Type 0} (old left : Writer A) (step : Step) (translation : Translation) (inside : Inside old left step)
+    → Writes inside.entered translation inside.new (Ok tt) → Writes old translation left (Ok tt)
+same-text {A} old left step (Ok ps) inside a =
+    let left_items : left.text.items ≡ inside.new.text.items = ap (λ (v : Vec ℕ A). v.items) inside.text_left.0 in
+    let old_items : inside.entered.text.items ≡ old.text.items = ap (λ (v : Vec ℕ A). v.items) inside.text_entered.0 in
     let size = ap length left_items in
+    let limit : left.limit ≡ inside.new.limit = inside.text_left.1 in
     let within = a.within in record {
       text_is = left_items ∙ a.text_is ∙ ap (λ items. items ++ joined ps) old_items;
-      path_kept = left_path;
-      limit_kept = left_limit ∙ a.limit_kept ∙ limit;
+      path_kept = inside.path_left old.path.items step (a.path_kept ∙ inside.path_entered);
+      limit_kept = limit ∙ a.limit_kept ∙ inside.text_entered.1;
       within = omega arith;
     }
-same-text old entered new left (Err fault) text limit a left_path left_text left_limit = absurd a
+same-text old left step (Err fault) inside a = absurd a
 
--- a value inside the one at the path, which is entered and left
-pub writes-inside : {A : Type 0} (old entered new left : Writer A) (step : Step) (translation : List Step → Translation)
-    → entered.path.items ≡ at old.path.items step → (entered.text ≡ old.text) × (entered.limit ≡ old.limit)
-    → Writes entered (translation entered.path.items) new (Ok tt)
-    → ((path : List Step) (last : Step) → new.path.items ≡ path ++ last ∷ [] → left.path.items ≡ path)
-    → (left.text ≡ new.text) × (left.limit ≡ new.limit) → Writes old (translation (at old.path.items step)) left (Ok tt)
-writes-inside old entered new left step translation path same a leaves left_same =
-    subst (λ p. Writes old (translation p) left (Ok tt)) path
-    (same-text old entered new left (translation entered.path.items) same.0 same.1 a
-    (leaves old.path.items step (path-kept entered new (translation entered.path.items) a ∙ path)) left_same.0 left_same.1)
+pub writes-inside : {A : Type 0} (old left : Writer A) (step : Step) (translation : List Step → Translation) (inside : Inside old left step)
+    → Writes inside.entered (translation inside.entered.path.items) inside.new (Ok tt) → Writes old (translation (at old.path.items step)) left (Ok tt)
+writes-inside old left step translation inside a =
+    subst (λ p. Writes old (translation p) left (Ok tt)) inside.path_entered
+    (same-text old left step (translation inside.entered.path.items) inside a)
 
 same-stop : {A : Type 0} (old entered new : Writer A) (translation : Translation) (flaw : Flaw)
     → (entered.text ≡ old.text) × (entered.limit ≡ old.limit) → Writes entered translation new (Err flaw) → Writes old translation new (Err flaw)

@@ -1,9 +1,9 @@
 pub mod Fault
 pub mod Form
-pub mod Geometry
+pub mod GeometryType
 pub mod Meets
 pub mod Members
-pub mod Operation
+pub mod Operator
 pub mod Pointer
 pub mod Position
 pub mod Quoted

@@ -7,8 +7,8 @@ use Rattle.std.specs.List.{flat_map, list_all, list_any}
 abbrev pub quoted_byte : ℕ → ℕ → List ℕ
 quoted_byte quote byte = if byte == quote then quote ∷ byte ∷ [] else byte ∷ []
 
-abbrev pub quoted : ℕ → List ℕ → List ℕ
-quoted quote text = quote ∷ (flat_map (quoted_byte quote) text ++ quote ∷ [])
+abbrev pub quoted_text : ℕ → List ℕ → List ℕ
+quoted_text quote text = quote ∷ (flat_map (quoted_byte quote) text ++ quote ∷ [])
 
 -- a letter, a digit or an underscore
 abbrev pub is_name_byte : ℕ → Bool

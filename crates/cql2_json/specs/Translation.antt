@@ -3,17 +3,17 @@ use Rattle.std.specs.Prelude.{ℕ, suc, List, [], ◌∷◌, ◌++◌, length, c
 use Rattle.std.specs.Prelude.{Option, Some, None, Result, Ok, Err}
 use Rattle.std.specs.List.{flat_map}
 use Rattle.json.specs.Json.{Json, boolean, number, string, array, object, Items, no_items, item, Members, no_members, member}
-use Rattle.cql2_json.specs.Form.{admits, closing, count_of, expected, item_kind, opening, separator}
-use Rattle.cql2_json.specs.Geometry.{coordinates_form, geometry_named, geometry_tag}
-use Rattle.cql2_json.specs.Members.{pair_named}
-use Rattle.cql2_json.specs.Operation.{operation_named}
-use Rattle.cql2_json.specs.Quoted.{is_name, is_printable, quoted}
-use Rattle.cql2_json.specs.declared.fault.Expected.{Expected}
-use Rattle.cql2_json.specs.declared.fault.Expected.TheVariants as needed
+use Rattle.cql2_json.specs.Form.{admits, closing, count_of, expected_value, item_kind, opening, separator}
+use Rattle.cql2_json.specs.GeometryType.{coordinates_form, geometry_type_of_name, geometry_tag}
+use Rattle.cql2_json.specs.Members.{pair_of_names}
+use Rattle.cql2_json.specs.Operator.{operator_of_name}
+use Rattle.cql2_json.specs.Quoted.{is_name, is_printable, quoted_text}
+use Rattle.cql2_json.specs.declared.fault.ExpectedValue.{ExpectedValue}
+use Rattle.cql2_json.specs.declared.fault.ExpectedValue.TheVariants as needed
 use Rattle.cql2_json.specs.declared.form.Form.{Form}
 use Rattle.cql2_json.specs.declared.form.Form.TheVariants.{Operands, Arguments, Box}
-use Rattle.cql2_json.specs.declared.form.Kind.{Kind}
-use Rattle.cql2_json.specs.declared.form.Kind.TheVariants.{Expression, Array}
+use Rattle.cql2_json.specs.declared.form.ValueKind.{ValueKind}
+use Rattle.cql2_json.specs.declared.form.ValueKind.TheVariants.{Expression, Array}
 use Rattle.cql2_json.specs.declared.members.Pair.{Pair}
 use Rattle.cql2_json.specs.declared.members.Pair.TheVariants.{OpArgs, ArgsOp, TypeCoordinates, CoordinatesType, Other}
 use Rattle.cql2_json.specs.declared.pointer.Member.TheVariants.{Op, Args, Property, Bbox, TypeName, Coordinates}
@@ -29,7 +29,7 @@ pub record Piece : Type 0 where
 pub record Misplaced : Type 0 where
   pub before : List Piece
   pub path : List Step
-  pub needs : Expected
+  pub needs : ExpectedValue
 
 -- the text of a value in pieces, or its first value that has none
 abbrev pub Translation : Type 0
@@ -38,7 +38,7 @@ Translation = Result (List Piece) Misplaced
 abbrev pub own : List Step → List ℕ → Translation
 own path text = Ok (record { path = path; text = text } ∷ [])
 
-abbrev pub refused : List Step → Expected → Translation
+abbrev pub refused : List Step → ExpectedValue → Translation
 refused path needs = Err (record { before = []; path = path; needs = needs })
 
 -- one text after another
@@ -56,44 +56,44 @@ items_count (item j js) = suc (items_count js)
 abbrev pub at : List Step → Step → List Step
 at path step = path ++ step ∷ []
 
-abbrev pub boolean_text : Bool → Kind → List Step → Translation
+abbrev pub boolean_text : Bool → ValueKind → List Step → Translation
 boolean_text b Expression path = own path (if b then codes "TRUE" else codes "FALSE")
-boolean_text b kind path = refused path (expected kind)
+boolean_text b kind path = refused path (expected_value kind)
 
-abbrev pub number_text : List ℕ → Kind → List Step → Translation
-number_text s (Array form) path = refused path (expected (Array form))
+abbrev pub number_text : List ℕ → ValueKind → List Step → Translation
+number_text s (Array form) path = refused path (expected_value (Array form))
 number_text s kind path = own path s
 
-abbrev pub string_text : List ℕ → Kind → List Step → Translation
-string_text s Expression path = if is_printable s then own path (quoted 39 s) else refused path needed.Printable
-string_text s kind path = refused path (expected kind)
+abbrev pub string_text : List ℕ → ValueKind → List Step → Translation
+string_text s Expression path = if is_printable s then own path (quoted_text 39 s) else refused path needed.Printable
+string_text s kind path = refused path (expected_value kind)
 
 abbrev pub property_text : Json → List Step → Translation
-property_text (string name) path = if is_name name then own path (quoted 34 name) else refused path needed.Name
+property_text (string name) path = if is_name name then own path (quoted_text 34 name) else refused path needed.Name
 property_text value path = refused path needed.Name
 
 -- an operation, by its name, or a function, and then its arguments
-abbrev pub named_text : List ℕ → List Step → (Form → Translation) → Translation
-named_text name path arguments =
-    elim (operation_named name) [
-      | Some operation ↦ arguments (Operands operation)
+abbrev pub named_operation_text : List ℕ → List Step → (Form → Translation) → Translation
+named_operation_text name path arguments =
+    elim (operator_of_name name) [
+      | Some operator ↦ arguments (Operands operator)
       | None ↦ (if is_name name then own path name ▷ arguments Arguments else refused (at path (Member Op)) needed.Operator)
     ]
 
 abbrev pub operation_text : Json → List Step → (Form → Translation) → Translation
-operation_text (string name) path arguments = named_text name path arguments
+operation_text (string name) path arguments = named_operation_text name path arguments
 operation_text value path arguments = refused (at path (Member Op)) needed.Operator
 
 -- a geometry, by the name of its type, and then its coordinates
-abbrev pub tagged_text : List ℕ → List Step → (Form → Translation) → Translation
-tagged_text name path coordinates =
-    elim (geometry_named name) [
+abbrev pub named_geometry_text : List ℕ → List Step → (Form → Translation) → Translation
+named_geometry_text name path coordinates =
+    elim (geometry_type_of_name name) [
       | Some geometry ↦ own path (geometry_tag geometry) ▷ coordinates (coordinates_form geometry)
       | None ↦ refused (at path (Member TypeName)) needed.Geometry
     ]
 
 abbrev pub geometry_text : Json → List Step → (Form → Translation) → Translation
-geometry_text (string name) path coordinates = tagged_text name path coordinates
+geometry_text (string name) path coordinates = named_geometry_text name path coordinates
 geometry_text value path coordinates = refused (at path (Member TypeName)) needed.Geometry
 
 -- the text of an object with two members, out of those that it has if they are op and args, args and op, type and coordinates, or
@@ -111,7 +111,7 @@ enclosed form path values = own path (opening form) ▷ values ▷ own path (clo
 
 -- the text of the value at a path, which has to be of a kind
 unfoldable mutual
-  pub translation : Json → Kind → List Step → Translation
+  pub translation : Json → ValueKind → List Step → Translation
   translation (boolean b) kind path = boolean_text b kind path
   translation (number s) kind path = number_text s kind path
   translation (string s) kind path = string_text s kind path
@@ -119,7 +119,7 @@ unfoldable mutual
       if admits (count_of form) (items_count values) then enclosed form path (items_text values form path 0)
       else refused path (needed.Array (count_of form))
   translation (object ms) Expression path = object_text ms path
-  translation value kind path = refused path (expected kind)
+  translation value kind path = refused path (expected_value kind)
 
   -- the values of an array from an index on
   pub items_text : Items → Form → List Step → ℕ → Translation
@@ -132,13 +132,13 @@ unfoldable mutual
   object_text (member name value rest) path = members_text name value (λ kind step. translation value kind (at path step)) rest path
 
   -- the members of an object, of which the first is given
-  pub members_text : List ℕ → Json → (Kind → Step → Translation) → Members → List Step → Translation
+  pub members_text : List ℕ → Json → (ValueKind → Step → Translation) → Members → List Step → Translation
   members_text name value inner no_members path =
       if bytes_eq name (codes "property") then property_text value (at path (Member Property))
       else if bytes_eq name (codes "bbox") then inner (Array Box) (Member Bbox)
       else refused path needed.Object
   members_text name value inner (member other second no_members) path =
-      of_pair (pair_named name other) path
+      of_pair (pair_of_names name other) path
       (operation_text value path (λ form. translation second (Array form) (at path (Member Args))))
       (operation_text second path (λ form. inner (Array form) (Member Args)))
       (geometry_text value path (λ form. translation second (Array form) (at path (Member Coordinates))))

@@ -1,4 +1,7 @@
 //! Why JSON is not translated.
+//!
+//! A `JsonFault` is what callers see. A `Flaw` is the same without a JSON pointer: while values are written, the path to the one at fault is the
+//! writer's, and only the fault that is returned needs a pointer of its own.
 ghost use Rattle.std.specs.Prelude.{◌≡◌};
 ghost use Rattle.cql2_json.specs.Form.{admits};
 ghost use Rattle.cql2_json.specs.declared.fault.Flaw.TheVariants as flaw;
@@ -9,7 +12,7 @@ use thiserror::Error;
 
 /// How many values an array has to have. The derived text is for people.
 #[derive(Clone, Copy, Debug, PartialEq, Eq, Error)]
-pub enum Count {
+pub enum ItemCount {
     #[error("an array")]
     Any,
     #[error("an array of one value")]
@@ -28,27 +31,27 @@ pub enum Count {
     FourOrMore,
 }
 
-impl Count {
+impl ItemCount {
     /// Returns whether an array may have this many values.
     pub(crate) fn admits(self, count: usize) -> bool
         ensures { result ≡ admits self count }
     {
         match self {
-            Count::Any => true,
-            Count::One => count == 1,
-            Count::Two => count == 2,
-            Count::Three => count == 3,
-            Count::Four => count == 4,
-            Count::OneOrMore => count >= 1,
-            Count::TwoOrMore => count >= 2,
-            Count::FourOrMore => count >= 4,
+            ItemCount::Any => true,
+            ItemCount::One => count == 1,
+            ItemCount::Two => count == 2,
+            ItemCount::Three => count == 3,
+            ItemCount::Four => count == 4,
+            ItemCount::OneOrMore => count >= 1,
+            ItemCount::TwoOrMore => count >= 2,
+            ItemCount::FourOrMore => count >= 4,
         }
     }
 }
 
 /// The value that is expected in place of another. The derived text is for people.
 #[derive(Clone, Copy, Debug, PartialEq, Eq, Error)]
-pub enum Expected {
+pub enum ExpectedValue {
     #[error("true, false, a number, a string or an object")]
     Expression,
     #[error("an object with op and args, property, bbox, or type and coordinates")]
@@ -64,7 +67,7 @@ pub enum Expected {
     #[error("a number")]
     Number,
     #[error("{0}")]
-    Array(Count),
+    Array(ItemCount),
 }
 
 /// A flaw in a text that should be JSON. The derived text is for people.
@@ -82,7 +85,7 @@ pub enum JsonFlaw {
 #[derive(Clone, Copy, Debug, PartialEq, Eq, Error)]
 pub enum ValueFlaw {
     #[error("expected {0}")]
-    Expected(Expected),
+    Expected(ExpectedValue),
     #[error("the text of the filter has more than 1,048,576 bytes")]
     TooLong,
 }
@@ -118,7 +121,7 @@ impl<A: Allocator> From<AllocError> for JsonFault<A> {
 /// Why a value is not written. The path of the writer leads to the value at fault.
 #[derive(Clone, Copy, Drop)]
 pub(crate) enum Flaw {
-    Expected(Expected),
+    Expected(ExpectedValue),
     TooLong,
     Memory,
 }

@@ -1,14 +1,17 @@
 //! The forms of arrays: what text writes around and between their values, and what these are.
+//!
+//! Operands, lists and coordinates are all arrays in JSON, so one loop writes them, and their forms say how they differ. A form fixes the kind
+//! of each value, so a value is refused before any of it is written.
 ghost use Rattle.std.specs.Prelude.{◌≡◌};
-ghost use Rattle.cql2_json.specs.Form.{closing, count_of, expected, item_kind, opening, separator};
+ghost use Rattle.cql2_json.specs.Form.{closing, count_of, expected_value, item_kind, opening, separator};
 
-use crate::fault::{Count, Expected};
-use crate::operation::Operation;
+use crate::fault::{ExpectedValue, ItemCount};
+use crate::operator::JsonOperator;
 
 /// The form of an array.
 #[derive(Clone, Copy)]
 pub(crate) enum Form {
-    Operands(Operation),
+    Operands(JsonOperator),
     /// The arguments of a function.
     Arguments,
     /// The values of IN.
@@ -28,48 +31,48 @@ pub(crate) enum Form {
 
 /// What a value has to be.
 #[derive(Clone, Copy)]
-pub(crate) enum Kind {
+pub(crate) enum ValueKind {
     Expression,
     Number,
     Array(Form),
 }
 
-impl Kind {
+impl ValueKind {
     /// Returns what is expected in place of a value of another kind.
-    pub fn expected(self) -> Expected
-        ensures { result ≡ expected self }
+    pub fn expected_value(self) -> ExpectedValue
+        ensures { result ≡ expected_value self }
     {
         match self {
-            Kind::Expression => Expected::Expression,
-            Kind::Number => Expected::Number,
-            Kind::Array(form) => Expected::Array(form.count()),
+            ValueKind::Expression => ExpectedValue::Expression,
+            ValueKind::Number => ExpectedValue::Number,
+            ValueKind::Array(form) => ExpectedValue::Array(form.count()),
         }
     }
 }
 
 impl Form {
     /// Returns the number of values.
-    pub fn count(self) -> Count
+    pub fn count(self) -> ItemCount
         ensures { result ≡ count_of self }
     {
         match self {
-            Form::Operands(operation) => operation.operand_count(),
-            Form::Arguments => Count::Any,
+            Form::Operands(operator) => operator.operand_count(),
+            Form::Arguments => ItemCount::Any,
             Form::List | Form::MultiPoint | Form::MultiLine | Form::Polygon | Form::MultiPolygon =>
-                { Count::OneOrMore }
-            Form::Box => Count::Four,
-            Form::Position | Form::Point => Count::Two,
-            Form::Line => Count::TwoOrMore,
-            Form::Ring => Count::FourOrMore,
+                { ItemCount::OneOrMore }
+            Form::Box => ItemCount::Four,
+            Form::Position | Form::Point => ItemCount::Two,
+            Form::Line => ItemCount::TwoOrMore,
+            Form::Ring => ItemCount::FourOrMore,
         }
     }
 
     /// Returns the text before the first value.
-    pub fn open(self) -> &'static str
+    pub fn opening(self) -> &'static str
         ensures { result.now ≡ opening self }
     {
         match self {
-            Form::Operands(operation) => operation.open(),
+            Form::Operands(operator) => operator.opening(),
             Form::Box => "BBOX(",
             Form::Position => "",
             _ => "(",
@@ -84,10 +87,10 @@ impl Form {
             return "";
         }
         match self {
-            Form::Operands(operation) => if index == 1 {
-                operation.first_separator()
+            Form::Operands(operator) => if index == 1 {
+                operator.first_separator()
             } else {
-                operation.later_separator()
+                operator.later_separator()
             },
             Form::Position | Form::Point => " ",
             _ => ", ",
@@ -95,29 +98,29 @@ impl Form {
     }
 
     /// Returns the text after the last value.
-    pub fn close(self) -> &'static str
+    pub fn closing(self) -> &'static str
         ensures { result.now ≡ closing self }
     {
         match self {
-            Form::Operands(operation) => operation.close(),
+            Form::Operands(operator) => operator.closing(),
             Form::Position => "",
             _ => ")",
         }
     }
 
     /// Returns what the value at an index has to be.
-    pub fn item(self, index: usize) -> Kind
+    pub fn item(self, index: usize) -> ValueKind
         ensures { result ≡ item_kind self index }
     {
         match self {
-            Form::Operands(Operation::In) if index == 1 => Kind::Array(Form::List),
-            Form::Operands(_) | Form::Arguments | Form::List => Kind::Expression,
-            Form::Box | Form::Position | Form::Point => Kind::Number,
-            Form::MultiPoint => Kind::Array(Form::Point),
-            Form::Line | Form::Ring => Kind::Array(Form::Position),
-            Form::MultiLine => Kind::Array(Form::Line),
-            Form::Polygon => Kind::Array(Form::Ring),
-            Form::MultiPolygon => Kind::Array(Form::Polygon),
+            Form::Operands(JsonOperator::In) if index == 1 => ValueKind::Array(Form::List),
+            Form::Operands(_) | Form::Arguments | Form::List => ValueKind::Expression,
+            Form::Box | Form::Position | Form::Point => ValueKind::Number,
+            Form::MultiPoint => ValueKind::Array(Form::Point),
+            Form::Line | Form::Ring => ValueKind::Array(Form::Position),
+            Form::MultiLine => ValueKind::Array(Form::Line),
+            Form::Polygon => ValueKind::Array(Form::Ring),
+            Form::MultiPolygon => ValueKind::Array(Form::Polygon),
         }
     }
 }

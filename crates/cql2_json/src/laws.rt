@@ -6,7 +6,7 @@ ghost use Rattle.cql2_json.specs.Meets.{meets};
 ghost use Rattle.cql2_json.specs.Pointer.{value_at};
 ghost use Rattle.cql2_json.specs.Position.{BeginsCharacter, column_after, is_line_feed, offset_of};
 ghost use Rattle.cql2_json.specs.Translation.{Misplaced, Piece, filter_translation, path_at, text_of};
-ghost use Rattle.cql2_json.specs.declared.fault.Expected.TheVariants as needed;
+ghost use Rattle.cql2_json.specs.declared.fault.ExpectedValue.TheVariants as needed;
 ghost use Rattle.cql2_json.specs.declared.pointer.Member.TheVariants as member;
 ghost use Rattle.cql2_json.specs.declared.pointer.Step.{Step};
 ghost use Rattle.cql2_json.specs.declared.pointer.Step.TheVariants as step;

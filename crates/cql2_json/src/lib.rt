@@ -3,10 +3,10 @@
 
 mod fault;
 mod form;
-mod geometry;
+mod geometry_type;
 pub mod laws;
 mod members;
-mod operation;
+mod operator;
 mod pointer;
 mod position;
 mod quoted;
@@ -14,5 +14,5 @@ mod translation;
 mod value;
 mod writer;
 
-pub use fault::{Count, Expected, JsonFault, JsonFlaw, ValueFlaw};
+pub use fault::{ExpectedValue, ItemCount, JsonFault, JsonFlaw, ValueFlaw};
 pub use translation::{MAX_LENGTH, pointer_at, translate};

@@ -1,8 +1,8 @@
 //! The names of an object's members.
 ghost use Rattle.std.specs.Prelude.{◌≡◌};
-ghost use Rattle.cql2_json.specs.Members.{pair_named};
+ghost use Rattle.cql2_json.specs.Members.{pair_of_names};
 
-/// The two members of an object, by their names.
+/// The two members of an object, by their names. The members of an object are in no order, so there are two pairs of each kind.
 #[derive(Clone, Copy)]
 pub(crate) enum Pair {
     OpArgs,
@@ -14,8 +14,8 @@ pub(crate) enum Pair {
 
 impl Pair {
     /// Returns the pair with these names.
-    pub fn named(first: &str, second: &str) -> Pair
-        ensures { result ≡ pair_named first.now second.now }
+    pub fn of_names(first: &str, second: &str) -> Pair
+        ensures { result ≡ pair_of_names first.now second.now }
     {
         match first {
             "op" => if second == "args" {

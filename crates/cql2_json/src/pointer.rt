@@ -50,6 +50,7 @@ pub(crate) fn pointer<A: Allocator + Copy>(
     for step in steps {
         text.push(b'/')?;
         match *step {
+            // No name of a member has a character that a pointer escapes.
             Step::Member(member) => text.extend_from_slice(member.name().as_bytes())?,
             Step::Item(index) => {
                 let mut buffer = Buffer::new();

@@ -1,16 +1,16 @@
 //! Names and texts in quotes.
 ghost use Rattle.std.specs.Prelude.{◌≡◌, IfOk};
-ghost use Rattle.cql2_json.specs.Quoted.{is_name, is_name_byte, is_control, is_printable, quoted};
+ghost use Rattle.cql2_json.specs.Quoted.{is_name, is_name_byte, is_control, is_printable, quoted_text};
 
 use std::alloc::{AllocError, Allocator};
 
 /// Returns a text between two of these quotes. Each quote in the text is doubled.
-pub(crate) fn quoted<A: Allocator + Copy>(
+pub(crate) fn quoted_text<A: Allocator + Copy>(
     alloc: A,
     quote: u8,
     text: &str,
 ) -> Result<Vec<u8, A>, AllocError>
-    ensures { IfOk result (λ literal. literal.items ≡ quoted quote text.now) }
+    ensures { IfOk result (λ literal. literal.items ≡ quoted_text quote text.now) }
 {
     let mut literal = Vec::new(alloc);
     literal.push(quote)?;

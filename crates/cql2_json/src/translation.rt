@@ -1,4 +1,10 @@
-//! Translating JSON to text.
+//! Translating JSON to text, and finding the value that a character of the text is from.
+//!
+//! JSON is translated instead of parsed, so both encodings have one grammar and one compiler. Nobody sees the text, so a refusal of it is
+//! reported at the value that wrote the character at fault. No map from characters to values is kept: `pointer_at` translates again, up to that
+//! character, and the value that would pass this limit is the one.
+//!
+//! A text is one line without control characters, so a column alone finds a character.
 ghost use Rattle.std.specs.Prelude.{◌≡◌, ◌≤◌, ℕ, List, [], length, take, true, unwrap_or, IfOk, IfErr, MatchResult, Ok, Some};
 ghost use Rattle.std.specs.Str.{IsUtf8};
 ghost use Rattle.json.specs.Json.{Json, document};
@@ -12,7 +18,7 @@ ghost use Rattle.cql2_json.specs.Translation.{Piece, filter_translation, path_at
 ghost use Rattle.cql2_json.specs.declared.fault.JsonFault.TheVariants as json_fault;
 
 use crate::fault::{Flaw, JsonFault, JsonFlaw, ValueFlaw};
-use crate::form::Kind;
+use crate::form::ValueKind;
 use crate::pointer::{Step, pointer};
 use crate::position::{column_after, line_after, offset_of};
 use crate::writer::Writer;
@@ -116,7 +122,7 @@ fn text_of_value<A: Allocator + Copy>(
         path: Vec::new(alloc),
         limit,
     };
-    match writer.value(alloc, value, Kind::Expression) {
+    match writer.value(alloc, value, ValueKind::Expression) {
         Ok(()) => Ok(writer.text),
         Err(Flaw::Memory) => Err(JsonFault::Memory),
         Err(Flaw::TooLong) => Err(value_fault(alloc, &writer.path, ValueFlaw::TooLong)),

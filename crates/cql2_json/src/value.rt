@@ -1,18 +1,25 @@
-//! Writing values.
+//! Writing JSON values as text, a method for each rule of the JSON encoding (CQL2, 21-065r2, annex C).
+//!
+//! A value is written as soon as its kind is known to fit. No filter is built here, as the parser of the text does that. The methods call each
+//! other as deep as the JSON is nested, which the reader of JSON limits.
+//!
+//! Between two calls, the text is that of the values written so far and within its limit, and the path leads to the value that is being written.
+//! A fault leaves the path at the value at fault, so nothing is searched for its JSON pointer.
 ghost use Rattle.json.specs.Json.{member, no_members};
 ghost use Rattle.json.specs.Value.{value_view, items_view, members_view};
 ghost use Rattle.cql2_json.specs.Translation.{arguments_text, array_text, at, boolean_text, coordinates_text, geometry_text, items_text};
-ghost use Rattle.cql2_json.specs.Translation.{named_text, number_text, object_text, operation_text, property_text, string_text, tagged_text, translation};
+ghost use Rattle.cql2_json.specs.Translation.{named_geometry_text, named_operation_text, number_text, object_text, operation_text};
+ghost use Rattle.cql2_json.specs.Translation.{property_text, string_text, translation};
 ghost use Rattle.cql2_json.specs.Writer.{IsWithin, Writes};
 ghost use Rattle.cql2_json.specs.declared.pointer.Step.TheVariants as step_to;
 
-use crate::fault::{Expected, Flaw};
-use crate::form::{Form, Kind};
-use crate::geometry::Geometry;
+use crate::fault::{ExpectedValue, Flaw};
+use crate::form::{Form, ValueKind};
+use crate::geometry_type::GeometryType;
 use crate::members::Pair;
-use crate::operation::Operation;
+use crate::operator::JsonOperator;
 use crate::pointer::{Member, Step};
-use crate::quoted::{is_name, is_printable, quoted};
+use crate::quoted::{is_name, is_printable, quoted_text};
 use crate::writer::Writer;
 use json::Value;
 use std::alloc::Allocator;
@@ -21,22 +28,26 @@ impl<A: Allocator + Copy> Writer<A> {
     /// Writes a value that has to be of this kind.
     #[cycle(value)]
     #[tactic(auto, unfolding(crate::specs::Translation::translation))]
-    pub fn value(&mut self, alloc: A, value: &Value<'_, A>, kind: Kind) -> Result<(), Flaw>
+    pub fn value(&mut self, alloc: A, value: &Value<'_, A>, kind: ValueKind) -> Result<(), Flaw>
         requires { IsWithin self.old }
         ensures { Writes self.old (translation (value_view value.now) kind self.old.path.items) self.new result }
     {
         match value {
-            Value::Null => Err(Flaw::Expected(kind.expected())),
+            Value::Null => Err(Flaw::Expected(kind.expected_value())),
             Value::Bool(value) => self.boolean(*value, kind),
             Value::Number(number) => self.number(number, kind),
             Value::String(text) => self.string(alloc, text, kind),
             Value::Array(values) => match kind {
-                Kind::Array(form) => self.array(alloc, values, form),
-                Kind::Expression | Kind::Number => Err(Flaw::Expected(kind.expected())),
+                ValueKind::Array(form) => self.array(alloc, values, form),
+                ValueKind::Expression | ValueKind::Number => Err(Flaw::Expected(
+                    kind.expected_value(),
+                )),
             },
             Value::Object(members) => match kind {
-                Kind::Expression => self.object(alloc, members),
-                Kind::Number | Kind::Array(_) => Err(Flaw::Expected(kind.expected())),
+                ValueKind::Expression => self.object(alloc, members),
+                ValueKind::Number | ValueKind::Array(_) => Err(Flaw::Expected(
+                    kind.expected_value(),
+                )),
             },
         }
     }
@@ -49,11 +60,11 @@ impl<A: Allocator + Copy> Writer<A> {
         ensures { Writes self.old (array_text (items_view values.now.items) form self.old.path.items) self.new result }
     {
         if !form.count().admits(values.len()) {
-            return Err(Flaw::Expected(Expected::Array(form.count())));
+            return Err(Flaw::Expected(ExpectedValue::Array(form.count())));
         }
-        self.put(form.open().as_bytes())?;
+        self.put(form.opening().as_bytes())?;
         self.items(alloc, values, form)?;
-        self.put(form.close().as_bytes())
+        self.put(form.closing().as_bytes())
     }
 
     /// Writes the values of an array of this form.
@@ -73,7 +84,13 @@ impl<A: Allocator + Copy> Writer<A> {
 
     /// Writes a value in the one at the path.
     #[cycle(value)]
-    fn part(&mut self, alloc: A, step: Step, value: &Value<'_, A>, kind: Kind) -> Result<(), Flaw>
+    fn part(
+        &mut self,
+        alloc: A,
+        step: Step,
+        value: &Value<'_, A>,
+        kind: ValueKind,
+    ) -> Result<(), Flaw>
         requires { IsWithin self.old }
         ensures { Writes self.old (translation (value_view value.now) kind (at self.old.path.items step)) self.new result }
     {
@@ -91,14 +108,14 @@ impl<A: Allocator + Copy> Writer<A> {
     {
         match members.as_slice() {
             [one] => self.one_member(alloc, one.0, &one.1),
-            [first, second] => match Pair::named(first.0, second.0) {
+            [first, second] => match Pair::of_names(first.0, second.0) {
                 Pair::OpArgs => self.operation(alloc, &second.1, &first.1),
                 Pair::ArgsOp => self.operation(alloc, &first.1, &second.1),
                 Pair::TypeCoordinates => self.geometry(alloc, &second.1, &first.1),
                 Pair::CoordinatesType => self.geometry(alloc, &first.1, &second.1),
-                Pair::Other => Err(Flaw::Expected(Expected::Object)),
+                Pair::Other => Err(Flaw::Expected(ExpectedValue::Object)),
             },
-            _ => Err(Flaw::Expected(Expected::Object)),
+            _ => Err(Flaw::Expected(ExpectedValue::Object)),
         }
     }
 
@@ -112,10 +129,10 @@ impl<A: Allocator + Copy> Writer<A> {
         match name {
             "property" => self.property(alloc, value),
             "bbox" => {
-                let kind = Kind::Array(Form::Box);
+                let kind = ValueKind::Array(Form::Box);
                 self.part(alloc, Step::Member(Member::Bbox), value, kind)
             }
-            _ => Err(Flaw::Expected(Expected::Object)),
+            _ => Err(Flaw::Expected(ExpectedValue::Object)),
         }
     }
 
@@ -133,31 +150,31 @@ impl<A: Allocator + Copy> Writer<A> {
             self.new result }
     {
         match name {
-            Value::String(name) => self.named(alloc, operands, name),
-            _ => Err(self.refuse(Step::Member(Member::Op), Expected::Operator)),
+            Value::String(name) => self.named_operation(alloc, operands, name),
+            _ => Err(self.refuse(Step::Member(Member::Op), ExpectedValue::Operator)),
         }
     }
 
     /// Writes the operation or the function with this name.
     #[cycle(value)]
-    fn named(&mut self, alloc: A, operands: &Value<'_, A>, name: &str) -> Result<(), Flaw>
+    fn named_operation(&mut self, alloc: A, operands: &Value<'_, A>, name: &str) -> Result<(), Flaw>
         requires { IsWithin self.old }
         ensures { Writes self.old
-            (named_text name.now self.old.path.items (arguments_text (value_view operands.now) self.old.path.items))
+            (named_operation_text name.now self.old.path.items (arguments_text (value_view operands.now) self.old.path.items))
             self.new result }
     {
         let args = Step::Member(Member::Args);
-        match Operation::named(name) {
-            Some(operation) => {
-                let kind = Kind::Array(Form::Operands(operation));
+        match JsonOperator::of_name(name) {
+            Some(operator) => {
+                let kind = ValueKind::Array(Form::Operands(operator));
                 self.part(alloc, args, operands, kind)
             }
             None => {
                 if !is_name(name) {
-                    return Err(self.refuse(Step::Member(Member::Op), Expected::Operator));
+                    return Err(self.refuse(Step::Member(Member::Op), ExpectedValue::Operator));
                 }
                 self.put(name.as_bytes())?;
-                self.part(alloc, args, operands, Kind::Array(Form::Arguments))
+                self.part(alloc, args, operands, ValueKind::Array(Form::Arguments))
             }
         }
     }
@@ -176,26 +193,31 @@ impl<A: Allocator + Copy> Writer<A> {
             self.new result }
     {
         match name {
-            Value::String(name) => self.tagged(alloc, coordinates, name),
-            _ => Err(self.refuse(Step::Member(Member::TypeName), Expected::Geometry)),
+            Value::String(name) => self.named_geometry(alloc, coordinates, name),
+            _ => Err(self.refuse(Step::Member(Member::TypeName), ExpectedValue::Geometry)),
         }
     }
 
     /// Writes the geometry of the type with this name.
     #[cycle(value)]
-    fn tagged(&mut self, alloc: A, coordinates: &Value<'_, A>, name: &str) -> Result<(), Flaw>
+    fn named_geometry(
+        &mut self,
+        alloc: A,
+        coordinates: &Value<'_, A>,
+        name: &str,
+    ) -> Result<(), Flaw>
         requires { IsWithin self.old }
         ensures { Writes self.old
-            (tagged_text name.now self.old.path.items (coordinates_text (value_view coordinates.now) self.old.path.items))
+            (named_geometry_text name.now self.old.path.items (coordinates_text (value_view coordinates.now) self.old.path.items))
             self.new result }
     {
-        match Geometry::named(name) {
+        match GeometryType::of_name(name) {
             Some(geometry) => {
                 self.put(geometry.tag().as_bytes())?;
-                let kind = Kind::Array(geometry.coordinates());
+                let kind = ValueKind::Array(geometry.coordinates());
                 self.part(alloc, Step::Member(Member::Coordinates), coordinates, kind)
             }
-            None => Err(self.refuse(Step::Member(Member::TypeName), Expected::Geometry)),
+            None => Err(self.refuse(Step::Member(Member::TypeName), ExpectedValue::Geometry)),
         }
     }
 
@@ -219,49 +241,49 @@ impl<A: Allocator + Copy> Writer<A> {
         match name {
             Value::String(name) => {
                 if !is_name(name) {
-                    return Err(Flaw::Expected(Expected::Name));
+                    return Err(Flaw::Expected(ExpectedValue::Name));
                 }
-                self.put(&quoted(alloc, b'"', name)?)
+                self.put(&quoted_text(alloc, b'"', name)?)
             }
-            _ => Err(Flaw::Expected(Expected::Name)),
+            _ => Err(Flaw::Expected(ExpectedValue::Name)),
         }
     }
 
     /// Writes a truth value.
-    fn boolean(&mut self, value: bool, kind: Kind) -> Result<(), Flaw>
+    fn boolean(&mut self, value: bool, kind: ValueKind) -> Result<(), Flaw>
         requires { IsWithin self.old }
         ensures { Writes self.old (boolean_text value kind self.old.path.items) self.new result }
     {
         match kind {
-            Kind::Expression => self.put(if value { b"TRUE" } else { b"FALSE" }),
-            Kind::Number | Kind::Array(_) => Err(Flaw::Expected(kind.expected())),
+            ValueKind::Expression => self.put(if value { b"TRUE" } else { b"FALSE" }),
+            ValueKind::Number | ValueKind::Array(_) => Err(Flaw::Expected(kind.expected_value())),
         }
     }
 
     /// Writes a number.
-    fn number(&mut self, number: &str, kind: Kind) -> Result<(), Flaw>
+    fn number(&mut self, number: &str, kind: ValueKind) -> Result<(), Flaw>
         requires { IsWithin self.old }
         ensures { Writes self.old (number_text number.now kind self.old.path.items) self.new result }
     {
         match kind {
-            Kind::Expression | Kind::Number => self.put(number.as_bytes()),
-            Kind::Array(_) => Err(Flaw::Expected(kind.expected())),
+            ValueKind::Expression | ValueKind::Number => self.put(number.as_bytes()),
+            ValueKind::Array(_) => Err(Flaw::Expected(kind.expected_value())),
         }
     }
 
     /// Writes a string.
-    fn string(&mut self, alloc: A, text: &str, kind: Kind) -> Result<(), Flaw>
+    fn string(&mut self, alloc: A, text: &str, kind: ValueKind) -> Result<(), Flaw>
         requires { IsWithin self.old }
         ensures { Writes self.old (string_text text.now kind self.old.path.items) self.new result }
     {
         match kind {
-            Kind::Expression => {
+            ValueKind::Expression => {
                 if !is_printable(text) {
-                    return Err(Flaw::Expected(Expected::Printable));
+                    return Err(Flaw::Expected(ExpectedValue::Printable));
                 }
-                self.put(&quoted(alloc, b'\'', text)?)
+                self.put(&quoted_text(alloc, b'\'', text)?)
             }
-            Kind::Number | Kind::Array(_) => Err(Flaw::Expected(kind.expected())),
+            ValueKind::Number | ValueKind::Array(_) => Err(Flaw::Expected(kind.expected_value())),
         }
     }
 }

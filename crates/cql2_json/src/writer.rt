@@ -4,7 +4,7 @@ ghost use Rattle.cql2_json.specs.Translation.{own, refused};
 ghost use Rattle.cql2_json.specs.Writer.{Writes, IsWithin};
 ghost use Rattle.cql2_json.specs.declared.pointer.Step.{Step as AStep};
 
-use crate::fault::{Expected, Flaw};
+use crate::fault::{ExpectedValue, Flaw};
 use crate::pointer::Step;
 use std::alloc::{AllocError, Allocator};
 
@@ -48,7 +48,7 @@ impl<A: Allocator> Writer<A> {
     }
 
     /// Refuses the value that a step leads to.
-    pub fn refuse(&mut self, step: Step, expected: Expected) -> Flaw
+    pub fn refuse(&mut self, step: Step, expected: ExpectedValue) -> Flaw
         requires { IsWithin self.old }
         ensures { Writes self.old (refused (self.old.path.items ++ step ∷ []) expected) self.new (Err result) }
     {

@@ -3,7 +3,7 @@ use crate::function_texts::{push_bytes, push_function};
 use cql2::{
     Column, Comparison, Expression, Filter, Folding, NumericColumn, Operator, Pattern, PatternPart,
 };
-use cql2_text::{Expected, FilterFault, FilterFaultKind, column_named, read};
+use cql2_text::{Construct, FilterFault, FilterFaultKind, column_named, read};
 use fixtures::{Table, TableFault, bytes, cells};
 use refusals::Fault;
 use std::alloc::{AllocError, Global};
@@ -476,7 +476,7 @@ fn bad_bytes(rt: HostRuntime) {
     let fault = FilterFault::At {
         line: 2,
         column: 3,
-        flaw: FilterFaultKind::Syntax(Expected::Utf8),
+        flaw: FilterFaultKind::Syntax(Construct::Utf8),
     };
     let given = read(rt.alloc(), b"\n'\xc3\xa9\xff'").err();
     assert!(rt; given == Some(fault));

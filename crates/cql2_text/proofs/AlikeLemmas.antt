@@ -7,7 +7,7 @@ use Rattle.cql2.specs.declared.column.Column.TheVariants as column
 use Rattle.cql2.specs.declared.expression.Expression.{Expression}
 use Rattle.cql2.specs.declared.expression.Number.{Number as ANumber}
 use Rattle.cql2.specs.declared.expression.Operator.{Operator}
-use Rattle.cql2_text.specs.Compared.{SpellsAmong, SpellsBetween, SpellsCompared, SpellsNumbers, SpellsOfNumber, among, comparison, mirrored, not_among}
+use Rattle.cql2_text.specs.Compared.{SpellsAmong, SpellsBetween, SpellsCompared, SpellsNumbers, SpellsOfNumber, among, comparison, converse, not_among}
 use Rattle.cql2_text.specs.Compared as compared_of
 use Rattle.cql2_text.specs.Expression.{Chain, Factor, IsExpression, SpellsNumber, begins_number, goes_on, operator_of}
 use Rattle.cql2_text.specs.Expression.{Production as NumberProduction}
@@ -37,11 +37,11 @@ use Rattle.cql2_text.specs.Predicate.{width_of}
 use Rattle.cql2_text.specs.Predicate.{one, more, is_like, is_in_list, binary_comparison, with_column, with_literal}
 use Rattle.cql2_text.specs.Predicate.{negatable, negated, null_test, is_null, is_not_null}
 use Rattle.cql2_text.specs.Predicate.{of_subject, of_number, number_null, text_first, text_compared, text_among, text_not_among, text_in_list}
-use Rattle.cql2_text.specs.Predicate.{IsTextLiteral, SpellsExchanged, SpellsOfText, SpellsTextAmong}
+use Rattle.cql2_text.specs.Predicate.{IsTextLiteral, SpellsExchangedComparison, SpellsOfText, SpellsTextAmong}
 use Rattle.cql2_text.specs.declared.unit.Unit.{Unit}
 use Rattle.cql2_text.specs.declared.unit.Unit.TheVariants.{Degrees, Femtodegrees, Whole}
-use Rattle.cql2_text.specs.declared.predicate.Subject.{Subject}
-use Rattle.cql2_text.specs.declared.predicate.Subject.TheVariants as subject
+use Rattle.cql2_text.specs.declared.predicate.CharacterExpression.{CharacterExpression}
+use Rattle.cql2_text.specs.declared.predicate.CharacterExpression.TheVariants as subject
 use Rattle.cql2_tokens.specs.declared.token.Keyword.TheVariants as word
 use Rattle.cql2_tokens.specs.declared.token.Numeral.{Numeral}
 use Rattle.cql2_tokens.specs.declared.token.Sign.TheVariants.{Minus, Plus}
@@ -465,7 +465,7 @@ moved-column c words others rest alike is =
     let first = first-by words others _ rest alike is refl in
     record { after = first.later; alike = first.alike; is = first.is }
 
-moved-subject : (s : Subject) (words others rest : List Token) → AreLike words others → IsSubject s words rest
+moved-subject : (s : CharacterExpression) (words others rest : List Token) → AreLike words others → IsSubject s words rest
     → Moved (λ w r. IsSubject s w r) others rest
 moved-subject (subject.Text c) words others rest alike is = moved-column c words others rest alike is
 moved-subject (subject.Folded folding c) words others rest alike is =
@@ -518,7 +518,7 @@ module _ {A : Type 0} where
       let first = same-first (Column (column.Text other)) rest others refl alike in
       moved-at _ others _ rest first.is (record { after = first.later; alike = first.alike; is = with_column })
 
-  moved-comparison : (s : Subject) (k : Comparison) (words others rest : List Token) (made : Filter A) → AreLike words others
+  moved-comparison : (s : CharacterExpression) (k : Comparison) (words others rest : List Token) (made : Filter A) → AreLike words others
       → SpellsComparison s k words rest made → Moved (λ w r. SpellsComparison s k w r made) others rest
   moved-comparison (subject.Text c) k words others rest made alike is = moved-text-comparison c k words others rest made alike is
   moved-comparison (subject.Folded folding c) Equal words others rest made alike is =
@@ -544,7 +544,7 @@ module _ {A : Type 0} where
       let item = move middle between.later rest second between.alike is in
       record { after = item.after; alike = item.alike; is = more (rw between.is at before.is) item.is joined }
 
-  moved-like : (s : Subject) (words others rest : List Token) (made : Filter A) → AreLike words others → SpellsLike s words rest made
+  moved-like : (s : CharacterExpression) (words others rest : List Token) (made : Filter A) → AreLike words others → SpellsLike s words rest made
       → Moved (λ w r. SpellsLike s w r made) others rest
   moved-like (subject.Text c) words others rest made alike is =
       let pattern = moved-pattern c nothing words others rest is.0 alike is.1 in
@@ -556,7 +556,7 @@ module _ {A : Type 0} where
       let moved = moved-clause Inner folding words others rest move alike is.1 in
       record { after = moved.after; alike = moved.alike; is = (is.0, moved.is, is.2) }
 
-  moved-negatable : (s : Subject) (words others rest : List Token) (made : Filter A) → AreLike words others
+  moved-negatable : (s : CharacterExpression) (words others rest : List Token) (made : Filter A) → AreLike words others
       → SpellsNegatable s words rest made → Moved (λ w r. SpellsNegatable s w r made) others rest
   moved-negatable s _ others rest made alike (is_like {words = words} is) =
       moved-after (Keyword word.Like) words others rest refl alike (λ later also. moved-like s words later rest made also is)
@@ -581,7 +581,7 @@ module _ {A : Type 0} where
       moved-at _ others _ rest (first.is ∙ ap (λ (l : List Token). Keyword word.Not ∷ l) second.is)
       (record { after = second.later; alike = second.alike; is = is_not_null inverted })
 
-  moved-of : (s : Subject) (words others rest : List Token) (made : Filter A) → AreLike words others → SpellsOf s words rest made
+  moved-of : (s : CharacterExpression) (words others rest : List Token) (made : Filter A) → AreLike words others → SpellsOf s words rest made
       → Moved (λ w r. SpellsOf s w r made) others rest
   moved-of s _ others rest made alike (binary_comparison {comparison = k} {words = words} is) =
       moved-after (Compared k) words others rest refl alike (λ later also. moved-comparison s k words later rest made also is)
@@ -617,10 +617,10 @@ moved-text-literal words others rest alike is =
 
 module _ {A : Type 0} (start others : List Token) (alike : AreLike start others) where
   moved-exchanged : (k : Comparison) (words later rest : List Token) (made : Filter A) → AreLike words later
-      → SpellsExchanged start k words rest made → Moved (λ w r. SpellsExchanged others k w r made) later rest
+      → SpellsExchangedComparison start k words rest made → Moved (λ w r. SpellsExchangedComparison others k w r made) later rest
   moved-exchanged k words later rest made also is =
       let first = moved-subject is.s words later rest also is.is_subject in
-      let second = moved-comparison is.s (mirrored k) start others is.after made alike is.is_comparison in
+      let second = moved-comparison is.s (converse k) start others is.after made alike is.is_comparison in
       record {
         after = first.after;
         alike = first.alike;
@@ -632,7 +632,7 @@ module _ {A : Type 0} (start others : List Token) (alike : AreLike start others)
   moved-text-among _ later rest made also (text_in_list {words = words} is) =
       let first = same-first (Keyword word.In) (Open ∷ words) later refl also in
       let second = same-first Open words first.later refl first.alike in
-      let inner = moved-list (SpellsExchanged start Equal) (SpellsExchanged others Equal) words second.later (Close ∷ rest) made
+      let inner = moved-list (SpellsExchangedComparison start Equal) (SpellsExchangedComparison others Equal) words second.later (Close ∷ rest) made
       (moved-exchanged Equal) second.alike is in
       let closed = same-first Close rest inner.after refl inner.alike in
       moved-at _ later _ rest (first.is ∙ ap (λ (l : List Token). Keyword word.In ∷ l) second.is)

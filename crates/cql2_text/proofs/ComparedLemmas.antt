@@ -7,8 +7,8 @@ use Rattle.cql2.specs.declared.expression.Number.{Number}
 use Rattle.cql2.specs.declared.filter.Comparison.{Comparison}
 use Rattle.cql2.specs.declared.filter.Comparison.TheVariants.{Equal}
 use Rattle.cql2.specs.declared.filter.Filter.{Filter}
-use Rattle.cql2_text.specs.Compared.{SpellsAmong, SpellsBetween, SpellsCompared, SpellsNumbers, SpellsOfNumber, compared, compared_as, first_column}
-use Rattle.cql2_text.specs.Compared.{among, comparison, is_between, is_in_list, mirrored, more, not_among, one, or_else}
+use Rattle.cql2_text.specs.Compared.{SpellsAmong, SpellsBetween, SpellsCompared, SpellsNumbers, SpellsOfNumber, comparison_of, compared_as, first_column}
+use Rattle.cql2_text.specs.Compared.{among, comparison, is_between, is_in_list, converse, more, not_among, one, or_else}
 use Rattle.cql2_text.specs.Connective.{IsEither, IsNot}
 use Rattle.cql2_text.specs.ReadNumber.{IsNotFirst}
 use Rattle.cql2_text.specs.Content.{CompareNumber, CompareNumbers, Content, content}
@@ -26,7 +26,7 @@ use Rattle.cql2_text.proofs.ScanLemmas.{expression-column, expression-ends}
 
 abbrev compared_content : ExpressionContent → Comparison → ExpressionContent → Content
 compared_content (Column column) sign (Literal number) = CompareNumber column sign number
-compared_content (Literal number) sign (Column column) = CompareNumber column (mirrored sign) number
+compared_content (Literal number) sign (Column column) = CompareNumber column (converse sign) number
 compared_content first sign second = CompareNumbers first sign second
 
 module _ {A : Type 0} (first second : Number A) (k : Comparison) where
@@ -49,14 +49,14 @@ module _ {A : Type 0} (first second : Number A) (k : Comparison) where
   compared-by (expression.Combined' n r before s after) (expression.Negated' p another) is also = rw (is, also) refl
   compared-by (expression.Combined' n r before s after) (expression.Combined' o p left q right) is also = rw (is, also) refl
 
-  compared-content : content (compared first k second)
+  compared-content : content (comparison_of first k second)
       ≡ compared_content (expression_content first.expression) k (expression_content second.expression)
   compared-content = compared-by first.expression second.expression refl refl
 
 module _ {A : Type 0} (first second left right : Number A) (k : Comparison) where
   pub same-compared : expression_content first.expression ≡ expression_content left.expression
       → expression_content second.expression ≡ expression_content right.expression
-      → content (compared first k second) ≡ content (compared left k right)
+      → content (comparison_of first k second) ≡ content (comparison_of left k right)
   same-compared same also =
       compared-content first second k
       ∙ ap (λ (e : ExpressionContent). compared_content e k (expression_content second.expression)) same
@@ -75,7 +75,7 @@ module _ {A : Type 0} (start words «end» rest : List Token) (first second : Nu
 
 module _ {A : Type 0} (start «end» after words rest : List Token) (k : Comparison) (first second : Number A) (made : Filter A) where
   pub compared-at : {unit : AUnit} → after ≡ «end» → unit ≡ unit_of (or_else (first_column first.expression) (first_column second.expression))
-      → IsExpression unit start after first → IsExpression unit words rest second → made ≡ compared first k second
+      → IsExpression unit start after first → IsExpression unit words rest second → made ≡ comparison_of first k second
       → SpellsCompared start «end» k words rest made
   compared-at {unit = unit} same in_unit is_first is_second is =
       record {
@@ -94,7 +94,7 @@ pub record ComparedIn {A : Type 0} (unit : AUnit) (start «end» : List Token) (
   pub second : Number A
   pub is_first : IsExpression unit start «end» first
   pub is_second : IsExpression unit words rest second
-  pub is : made ≡ compared first k second
+  pub is : made ≡ comparison_of first k second
 
 module _ {A : Type 0} (start «end» words rest : List Token) (k : Comparison) (made : Filter A) where
   -- a spelled comparison is one in the unit that the columns ahead give

@@ -5,7 +5,7 @@ use Rattle.std.proofs.lemmas.Int.{fits_signed_from_abs, to_z-of_z}
 use Rattle.cql2.specs.Geometry.{Point as APoint, point_of}
 use Rattle.cql2.specs.declared.geometry.Vertex.{Vertex}
 use Rattle.cql2_text.specs.Geometry.{AreCorners, AreItems, ArePolygons, Box, InParentheses, IsBox, IsCoordinate, IsCorner, IsLine, IsPolygon}
-use Rattle.cql2_text.specs.Geometry.{IsPosition, IsRing, ShapeContent, SpellsShape, SpellsTagged, more, one, points_of}
+use Rattle.cql2_text.specs.Geometry.{IsPosition, IsRing, ShapeContent, SpellsShape, SpellsTaggedShape, more, one, points_of}
 use Rattle.cql2_text.specs.Number.{coordinate_of}
 use Rattle.cql2_text.specs.Numeral.{IsNumeral}
 use Rattle.cql2_text.specs.declared.fault.FilterFaultKind.{FilterFaultKind}
@@ -351,7 +351,7 @@ moved-box words others rest box alike is =
 
 -- Shapes
 
-tagged-shorter : (t : ShapeTag) (words rest : List Token) (content : ShapeContent) → SpellsTagged t words rest content
+tagged-shorter : (t : ShapeTag) (words rest : List Token) (content : ShapeContent) → SpellsTaggedShape t words rest content
     → length rest < length words
 tagged-shorter tag.Point words rest content is = parentheses-shorter IsPosition position-shorter words rest is.0 is.1
 tagged-shorter tag.LineString words rest content is = positions-shorter words rest is.0 is.1.positions
@@ -363,7 +363,7 @@ pub shape-shorter : (words rest : List Token) (content : ShapeContent) → Spell
 shape-shorter words rest content is = omega (arith, ap length is.tagged, tagged-shorter is.tag is.inner rest content is.spelled)
 
 moved-tagged : (t : ShapeTag) (words others rest : List Token) (content : ShapeContent) → AreLike words others
-    → SpellsTagged t words rest content → Moved (λ w r. SpellsTagged t w r content) others rest
+    → SpellsTaggedShape t words rest content → Moved (λ w r. SpellsTaggedShape t w r content) others rest
 moved-tagged tag.Point words others rest content alike is =
     let moved = moved-parentheses IsPosition moved-position words others rest is.0 alike is.1 in
     record { after = moved.after; alike = moved.alike; is = (is.0, moved.is, is.2) }

@@ -1,7 +1,7 @@
 -- Tokens that differ only in where their bytes are in memory spell the same filter.
 use Rattle.std.proofs.Common.{ℕ, List, [], ◌∷◌, refl, sym, ◌∙◌}
 use Rattle.cql2.specs.declared.filter.Filter.{Filter}
-use Rattle.cql2_text.specs.Leaf.{SpellsPredicate, false_literal, function, relation, true_literal}
+use Rattle.cql2_text.specs.Spelled.{SpellsPredicate, false_literal, function, relation, true_literal}
 use Rattle.cql2_text.specs.Spelled.{Production, Spells, one_term, either, one_factor, both, one_primary, not_primary, grouped, predicate}
 use Rattle.cql2_tokens.specs.Alike.{AreLike, next, same}
 use Rattle.cql2_tokens.specs.declared.token.Keyword.TheVariants as word

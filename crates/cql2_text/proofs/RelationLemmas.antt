@@ -13,8 +13,8 @@ use Rattle.cql2_text.specs.Numeral.{IsNumeral, negative, positive, unsigned}
 use Rattle.cql2_text.specs.Predicate.{IsSubject, IsTextLiteral, SpellsNull, SpellsOf, SpellsOfText, SpellsRelation}
 use Rattle.cql2_text.specs.Predicate.{of_number, number_null, of_subject, text_first}
 use Rattle.cql2_text.specs.Scan.{begins_operand}
-use Rattle.cql2_text.specs.declared.predicate.Subject.{Subject}
-use Rattle.cql2_text.specs.declared.predicate.Subject.TheVariants as subject
+use Rattle.cql2_text.specs.declared.predicate.CharacterExpression.{CharacterExpression}
+use Rattle.cql2_text.specs.declared.predicate.CharacterExpression.TheVariants as subject
 use Rattle.cql2_text.specs.declared.unit.Unit.{Unit as AUnit}
 use Rattle.cql2_tokens.specs.declared.token.Keyword.TheVariants as word
 use Rattle.cql2_tokens.specs.declared.token.Numeral.{Numeral}
@@ -44,7 +44,7 @@ literal-operand _ _ _ _ after spelling is (accenti opens) = refl
 text-operand : (words rest : List Token) → IsTextLiteral words rest → begins_operand words ≡ false
 text-operand words rest is = literal-operand is.depth is.folding words is.inner (closed is.depth rest) is.inside.spelling is.inside.is is.opens
 
-no-subject : (s : Subject) (words middle : List Token) → IsSubject s words middle → begins_operand words ≡ true → ⊥
+no-subject : (s : CharacterExpression) (words middle : List Token) → IsSubject s words middle → begins_operand words ≡ true → ⊥
 no-subject (subject.Text c) words middle is begins =
     let e : begins_operand (Column (column.Text c) ∷ middle) ≡ true = rw is at begins in cc e
 no-subject (subject.Folded folding c) words middle is begins =
@@ -87,7 +87,7 @@ module _ {A : Type 0} where
 
   -- a predicate about a subject
   pub record IsOfSubject (words rest : List Token) (made : Filter A) : Type 0 where
-    pub s : Subject
+    pub s : CharacterExpression
     pub middle : List Token
     pub is_subject : IsSubject s words middle
     pub is_of : SpellsOf s middle rest made
@@ -120,7 +120,7 @@ module _ {A : Type 0} where
       absurd (is-number-of (subst (λ (w : List Token). SpellsOfNumber start middle w rest made) (sym ends) is))
 
   pub relation-text : (words rest : List Token) (made : Filter A) → begins_operand words ≡ false
-      → ((s : Subject) (middle : List Token) → IsSubject s words middle → ⊥) → SpellsRelation words rest made → IsTextFirst words rest made
+      → ((s : CharacterExpression) (middle : List Token) → IsSubject s words middle → ⊥) → SpellsRelation words rest made → IsTextFirst words rest made
   relation-text words rest made stop none (of_subject {s = s} {middle = middle} known is) = absurd (none s middle known)
   relation-text words rest made stop none (text_first {middle = middle} begun is) =
       record { middle = middle; literal = begun; is_of = is }

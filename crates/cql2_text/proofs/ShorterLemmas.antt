@@ -13,12 +13,12 @@ use Rattle.cql2_text.specs.Predicate.{SpellsLike, SpellsList, SpellsNegatable, S
 use Rattle.cql2_text.specs.Clause.{IsClause, Opens, accenti, casei, closed, inside}
 use Rattle.cql2_text.specs.Predicate.{one, more, is_like, is_in_list, binary_comparison, with_column, with_literal}
 use Rattle.cql2_text.specs.Predicate.{negatable, negated, null_test, is_null, is_not_null}
-use Rattle.cql2_text.specs.Leaf.{SpellsPredicate, false_literal, function, relation, true_literal}
+use Rattle.cql2_text.specs.Spelled.{SpellsPredicate, false_literal, function, relation, true_literal}
 use Rattle.cql2_text.specs.Predicate.{of_subject, of_number, number_null, text_first, text_compared, text_among, text_not_among, text_in_list}
-use Rattle.cql2_text.specs.Predicate.{IsTextLiteral, SpellsExchanged, SpellsOfText, SpellsTextAmong}
+use Rattle.cql2_text.specs.Predicate.{IsTextLiteral, SpellsExchangedComparison, SpellsOfText, SpellsTextAmong}
 use Rattle.cql2_text.specs.Spelled.{Production, Spells, one_term, either, one_factor, both, one_primary, not_primary, grouped, predicate}
-use Rattle.cql2_text.specs.declared.predicate.Subject.{Subject}
-use Rattle.cql2_text.specs.declared.predicate.Subject.TheVariants as subject
+use Rattle.cql2_text.specs.declared.predicate.CharacterExpression.{CharacterExpression}
+use Rattle.cql2_text.specs.declared.predicate.CharacterExpression.TheVariants as subject
 use Rattle.cql2_tokens.specs.declared.token.Token.{Token}
 use Rattle.cql2_tokens.specs.declared.token.Token.TheVariants.{Close, Comma}
 use Rattle.cql2_text.proofs.ComparedLemmas.{after-shorter, operand-shorter}
@@ -67,7 +67,7 @@ text-comparison-shorter : {A : Type 0} (c : TextColumn) (k : Comparison) (words 
 text-comparison-shorter c k words rest _ (with_literal {text = text} is) = text-shorter _ words rest text is
 text-comparison-shorter c k _ rest _ with_column = omega arith
 
-pub comparison-shorter : {A : Type 0} (s : Subject) (k : Comparison) (words rest : List Token) (made : Filter A)
+pub comparison-shorter : {A : Type 0} (s : CharacterExpression) (k : Comparison) (words rest : List Token) (made : Filter A)
     → SpellsComparison s k words rest made → length rest < length words
 comparison-shorter (subject.Text c) k words rest made is = text-comparison-shorter c k words rest made is
 comparison-shorter (subject.Folded folding c) Equal words rest made is = folded-shorter folding c words rest is.0 is.1
@@ -86,13 +86,13 @@ module _ {A : Type 0} (Item : List Token → List Token → Filter A → Type 0)
       let last = shorter middle rest second is in
       omega arith
 
-like-shorter : {A : Type 0} (s : Subject) (words rest : List Token) (made : Filter A) → SpellsLike s words rest made
+like-shorter : {A : Type 0} (s : CharacterExpression) (words rest : List Token) (made : Filter A) → SpellsLike s words rest made
     → length rest < length words
 like-shorter (subject.Text c) words rest made is = pattern-shorter _ _ _ _ _ is.1
 like-shorter (subject.Folded folding c) words rest made is =
     clause-shorter (λ w r. IsLikeColumn c folding w r is.0) folding words rest (λ w r it. pattern-shorter c folding w r is.0 it) is.1
 
-negatable-shorter : {A : Type 0} (s : Subject) (words rest : List Token) (made : Filter A) → SpellsNegatable s words rest made
+negatable-shorter : {A : Type 0} (s : CharacterExpression) (words rest : List Token) (made : Filter A) → SpellsNegatable s words rest made
     → length rest < length words
 negatable-shorter s _ _ _ (is_like {words = words} {rest = rest} {made = made} is) =
     let inner = like-shorter s words rest made is in omega arith
@@ -104,7 +104,7 @@ null-shorter : {A : Type 0} (c : AColumn) (words rest : List Token) (made : Filt
 null-shorter c _ _ _ is_null = omega arith
 null-shorter c _ _ _ (is_not_null opposite) = omega arith
 
-of-shorter : {A : Type 0} (s : Subject) (words rest : List Token) (made : Filter A) → SpellsOf s words rest made
+of-shorter : {A : Type 0} (s : CharacterExpression) (words rest : List Token) (made : Filter A) → SpellsOf s words rest made
     → length rest < length words
 of-shorter s _ _ _ (binary_comparison {comparison = k} {words = words} {rest = rest} {made = made} is) =
     let inner = comparison-shorter s k words rest made is in omega arith
@@ -114,7 +114,7 @@ of-shorter s _ _ _ (negated {words = words} {rest = rest} {inner = first} is opp
 of-shorter s _ _ _ (null_test {words = words} {rest = rest} {c = c} {made = made} known is) =
     let inner = null-shorter c words rest made is in omega arith
 
-subject-shorter : (s : Subject) (words rest : List Token) → IsSubject s words rest → length rest < length words
+subject-shorter : (s : CharacterExpression) (words rest : List Token) → IsSubject s words rest → length rest < length words
 subject-shorter (subject.Text c) words rest is = column-shorter c words rest is
 subject-shorter (subject.Folded folding c) words rest is = clause-shorter (IsTextColumn c) folding words rest (column-shorter c) is
 
@@ -128,13 +128,13 @@ text-literal-shorter words rest is =
     )
 
 pub exchanged-shorter : {A : Type 0} (start : List Token) (k : Comparison) (words rest : List Token) (made : Filter A)
-    → SpellsExchanged start k words rest made → length rest < length words
+    → SpellsExchangedComparison start k words rest made → length rest < length words
 exchanged-shorter start k words rest made is = subject-shorter is.s words rest is.is_subject
 
 text-among-shorter : {A : Type 0} (start words rest : List Token) (made : Filter A) → SpellsTextAmong start words rest made
     → length rest < length words
 text-among-shorter start _ rest made (text_in_list {words = words} is) =
-    let inner = list-shorter (SpellsExchanged start Equal) words (Close ∷ rest) made (exchanged-shorter start Equal) is in omega arith
+    let inner = list-shorter (SpellsExchangedComparison start Equal) words (Close ∷ rest) made (exchanged-shorter start Equal) is in omega arith
 
 of-text-shorter : {A : Type 0} (start words rest : List Token) (made : Filter A) → SpellsOfText start words rest made
     → length rest < length words

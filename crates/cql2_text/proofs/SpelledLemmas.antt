@@ -13,7 +13,7 @@ use Rattle.cql2_text.specs.Content.{And, Like, Not, Or, content}
 use Rattle.cql2_text.specs.Connective.{IsBoth, IsEither, IsNot}
 use Rattle.cql2_text.specs.Predicate.{IsSubject, IsText, SpellsComparison, SpellsLike, SpellsList, SpellsNegatable}
 use Rattle.cql2_text.specs.Function.{SpellsFunction}
-use Rattle.cql2_text.specs.Leaf.{SpellsPredicate, false_literal, function, relation, true_literal}
+use Rattle.cql2_text.specs.Spelled.{SpellsPredicate, false_literal, function, relation, true_literal}
 use Rattle.cql2_text.specs.Predicate.{SpellsOf, SpellsNull, SpellsRelation}
 use Rattle.cql2_text.specs.Predicate.{SpellsTextComparison, width_of, with_column, with_literal}
 use Rattle.cql2_text.specs.Predicate.{binary_comparison, is_in_list, is_like, is_not_null, is_null, negatable, negated, null_test, column_of}
@@ -26,8 +26,8 @@ use Rattle.cql2_text.proofs.ClauseLemmas.{none-opens}
 use Rattle.cql2_text.specs.Read.{IsNotNext}
 use Rattle.cql2_text.specs.Scan.{begins_operand}
 use Rattle.cql2_text.specs.Spelled.{Expression, Factor, Primary, Spells, grouped, not_primary, one_primary, predicate}
-use Rattle.cql2_text.specs.declared.predicate.Subject.{Subject}
-use Rattle.cql2_text.specs.declared.predicate.Subject.TheVariants as subject
+use Rattle.cql2_text.specs.declared.predicate.CharacterExpression.{CharacterExpression}
+use Rattle.cql2_text.specs.declared.predicate.CharacterExpression.TheVariants as subject
 use Rattle.cql2_tokens.specs.declared.token.FunctionName.{FunctionName}
 use Rattle.cql2_tokens.specs.declared.token.Keyword.{Keyword as AKeyword}
 use Rattle.cql2_tokens.specs.declared.token.Keyword.TheVariants as word
@@ -49,25 +49,25 @@ module _ {A : Type 0} (one other first second made spelled : Filter A) where
   same-either left right is also = rw (is.1.1, also.1.1) (ap (λ x. Or x (content other)) left ∙ ap (λ x. Or (content first) x) right)
 
 module _ {A : Type 0} where
-  pub negatable-begins : {s : Subject} {words rest : List Token} {made : Filter A} → ((w : List Token) → words ≢ Keyword word.Like ∷ w)
+  pub negatable-begins : {s : CharacterExpression} {words rest : List Token} {made : Filter A} → ((w : List Token) → words ≢ Keyword word.Like ∷ w)
       → ((w : List Token) → words ≢ Keyword word.In ∷ w) → SpellsNegatable s words rest made → ⊥
   negatable-begins like members (is_like is) = like _ refl
   negatable-begins like members (is_in_list is) = members _ refl
 
-  pub like-of : {s : Subject} {words rest : List Token} {made : Filter A} → SpellsNegatable s (Keyword word.Like ∷ words) rest made
+  pub like-of : {s : CharacterExpression} {words rest : List Token} {made : Filter A} → SpellsNegatable s (Keyword word.Like ∷ words) rest made
       → SpellsLike s words rest made
   like-of (is_like is) = is
 
-  pub in-of : {s : Subject} {words rest : List Token} {made : Filter A} → SpellsNegatable s (Keyword word.In ∷ Open ∷ words) rest made
+  pub in-of : {s : CharacterExpression} {words rest : List Token} {made : Filter A} → SpellsNegatable s (Keyword word.In ∷ Open ∷ words) rest made
       → SpellsList (SpellsComparison s Equal) words (Close ∷ rest) made
   in-of (is_in_list is) = is
 
-  pub compared-of : {s : Subject} {words rest : List Token} {made : Filter A} → {k : Comparison}
+  pub compared-of : {s : CharacterExpression} {words rest : List Token} {made : Filter A} → {k : Comparison}
       → SpellsOf s (Compared k ∷ words) rest made → SpellsComparison s k words rest made
   compared-of (binary_comparison is) = is
   compared-of (negatable is) = elim is [ ]
 
-  pub negated-of : {s : Subject} {words rest : List Token} {made : Filter A} → SpellsOf s (Keyword word.Not ∷ words) rest made
+  pub negated-of : {s : CharacterExpression} {words rest : List Token} {made : Filter A} → SpellsOf s (Keyword word.Not ∷ words) rest made
       → (inner : Filter A) × SpellsNegatable s words rest inner × IsNot inner made
   negated-of (negated {inner = inner} is opposite) = (inner, is, opposite)
   negated-of (negatable is) = elim is [ ]
@@ -78,7 +78,7 @@ module _ {A : Type 0} where
   text-comparison-of none (with_literal {text = text} is) = (text, is, refl)
   text-comparison-of none with_column = absurd (none _ _ refl)
 
-  pub null-of : {s : Subject} {words rest : List Token} {made : Filter A} → SpellsOf s (Keyword word.Is ∷ words) rest made
+  pub null-of : {s : CharacterExpression} {words rest : List Token} {made : Filter A} → SpellsOf s (Keyword word.Is ∷ words) rest made
       → (c : AColumn) × (column_of s ≡ Some c) × SpellsNull c words rest made
   null-of (null_test {c = c} known is) = (c, known, is)
   null-of (negatable is) = elim is [ ]
@@ -94,7 +94,7 @@ module _ {A : Type 0} where
   null-begins null not is_null = null _ refl
   null-begins null not (is_not_null opposite) = not _ refl
 
-  pub operator-of : {s : Subject} {words rest : List Token} {made : Filter A} → ((k : Comparison) (w : List Token)
+  pub operator-of : {s : CharacterExpression} {words rest : List Token} {made : Filter A} → ((k : Comparison) (w : List Token)
       → words ≢ Compared k ∷ w) → ((w : List Token) → words ≢ Keyword word.Is ∷ w)
       → ((w : List Token) → words ≢ Keyword word.Not ∷ w) → SpellsOf s words rest made → SpellsNegatable s words rest made
   operator-of compared is_word not (binary_comparison is) = absurd (compared _ _ refl)
@@ -102,13 +102,13 @@ module _ {A : Type 0} where
   operator-of compared is_word not (negated is opposite) = absurd (not _ refl)
   operator-of compared is_word not (null_test known is) = absurd (is_word _ refl)
 
-no-subject : (s : Subject) (k : AKeyword) (words middle : List Token) → k ≢ word.Casei → k ≢ word.Accenti
+no-subject : (s : CharacterExpression) (k : AKeyword) (words middle : List Token) → k ≢ word.Casei → k ≢ word.Accenti
     → IsSubject s (Keyword k ∷ words) middle → ⊥
 no-subject (subject.Text c) k words middle no_casei no_accenti is = cc
 no-subject (subject.Folded folding c) k words middle no_casei no_accenti is =
     let none = none-opens (λ w e. no_casei (cc)) (λ w e. no_accenti (cc)) is.opened.opens in omega (arith, none.1, is.opened.some)
 
-no-open : (s : Subject) (words middle : List Token) → IsSubject s (Open ∷ words) middle → ⊥
+no-open : (s : CharacterExpression) (words middle : List Token) → IsSubject s (Open ∷ words) middle → ⊥
 no-open (subject.Text c) words middle is = cc
 no-open (subject.Folded folding c) words middle is =
     let none = none-opens (λ w e. cc) (λ w e. cc) is.opened.opens in omega (arith, none.1, is.opened.some)
@@ -179,7 +179,7 @@ module _ {A : Type 0} where
   folded-of folding c Greater words rest made is = absurd is
   folded-of folding c GreaterOrEqual words rest made is = absurd is
 
-  pub of-at : {given s : Subject} {words middle rest : List Token} {made : Filter A} → given ≡ s → words ≡ middle
+  pub of-at : {given s : CharacterExpression} {words middle rest : List Token} {made : Filter A} → given ≡ s → words ≡ middle
       → SpellsOf s middle rest made
       → SpellsOf given words rest made
   of-at same starts is = rw (same, starts) is

@@ -7,18 +7,18 @@ use Rattle.cql2.specs.declared.filter.Filter.{Filter}
 use Rattle.cql2.specs.declared.pattern.Folding.{Folding}
 use Rattle.cql2_text.specs.Clause.{Opens, closed, inside, nothing}
 use Rattle.cql2_text.specs.Connective.{IsNot}
-use Rattle.cql2_text.specs.Predicate.{IsSubject, IsTextColumn, SpellsExchanged, SpellsList, SpellsOfText, SpellsTextAmong}
+use Rattle.cql2_text.specs.Predicate.{IsSubject, IsTextColumn, SpellsExchangedComparison, SpellsList, SpellsOfText, SpellsTextAmong}
 use Rattle.cql2_text.specs.Predicate.{text_among, text_compared, text_in_list, text_not_among}
 use Rattle.cql2_text.specs.ReadNumber.{IsNotFirst}
-use Rattle.cql2_text.specs.declared.predicate.Subject.{Subject}
-use Rattle.cql2_text.specs.declared.predicate.Subject.TheVariants as subject
+use Rattle.cql2_text.specs.declared.predicate.CharacterExpression.{CharacterExpression}
+use Rattle.cql2_text.specs.declared.predicate.CharacterExpression.TheVariants as subject
 use Rattle.cql2_tokens.specs.declared.token.Keyword.TheVariants as word
 use Rattle.cql2_tokens.specs.declared.token.Token.{Token}
 use Rattle.cql2_tokens.specs.declared.token.Token.TheVariants.{Close, Compared, Keyword, Open}
 
 module _ {A : Type 0} {start : List Token} where
   pub text-compared-of : {words rest : List Token} {k : Comparison} {made : Filter A} → SpellsOfText start (Compared k ∷ words) rest made
-      → SpellsExchanged start k words rest made
+      → SpellsExchangedComparison start k words rest made
   text-compared-of (text_compared is) = is
   text-compared-of (text_among is) = elim is [ ]
 
@@ -34,7 +34,7 @@ module _ {A : Type 0} {start : List Token} where
   text-among-of sign not (text_not_among is opposite) = absurd (not _ refl)
 
   pub text-list-of : {words rest : List Token} {made : Filter A} → SpellsTextAmong start (Keyword word.In ∷ words) rest made
-      → (inner : List Token) × (words ≡ Open ∷ inner) × SpellsList (SpellsExchanged start Equal) inner (Close ∷ rest) made
+      → (inner : List Token) × (words ≡ Open ∷ inner) × SpellsList (SpellsExchangedComparison start Equal) inner (Close ∷ rest) made
   text-list-of (text_in_list {words = words} is) = (words, refl, is)
 
   pub text-among-begins : {words rest : List Token} {made : Filter A} → IsNotFirst (Keyword word.In) words
@@ -52,7 +52,7 @@ pub record OpensColumn (words : List Token) : Type 0 where
   pub few : depth ≤ 64
   pub named : IsTextColumn c inner rest
 
-pub subject-opens : (s : Subject) (words rest : List Token) → IsSubject s words rest → OpensColumn words
+pub subject-opens : (s : CharacterExpression) (words rest : List Token) → IsSubject s words rest → OpensColumn words
 subject-opens (subject.Text c) words rest is =
     record { depth = 0; folding = nothing; inner = words; c = c; rest = rest; opens = inside words; few = omega arith; named = is }
 subject-opens (subject.Folded folding c) words rest is =

@@ -29,23 +29,23 @@ first_column (expression.Negated' p inner) = first_column inner
 first_column (expression.Combined' operator p first q second) = or_else (first_column first) (first_column second)
 
 -- the comparison with its sides exchanged
-abbrev pub mirrored : Comparison → Comparison
-mirrored Equal = Equal
-mirrored NotEqual = NotEqual
-mirrored Less = Greater
-mirrored LessOrEqual = GreaterOrEqual
-mirrored Greater = Less
-mirrored GreaterOrEqual = LessOrEqual
+abbrev pub converse : Comparison → Comparison
+converse Equal = Equal
+converse NotEqual = NotEqual
+converse Less = Greater
+converse LessOrEqual = GreaterOrEqual
+converse Greater = Less
+converse GreaterOrEqual = LessOrEqual
 
 -- the comparison of two expressions, with the column first where one side is a column and the other a literal
 abbrev pub compared_as : {A : Type 0} → Number A → Comparison → Number A → Expression A → Expression A → Filter A
 compared_as first comparison second (expression.Column column) (expression.Literal literal) = filter.CompareNumber column comparison literal
 compared_as first comparison second (expression.Literal literal) (expression.Column column) =
-    filter.CompareNumber column (mirrored comparison) literal
+    filter.CompareNumber column (converse comparison) literal
 compared_as first comparison second one other = filter.CompareNumbers first comparison second
 
-abbrev pub compared : {A : Type 0} → Number A → Comparison → Number A → Filter A
-compared first comparison second = compared_as first comparison second first.expression second.expression
+abbrev pub comparison_of : {A : Type 0} → Number A → Comparison → Number A → Filter A
+comparison_of first comparison second = compared_as first comparison second first.expression second.expression
 
 -- the comparison of the expression from the start to the end with the one after the operator; the first column in them has their unit
 pub record SpellsCompared {A : Type 0} (start «end» : List Token) (comparison : Comparison) (words rest : List Token) (made : Filter A) : Type 0 where
@@ -55,7 +55,7 @@ pub record SpellsCompared {A : Type 0} (start «end» : List Token) (comparison 
   pub in_unit : unit ≡ unit_of (or_else (first_column first.expression) (first_column second.expression))
   pub is_first : IsExpression unit start «end» first
   pub is_second : IsExpression unit words rest second
-  pub is : made ≡ compared first comparison second
+  pub is : made ≡ comparison_of first comparison second
 
 -- isBetweenPredicate, after BETWEEN: at least one number and at most another
 pub record SpellsBetween {A : Type 0} (start «end» words rest : List Token) (made : Filter A) : Type 0 where

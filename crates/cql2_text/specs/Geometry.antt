@@ -140,19 +140,19 @@ pub record IsBox (words rest : List Token) (box : Box) : Type 0 where
   pub latitudes : box.south ≤ℤ box.north
 
 -- a shape, after its tag
-abbrev pub SpellsTagged : ShapeTag → List Token → List Token → ShapeContent → Type 0
-SpellsTagged tag.Point words rest content = (point : APoint) × InParentheses IsPosition words rest point × (content ≡ Point point)
-SpellsTagged tag.LineString words rest content = (points : List APoint) × IsLine words rest points × (content ≡ Line points)
-SpellsTagged tag.Polygon words rest content =
+abbrev pub SpellsTaggedShape : ShapeTag → List Token → List Token → ShapeContent → Type 0
+SpellsTaggedShape tag.Point words rest content = (point : APoint) × InParentheses IsPosition words rest point × (content ≡ Point point)
+SpellsTaggedShape tag.LineString words rest content = (points : List APoint) × IsLine words rest points × (content ≡ Line points)
+SpellsTaggedShape tag.Polygon words rest content =
     (rings : List (List APoint)) × IsPolygon words rest rings × (content ≡ Polygons (rings ∷ []))
-SpellsTagged tag.MultiPolygon words rest content =
+SpellsTaggedShape tag.MultiPolygon words rest content =
     (polygons : List (List (List APoint))) × ArePolygons words rest polygons × (content ≡ Polygons polygons)
-SpellsTagged tag.Bbox words rest content = (box : Box) × IsBox words rest box × (content ≡ Bounds box)
+SpellsTaggedShape tag.Bbox words rest content = (box : Box) × IsBox words rest box × (content ≡ Bounds box)
 
 -- a shape
 pub record SpellsShape (words rest : List Token) (content : ShapeContent) : Type 0 where
   pub tag : ShapeTag
   pub inner : List Token
   pub tagged : words ≡ Keyword (word.Shape tag) ∷ inner
-  pub spelled : SpellsTagged tag inner rest content
+  pub spelled : SpellsTaggedShape tag inner rest content
   pub few : vertices_of content ≤ MAX_VERTICES

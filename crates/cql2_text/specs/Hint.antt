@@ -2,8 +2,8 @@
 use Rattle.std.specs.Prelude.{◌≡◌, ℕ, ◌≤◌, Bool, ◌||◌, ◌==◌, if◌then◌else◌, List, length, codes, Option, Some, None}
 use Rattle.std.specs.Str.{str_eq_ignore_ascii_case}
 use Rattle.cql2_text.specs.Nearest.{IsRestFrom}
-use Rattle.cql2_text.specs.declared.fault.Expected.{Expected}
-use Rattle.cql2_text.specs.declared.fault.Expected.TheVariants.{Operator, Number, Text, Casei, Accenti, Shape, Operand, Area, Bbox}
+use Rattle.cql2_text.specs.declared.fault.Construct.{Construct}
+use Rattle.cql2_text.specs.declared.fault.Construct.TheVariants.{Operator, Number, Text, Casei, Accenti, Shape, Operand, Area, Bbox}
 use Rattle.cql2_text.specs.declared.fault.FilterFault.{FilterFault}
 use Rattle.cql2_text.specs.declared.fault.FilterFault.TheVariants.{At, Memory}
 use Rattle.cql2_text.specs.declared.fault.FilterFaultKind.{FilterFaultKind}
@@ -69,7 +69,7 @@ abbrev pub literal_hint : List ℕ → Option Hint
 literal_hint text = if begins is_sign text then Some hint.OneSign else None
 
 -- what to write in place of `!=`, of a second sign, and of a text in double quotes
-abbrev pub syntax_hint : Expected → List ℕ → Option Hint
+abbrev pub syntax_hint : Construct → List ℕ → Option Hint
 syntax_hint Operator text = if begins is_exclamation_mark text then Some hint.NotEqual else None
 syntax_hint Number text = literal_hint text
 syntax_hint Casei text = literal_hint text

@@ -10,7 +10,6 @@ pub mod FilterFaultKind
 pub mod Function
 pub mod Geometry
 pub mod Hint
-pub mod Leaf
 pub mod Nearest
 pub mod Number
 pub mod Numeral

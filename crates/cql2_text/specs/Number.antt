@@ -11,8 +11,8 @@ use Rattle.cql2_text.specs.declared.unit.Unit.{Unit}
 use Rattle.cql2_text.specs.declared.unit.Unit.TheVariants.{Whole, Degrees, Femtodegrees}
 use Rattle.cql2_tokens.specs.declared.token.Numeral.{Numeral}
 
-abbrev pub signed : Bool → ℕ → ℤ
-signed is_negative amount = if is_negative then neg_ℤ (pos amount) else pos amount
+abbrev pub signed_number : Bool → ℕ → ℤ
+signed_number is_negative amount = if is_negative then neg_ℤ (pos amount) else pos amount
 
 -- the absolute value of a whole number, which has up to 18 digits and no fraction
 abbrev pub in_range : Option ℕ → Result ℕ FilterFaultKind
@@ -46,7 +46,7 @@ amount_of Degrees numeral = degrees_amount 6 numeral.whole.now numeral.decimals.
 amount_of Femtodegrees numeral = degrees_amount 15 numeral.whole.now numeral.decimals.now
 
 abbrev pub signed_by : Bool → Result ℕ FilterFaultKind → Result ℤ FilterFaultKind
-signed_by is_negative (Ok amount) = Ok (signed is_negative amount)
+signed_by is_negative (Ok amount) = Ok (signed_number is_negative amount)
 signed_by is_negative (Err flaw) = Err flaw
 
 -- the value of a numeral in a unit

@@ -13,13 +13,13 @@ use Rattle.cql2.specs.declared.filter.Filter.TheVariants as filter
 use Rattle.cql2.specs.declared.pattern.Folding.{Folding}
 use Rattle.cql2.specs.declared.pattern.Pattern.{Pattern}
 use Rattle.cql2.specs.declared.text.Text.{Text as AText}
-use Rattle.cql2_text.specs.Compared.{SpellsOfNumber, mirrored}
+use Rattle.cql2_text.specs.Compared.{SpellsOfNumber, converse}
 use Rattle.cql2_text.specs.Connective.{IsEither, IsNot}
 use Rattle.cql2_text.specs.Text.{IsComparedText}
 use Rattle.cql2_text.specs.Clause.{IsClause, Opens, closed, nothing}
 use Rattle.cql2_text.specs.Pattern.{IsLikePattern, character_pattern}
-use Rattle.cql2_text.specs.declared.predicate.Subject.{Subject}
-use Rattle.cql2_text.specs.declared.predicate.Subject.TheVariants as subject
+use Rattle.cql2_text.specs.declared.predicate.CharacterExpression.{CharacterExpression}
+use Rattle.cql2_text.specs.declared.predicate.CharacterExpression.TheVariants as subject
 use Rattle.cql2_tokens.specs.declared.token.Keyword.TheVariants as word
 use Rattle.cql2_tokens.specs.declared.token.Token.{Token}
 use Rattle.cql2_tokens.specs.declared.token.Token.TheVariants.{Keyword, Column, Compared, Open, Close, Comma, Text}
@@ -33,7 +33,7 @@ abbrev pub IsTextColumn : TextColumn → List Token → List Token → Type 0
 IsTextColumn c words rest = words ≡ Column (column.Text c) ∷ rest
 
 -- propertyName, which may be in CASEI and ACCENTI: the tokens up to the rest
-abbrev pub IsSubject : Subject → List Token → List Token → Type 0
+abbrev pub IsSubject : CharacterExpression → List Token → List Token → Type 0
 IsSubject (subject.Text c) words rest = IsTextColumn c words rest
 IsSubject (subject.Folded folding c) words rest = IsClause (IsTextColumn c) folding words rest
 
@@ -61,7 +61,7 @@ pub record IsLikeColumn {A : Type 0} (c : TextColumn) (folding : Folding) (words
   pub like : IsLikePattern (width_of c) folding spelling.now pattern
 
 -- CASEI and ACCENTI allow only the comparisons `=` and `<>`
-abbrev pub is_compared : Subject → Comparison → Bool
+abbrev pub is_compared : CharacterExpression → Comparison → Bool
 is_compared (subject.Folded folding c) Equal = true
 is_compared (subject.Folded folding c) NotEqual = true
 is_compared (subject.Folded folding c) comparison = false
@@ -75,7 +75,7 @@ pub data SpellsTextComparison {A : Type 0} (c : TextColumn) (k : Comparison) : L
       → SpellsTextComparison c k (Column (column.Text other) ∷ rest) rest (filter.CompareTexts c k other)
 
 -- binaryComparisonPredicate about texts, after the operator
-abbrev pub SpellsComparison : {A : Type 0} → Subject → Comparison → List Token → List Token → Filter A → Type 0
+abbrev pub SpellsComparison : {A : Type 0} → CharacterExpression → Comparison → List Token → List Token → Filter A → Type 0
 SpellsComparison {A = A} (subject.Text c) comparison words rest made = SpellsTextComparison c comparison words rest made
 SpellsComparison {A = A} (subject.Folded folding c) Equal words rest made =
     (pattern : Pattern A) × IsFoldedText folding c words rest pattern × (made ≡ filter.Like c pattern)
@@ -91,7 +91,7 @@ pub data SpellsList {A : Type 0} (Item : List Token → List Token → Filter A 
       → Item middle rest second → IsEither first second made → SpellsList Item words rest made
 
 -- isLikePredicate, after LIKE
-abbrev pub SpellsLike : {A : Type 0} → Subject → List Token → List Token → Filter A → Type 0
+abbrev pub SpellsLike : {A : Type 0} → CharacterExpression → List Token → List Token → Filter A → Type 0
 SpellsLike {A = A} (subject.Text c) words rest made =
     (pattern : Pattern A) × IsLikeColumn c nothing words rest pattern × (made ≡ filter.Like c pattern)
 SpellsLike {A = A} (subject.Folded folding c) words rest made =
@@ -99,14 +99,14 @@ SpellsLike {A = A} (subject.Folded folding c) words rest made =
     × (made ≡ filter.Like c pattern)
 
 -- the predicates about texts that NOT may precede
-pub data SpellsNegatable {A : Type 0} : Subject → List Token → List Token → Filter A → Type 0 where
-  is_like : {s : Subject} {words rest : List Token} {made : Filter A} → SpellsLike s words rest made
+pub data SpellsNegatable {A : Type 0} : CharacterExpression → List Token → List Token → Filter A → Type 0 where
+  is_like : {s : CharacterExpression} {words rest : List Token} {made : Filter A} → SpellsLike s words rest made
       → SpellsNegatable s (Keyword word.Like ∷ words) rest made
-  is_in_list : {s : Subject} {words rest : List Token} {made : Filter A} → SpellsList (SpellsComparison s Equal) words (Close ∷ rest) made
+  is_in_list : {s : CharacterExpression} {words rest : List Token} {made : Filter A} → SpellsList (SpellsComparison s Equal) words (Close ∷ rest) made
       → SpellsNegatable s (Keyword word.In ∷ Open ∷ words) rest made
 
 -- the column of a subject of which nothing is ignored
-abbrev pub column_of : Subject → Option AColumn
+abbrev pub column_of : CharacterExpression → Option AColumn
 column_of (subject.Text c) = Some (column.Text c)
 column_of (subject.Folded folding c) = None
 
@@ -117,7 +117,7 @@ pub data SpellsNull {A : Type 0} (c : AColumn) : List Token → List Token → F
       → SpellsNull c (Keyword word.Not ∷ Keyword word.Null ∷ rest) rest made
 
 -- a predicate about a subject, after the subject
-pub data SpellsOf {A : Type 0} (s : Subject) : List Token → List Token → Filter A → Type 0 where
+pub data SpellsOf {A : Type 0} (s : CharacterExpression) : List Token → List Token → Filter A → Type 0 where
   binary_comparison : {comparison : Comparison} {words rest : List Token} {made : Filter A} → SpellsComparison s comparison words rest made
       → SpellsOf s (Compared comparison ∷ words) rest made
   negatable : {words rest : List Token} {made : Filter A} → SpellsNegatable s words rest made → SpellsOf s words rest made
@@ -136,20 +136,20 @@ pub record IsTextLiteral (words rest : List Token) : Type 0 where
   pub inside : BeginsText inner (closed depth rest)
 
 -- the comparison of the literal at the start with a subject: that of the subject with the literal, with its sides exchanged
-pub record SpellsExchanged {A : Type 0} (start : List Token) (k : Comparison) (words rest : List Token) (made : Filter A) : Type 0 where
-  pub s : Subject
+pub record SpellsExchangedComparison {A : Type 0} (start : List Token) (k : Comparison) (words rest : List Token) (made : Filter A) : Type 0 where
+  pub s : CharacterExpression
   pub after : List Token
   pub is_subject : IsSubject s words rest
-  pub is_comparison : SpellsComparison s (mirrored k) start after made
+  pub is_comparison : SpellsComparison s (converse k) start after made
 
 -- isInListPredicate about the literal at the start, after the literal
 pub data SpellsTextAmong {A : Type 0} (start : List Token) : List Token → List Token → Filter A → Type 0 where
-  text_in_list : {words rest : List Token} {made : Filter A} → SpellsList (SpellsExchanged start Equal) words (Close ∷ rest) made
+  text_in_list : {words rest : List Token} {made : Filter A} → SpellsList (SpellsExchangedComparison start Equal) words (Close ∷ rest) made
       → SpellsTextAmong start (Keyword word.In ∷ Open ∷ words) rest made
 
 -- a predicate about the literal at the start, after the literal
 pub data SpellsOfText {A : Type 0} (start : List Token) : List Token → List Token → Filter A → Type 0 where
-  text_compared : {k : Comparison} {words rest : List Token} {made : Filter A} → SpellsExchanged start k words rest made
+  text_compared : {k : Comparison} {words rest : List Token} {made : Filter A} → SpellsExchangedComparison start k words rest made
       → SpellsOfText start (Compared k ∷ words) rest made
   text_among : {words rest : List Token} {made : Filter A} → SpellsTextAmong start words rest made → SpellsOfText start words rest made
   text_not_among : {words rest : List Token} {inner made : Filter A} → SpellsTextAmong start words rest inner → IsNot inner made
@@ -157,7 +157,7 @@ pub data SpellsOfText {A : Type 0} (start : List Token) : List Token → List To
 
 -- a predicate about a text or a number
 pub data SpellsRelation {A : Type 0} : List Token → List Token → Filter A → Type 0 where
-  of_subject : {s : Subject} {words middle rest : List Token} {made : Filter A} → IsSubject s words middle → SpellsOf s middle rest made
+  of_subject : {s : CharacterExpression} {words middle rest : List Token} {made : Filter A} → IsSubject s words middle → SpellsOf s middle rest made
       → SpellsRelation words rest made
   text_first : {words middle rest : List Token} {made : Filter A} → IsTextLiteral words middle → SpellsOfText words middle rest made
       → SpellsRelation words rest made

@@ -1,13 +1,24 @@
 -- The filter that a text spells (CQL2, 21-065r2, annex B: one constructor per production).
 use Rattle.std.specs.Prelude.{◌≡◌, ℕ, suc, true, false, List, [], ◌∷◌}
 use Rattle.cql2.specs.declared.filter.Filter.{Filter}
+use Rattle.cql2.specs.declared.filter.Filter.TheVariants as filter
 use Rattle.cql2_tokens.specs.Lexed.{Lexes}
 use Rattle.cql2_text.specs.Connective.{IsBoth, IsEither, IsNot}
+use Rattle.cql2_text.specs.Function.{SpellsFunction}
 use Rattle.cql2_text.specs.Parenthesis.{opens_filter}
-use Rattle.cql2_text.specs.Leaf.{SpellsPredicate}
+use Rattle.cql2_text.specs.Predicate.{SpellsRelation}
+use Rattle.cql2_tokens.specs.declared.token.FunctionName.{FunctionName}
 use Rattle.cql2_tokens.specs.declared.token.Keyword.TheVariants as word
 use Rattle.cql2_tokens.specs.declared.token.Token.{Token}
 use Rattle.cql2_tokens.specs.declared.token.Token.TheVariants.{Keyword, Open, Close}
+
+-- predicate, function, booleanLiteral
+pub data SpellsPredicate {A : Type 0} : List Token → List Token → Filter A → Type 0 where
+  true_literal : {rest : List Token} → SpellsPredicate (Keyword word.True ∷ rest) rest (filter.Constant true)
+  false_literal : {rest : List Token} → SpellsPredicate (Keyword word.False ∷ rest) rest (filter.Constant false)
+  function : {name : FunctionName} {words rest : List Token} {made : Filter A} → SpellsFunction name words rest made
+      → SpellsPredicate (Keyword (word.Function name) ∷ words) rest made
+  relation : {words rest : List Token} {made : Filter A} → SpellsRelation words rest made → SpellsPredicate words rest made
 
 -- booleanExpression, booleanTerm, booleanFactor, booleanPrimary
 pub data Production : Type 0 where

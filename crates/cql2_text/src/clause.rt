@@ -8,7 +8,7 @@ ghost use Rattle.cql2_tokens.specs.declared.token.Numeral.{Numeral};
 ghost use Rattle.cql2_tokens.specs.declared.token.Token.{Token};
 ghost use Rattle.cql2_tokens.specs.declared.token.Token.TheVariants as token;
 
-use crate::fault::{Expected, FilterFaultKind};
+use crate::fault::{Construct, FilterFaultKind};
 use crate::syntax_fault::SyntaxFault;
 use crate::terminal::{Terminal, expect, next};
 use cql2::Folding;
@@ -137,7 +137,7 @@ fn missing(folding: Folding, words: &[Token]) -> SyntaxFault
         Some((Token::Number(_numeral), _rest)) => {
             SyntaxFault::at(words, FilterFaultKind::Folded)
         }
-        _ if folding.case => SyntaxFault::unexpected(words, Expected::Casei),
-        _ => SyntaxFault::unexpected(words, Expected::Accenti),
+        _ if folding.case => SyntaxFault::unexpected_token(words, Construct::Casei),
+        _ => SyntaxFault::unexpected_token(words, Construct::Accenti),
     }
 }

@@ -15,8 +15,8 @@ pub(crate) fn both<A: Allocator + Copy>(
 ) -> Result<Filter<A>, SyntaxFault>
     ensures { MatchResult result (IsBoth first second) (λ fault. fault ≡ syntax_fault.Memory) }
 {
-    let first = boxed(alloc, first)?;
-    let second = boxed(alloc, second)?;
+    let first = boxed_filter(alloc, first)?;
+    let second = boxed_filter(alloc, second)?;
     Ok(Filter::And(first, second))
 }
 
@@ -28,23 +28,26 @@ pub(crate) fn either<A: Allocator + Copy>(
 ) -> Result<Filter<A>, SyntaxFault>
     ensures { MatchResult result (IsEither first second) (λ fault. fault ≡ syntax_fault.Memory) }
 {
-    let first = boxed(alloc, first)?;
-    let second = boxed(alloc, second)?;
+    let first = boxed_filter(alloc, first)?;
+    let second = boxed_filter(alloc, second)?;
     Ok(Filter::Or(first, second))
 }
 
 /// Returns the negation of a filter.
-pub(crate) fn negated<A: Allocator + Copy>(
+pub(crate) fn negation<A: Allocator + Copy>(
     alloc: A,
     inner: Filter<A>,
 ) -> Result<Filter<A>, SyntaxFault>
     ensures { MatchResult result (IsNot inner) (λ fault. fault ≡ syntax_fault.Memory) }
 {
-    let inner = boxed(alloc, inner)?;
+    let inner = boxed_filter(alloc, inner)?;
     Ok(Filter::Not(inner))
 }
 
-fn boxed<A: Allocator + Copy>(alloc: A, filter: Filter<A>) -> Result<Box<Filter<A>, A>, SyntaxFault>
+fn boxed_filter<A: Allocator + Copy>(
+    alloc: A,
+    filter: Filter<A>,
+) -> Result<Box<Filter<A>, A>, SyntaxFault>
     ensures { MatchResult result (λ made. made.value ≡ filter) (λ fault. fault ≡ syntax_fault.Memory) }
 {
     match Box::new(alloc, filter) {

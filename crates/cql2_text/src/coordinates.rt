@@ -6,7 +6,7 @@ ghost use Rattle.cql2_text.specs.Geometry.{points_of, points_of_ring, polygons_o
 ghost use Rattle.cql2_text.specs.Read.{IsReadAs};
 ghost use Rattle.cql2_tokens.specs.declared.token.Token.{Token};
 
-use crate::fault::Expected;
+use crate::fault::Construct;
 use crate::literal::coordinate_of;
 use crate::operand::numeral;
 use crate::syntax_fault::SyntaxFault;
@@ -96,7 +96,7 @@ pub(crate) fn line<'a, A: Allocator + Copy>(
 {
     let (vertices, rest) = positions(alloc, words)?;
     if vertices.len() < MIN_LINE_POSITIONS {
-        return Err(SyntaxFault::before(rest, Expected::Comma));
+        return Err(SyntaxFault::before(rest, Construct::Comma));
     }
     Ok((vertices, rest))
 }
@@ -112,13 +112,14 @@ fn ring<'a, A: Allocator + Copy>(
 {
     let (mut vertices, rest) = positions(alloc, words)?;
     if vertices.len() < MIN_RING_POSITIONS {
-        return Err(SyntaxFault::before(rest, Expected::Comma));
+        return Err(SyntaxFault::before(rest, Construct::Comma));
     }
     match vertices.pop() {
+        // The closing vertex isn't kept, as a ring has an edge from its last vertex to its first.
         Some(last) if is_same(vertices[0], last) => Ok((Ring { vertices }, rest)),
         _ => {
             let closing = after_commas(words, vertices.len());
-            Err(SyntaxFault::unexpected(closing, Expected::FirstPoint))
+            Err(SyntaxFault::unexpected_token(closing, Construct::FirstPoint))
         }
     }
 }

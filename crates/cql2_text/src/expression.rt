@@ -1,4 +1,10 @@
-//! Numeric expressions.
+//! Numeric expressions: signs, operators and parentheses (CQL2, 21-065r2, annex B: arithmeticExpression).
+//!
+//! All numbers of an expression have one unit, that of its comparison, so the caller passes it. One function reads the operators
+//! of each level, from the left.
+//!
+//! What compiled code relies on is kept in each subexpression while it is read: a bound of its values, the number of values that wait, and the
+//! number of operators. So an expression that a program couldn't compute is refused at the operator that makes it so.
 ghost use Rattle.std.specs.Prelude.{◌≡◌, ◌∷◌, ◌+◌, ◌-◌, ◌<◌, ◌≤◌, ◌^◌, ◌↔◌, ℕ, [], List, true, false, Some, None, IsTrue, length, IfOk, IfSome};
 ghost use Rattle.std.specs.Prelude.{MatchOption, MatchResult};
 ghost use Rattle.std.specs.Prelude.{unsigned_abs};
@@ -19,7 +25,9 @@ ghost use Rattle.cql2_tokens.specs.declared.token.Token.TheVariants as token;
 
 use crate::fault::FilterFaultKind;
 use crate::operand::number;
-use crate::part::{Part, column_part, combined, literal_part, opposite};
+use crate::subexpression::{
+    Subexpression, column_subexpression, combination, literal_subexpression, opposite,
+};
 use crate::syntax_fault::SyntaxFault;
 use crate::terminal::{Terminal, expect, next};
 use crate::unit::Unit;
@@ -28,8 +36,10 @@ use cql2_tokens::{Keyword, Sign, Token};
 use std::alloc::Allocator;
 
 /// The maximum number of values of an expression that are kept while another one is computed.
+// Three registers survive a call, and one of them is for the first side of a comparison.
 const MAX_DEPTH: u32 = 2;
 /// The maximum nesting of parentheses and signs.
+// Reading calls itself for each, so this limits its stack.
 const MAX_NESTED: u32 = 64;
 
 /// How tightly an operator binds.
@@ -87,7 +97,7 @@ fn chain<'a, A: Allocator + Copy>(
     level: Level,
     words: &'a [Token<'a>],
     depth: u32,
-) -> Result<(Part<A>, &'a [Token<'a>]), SyntaxFault>
+) -> Result<(Subexpression<A>, &'a [Token<'a>]), SyntaxFault>
     requires { depth < 1000 }
     ensures ok { IfOk result (λ read. SpellsNumber unit depth (Chain level) words.now read.1.now read.0.expression) }
     ensures ends { IfOk result (λ read. goes_on level read.1.now ≡ false) }
@@ -100,7 +110,7 @@ fn chain<'a, A: Allocator + Copy>(
             return Err(SyntaxFault::at(rest, FilterFaultKind::WrongType));
         }
         let (second, after) = term(alloc, unit, level, after, depth)?;
-        first = combined(alloc, operator, first, second, rest)?;
+        first = combination(alloc, operator, first, second, rest)?;
         rest = after;
     }
     Ok((first, rest))
@@ -114,7 +124,7 @@ fn term<'a, A: Allocator + Copy>(
     level: Level,
     words: &'a [Token<'a>],
     depth: u32,
-) -> Result<(Part<A>, &'a [Token<'a>]), SyntaxFault>
+) -> Result<(Subexpression<A>, &'a [Token<'a>]), SyntaxFault>
     requires { depth < 1000 }
     ensures ok { IfOk result (λ read. SpellsNumber unit depth (part_of level) words.now read.1.now read.0.expression) }
     ensures ends { IfOk result (λ read. part_goes_on level read.1.now ≡ false) }
@@ -140,7 +150,7 @@ fn factor<'a, A: Allocator + Copy>(
     unit: Unit,
     words: &'a [Token<'a>],
     depth: u32,
-) -> Result<(Part<A>, &'a [Token<'a>]), SyntaxFault>
+) -> Result<(Subexpression<A>, &'a [Token<'a>]), SyntaxFault>
     requires { depth < 1000 }
     ensures ok { IfOk result (λ read. SpellsNumber unit depth Factor words.now read.1.now read.0.expression) }
     ensures reads { (rest : List Token) (made : AnExpression A) → SpellsNumber unit depth Factor words.now rest made
@@ -151,11 +161,11 @@ fn factor<'a, A: Allocator + Copy>(
             if depth == 0 {
                 return Err(SyntaxFault::at(words, FilterFaultKind::TooDeep));
             }
-            let (part, rest) = grouped(alloc, unit, after, depth)?;
+            let (part, rest) = parenthesized_expression(alloc, unit, after, depth)?;
             Ok((part, rest))
         }
         Some((Token::Sign(Sign::Minus), after)) => {
-            let (part, rest) = signed(alloc, unit, after, words, depth)?;
+            let (part, rest) = signed_factor(alloc, unit, after, words, depth)?;
             Ok((part, rest))
         }
         _ => {
@@ -167,12 +177,12 @@ fn factor<'a, A: Allocator + Copy>(
 
 /// Reads an expression and a closing parenthesis, after the opening one.
 #[cycle(reading)]
-fn grouped<'a, A: Allocator + Copy>(
+fn parenthesized_expression<'a, A: Allocator + Copy>(
     alloc: A,
     unit: Unit,
     words: &'a [Token<'a>],
     depth: u32,
-) -> Result<(Part<A>, &'a [Token<'a>]), SyntaxFault>
+) -> Result<(Subexpression<A>, &'a [Token<'a>]), SyntaxFault>
     requires some { 1 ≤ depth }
     requires fewer { depth < 1000 }
     ensures ok { IfOk result (λ read. SpellsNumber unit depth Factor (token.Open ∷ words.now) read.1.now read.0.expression) }
@@ -186,13 +196,13 @@ fn grouped<'a, A: Allocator + Copy>(
 
 /// Reads what follows a minus: a number, which the minus belongs to, or another factor, of which it is the operator. `signed` begins with the minus.
 #[cycle(reading)]
-fn signed<'a, A: Allocator + Copy>(
+fn signed_factor<'a, A: Allocator + Copy>(
     alloc: A,
     unit: Unit,
     words: &'a [Token<'a>],
     signed: &'a [Token<'a>],
     depth: u32,
-) -> Result<(Part<A>, &'a [Token<'a>]), SyntaxFault>
+) -> Result<(Subexpression<A>, &'a [Token<'a>]), SyntaxFault>
     requires fewer { depth < 1000 }
     requires minus { signed.now ≡ token.Sign sign.Minus ∷ words.now }
     ensures ok { IfOk result (λ read. SpellsNumber unit depth Factor signed.now read.1.now read.0.expression) }
@@ -201,7 +211,7 @@ fn signed<'a, A: Allocator + Copy>(
 {
     if begins_number(words) {
         let (literal, rest) = number(unit, signed)?;
-        return Ok((literal_part(literal), rest));
+        return Ok((literal_subexpression(literal), rest));
     }
     if depth == 0 {
         return Err(SyntaxFault::at(signed, FilterFaultKind::TooDeep));
@@ -221,7 +231,7 @@ fn begins_number(words: &[Token]) -> bool
 fn operand<'a, A: Allocator>(
     unit: Unit,
     words: &'a [Token<'a>],
-) -> Result<(Part<A>, &'a [Token<'a>]), SyntaxFault>
+) -> Result<(Subexpression<A>, &'a [Token<'a>]), SyntaxFault>
     ensures ok { (depth : ℕ) → IfOk result (λ read. SpellsNumber unit depth Factor words.now read.1.now read.0.expression) }
     ensures reads { (depth : ℕ) (rest : List Token) (made : AnExpression A) → IsNotFirst token.Open words.now
         → IsNotFirst (token.Sign sign.Minus) words.now → SpellsNumber unit depth Factor words.now rest made → IsReadNumber result rest made }
@@ -231,7 +241,7 @@ fn operand<'a, A: Allocator>(
             if !unit.has(column) {
                 return Err(SyntaxFault::at(words, FilterFaultKind::WrongType));
             }
-            Ok((column_part(column), rest))
+            Ok((column_subexpression(column), rest))
         }
         Some((Token::Column(_column), _rest)) => {
             Err(SyntaxFault::at(words, FilterFaultKind::WrongType))
@@ -241,7 +251,7 @@ fn operand<'a, A: Allocator>(
         }
         _ => {
             let (literal, rest) = number(unit, words)?;
-            Ok((literal_part(literal), rest))
+            Ok((literal_subexpression(literal), rest))
         }
     }
 }

@@ -9,7 +9,7 @@ use thiserror::Error;
 
 /// The construct expected in place of something else. The derived text is for people.
 #[derive(Clone, Copy, Debug, PartialEq, Eq, Error)]
-pub enum Expected {
+pub enum Construct {
     #[error("UTF-8")]
     Utf8,
     #[error("a predicate, TRUE, FALSE or a parenthesis")]
@@ -62,7 +62,7 @@ pub enum Expected {
 #[derive(Clone, Copy, Debug, PartialEq, Eq, Error)]
 pub enum FilterFaultKind {
     #[error("expected {0}")]
-    Syntax(Expected),
+    Syntax(Construct),
     #[error("no column has this name")]
     UnknownColumn,
     #[error("the column isn't of this type")]

@@ -12,8 +12,8 @@ ghost use Rattle.cql2_tokens.specs.declared.token.ShapeTag.TheVariants as tag;
 ghost use Rattle.cql2_tokens.specs.declared.token.Token.{Token};
 ghost use Rattle.cql2_tokens.specs.declared.token.Token.TheVariants as token;
 
-use crate::connective::negated;
-use crate::fault::Expected;
+use crate::connective::negation;
+use crate::fault::Construct;
 use crate::literal::{house_number, name_limit};
 use crate::operand::{numeral, text};
 use crate::shape::{bounds, shape};
@@ -71,6 +71,7 @@ fn has_name<'a, A: Allocator + Copy>(
     ensures reads { (rest : List Token) (made : Filter A) → SpellsHasName words.now rest made → IsRead result rest made }
 {
     let words = expect(words, Terminal::Opening)?;
+    // A name, not a pattern: each of a segment's names would need a grid of tests of its own.
     let (name, rest) = text(alloc, NAME_LENGTH, words)?;
     let (limit, rest) = names(rest)?;
     let rest = expect(rest, Terminal::Closing)?;
@@ -104,7 +105,7 @@ fn starts_in<'a, A: Allocator + Copy>(
     ensures reads { (rest : List Token) (made : Filter A) → SpellsStartsIn words.now rest made → IsRead result rest made }
 {
     let inner = expect(words, Terminal::Opening)?;
-    let (shape, rest) = shape(alloc, inner, Expected::Area)?;
+    let (shape, rest) = shape(alloc, inner, Construct::Area)?;
     match shape {
         Shape::Bounds(bounds) => {
             let rest = expect(rest, Terminal::Closing)?;
@@ -114,7 +115,7 @@ fn starts_in<'a, A: Allocator + Copy>(
             let rest = expect(rest, Terminal::Closing)?;
             Ok((Filter::Function(Function::StartsIn(several)), rest))
         }
-        _ => Err(SyntaxFault::unexpected(inner, Expected::Area)),
+        _ => Err(SyntaxFault::unexpected_token(inner, Construct::Area)),
     }
 }
 
@@ -150,7 +151,7 @@ fn shape_after_property<'a, A: Allocator + Copy>(
         → SpellsOperands (token.Open ∷ token.Keyword word.Geometry ∷ words.now) rest content → IsReadAs shape_content result rest content }
 {
     let words = expect(words, Terminal::Comma)?;
-    let (shape, rest) = shape(alloc, words, Expected::Shape)?;
+    let (shape, rest) = shape(alloc, words, Construct::Shape)?;
     let rest = expect(rest, Terminal::Closing)?;
     Ok((shape, rest))
 }
@@ -164,7 +165,7 @@ fn shape_before_property<'a, A: Allocator + Copy>(
     ensures reads { (rest : List Token) (content : ShapeContent) → IsNotNext word.Geometry words.now
         → SpellsOperands (token.Open ∷ words.now) rest content → IsReadAs shape_content result rest content }
 {
-    let (shape, rest) = shape(alloc, words, Expected::Operand)?;
+    let (shape, rest) = shape(alloc, words, Construct::Operand)?;
     let rest = expect(rest, Terminal::Comma)?;
     let rest = expect(rest, Terminal::Geometry)?;
     let rest = expect(rest, Terminal::Closing)?;
@@ -192,7 +193,7 @@ fn disjoint<'a, A: Allocator + Copy>(
     ensures reads { (rest : List Token) (made : Filter A) → SpellsDisjoint words.now rest made → IsRead result rest made }
 {
     let (meets, rest) = intersects(alloc, words)?;
-    let filter = negated(alloc, meets)?;
+    let filter = negation(alloc, meets)?;
     Ok((filter, rest))
 }
 
@@ -207,6 +208,7 @@ fn lies_within<'a, A: Allocator + Copy>(
     let rest = expect(words, Terminal::Opening)?;
     let rest = expect(rest, Terminal::Geometry)?;
     let rest = expect(rest, Terminal::Comma)?;
+    // Only a box: the point where a line leaves a polygon has fractions of a millionth of a degree.
     let rest = expect(rest, Terminal::Bbox)?;
     let (bounds, rest) = bounds(rest)?;
     let rest = expect(rest, Terminal::Closing)?;

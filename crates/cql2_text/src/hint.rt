@@ -1,4 +1,7 @@
 //! What to write in place of what other query languages have.
+//!
+//! A hint depends on the refusal and on the text from its position on. So the parser knows no other language, and a hint can't change what is
+//! accepted or how it is refused.
 ghost use Rattle.std.specs.Prelude.{◌≡◌};
 ghost use Rattle.std.specs.Str.{str_eq_ignore_ascii_case};
 ghost use Rattle.cql2_text.specs.Hint.{Hints, IsHint, box_hint, changes_case, function_hint, is_collection, is_double_quote, is_exclamation_mark};
@@ -6,7 +9,7 @@ ghost use Rattle.cql2_text.specs.Hint.{is_shape, is_sign, is_spatial, shape_hint
 ghost use Rattle.cql2_text.specs.Hint.{literal_hint, syntax_hint};
 ghost use Rattle.cql2_tokens.specs.Lexed.{begins, is_quote};
 
-use crate::fault::{Expected, FilterFault, FilterFaultKind};
+use crate::fault::{Construct, FilterFault, FilterFaultKind};
 use crate::nearest::text_at;
 use cql2_tokens::leading_name;
 use thiserror::Error;
@@ -67,10 +70,10 @@ fn hint_for(flaw: FilterFaultKind, text: &[u8]) -> Option<Hint>
 {
     match flaw {
         FilterFaultKind::UnknownColumn => function_hint(leading_name(text)),
-        FilterFaultKind::Syntax(Expected::Shape | Expected::Operand | Expected::Area) => {
+        FilterFaultKind::Syntax(Construct::Shape | Construct::Operand | Construct::Area) => {
             shape_hint(leading_name(text))
         }
-        FilterFaultKind::Syntax(Expected::Bbox) => box_hint(leading_name(text)),
+        FilterFaultKind::Syntax(Construct::Bbox) => box_hint(leading_name(text)),
         FilterFaultKind::Syntax(expected) => syntax_hint(expected, text),
         FilterFaultKind::WrongType => type_hint(text),
         _ => None,
@@ -171,22 +174,22 @@ fn is_word(word: &str, name: &[u8]) -> bool
 }
 
 /// Returns the hint for a text in which something else is expected.
-fn syntax_hint(expected: Expected, text: &[u8]) -> Option<Hint>
+fn syntax_hint(expected: Construct, text: &[u8]) -> Option<Hint>
     ensures { result ≡ syntax_hint expected text.now }
 {
     match expected {
-        Expected::Operator => operator_hint(text),
-        Expected::Number => literal_hint(text),
-        Expected::Casei => literal_hint(text),
-        Expected::Accenti => literal_hint(text),
-        Expected::Text => text_hint(text),
+        Construct::Operator => operator_hint(text),
+        Construct::Number => literal_hint(text),
+        Construct::Casei => literal_hint(text),
+        Construct::Accenti => literal_hint(text),
+        Construct::Text => text_hint(text),
         _ => None,
     }
 }
 
 /// Returns the hint for a text in which an operator is expected.
 fn operator_hint(text: &[u8]) -> Option<Hint>
-    ensures { result ≡ syntax_hint Expected.Operator text.now }
+    ensures { result ≡ syntax_hint Construct.Operator text.now }
 {
     match text {
         [b'!', ..] => Some(Hint::NotEqual),
@@ -206,7 +209,7 @@ fn literal_hint(text: &[u8]) -> Option<Hint>
 
 /// Returns the hint for a text in which a string literal is expected.
 fn text_hint(text: &[u8]) -> Option<Hint>
-    ensures { result ≡ syntax_hint Expected.Text text.now }
+    ensures { result ≡ syntax_hint Construct.Text text.now }
 {
     match text {
         [b'"', ..] => Some(Hint::SingleQuotes),

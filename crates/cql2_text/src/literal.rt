@@ -1,8 +1,13 @@
-//! Numbers.
+//! The values of numerals.
+//!
+//! Every value is an integer: a whole number, or degrees in millionths, the files' unit. A box is in femtodegrees, as rounding would move its
+//! edges. Vertices are rounded to millionths, so a test of two lines fits in 64 bits.
+//!
+//! Any other numeral that isn't exact in its unit, or is too large for 64 bits, is refused, so no comparison is of a rounded number.
 ghost use Rattle.std.specs.Prelude.{◌≡◌, ◌≤◌, ◌<◌, ◌^◌, ◌-◌, ◌*◌, Ok, Err, unsigned_abs, take, drop, IfOk, IfSome, MatchResult};
 ghost use Rattle.std.specs.List.{list_all};
 ghost use Rattle.decimal.specs.Numeral.{decimal_in};
-ghost use Rattle.cql2_text.specs.Number.{number_of, house_number_of, name_limit_of, count_of, signed, whole_amount, degrees_amount, parts_of};
+ghost use Rattle.cql2_text.specs.Number.{number_of, house_number_of, name_limit_of, count_of, signed_number, whole_amount, degrees_amount, parts_of};
 ghost use Rattle.cql2_text.specs.Number.{coordinate_of, is_half, is_more_than_half, is_zero, nearest, rounded_amount};
 
 use crate::fault::FilterFaultKind;
@@ -37,7 +42,7 @@ pub(crate) fn literal_of(unit: Unit, numeral: Numeral) -> Result<Literal, Filter
         Unit::Femtodegrees => degrees_amount(numeral.whole, numeral.decimals, MAX_BOUND_DECIMALS),
     };
     match amount {
-        Ok(amount) => Ok(signed(numeral.is_negative, amount)),
+        Ok(amount) => Ok(signed_number(numeral.is_negative, amount)),
         Err(flaw) => Err(flaw),
     }
 }
@@ -63,7 +68,7 @@ pub(crate) fn coordinate_of(numeral: Numeral) -> Result<i64, FilterFaultKind>
     ensures small { IfOk result (λ number. unsigned_abs number < 10 ^ 9) }
 {
     match rounded_amount(numeral) {
-        Ok(amount) => Ok(signed(numeral.is_negative, amount).number),
+        Ok(amount) => Ok(signed_number(numeral.is_negative, amount).number),
         Err(flaw) => Err(flaw),
     }
 }
@@ -172,9 +177,9 @@ fn unit(decimals: usize) -> u64
     10u64.pow(decimals as u32)
 }
 
-fn signed(is_negative: bool, amount: u64) -> Literal
+fn signed_number(is_negative: bool, amount: u64) -> Literal
     requires { amount < 10 ^ 18 }
-    ensures value { result.number ≡ signed is_negative amount }
+    ensures value { result.number ≡ signed_number is_negative amount }
     ensures small { unsigned_abs result.number ≡ amount }
 {
     let number = if is_negative {

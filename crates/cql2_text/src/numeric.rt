@@ -1,19 +1,24 @@
-//! Predicates about numbers.
+//! Predicates about numbers: comparisons, BETWEEN and IN (CQL2, 21-065r2, annex B).
+//!
+//! The unit of a comparison is that of its first column, which may be on its second side. So both sides are scanned for a column before either
+//! is read. A scan only tells operands from operators and counts parentheses, so it ends where the expression does, if this is one.
+//!
+//! BETWEEN and IN are comparisons joined by AND and OR. The number at the start is read again for each, as each has its own unit.
 ghost use Rattle.std.specs.Prelude.{◌≡◌, ◌≢◌, ◌∷◌, ◌+◌, ◌≤◌, ◌<◌, ◌^◌, ℕ, List, length, IfOk, IfSome, MatchOption};
 ghost use Rattle.cql2.specs.declared.column.Column.TheVariants as column;
 ghost use Rattle.cql2.specs.declared.column.NumericColumn.{NumericColumn};
 ghost use Rattle.cql2.specs.declared.filter.Comparison.TheVariants.{Equal};
 ghost use Rattle.cql2.specs.declared.filter.Filter.{Filter};
-ghost use Rattle.cql2_text.specs.Compared.{SpellsAmong, SpellsBetween, SpellsCompared, SpellsNumbers, SpellsOfNumber, compared, mirrored, or_else};
+ghost use Rattle.cql2_text.specs.Compared.{SpellsAmong, SpellsBetween, SpellsCompared, SpellsNumbers, SpellsOfNumber, comparison_of, converse, or_else};
 ghost use Rattle.cql2_text.specs.Read.{IsRead};
 ghost use Rattle.cql2_text.specs.Scan.{after_number, column_ahead, column_of, scanned, step};
 ghost use Rattle.cql2_tokens.specs.declared.token.Keyword.TheVariants as word;
 ghost use Rattle.cql2_tokens.specs.declared.token.Token.{Token};
 ghost use Rattle.cql2_tokens.specs.declared.token.Token.TheVariants as token;
 
-use crate::connective::{both, either, negated};
+use crate::connective::{both, either, negation};
 use crate::expression::expression;
-use crate::fault::{Expected, FilterFaultKind};
+use crate::fault::{Construct, FilterFaultKind};
 use crate::syntax_fault::SyntaxFault;
 use crate::terminal::{Terminal, expect, next};
 use crate::unit::Unit;
@@ -75,7 +80,7 @@ struct Scanned<'a> {
 }
 
 /// Returns the scan after one more token of the expression, if there is one.
-fn advanced<'a>(scan: Scanned<'a>) -> Option<Scanned<'a>>
+fn next_scan<'a>(scan: Scanned<'a>) -> Option<Scanned<'a>>
     requires { scan.open_parentheses < 2 ^ 63 }
     ensures same { MatchOption result
         (scanned scan.entry.expects scan.entry.open_parentheses scan.entry.column scan.entry.rest.now ≡ (scan.entry.column, scan.entry.rest.now))
@@ -105,15 +110,15 @@ fn scan<'a>(words: &'a [Token<'a>]) -> (Option<NumericColumn>, &'a [Token<'a>])
         column: None,
         rest: words,
     };
-    while let Some(after) = advanced(scan) {
+    while let Some(after) = next_scan(scan) {
         scan = after;
     }
     (scan.column, scan.rest)
 }
 
 /// Returns the comparison with its sides exchanged.
-pub(crate) fn mirrored(comparison: Comparison) -> Comparison
-    ensures { result ≡ mirrored comparison }
+pub(crate) fn converse(comparison: Comparison) -> Comparison
+    ensures { result ≡ converse comparison }
 {
     match comparison {
         Comparison::Less => Comparison::Greater,
@@ -126,15 +131,19 @@ pub(crate) fn mirrored(comparison: Comparison) -> Comparison
 }
 
 /// Returns the comparison of two numbers, with the column first where one side is a column and the other a literal.
-fn compared<A: Allocator>(first: Number<A>, comparison: Comparison, second: Number<A>) -> Filter<A>
-    ensures { result ≡ compared first comparison second }
+fn comparison_of<A: Allocator>(
+    first: Number<A>,
+    comparison: Comparison,
+    second: Number<A>,
+) -> Filter<A>
+    ensures { result ≡ comparison_of first comparison second }
 {
     match (&first.expression, &second.expression) {
         (Expression::Column(column), Expression::Literal(literal)) => {
             Filter::CompareNumber(*column, comparison, *literal)
         }
         (Expression::Literal(literal), Expression::Column(column)) => {
-            Filter::CompareNumber(*column, mirrored(comparison), *literal)
+            Filter::CompareNumber(*column, converse(comparison), *literal)
         }
         _ => Filter::CompareNumbers(first, comparison, second),
     }
@@ -156,7 +165,7 @@ fn compare<'a, A: Allocator + Copy>(
     let unit = Unit::of(or_else(first_column, second_column));
     let (first, _after) = expression(alloc, unit, start)?;
     let (second, rest) = expression(alloc, unit, words)?;
-    Ok((compared(first, comparison, second), rest))
+    Ok((comparison_of(first, comparison, second), rest))
 }
 
 /// Reads a predicate about the number that the tokens begin with.
@@ -177,12 +186,12 @@ pub(crate) fn of_number<'a, A: Allocator + Copy>(
             Err(SyntaxFault::at(rest, FilterFaultKind::WrongType))
         }
         Some((Token::Keyword(Keyword::Not), rest)) => {
-            let (inner, rest) = among(alloc, words, rest, Expected::Negatable)?;
-            let filter = negated(alloc, inner)?;
+            let (inner, rest) = among(alloc, words, rest, Construct::Negatable)?;
+            let filter = negation(alloc, inner)?;
             Ok((filter, rest))
         }
         _ => {
-            let (filter, rest) = among(alloc, words, after, Expected::Operator)?;
+            let (filter, rest) = among(alloc, words, after, Construct::Operator)?;
             Ok((filter, rest))
         }
     }
@@ -193,7 +202,7 @@ fn among<'a, A: Allocator + Copy>(
     alloc: A,
     start: &'a [Token<'a>],
     words: &'a [Token<'a>],
-    expected: Expected,
+    expected: Construct,
 ) -> Result<(Filter<A>, &'a [Token<'a>]), SyntaxFault>
     ensures ok { IfOk result (λ read. SpellsAmong start.now (after_number start.now) words.now read.1.now read.0) }
     ensures reads { (after rest : List Token) (made : Filter A) → SpellsAmong start.now after words.now rest made → IsRead result rest made }
@@ -212,7 +221,7 @@ fn among<'a, A: Allocator + Copy>(
         Some((Token::Keyword(Keyword::Like), _after)) => {
             Err(SyntaxFault::at(words, FilterFaultKind::WrongType))
         }
-        _ => Err(SyntaxFault::unexpected(words, expected)),
+        _ => Err(SyntaxFault::unexpected_token(words, expected)),
     }
 }
 

@@ -11,7 +11,7 @@ ghost use Rattle.cql2_tokens.specs.declared.token.Numeral.{Numeral as ANumeral};
 ghost use Rattle.cql2_tokens.specs.declared.token.Token.{Token};
 ghost use Rattle.cql2_tokens.specs.declared.token.Token.TheVariants as token;
 
-use crate::fault::{Expected, FilterFaultKind};
+use crate::fault::{Construct, FilterFaultKind};
 use crate::literal::literal_of;
 use crate::syntax_fault::SyntaxFault;
 use crate::terminal::next;
@@ -31,15 +31,15 @@ pub(crate) fn numeral<'a>(
 {
     match next(words) {
         Some((Token::Sign(Sign::Plus), after)) => {
-            let (numeral, rest) = unsigned(after)?;
+            let (numeral, rest) = unsigned_numeral(after)?;
             Ok((numeral, rest))
         }
         Some((Token::Sign(Sign::Minus), after)) => {
-            let (numeral, rest) = unsigned(after)?;
+            let (numeral, rest) = unsigned_numeral(after)?;
             Ok((below_zero(numeral), rest))
         }
         _ => {
-            let (numeral, rest) = unsigned(words)?;
+            let (numeral, rest) = unsigned_numeral(words)?;
             Ok((numeral, rest))
         }
     }
@@ -56,7 +56,9 @@ fn below_zero<'a>(numeral: Numeral<'a>) -> Numeral<'a>
 }
 
 /// Takes a number without a sign and returns it with the tokens after it.
-fn unsigned<'a>(words: &'a [Token<'a>]) -> Result<(Numeral<'a>, &'a [Token<'a>]), SyntaxFault>
+fn unsigned_numeral<'a>(
+    words: &'a [Token<'a>],
+) -> Result<(Numeral<'a>, &'a [Token<'a>]), SyntaxFault>
     ensures { MatchResult result (λ read. words.now ≡ token.Number read.0 ∷ read.1.now)
         (λ fault. (numeral : ANumeral) (rest : List Token) → words.now ≢ token.Number numeral ∷ rest) }
 {
@@ -65,7 +67,7 @@ fn unsigned<'a>(words: &'a [Token<'a>]) -> Result<(Numeral<'a>, &'a [Token<'a>])
         Some((Token::Text(_spelling), _rest)) => {
             Err(SyntaxFault::at(words, FilterFaultKind::WrongType))
         }
-        _ => Err(SyntaxFault::unexpected(words, Expected::Number)),
+        _ => Err(SyntaxFault::unexpected_token(words, Construct::Number)),
     }
 }
 
@@ -118,7 +120,7 @@ pub(crate) fn spelling<'a>(
         Some((Token::Keyword(Keyword::Casei | Keyword::Accenti), _rest)) => {
             Err(SyntaxFault::at(words, FilterFaultKind::Folded))
         }
-        _ => Err(SyntaxFault::unexpected(words, Expected::Text)),
+        _ => Err(SyntaxFault::unexpected_token(words, Construct::Text)),
     }
 }
 

@@ -1,4 +1,4 @@
-//! What an opening parenthesis begins.
+//! What an opening parenthesis begins: a filter or a number, which only the token after the closing one tells.
 ghost use Rattle.std.specs.Prelude.{◌≡◌, ◌∷◌, ◌<◌, ◌≤◌, ◌+◌, ◌^◌, length, IfSome, MatchOption};
 ghost use Rattle.cql2_text.specs.Parenthesis.{closing, follows_number, joins_numbers, opens_filter};
 ghost use Rattle.cql2_tokens.specs.declared.token.Token.TheVariants as token;

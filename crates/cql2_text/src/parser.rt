@@ -5,14 +5,15 @@ ghost use Rattle.cql2_text.specs.Content.{content};
 ghost use Rattle.cql2_text.specs.Parenthesis.{opens_filter};
 ghost use Rattle.cql2_text.specs.Read.{IsRead, IsNotNext};
 ghost use Rattle.cql2_tokens.specs.declared.token.Keyword.TheVariants as word;
-ghost use Rattle.cql2_text.specs.Spelled.{Expression, Term, Factor, Primary, Spells};
+ghost use Rattle.cql2_text.specs.Spelled.{Expression, Term, Factor, Primary, Spells, SpellsPredicate};
 ghost use Rattle.cql2_text.specs.declared.syntax_fault.SyntaxFault.TheVariants as syntax_fault;
 ghost use Rattle.cql2_tokens.specs.declared.token.Token.{Token};
 
-use crate::connective::{both, either, negated};
-use crate::fault::{Expected, FilterFaultKind};
-use crate::leaf::predicate;
+use crate::connective::{both, either, negation};
+use crate::fault::{Construct, FilterFaultKind};
+use crate::function::function;
 use crate::parenthesis::opens_filter;
+use crate::relation::relation;
 use crate::syntax_fault::SyntaxFault;
 use crate::terminal::{Terminal, expect, next};
 use cql2::Filter;
@@ -20,6 +21,7 @@ use cql2_tokens::{Keyword, Token};
 use std::alloc::Allocator;
 
 /// The maximum number of open parentheses.
+// The parser calls itself for each, so this limits its stack.
 const MAX_NESTED_PARENTHESES: u32 = 64;
 
 /// Returns the filter that all the tokens spell.
@@ -35,7 +37,7 @@ pub(crate) fn filter<'a, A: Allocator + Copy>(
     if rest.is_empty() {
         return Ok(filter);
     }
-    Err(SyntaxFault::unexpected(rest, Expected::End))
+    Err(SyntaxFault::unexpected_token(rest, Construct::End))
 }
 
 /// Reads terms joined by OR.
@@ -94,7 +96,7 @@ fn factor<'a, A: Allocator + Copy>(
     match next(words) {
         Some((Token::Keyword(Keyword::Not), after)) => {
             let (inner, rest) = primary(alloc, after, depth)?;
-            let filter = negated(alloc, inner)?;
+            let filter = negation(alloc, inner)?;
             Ok((filter, rest))
         }
         _ => {
@@ -133,6 +135,28 @@ fn primary<'a, A: Allocator + Copy>(
         }
         _ => {
             let (filter, rest) = predicate(alloc, words)?;
+            Ok((filter, rest))
+        }
+    }
+}
+
+/// Reads a predicate, a function, TRUE or FALSE.
+fn predicate<'a, A: Allocator + Copy>(
+    alloc: A,
+    words: &'a [Token<'a>],
+) -> Result<(Filter<A>, &'a [Token<'a>]), SyntaxFault>
+    ensures ok { IfOk result (λ read. SpellsPredicate words.now read.1.now read.0) }
+    ensures reads { (rest : List Token) (made : Filter A) → SpellsPredicate words.now rest made → IsRead result rest made }
+{
+    match next(words) {
+        Some((Token::Keyword(Keyword::True), rest)) => Ok((Filter::Constant(true), rest)),
+        Some((Token::Keyword(Keyword::False), rest)) => Ok((Filter::Constant(false), rest)),
+        Some((Token::Keyword(Keyword::Function(name)), after)) => {
+            let (filter, rest) = function(alloc, name, after)?;
+            Ok((filter, rest))
+        }
+        _ => {
+            let (filter, rest) = relation(alloc, words)?;
             Ok((filter, rest))
         }
     }

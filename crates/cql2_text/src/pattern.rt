@@ -3,11 +3,11 @@ ghost use Rattle.std.specs.Prelude.{◌≡◌, ◌<◌, ◌≤◌, ℕ, List, tr
 ghost use Rattle.cql2.specs.Pattern.{is_byte};
 ghost use Rattle.cql2.specs.declared.pattern.Pattern.{Pattern as APattern};
 ghost use Rattle.cql2.specs.declared.pattern.PatternPart.{PatternPart as APatternPart};
-ghost use Rattle.cql2_text.specs.declared.syntax_fault.TextFault.TheVariants as text_fault;
+ghost use Rattle.cql2_text.specs.declared.syntax_fault.LiteralFault.TheVariants as literal_fault;
 ghost use Rattle.cql2_text.specs.Pattern.{IsLikePattern, IsPatternPart, after_percents, character_pattern, least_length, takes_one};
 
-use crate::fault::Expected;
-use crate::syntax_fault::TextFault;
+use crate::fault::Construct;
+use crate::syntax_fault::LiteralFault;
 use cql2::{Folding, Pattern, PatternPart};
 use cql2_tokens::character;
 use std::alloc::Allocator;
@@ -30,7 +30,7 @@ fn pattern_part<'a>(
     spelling: &[u8],
     text: &'a [u8],
     folding: Folding,
-) -> Result<(PatternPart, &'a [u8]), TextFault>
+) -> Result<(PatternPart, &'a [u8]), LiteralFault>
     ensures part { IfOk result (λ read. IsPatternPart folding text.now read.0 read.1.now) }
     ensures is_byte { IfOk result (λ read. is_byte read.0 ≡ true) }
     ensures shorter { IfOk result (λ read. length read.1.now < length text.now) }
@@ -38,14 +38,14 @@ fn pattern_part<'a>(
         → MatchResult result (λ read. (read.0 ≡ part) × (read.1.now ≡ rest)) (λ fault. ⊥) }
 {
     let Some((byte, rest)) = character(text) else {
-        return Err(TextFault::expected(spelling, text, Expected::Character));
+        return Err(LiteralFault::unexpected_character(spelling, text, Construct::Character));
     };
     match byte {
         b'%' => Ok((PatternPart::Many, after_percents(rest))),
         b'_' => Ok((PatternPart::One, rest)),
         b'\\' => match character(rest) {
             Some((next, rest)) => Ok((character_pattern(next, folding), rest)),
-            None => Err(TextFault::expected(spelling, rest, Expected::Escaped)),
+            None => Err(LiteralFault::unexpected_character(spelling, rest, Construct::Escaped)),
         },
         _ => Ok((character_pattern(byte, folding), rest)),
     }
@@ -92,10 +92,10 @@ pub(crate) fn pattern<A: Allocator + Copy>(
     spelling: &[u8],
     folding: Folding,
     width: usize,
-) -> Result<Pattern<A>, TextFault>
+) -> Result<Pattern<A>, LiteralFault>
     ensures ok { IfOk result (λ pattern. IsLikePattern width folding spelling.now pattern) }
     ensures reads { (pattern : APattern A) → IsLikePattern width folding spelling.now pattern
-        → MatchResult result (λ read. read.parts.items ≡ pattern.parts.items) (λ fault. fault ≡ text_fault.Memory) }
+        → MatchResult result (λ read. read.parts.items ≡ pattern.parts.items) (λ fault. fault ≡ literal_fault.Memory) }
 {
     let mut parts = Vec::new(alloc);
     let mut rest = spelling;
@@ -105,7 +105,7 @@ pub(crate) fn pattern<A: Allocator + Copy>(
         rest = after;
     }
     if least_length(&parts) > width {
-        return Err(TextFault::Long);
+        return Err(LiteralFault::Long);
     }
     Ok(Pattern { parts })
 }
@@ -115,9 +115,9 @@ pub(crate) fn same_but_for<A: Allocator + Copy>(
     alloc: A,
     folding: Folding,
     bytes: &[u8],
-) -> Result<Pattern<A>, TextFault>
+) -> Result<Pattern<A>, LiteralFault>
     ensures letters { IfOk result (λ pattern. pattern.parts.items ≡ map (character_pattern folding) bytes.now) }
-    ensures memory { IfErr result (λ fault. fault ≡ text_fault.Memory) }
+    ensures memory { IfErr result (λ fault. fault ≡ literal_fault.Memory) }
 {
     let mut parts = Vec::new(alloc);
     for byte in bytes {

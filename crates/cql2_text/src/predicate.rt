@@ -1,4 +1,10 @@
-//! Predicates about texts.
+//! Predicates about texts: comparisons, LIKE, IN and IS NULL (CQL2, 21-065r2, annex B).
+//!
+//! Their subject is a text column, alone or in CASEI and ACCENTI. There, `=`, `<>` and IN become LIKE with a pattern without wildcards, so a
+//! filter has one way to compare texts whose case or accents don't matter.
+//!
+//! As everywhere in this crate, a function returns what it read with the tokens after it. The tokens in between spell what was read (`ok`), and
+//! what tokens spell is read (`reads`), so a filter has one reading.
 ghost use Rattle.std.specs.Prelude.{◌≡◌, ◌≢◌, ◌∷◌, ◌≤◌, List, IfOk, Err, MatchResult};
 ghost use Rattle.tl_segments.specs.declared.name.TheConstants.{NAME_LENGTH};
 ghost use Rattle.cql2.specs.declared.column.TextColumn.{TextColumn};
@@ -7,7 +13,7 @@ ghost use Rattle.cql2.specs.declared.filter.Filter.{Filter};
 ghost use Rattle.cql2.specs.declared.filter.Filter.TheVariants as filter;
 ghost use Rattle.cql2.specs.declared.pattern.Folding.{Folding as AFolding};
 ghost use Rattle.cql2.specs.declared.pattern.Pattern.{Pattern as APattern};
-ghost use Rattle.cql2_text.specs.declared.predicate.Subject.{Subject};
+ghost use Rattle.cql2_text.specs.declared.predicate.CharacterExpression.{CharacterExpression};
 ghost use Rattle.cql2_text.specs.Read.{IsRead};
 ghost use Rattle.cql2_text.specs.Clause.{IsClause};
 ghost use Rattle.cql2_text.specs.Predicate.{IsSubject, IsTextColumn, IsLikeColumn, is_compared, SpellsComparison, SpellsList, SpellsLike, SpellsNull};
@@ -17,11 +23,11 @@ ghost use Rattle.cql2_text.specs.declared.syntax_fault.SyntaxFault.TheVariants a
 ghost use Rattle.cql2_tokens.specs.declared.token.Keyword.TheVariants as word;
 ghost use Rattle.cql2_tokens.specs.declared.token.Token.{Token};
 ghost use Rattle.cql2_tokens.specs.declared.token.Token.TheVariants as token;
-ghost use Rattle.cql2_text.specs.declared.predicate.Subject.TheVariants as subject;
+ghost use Rattle.cql2_text.specs.declared.predicate.CharacterExpression.TheVariants as subject;
 
 use crate::clause::{MAX_NESTED_CLAUSES, NOTHING, closings, openings, same_openings};
-use crate::connective::{either, negated};
-use crate::fault::{Expected, FilterFaultKind};
+use crate::connective::{either, negation};
+use crate::fault::{Construct, FilterFaultKind};
 use crate::operand::{spelling, text};
 use crate::pattern::{pattern, same_but_for};
 use crate::syntax_fault::SyntaxFault;
@@ -32,7 +38,7 @@ use std::alloc::Allocator;
 
 /// The subject of a predicate about a text.
 #[derive(Clone, Copy)]
-pub(crate) enum Subject {
+pub(crate) enum CharacterExpression {
     Text(TextColumn),
     /// A column in CASEI and ACCENTI, of which they ignore this.
     Folded(Folding, TextColumn),
@@ -41,14 +47,17 @@ pub(crate) enum Subject {
 /// Reads a text column, or one in CASEI and ACCENTI. Other tokens are refused, since this is expected there.
 pub(crate) fn read_subject<'a>(
     words: &'a [Token<'a>],
-    expected: Expected,
-) -> Result<(Subject, &'a [Token<'a>]), SyntaxFault>
+    expected: Construct,
+) -> Result<(CharacterExpression, &'a [Token<'a>]), SyntaxFault>
     ensures ok { IfOk result (λ read. IsSubject read.0 words.now read.1.now) }
-    ensures reads { (s : Subject) (rest : List Token) → IsSubject s words.now rest
+    ensures reads { (s : CharacterExpression) (rest : List Token) → IsSubject s words.now rest
         → MatchResult result (λ read. (read.0 ≡ s) × (read.1.now ≡ rest)) (λ fault. ⊥) }
 {
     match next(words) {
-        Some((Token::Column(Column::Text(column)), rest)) => Ok((Subject::Text(column), rest)),
+        Some((Token::Column(Column::Text(column)), rest)) => Ok((
+            CharacterExpression::Text(column),
+            rest,
+        )),
         Some((Token::Column(_column), _rest)) => {
             Err(SyntaxFault::at(words, FilterFaultKind::WrongType))
         }
@@ -57,7 +66,7 @@ pub(crate) fn read_subject<'a>(
         }
         _ => {
             let (folding, column, rest) = folded_column(words, expected)?;
-            Ok((Subject::Folded(folding, column), rest))
+            Ok((CharacterExpression::Folded(folding, column), rest))
         }
     }
 }
@@ -65,7 +74,7 @@ pub(crate) fn read_subject<'a>(
 /// Reads a text column in CASEI and ACCENTI. Tokens without both are refused, since something else is expected there.
 fn folded_column<'a>(
     words: &'a [Token<'a>],
-    expected: Expected,
+    expected: Construct,
 ) -> Result<(Folding, TextColumn, &'a [Token<'a>]), SyntaxFault>
     ensures ok { IfOk result (λ read. IsClause (IsTextColumn read.1) read.0 words.now read.2.now) }
     ensures reads { (folding : AFolding) (c : TextColumn) (rest : List Token) → IsClause (IsTextColumn c) folding words.now rest
@@ -73,7 +82,7 @@ fn folded_column<'a>(
 {
     let (folding, depth, inner) = openings(words, MAX_NESTED_CLAUSES)?;
     if depth == 0 {
-        return Err(SyntaxFault::unexpected(words, expected));
+        return Err(SyntaxFault::unexpected_token(words, expected));
     }
     let (column, rest) = text_column(inner)?;
     let rest = closings(rest, depth)?;
@@ -93,14 +102,14 @@ fn text_column<'a>(words: &'a [Token<'a>]) -> Result<(TextColumn, &'a [Token<'a>
         Some((Token::UnknownColumn, _rest)) => {
             Err(SyntaxFault::at(words, FilterFaultKind::UnknownColumn))
         }
-        _ => Err(SyntaxFault::unexpected(words, Expected::Column)),
+        _ => Err(SyntaxFault::unexpected_token(words, Construct::Column)),
     }
 }
 
 /// Reads a predicate about a subject, after the subject.
 pub(crate) fn of_subject<'a, A: Allocator + Copy>(
     alloc: A,
-    subject: Subject,
+    subject: CharacterExpression,
     words: &'a [Token<'a>],
 ) -> Result<(Filter<A>, &'a [Token<'a>]), SyntaxFault>
     ensures ok { IfOk result (λ read. SpellsOf subject words.now read.1.now read.0) }
@@ -111,7 +120,7 @@ pub(crate) fn of_subject<'a, A: Allocator + Copy>(
             if !is_compared(subject, comparison) {
                 return Err(SyntaxFault::at(words, FilterFaultKind::Folded));
             }
-            let (filter, rest) = compared(alloc, subject, comparison, after)?;
+            let (filter, rest) = subject_comparison(alloc, subject, comparison, after)?;
             Ok((filter, rest))
         }
         Some((Token::Keyword(Keyword::Is), after)) => {
@@ -122,25 +131,25 @@ pub(crate) fn of_subject<'a, A: Allocator + Copy>(
             Ok((filter, rest))
         }
         Some((Token::Keyword(Keyword::Not), after)) => {
-            let (inner, rest) = negatable(alloc, subject, after, Expected::Negatable)?;
-            let filter = negated(alloc, inner)?;
+            let (inner, rest) = negatable(alloc, subject, after, Construct::Negatable)?;
+            let filter = negation(alloc, inner)?;
             Ok((filter, rest))
         }
         _ => {
-            let (filter, rest) = negatable(alloc, subject, words, Expected::Operator)?;
+            let (filter, rest) = negatable(alloc, subject, words, Construct::Operator)?;
             Ok((filter, rest))
         }
     }
 }
 
 /// Returns whether a subject allows this comparison. CASEI and ACCENTI allow only `=` and `<>`.
-pub(crate) fn is_compared(subject: Subject, comparison: Comparison) -> bool
+pub(crate) fn is_compared(subject: CharacterExpression, comparison: Comparison) -> bool
     ensures { result ≡ is_compared subject comparison }
 {
     match (subject, comparison) {
-        (Subject::Folded(_folding, _column), Comparison::Equal) => true,
-        (Subject::Folded(_folding, _column), Comparison::NotEqual) => true,
-        (Subject::Folded(_folding, _column), _) => false,
+        (CharacterExpression::Folded(_folding, _column), Comparison::Equal) => true,
+        (CharacterExpression::Folded(_folding, _column), Comparison::NotEqual) => true,
+        (CharacterExpression::Folded(_folding, _column), _) => false,
         _ => true,
     }
 }
@@ -158,47 +167,50 @@ pub(crate) fn null<'a, A: Allocator + Copy>(
         Some((Token::Keyword(Keyword::Null), rest)) => Ok((Filter::IsNull(column), rest)),
         Some((Token::Keyword(Keyword::Not), after)) => {
             let rest = expect(after, Terminal::Null)?;
-            let filter = negated(alloc, Filter::IsNull(column))?;
+            let filter = negation(alloc, Filter::IsNull(column))?;
             Ok((filter, rest))
         }
-        _ => Err(SyntaxFault::unexpected(words, Expected::Null)),
+        _ => Err(SyntaxFault::unexpected_token(words, Construct::Null)),
     }
 }
 
 /// Returns the column of a subject that isn't in CASEI or ACCENTI.
-fn column_of(subject: Subject) -> Option<Column>
+fn column_of(subject: CharacterExpression) -> Option<Column>
     ensures { result ≡ column_of subject }
 {
     match subject {
-        Subject::Text(column) => Some(Column::Text(column)),
-        Subject::Folded(_folding, _column) => None,
+        CharacterExpression::Text(column) => Some(Column::Text(column)),
+        CharacterExpression::Folded(_folding, _column) => None,
     }
 }
 
 /// Reads the predicates about a text that NOT may precede: LIKE and IN.
 fn negatable<'a, A: Allocator + Copy>(
     alloc: A,
-    subject: Subject,
+    subject: CharacterExpression,
     words: &'a [Token<'a>],
-    expected: Expected,
+    expected: Construct,
 ) -> Result<(Filter<A>, &'a [Token<'a>]), SyntaxFault>
     ensures ok { IfOk result (λ read. SpellsNegatable subject words.now read.1.now read.0) }
     ensures reads { (rest : List Token) (made : Filter A) → SpellsNegatable subject words.now rest made → IsRead result rest made }
 {
     match next(words) {
         Some((Token::Keyword(Keyword::Like), after)) => match subject {
-            Subject::Text(column) => {
+            CharacterExpression::Text(column) => {
                 let (filter, rest) = like(alloc, column, after)?;
                 Ok((filter, rest))
             }
-            Subject::Folded(folding, column) => {
+            CharacterExpression::Folded(folding, column) => {
                 let (filter, rest) = folded_like(alloc, folding, column, after)?;
                 Ok((filter, rest))
             }
         },
         Some((Token::Keyword(Keyword::Between), _after)) => match subject {
-            Subject::Text(_column) => Err(SyntaxFault::at(words, FilterFaultKind::WrongType)),
-            Subject::Folded(_folding, _column) => {
+            CharacterExpression::Text(_column) => Err(SyntaxFault::at(
+                words,
+                FilterFaultKind::WrongType,
+            )),
+            CharacterExpression::Folded(_folding, _column) => {
                 Err(SyntaxFault::at(words, FilterFaultKind::Folded))
             }
         },
@@ -206,14 +218,14 @@ fn negatable<'a, A: Allocator + Copy>(
             let (filter, rest) = among(alloc, subject, after)?;
             Ok((filter, rest))
         }
-        _ => Err(SyntaxFault::unexpected(words, expected)),
+        _ => Err(SyntaxFault::unexpected_token(words, expected)),
     }
 }
 
 /// Compares a subject with the text that the tokens begin with.
-pub(crate) fn compared<'a, A: Allocator + Copy>(
+pub(crate) fn subject_comparison<'a, A: Allocator + Copy>(
     alloc: A,
-    subject: Subject,
+    subject: CharacterExpression,
     comparison: Comparison,
     words: &'a [Token<'a>],
 ) -> Result<(Filter<A>, &'a [Token<'a>]), SyntaxFault>
@@ -222,16 +234,16 @@ pub(crate) fn compared<'a, A: Allocator + Copy>(
         → IsRead result rest made }
 {
     match subject {
-        Subject::Text(column) => {
+        CharacterExpression::Text(column) => {
             let (filter, rest) = compared_text(alloc, column, comparison, words)?;
             Ok((filter, rest))
         }
-        Subject::Folded(folding, column) => {
+        CharacterExpression::Folded(folding, column) => {
             let (filter, rest) = folded_same(alloc, folding, column, words)?;
             match comparison {
                 Comparison::Equal => Ok((filter, rest)),
                 Comparison::NotEqual => {
-                    let filter = negated(alloc, filter)?;
+                    let filter = negation(alloc, filter)?;
                     Ok((filter, rest))
                 }
                 _ => Err(SyntaxFault::at(words, FilterFaultKind::Folded)),
@@ -342,7 +354,7 @@ fn folded_like<'a, A: Allocator + Copy>(
 /// Reads the texts in parentheses, one of which the subject equals.
 fn among<'a, A: Allocator + Copy>(
     alloc: A,
-    subject: Subject,
+    subject: CharacterExpression,
     words: &'a [Token<'a>],
 ) -> Result<(Filter<A>, &'a [Token<'a>]), SyntaxFault>
     ensures ok { IfOk result (λ read. SpellsNegatable subject (token.Keyword word.In ∷ words.now) read.1.now read.0) }
@@ -358,16 +370,16 @@ fn among<'a, A: Allocator + Copy>(
 /// Reads a list of texts, one of which the subject equals.
 fn list<'a, A: Allocator + Copy>(
     alloc: A,
-    subject: Subject,
+    subject: CharacterExpression,
     words: &'a [Token<'a>],
 ) -> Result<(Filter<A>, &'a [Token<'a>]), SyntaxFault>
     ensures ok { IfOk result (λ read. SpellsList (SpellsComparison subject Equal) words.now read.1.now read.0) }
     ensures reads { (rest : List Token) (made : Filter A) → SpellsList (SpellsComparison subject Equal) words.now (token.Close ∷ rest) made
         → IsRead result (token.Close ∷ rest) made }
 {
-    let (mut filter, mut rest) = compared(alloc, subject, Comparison::Equal, words)?;
+    let (mut filter, mut rest) = subject_comparison(alloc, subject, Comparison::Equal, words)?;
     while let Some((Token::Comma, after)) = next(rest) {
-        let (second, after) = compared(alloc, subject, Comparison::Equal, after)?;
+        let (second, after) = subject_comparison(alloc, subject, Comparison::Equal, after)?;
         filter = either(alloc, filter, second)?;
         rest = after;
     }

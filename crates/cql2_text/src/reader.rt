@@ -8,7 +8,7 @@ ghost use Rattle.cql2_text.specs.Content.{content};
 ghost use Rattle.cql2_text.specs.Spelled.{IsFilterText};
 ghost use Rattle.cql2_text.specs.declared.reader.TheConstants.{MAX_TEXT_LENGTH};
 
-use crate::fault::{Expected, FilterFault, FilterFaultKind};
+use crate::fault::{Construct, FilterFault, FilterFaultKind};
 use crate::parser::filter;
 use crate::syntax_fault::SyntaxFault;
 use cql2::Filter;
@@ -32,7 +32,7 @@ pub fn read<A: Allocator + Copy>(alloc: A, text: &[u8]) -> Result<Filter<A>, Fil
 
     // Any other text that isn't UTF-8 is refused at its first invalid byte.
     ensures not_utf8 { length text.now ≤ MAX_TEXT_LENGTH → ¬ (IsUtf8 text.now)
-        → result ≡ Err (fault_after (take (utf8_valid_len text.now) text.now) (FilterFaultKind.Syntax Expected.Utf8)) }
+        → result ≡ Err (fault_after (take (utf8_valid_len text.now) text.now) (FilterFaultKind.Syntax Construct.Utf8)) }
 {
     if text.len() > MAX_TEXT_LENGTH {
         return Err(fault_after(&text[..MAX_TEXT_LENGTH], FilterFaultKind::TooLong));
@@ -40,7 +40,7 @@ pub fn read<A: Allocator + Copy>(alloc: A, text: &[u8]) -> Result<Filter<A>, Fil
     match std::str::from_utf8(text) {
         Ok(_) => read_utf8(alloc, text),
         Err(error) => {
-            let flaw = FilterFaultKind::Syntax(Expected::Utf8);
+            let flaw = FilterFaultKind::Syntax(Construct::Utf8);
             Err(fault_after(&text[..error.valid_up_to()], flaw))
         }
     }
@@ -60,7 +60,7 @@ fn read_utf8<A: Allocator + Copy>(alloc: A, text: &[u8]) -> Result<Filter<A>, Fi
             if tokens.rest.is_empty() {
                 return Ok(filter);
             }
-            let flaw = FilterFaultKind::Syntax(Expected::End);
+            let flaw = FilterFaultKind::Syntax(Construct::End);
             Err(fault_after(front(text, tokens.start(text, 0)), flaw))
         }
         Err(SyntaxFault::At { left, offset, flaw }) => {

@@ -10,7 +10,7 @@ ghost use Rattle.cql2_tokens.specs.declared.token.Keyword.TheVariants as word;
 ghost use Rattle.cql2_tokens.specs.declared.token.Token.{Token};
 ghost use Rattle.cql2_tokens.specs.declared.token.Token.TheVariants as token;
 
-use crate::fault::Expected;
+use crate::fault::Construct;
 use crate::numeric::of_number;
 use crate::predicate::{null, of_subject, read_subject};
 use crate::syntax_fault::SyntaxFault;
@@ -34,7 +34,7 @@ pub(crate) fn relation<'a, A: Allocator + Copy>(
     if begins_text(words) {
         return text_first(alloc, words);
     }
-    let (subject, after) = read_subject(words, Expected::Predicate)?;
+    let (subject, after) = read_subject(words, Construct::Predicate)?;
     let (filter, rest) = of_subject(alloc, subject, after)?;
     Ok((filter, rest))
 }

@@ -2,14 +2,14 @@
 ghost use Rattle.std.specs.Prelude.{◌≡◌, ◌<◌, ◌+◌, ◌^◌, ℤ, nat_le, unsigned_abs, map, List, IfOk, MatchOption, MatchResult};
 ghost use Rattle.cql2.specs.Geometry.{femtodegrees};
 ghost use Rattle.cql2_text.specs.Corners.{AreSmall, IsOrdered, numbers_of};
-ghost use Rattle.cql2_text.specs.Geometry.{AreCorners, Box, InParentheses, IsBox, IsCorner, ShapeContent, SpellsShape, SpellsTagged};
+ghost use Rattle.cql2_text.specs.Geometry.{AreCorners, Box, InParentheses, IsBox, IsCorner, ShapeContent, SpellsShape, SpellsTaggedShape};
 ghost use Rattle.cql2_text.specs.Geometry.{box_of, points_of_ring, rings_of, shape_content, vertices_of};
 ghost use Rattle.cql2_text.specs.Geometry.{vertices_of_polygon, vertices_of_polygons};
 ghost use Rattle.cql2_text.specs.Read.{IsReadAs};
 ghost use Rattle.cql2_tokens.specs.declared.token.Token.{Token};
 
 use crate::coordinates::{after_commas, line, point, polygon, polygons};
-use crate::fault::{Expected, FilterFaultKind};
+use crate::fault::{Construct, FilterFaultKind};
 use crate::operand::number;
 use crate::syntax_fault::SyntaxFault;
 use crate::terminal::{Terminal, expect, next};
@@ -37,7 +37,7 @@ pub(crate) struct Corners {
 pub(crate) fn shape<'a, A: Allocator + Copy>(
     alloc: A,
     words: &'a [Token<'a>],
-    expected: Expected,
+    expected: Construct,
 ) -> Result<(Shape<A>, &'a [Token<'a>]), SyntaxFault>
     ensures ok { IfOk result (λ read. SpellsShape words.now read.1.now (shape_content read.0)) }
     ensures reads { (rest : List Token) (content : ShapeContent) → SpellsShape words.now rest content
@@ -45,25 +45,25 @@ pub(crate) fn shape<'a, A: Allocator + Copy>(
 {
     match next(words) {
         Some((Token::Keyword(Keyword::Shape(tag)), after)) => {
-            let (shape, rest) = tagged(alloc, tag, after)?;
+            let (shape, rest) = tagged_shape(alloc, tag, after)?;
             if has_few_vertices(&shape) {
                 Ok((shape, rest))
             } else {
                 Err(SyntaxFault::at(words, FilterFaultKind::ManyVertices))
             }
         }
-        _ => Err(SyntaxFault::unexpected(words, expected)),
+        _ => Err(SyntaxFault::unexpected_token(words, expected)),
     }
 }
 
 /// Reads a shape after its tag.
-fn tagged<'a, A: Allocator + Copy>(
+fn tagged_shape<'a, A: Allocator + Copy>(
     alloc: A,
     tag: ShapeTag,
     words: &'a [Token<'a>],
 ) -> Result<(Shape<A>, &'a [Token<'a>]), SyntaxFault>
-    ensures ok { IfOk result (λ read. SpellsTagged tag words.now read.1.now (shape_content read.0)) }
-    ensures reads { (rest : List Token) (content : ShapeContent) → SpellsTagged tag words.now rest content
+    ensures ok { IfOk result (λ read. SpellsTaggedShape tag words.now read.1.now (shape_content read.0)) }
+    ensures reads { (rest : List Token) (content : ShapeContent) → SpellsTaggedShape tag words.now rest content
         → IsReadAs shape_content result rest content }
 {
     match tag {
@@ -77,6 +77,7 @@ fn tagged<'a, A: Allocator + Copy>(
         }
         ShapeTag::Polygon => {
             let (polygon, rest) = polygon(alloc, words)?;
+            // A list of one, so the compiler has one case for both.
             let mut polygons = Vec::new(alloc);
             polygons.push(polygon)?;
             Ok((Shape::Polygons(Polygons { polygons }), rest))

@@ -1,46 +1,46 @@
 //! Faults in tokens, before their lines and columns are known.
 ghost use Rattle.std.specs.Prelude.{◌≡◌, ◌+◌, ◌-◌, length};
 ghost use Rattle.cql2_text.specs.declared.syntax_fault.SyntaxFault.TheVariants as syntax_fault;
-ghost use Rattle.cql2_text.specs.declared.syntax_fault.TextFault.TheVariants as text_fault;
+ghost use Rattle.cql2_text.specs.declared.syntax_fault.LiteralFault.TheVariants as literal_fault;
 
-use crate::fault::{Expected, FilterFaultKind};
+use crate::fault::{Construct, FilterFaultKind};
 use cql2_tokens::Token;
 use std::alloc::{AllocError, AllocFailed};
 
 /// Why the inside of a string literal is not read.
 #[derive(Clone, Copy, Drop)]
-pub(crate) enum TextFault {
+pub(crate) enum LiteralFault {
     /// Something else is expected at this offset after the opening quote, in bytes.
-    At { offset: usize, expected: Expected },
+    At { offset: usize, expected: Construct },
     Long,
     Memory,
 }
 
-impl TextFault {
+impl LiteralFault {
     /// Returns the fault for a construct that is expected where `rest` of a literal's inside begins.
-    pub fn expected(spelling: &[u8], rest: &[u8], expected: Expected) -> TextFault
-        ensures { result ≡ text_fault.At (length spelling.now - length rest.now) expected }
+    pub fn unexpected_character(spelling: &[u8], rest: &[u8], expected: Construct) -> LiteralFault
+        ensures { result ≡ literal_fault.At (length spelling.now - length rest.now) expected }
     {
-        TextFault::At {
+        LiteralFault::At {
             offset: spelling.len().saturating_sub(rest.len()),
             expected,
         }
     }
 }
 
-impl From<AllocError> for TextFault {
-    ghost from_gives = { λ _ fault. fault ≡ text_fault.Memory };
+impl From<AllocError> for LiteralFault {
+    ghost from_gives = { λ _ fault. fault ≡ literal_fault.Memory };
 
-    fn from(_error: AllocError) -> TextFault {
-        TextFault::Memory
+    fn from(_error: AllocError) -> LiteralFault {
+        LiteralFault::Memory
     }
 }
 
-impl<T: Drop> From<AllocFailed<T>> for TextFault {
-    ghost from_gives = { λ _ fault. fault ≡ text_fault.Memory };
+impl<T: Drop> From<AllocFailed<T>> for LiteralFault {
+    ghost from_gives = { λ _ fault. fault ≡ literal_fault.Memory };
 
-    fn from(_error: AllocFailed<T>) -> TextFault {
-        TextFault::Memory
+    fn from(_error: AllocFailed<T>) -> LiteralFault {
+        LiteralFault::Memory
     }
 }
 
@@ -86,14 +86,14 @@ impl SyntaxFault {
     }
 
     /// Returns the fault for a construct that is expected instead of the first token.
-    pub fn unexpected(words: &[Token], expected: Expected) -> SyntaxFault
+    pub fn unexpected_token(words: &[Token], expected: Construct) -> SyntaxFault
         ensures { result ≡ syntax_fault.At (length words.now) 0 (FilterFaultKind.Syntax expected) }
     {
         SyntaxFault::at(words, FilterFaultKind::Syntax(expected))
     }
 
     /// Returns the fault for a construct that is expected instead of the token before these.
-    pub fn before(rest: &[Token], expected: Expected) -> SyntaxFault
+    pub fn before(rest: &[Token], expected: Construct) -> SyntaxFault
         ensures { result ≡ syntax_fault.At (length rest.now + 1) 0 (FilterFaultKind.Syntax expected) }
     {
         SyntaxFault::At {
@@ -104,18 +104,18 @@ impl SyntaxFault {
     }
 
     /// Returns the fault for one in the string literal that is the first token.
-    pub fn in_text(words: &[Token], fault: TextFault) -> SyntaxFault
-        ensures long { fault ≡ TextFault.Long → result ≡ syntax_fault.At (length words.now) 0 FilterFaultKind.LongText }
-        ensures memory { fault ≡ TextFault.Memory → result ≡ syntax_fault.Memory }
+    pub fn in_text(words: &[Token], fault: LiteralFault) -> SyntaxFault
+        ensures long { fault ≡ LiteralFault.Long → result ≡ syntax_fault.At (length words.now) 0 FilterFaultKind.LongText }
+        ensures memory { fault ≡ LiteralFault.Memory → result ≡ syntax_fault.Memory }
     {
         match fault {
-            TextFault::At { offset, expected } => SyntaxFault::At {
+            LiteralFault::At { offset, expected } => SyntaxFault::At {
                 left: words.len(),
                 offset: offset.saturating_add(1),
                 flaw: FilterFaultKind::Syntax(expected),
             },
-            TextFault::Long => SyntaxFault::at(words, FilterFaultKind::LongText),
-            TextFault::Memory => SyntaxFault::Memory,
+            LiteralFault::Long => SyntaxFault::at(words, FilterFaultKind::LongText),
+            LiteralFault::Memory => SyntaxFault::Memory,
         }
     }
 }

@@ -3,7 +3,7 @@ ghost use Rattle.std.specs.Prelude.{◌≡◌, ◌≢◌, ◌∷◌, [], List, I
 ghost use Rattle.cql2_text.specs.Terminal.{token_of};
 ghost use Rattle.cql2_tokens.specs.declared.token.Token.{Token};
 
-use crate::fault::Expected;
+use crate::fault::Construct;
 use crate::syntax_fault::SyntaxFault;
 use cql2_tokens::{Keyword, ShapeTag, Token};
 
@@ -34,15 +34,15 @@ impl Terminal {
         }
     }
 
-    fn expected(self) -> Expected {
+    fn expected_construct(self) -> Construct {
         match self {
-            Terminal::Opening => Expected::Opening,
-            Terminal::Closing => Expected::Closing,
-            Terminal::Comma => Expected::Comma,
-            Terminal::And => Expected::And,
-            Terminal::Null => Expected::Null,
-            Terminal::Geometry => Expected::Geometry,
-            Terminal::Bbox => Expected::Bbox,
+            Terminal::Opening => Construct::Opening,
+            Terminal::Closing => Construct::Closing,
+            Terminal::Comma => Construct::Comma,
+            Terminal::And => Construct::And,
+            Terminal::Null => Construct::Null,
+            Terminal::Geometry => Construct::Geometry,
+            Terminal::Bbox => Construct::Bbox,
         }
     }
 }
@@ -65,6 +65,6 @@ pub(crate) fn expect<'a>(
 {
     match next(words) {
         Some((first, rest)) if terminal.is(first) => Ok(rest),
-        _ => Err(SyntaxFault::unexpected(words, terminal.expected())),
+        _ => Err(SyntaxFault::unexpected_token(words, terminal.expected_construct())),
     }
 }

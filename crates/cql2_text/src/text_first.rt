@@ -2,18 +2,18 @@
 ghost use Rattle.std.specs.Prelude.{◌≡◌, ◌∷◌, true, false, List, IfOk, MatchResult};
 ghost use Rattle.cql2.specs.declared.filter.Comparison.TheVariants.{Equal};
 ghost use Rattle.cql2.specs.declared.filter.Filter.{Filter};
-ghost use Rattle.cql2_text.specs.Predicate.{IsSubject, IsTextLiteral, SpellsExchanged, SpellsList, SpellsOfText, SpellsRelation, SpellsTextAmong};
+ghost use Rattle.cql2_text.specs.Predicate.{IsSubject, IsTextLiteral, SpellsExchangedComparison, SpellsList, SpellsOfText, SpellsRelation, SpellsTextAmong};
 ghost use Rattle.cql2_text.specs.Read.{IsRead};
-ghost use Rattle.cql2_text.specs.declared.predicate.Subject.{Subject};
+ghost use Rattle.cql2_text.specs.declared.predicate.CharacterExpression.{CharacterExpression};
 ghost use Rattle.cql2_tokens.specs.declared.token.Token.{Token};
 ghost use Rattle.cql2_tokens.specs.declared.token.Token.TheVariants as token;
 
 use crate::clause::{MAX_NESTED_CLAUSES, closings, openings};
-use crate::connective::{either, negated};
-use crate::fault::{Expected, FilterFaultKind};
-use crate::numeric::mirrored;
+use crate::connective::{either, negation};
+use crate::fault::{Construct, FilterFaultKind};
+use crate::numeric::converse;
 use crate::operand::spelling;
-use crate::predicate::{compared, is_compared, read_subject};
+use crate::predicate::{is_compared, read_subject, subject_comparison};
 use crate::syntax_fault::SyntaxFault;
 use crate::terminal::{Terminal, expect, next};
 use cql2::{Comparison, Filter};
@@ -23,7 +23,7 @@ use std::alloc::Allocator;
 /// Returns whether the tokens begin with a string literal, which may be in CASEI and ACCENTI.
 pub(crate) fn begins_text(words: &[Token]) -> bool
     ensures text { (rest : List Token) → IsTextLiteral words.now rest → result ≡ true }
-    ensures subject { (s : Subject) (rest : List Token) → IsSubject s words.now rest → result ≡ false }
+    ensures subject { (s : CharacterExpression) (rest : List Token) → IsSubject s words.now rest → result ≡ false }
 {
     match openings(words, MAX_NESTED_CLAUSES) {
         Ok((_folding, _depth, inner)) => {
@@ -69,39 +69,39 @@ fn of_text<'a, A: Allocator + Copy>(
 {
     match next(words) {
         Some((Token::Compared(comparison), after)) => {
-            let (filter, rest) = exchanged(alloc, start, words, comparison, after)?;
+            let (filter, rest) = exchanged_comparison(alloc, start, words, comparison, after)?;
             Ok((filter, rest))
         }
         Some((Token::Keyword(Keyword::Not), after)) => {
-            let (inner, rest) = among(alloc, start, after, Expected::Negatable)?;
-            let filter = negated(alloc, inner)?;
+            let (inner, rest) = among(alloc, start, after, Construct::Negatable)?;
+            let filter = negation(alloc, inner)?;
             Ok((filter, rest))
         }
         _ => {
-            let (filter, rest) = among(alloc, start, words, Expected::Operator)?;
+            let (filter, rest) = among(alloc, start, words, Construct::Operator)?;
             Ok((filter, rest))
         }
     }
 }
 
 /// Compares the string literal at the start with the column that the tokens begin with. The column comes first in the filter.
-fn exchanged<'a, A: Allocator + Copy>(
+fn exchanged_comparison<'a, A: Allocator + Copy>(
     alloc: A,
     start: &'a [Token<'a>],
     operator: &'a [Token<'a>],
     comparison: Comparison,
     words: &'a [Token<'a>],
 ) -> Result<(Filter<A>, &'a [Token<'a>]), SyntaxFault>
-    ensures ok { IfOk result (λ read. SpellsExchanged start.now comparison words.now read.1.now read.0) }
-    ensures reads { (rest : List Token) (made : Filter A) → SpellsExchanged start.now comparison words.now rest made
+    ensures ok { IfOk result (λ read. SpellsExchangedComparison start.now comparison words.now read.1.now read.0) }
+    ensures reads { (rest : List Token) (made : Filter A) → SpellsExchangedComparison start.now comparison words.now rest made
         → IsRead result rest made }
 {
-    let (subject, rest) = read_subject(words, Expected::Column)?;
-    let comparison = mirrored(comparison);
+    let (subject, rest) = read_subject(words, Construct::Column)?;
+    let comparison = converse(comparison);
     if !is_compared(subject, comparison) {
         return Err(SyntaxFault::at(operator, FilterFaultKind::Folded));
     }
-    let (filter, _after) = compared(alloc, subject, comparison, start)?;
+    let (filter, _after) = subject_comparison(alloc, subject, comparison, start)?;
     Ok((filter, rest))
 }
 
@@ -110,13 +110,13 @@ fn among<'a, A: Allocator + Copy>(
     alloc: A,
     start: &'a [Token<'a>],
     words: &'a [Token<'a>],
-    expected: Expected,
+    expected: Construct,
 ) -> Result<(Filter<A>, &'a [Token<'a>]), SyntaxFault>
     ensures ok { IfOk result (λ read. SpellsTextAmong start.now words.now read.1.now read.0) }
     ensures reads { (rest : List Token) (made : Filter A) → SpellsTextAmong start.now words.now rest made → IsRead result rest made }
 {
     let Some((Token::Keyword(Keyword::In), after)) = next(words) else {
-        return Err(SyntaxFault::unexpected(words, expected));
+        return Err(SyntaxFault::unexpected_token(words, expected));
     };
     let inner = expect(after, Terminal::Opening)?;
     let (filter, rest) = list(alloc, start, inner)?;
@@ -130,13 +130,19 @@ fn list<'a, A: Allocator + Copy>(
     start: &'a [Token<'a>],
     words: &'a [Token<'a>],
 ) -> Result<(Filter<A>, &'a [Token<'a>]), SyntaxFault>
-    ensures ok { IfOk result (λ read. SpellsList (SpellsExchanged start.now Equal) words.now read.1.now read.0) }
-    ensures reads { (rest : List Token) (made : Filter A) → SpellsList (SpellsExchanged start.now Equal) words.now (token.Close ∷ rest) made
+    ensures ok { IfOk result (λ read. SpellsList (SpellsExchangedComparison start.now Equal) words.now read.1.now read.0) }
+    ensures reads { (rest : List Token) (made : Filter A) → SpellsList (SpellsExchangedComparison start.now Equal) words.now (token.Close ∷ rest) made
         → IsRead result (token.Close ∷ rest) made }
 {
-    let (mut filter, mut rest) = exchanged(alloc, start, start, Comparison::Equal, words)?;
+    let (mut filter, mut rest) = exchanged_comparison(
+        alloc,
+        start,
+        start,
+        Comparison::Equal,
+        words,
+    )?;
     while let Some((Token::Comma, after)) = next(rest) {
-        let (second, after) = exchanged(alloc, start, start, Comparison::Equal, after)?;
+        let (second, after) = exchanged_comparison(alloc, start, start, Comparison::Equal, after)?;
         filter = either(alloc, filter, second)?;
         rest = after;
     }

@@ -12,7 +12,7 @@ use Rattle.cql2_json.specs.declared.fault.ValueFlaw.{ValueFlaw}
 use Rattle.cql2_json.specs.declared.fault.ValueFlaw.TheVariants as value
 use Rattle.cql2_text.specs.FilterFault as filter_fault
 use Rattle.cql2_text.specs.FilterFaultKind as filter_flaw
-use Rattle.cql2_text.specs.declared.fault.Expected.TheVariants as expected
+use Rattle.cql2_text.specs.declared.fault.Construct.TheVariants as construct
 use Rattle.cql2_text.specs.declared.fault.FilterFault.{FilterFault}
 use Rattle.cql2_text.specs.declared.fault.FilterFault.TheVariants as filter
 use Rattle.cql2_text.specs.declared.fault.FilterFaultKind.{FilterFaultKind}
@@ -55,12 +55,12 @@ IsOfCompile fault failure = ⊥
 
 -- The flaw of a filter whose text isn't JSON, and of one whose JSON has a value without a text. Neither refusal says what is expected.
 abbrev pub json_flaw : JsonFlaw → FilterFaultKind
-json_flaw json_fault.Utf8 = flaw.Syntax expected.Utf8
-json_flaw json_fault.Syntax = flaw.Syntax expected.Predicate
+json_flaw json_fault.Utf8 = flaw.Syntax construct.Utf8
+json_flaw json_fault.Syntax = flaw.Syntax construct.Predicate
 json_flaw json_fault.TooLong = flaw.TooLong
 
 abbrev pub value_flaw : ValueFlaw → FilterFaultKind
-value_flaw (value.Expected needs) = flaw.Syntax expected.Predicate
+value_flaw (value.Expected needs) = flaw.Syntax construct.Predicate
 value_flaw value.TooLong = flaw.TooLong
 
 -- why JSON has no text

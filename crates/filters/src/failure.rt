@@ -10,7 +10,7 @@ ghost use Rattle.filters.specs.declared.failure.FilterFailure.TheVariants.{Memor
 use arrayvec::ArrayString;
 use cql2_code::CompileFault;
 use cql2_json::{JsonFault, JsonFlaw, ValueFlaw};
-use cql2_text::{Expected, FilterFault, FilterFaultKind};
+use cql2_text::{Construct, FilterFault, FilterFaultKind};
 use refusals::{Class, Fault, Refusal};
 use std::alloc::{AllocError, AllocFailed, Allocator, Global};
 use std::fmt::Write;
@@ -241,8 +241,8 @@ fn json_flaw(flaw: JsonFlaw) -> FilterFaultKind
     ensures { result ≡ json_flaw flaw }
 {
     match flaw {
-        JsonFlaw::Utf8 => FilterFaultKind::Syntax(Expected::Utf8),
-        JsonFlaw::Syntax => FilterFaultKind::Syntax(Expected::Predicate),
+        JsonFlaw::Utf8 => FilterFaultKind::Syntax(Construct::Utf8),
+        JsonFlaw::Syntax => FilterFaultKind::Syntax(Construct::Predicate),
         JsonFlaw::TooLong => FilterFaultKind::TooLong,
     }
 }
@@ -252,7 +252,7 @@ fn value_flaw(flaw: ValueFlaw) -> FilterFaultKind
     ensures { result ≡ value_flaw flaw }
 {
     match flaw {
-        ValueFlaw::Expected(_expected) => FilterFaultKind::Syntax(Expected::Predicate),
+        ValueFlaw::Expected(_expected) => FilterFaultKind::Syntax(Construct::Predicate),
         ValueFlaw::TooLong => FilterFaultKind::TooLong,
     }
 }

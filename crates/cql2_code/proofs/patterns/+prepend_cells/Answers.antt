@@ -4,8 +4,8 @@ use Rattle.cql2_code.proofs.patterns.+prepend_cells.Goals as goal
 
 pub returns-in_default : goal.returns-in_default
 returns-in_default g t c =
-    cells_none _ c.args.shift c.args.starts.now c.args.past c.args.code.now _ c.prepend_constant.result c.in_default.ensures.cases
-    c.requires.past c.prepend_constant.ensures
+    cells_none _ c.args.shift c.args.starts.now c.args.past c.args.code.now _ c.prepend_constant.result
+    (record { none = c.in_default.ensures.cases; falls = c.requires.past }) c.prepend_constant.ensures
 
 pub returns-in_err-prepend_cells : goal.returns-in_err-prepend_cells
 returns-in_err-prepend_cells g t c =

@@ -2,7 +2,7 @@ use Rattle.std.proofs.Common.{◌≡◌, [], Ok, Some, subst}
 use Rattle.json.specs.Value.{value_view}
 use Rattle.cql2_json.specs.Translation.{text_of, translation}
 use Rattle.cql2_json.specs.Writer.{Writes}
-use Rattle.cql2_json.specs.declared.form.Kind.TheVariants.{Expression}
+use Rattle.cql2_json.specs.declared.form.ValueKind.TheVariants.{Expression}
 use Rattle.cql2_json.specs.declared.writer.Writer.{Writer}
 use Rattle.cql2_json.proofs.CleanLemmas.{one-line}
 use Rattle.cql2_json.proofs.WriterLemmas.{text-written}

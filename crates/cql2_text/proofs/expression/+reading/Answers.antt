@@ -83,55 +83,55 @@ pub chain-returns-clause-reads : goal.chain-returns-clause-reads
 chain-returns-clause-reads g t c =
     λ rest made no spelled. last-of (c.loop-operator.invariant.reads rest made no spelled) c.in_default.ensures
 
-pub grouped-returns-in_err-rest-clause-reads : goal.grouped-returns-in_err-rest-clause-reads
-grouped-returns-in_err-rest-clause-reads g t c =
+pub parenthesized_expression-returns-in_err-rest-clause-reads : goal.parenthesized_expression-returns-in_err-rest-clause-reads
+parenthesized_expression-returns-in_err-rest-clause-reads g t c =
     λ rest made spelled.
     let group = group-number-of spelled in
     let read = c.in_ok-part.ensures.reads (Close ∷ rest) made refl group.spelled in
     absurd (c.in_err-rest.ensures _ read.0)
 
-pub grouped-returns-clause-ok : goal.grouped-returns-clause-ok
-grouped-returns-clause-ok g t c =
+pub parenthesized_expression-returns-clause-ok : goal.parenthesized_expression-returns-clause-ok
+parenthesized_expression-returns-clause-ok g t c =
     let inner = rw c.in_ok-rest.ensures at c.in_ok-part.ensures.ok in
     let deep : c.args.depth ≡ suc (c.args.depth - 1) = omega arith in
     rw deep (grouped inner)
 
-pub grouped-returns-clause-reads : goal.grouped-returns-clause-reads
-grouped-returns-clause-reads g t c =
+pub parenthesized_expression-returns-clause-reads : goal.parenthesized_expression-returns-clause-reads
+parenthesized_expression-returns-clause-reads g t c =
     λ rest made spelled.
     let group = group-number-of spelled in
     let read = c.in_ok-part.ensures.reads (Close ∷ rest) made refl group.spelled in
     let rest_same : c.in_ok-rest.rest.now ≡ rest = cc (read.0, c.in_ok-rest.ensures) in
     (rest_same, read.1)
 
-pub signed-returns-in_err-literal-clause-reads : goal.signed-returns-in_err-literal-clause-reads
-signed-returns-in_err-literal-clause-reads g t c =
+pub signed_factor-returns-in_err-literal-clause-reads : goal.signed_factor-returns-in_err-literal-clause-reads
+signed_factor-returns-in_err-literal-clause-reads g t c =
     let starts = sym c.begins_number.ensures ∙ c.if-begins_number.true in
     λ rest made spelled.
     let is = signed-at c.requires.minus starts spelled in
     absurd (c.in_err-literal.ensures.reads rest is.value.number is.spelled)
 
-pub signed-returns-then-begins_number-clause-ok : goal.signed-returns-then-begins_number-clause-ok
-signed-returns-then-begins_number-clause-ok g t c = rw c.literal_part.ensures (literal c.in_ok-literal.ensures.ok)
+pub signed_factor-returns-then-begins_number-clause-ok : goal.signed_factor-returns-then-begins_number-clause-ok
+signed_factor-returns-then-begins_number-clause-ok g t c = rw c.literal_subexpression.ensures (literal c.in_ok-literal.ensures.ok)
 
-pub signed-returns-then-begins_number-clause-reads : goal.signed-returns-then-begins_number-clause-reads
-signed-returns-then-begins_number-clause-reads g t c =
+pub signed_factor-returns-then-begins_number-clause-reads : goal.signed_factor-returns-then-begins_number-clause-reads
+signed_factor-returns-then-begins_number-clause-reads g t c =
     let starts = sym c.begins_number.ensures ∙ c.if-begins_number.true in
     λ rest made spelled.
     let is = signed-at c.requires.minus starts spelled in
     let read = c.in_ok-literal.ensures.reads rest is.value.number is.spelled in
-    (read.0, rw (c.literal_part.ensures, is.is) (ap Literal read.1))
+    (read.0, rw (c.literal_subexpression.ensures, is.is) (ap Literal read.1))
 
-pub signed-returns-in_err-inner-clause-reads : goal.signed-returns-in_err-inner-clause-reads
-signed-returns-in_err-inner-clause-reads g t c =
+pub signed_factor-returns-in_err-inner-clause-reads : goal.signed_factor-returns-in_err-inner-clause-reads
+signed_factor-returns-in_err-inner-clause-reads g t c =
     let stop = sym c.begins_number.ensures ∙ c.if-begins_number.false in
     λ rest made spelled.
     let is = opposite-at c.requires.minus stop spelled in
     let memory : c.in_err-inner.field-0.0 ≡ Memory = c.in_err-inner.ensures.reads rest is.inner is.spelled in
     search rules
 
-pub signed-returns-in_err-part-clause-reads : goal.signed-returns-in_err-part-clause-reads
-signed-returns-in_err-part-clause-reads g t c =
+pub signed_factor-returns-in_err-part-clause-reads : goal.signed_factor-returns-in_err-part-clause-reads
+signed_factor-returns-in_err-part-clause-reads g t c =
     let stop = sym c.begins_number.ensures ∙ c.if-begins_number.false in
     λ rest made spelled.
     let is = opposite-at c.requires.minus stop spelled in
@@ -140,14 +140,14 @@ signed-returns-in_err-part-clause-reads g t c =
     let memory : c.in_err-part.field-0.0 ≡ Memory = c.in_err-part.ensures few in
     search rules
 
-pub signed-returns-clause-ok : goal.signed-returns-clause-ok
-signed-returns-clause-ok g t c =
+pub signed_factor-returns-clause-ok : goal.signed_factor-returns-clause-ok
+signed_factor-returns-clause-ok g t c =
     let stop = sym c.begins_number.ensures ∙ c.if-begins_number.false in
     let deep : c.args.depth ≡ suc (c.args.depth - 1) = omega arith in
     rw (c.requires.minus, deep, c.in_ok-part.ensures.1.1) (opposite stop c.in_ok-part.ensures.0 c.in_ok-inner.ensures.ok)
 
-pub signed-returns-clause-reads : goal.signed-returns-clause-reads
-signed-returns-clause-reads g t c =
+pub signed_factor-returns-clause-reads : goal.signed_factor-returns-clause-reads
+signed_factor-returns-clause-reads g t c =
     let stop = sym c.begins_number.ensures ∙ c.if-begins_number.false in
     λ rest made spelled.
     let is = opposite-at c.requires.minus stop spelled in

@@ -14,11 +14,11 @@ decreases-term g l = 8 * l.depth + 3 + rank l.level
 abbrev pub decreases-factor : goal.decreases-factor
 decreases-factor g l = 8 * l.depth + 2
 
-abbrev pub decreases-grouped : goal.decreases-grouped
-decreases-grouped g l = 8 * l.depth + 1
+abbrev pub decreases-parenthesized_expression : goal.decreases-parenthesized_expression
+decreases-parenthesized_expression g l = 8 * l.depth + 1
 
-abbrev pub decreases-signed : goal.decreases-signed
-decreases-signed g l = 8 * l.depth + 1
+abbrev pub decreases-signed_factor : goal.decreases-signed_factor
+decreases-signed_factor g l = 8 * l.depth + 1
 
 abbrev pub invariant-chain-loop-operator : goal.invariant-chain-loop-operator
 invariant-chain-loop-operator g l = record {

@@ -20,11 +20,11 @@ pub returns-else-not-has-clause-ok : goal.returns-else-not-has-clause-ok
 returns-else-not-has-clause-ok g c =
     let k = c.in-Some-Column-Numeric-default in
     let is = column-is _ _ _ _ _ k.ensures k.field-0-0-is k.field-0-0-0-is in
-    λ depth. rw (is, c.column_part.ensures) (property_name (sym c.if-not-has.ensures))
+    λ depth. rw (is, c.column_subexpression.ensures) (property_name (sym c.if-not-has.ensures))
 
 pub returns-in_ok-literal-in_default-clause-ok : goal.returns-in_ok-literal-in_default-clause-ok
 returns-in_ok-literal-in_default-clause-ok g c =
-    λ depth. rw c.literal_part.ensures (literal c.in_ok-literal-in_default.ensures.ok)
+    λ depth. rw c.literal_subexpression.ensures (literal c.in_ok-literal-in_default.ensures.ok)
 
 pub returns-in_ok-literal-in_default-clause-reads : goal.returns-in_ok-literal-in_default-clause-reads
 returns-in_ok-literal-in_default-clause-reads g c =
@@ -32,4 +32,4 @@ returns-in_ok-literal-in_default-clause-reads g c =
     λ depth rest made parens minus spelled.
     let is = literal-of parens minus named spelled in
     let read = c.in_ok-literal-in_default.ensures.reads rest is.value.number is.spelled in
-    (read.0, rw (c.literal_part.ensures, is.is) (ap Literal read.1))
+    (read.0, rw (c.literal_subexpression.ensures, is.is) (ap Literal read.1))

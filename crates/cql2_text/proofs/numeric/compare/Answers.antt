@@ -11,7 +11,7 @@ returns-clause-ok g c =
     let ends = expression-ends c.args.start.now _ _ first in
     let unit = unit-read c.args.start.now c.args.words.now _ _ _ _ c.scan-first_column.ensures.column c.scan-second_column.ensures.column
     c.or_else.ensures c.of-unit.ensures first second in
-    compared-at _ _ _ _ _ _ _ _ _ (sym ends) unit first second c.compared.ensures
+    compared-at _ _ _ _ _ _ _ _ _ (sym ends) unit first second c.comparison_of.ensures
 
 pub returns-in_err-first-clause-reads : goal.returns-in_err-first-clause-reads
 returns-in_err-first-clause-reads g c =
@@ -36,4 +36,4 @@ returns-clause-reads g c =
     c.scan-second_column.ensures.column c.or_else.ensures c.of-unit.ensures spelled in
     let first = c.in_ok-first.ensures.reads after is.first is.is_first in
     let second = c.in_ok-second.ensures.reads rest is.second is.is_second in
-    (second.0, rw (c.compared.ensures, is.is) (same-compared _ _ _ _ _ first.1 second.1))
+    (second.0, rw (c.comparison_of.ensures, is.is) (same-compared _ _ _ _ _ first.1 second.1))

@@ -1,7 +1,7 @@
 use Rattle.std.proofs.Common.{◌≡◌, List, false, sym, ◌∙◌, rules}
 use Rattle.cql2_text.specs.Predicate.{IsSubject, IsTextLiteral, of_subject}
 use Rattle.cql2_text.specs.Scan.{begins_operand}
-use Rattle.cql2_text.specs.declared.predicate.Subject.{Subject}
+use Rattle.cql2_text.specs.declared.predicate.CharacterExpression.{CharacterExpression}
 use Rattle.cql2_text.specs.declared.syntax_fault.SyntaxFault.TheVariants.{Memory}
 use Rattle.cql2_tokens.specs.declared.token.Token.{Token}
 use Rattle.cql2_text.proofs.RelationLemmas.{relation-subject, relation-text}
@@ -12,7 +12,7 @@ pub returns-then-begins_text-clause-reads : goal.returns-then-begins_text-clause
 returns-then-begins_text-clause-reads g c =
     let words = c.args.words.now in
     let stop : begins_operand words ≡ false = sym c.begins_operand.ensures ∙ c.if-begins_operand.false in
-    let none : (s : Subject) (middle : List Token) → IsSubject s words middle → ⊥ =
+    let none : (s : CharacterExpression) (middle : List Token) → IsSubject s words middle → ⊥ =
     λ s middle known. let e = sym (c.begins_text.ensures.subject s middle known) ∙ c.if-begins_text.true in cc e in
     λ rest made spelled.
     let is = relation-text words rest made stop none spelled in

@@ -2,7 +2,7 @@ use Rattle.std.proofs.Common.{List, ◌∷◌, length}
 use Rattle.cql2.specs.declared.filter.Comparison.TheVariants.{Equal}
 use Rattle.cql2.specs.declared.filter.Filter.{Filter}
 use Rattle.cql2_text.specs.Connective.{IsEither}
-use Rattle.cql2_text.specs.Predicate.{SpellsExchanged, SpellsList}
+use Rattle.cql2_text.specs.Predicate.{SpellsExchangedComparison, SpellsList}
 use Rattle.cql2_tokens.specs.declared.token.Token.{Token}
 use Rattle.cql2_tokens.specs.declared.token.Token.TheVariants.{Close, Comma}
 use Rattle.cql2_text.proofs.ChainLemmas.{ReadChain}
@@ -10,9 +10,9 @@ use Rattle.cql2_text.proofs.text_first.list.Given as goal
 
 abbrev pub invariant-loop-after : goal.invariant-loop-after
 invariant-loop-after g l = record {
-  spelled : SpellsList (SpellsExchanged l.start Equal) l.words l.rest l.filter;
-  reads : (rest : List Token) (made : Filter _) → SpellsList (SpellsExchanged l.start Equal) l.words (Close ∷ rest) made
-      → ReadChain Comma (SpellsExchanged l.start Equal) IsEither l.rest l.filter (Close ∷ rest) made;
+  spelled : SpellsList (SpellsExchangedComparison l.start Equal) l.words l.rest l.filter;
+  reads : (rest : List Token) (made : Filter _) → SpellsList (SpellsExchangedComparison l.start Equal) l.words (Close ∷ rest) made
+      → ReadChain Comma (SpellsExchangedComparison l.start Equal) IsEither l.rest l.filter (Close ∷ rest) made;
 }
 
 abbrev pub decreases-loop-after : goal.decreases-loop-after

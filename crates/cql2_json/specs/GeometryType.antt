@@ -2,11 +2,11 @@
 use Rattle.std.specs.Prelude.{ℕ, List, codes, bytes_eq, if◌then◌else◌, Option, Some, None}
 use Rattle.cql2_json.specs.declared.form.Form.{Form}
 use Rattle.cql2_json.specs.declared.form.Form.TheVariants as form
-use Rattle.cql2_json.specs.declared.geometry.Geometry.{Geometry}
-use Rattle.cql2_json.specs.declared.geometry.Geometry.TheVariants.{Point, LineString, Polygon, MultiPoint, MultiLineString, MultiPolygon}
+use Rattle.cql2_json.specs.declared.geometry_type.GeometryType.{GeometryType}
+use Rattle.cql2_json.specs.declared.geometry_type.GeometryType.TheVariants.{Point, LineString, Polygon, MultiPoint, MultiLineString, MultiPolygon}
 
-abbrev pub geometry_named : List ℕ → Option Geometry
-geometry_named name =
+abbrev pub geometry_type_of_name : List ℕ → Option GeometryType
+geometry_type_of_name name =
     if bytes_eq name (codes "Point") then Some Point
     else if bytes_eq name (codes "LineString") then Some LineString
     else if bytes_eq name (codes "Polygon") then Some Polygon
@@ -15,7 +15,7 @@ geometry_named name =
     else if bytes_eq name (codes "MultiPolygon") then Some MultiPolygon
     else None
 
-abbrev pub geometry_tag : Geometry → List ℕ
+abbrev pub geometry_tag : GeometryType → List ℕ
 geometry_tag Point = codes "POINT"
 geometry_tag LineString = codes "LINESTRING"
 geometry_tag Polygon = codes "POLYGON"
@@ -23,7 +23,7 @@ geometry_tag MultiPoint = codes "MULTIPOINT"
 geometry_tag MultiLineString = codes "MULTILINESTRING"
 geometry_tag MultiPolygon = codes "MULTIPOLYGON"
 
-abbrev pub coordinates_form : Geometry → Form
+abbrev pub coordinates_form : GeometryType → Form
 coordinates_form Point = form.Point
 coordinates_form LineString = form.Line
 coordinates_form Polygon = form.Polygon

@@ -1,6 +1,6 @@
 use Rattle.std.proofs.Common.{◌≡◌, ◌<◌, refl, arith}
 use Rattle.cql2_text.specs.Expression.{operators}
-use Rattle.cql2_text.proofs.part.opposite.Goals as goal
+use Rattle.cql2_text.proofs.subexpression.opposite.Goals as goal
 
 pub returns : goal.returns
 returns g c =

@@ -1,5 +1,5 @@
 use Rattle.std.proofs.Common.{◌≡◌, refl}
-use Rattle.cql2_text.proofs.connective.negated.Goals as goal
+use Rattle.cql2_text.proofs.connective.negation.Goals as goal
 
 pub returns : goal.returns
 returns g c =

@@ -4,7 +4,7 @@ use Rattle.cql2_text.specs.declared.syntax_fault.SyntaxFault.TheVariants.{Memory
 use Rattle.std.proofs.Common.{refl, subst, ◌≡◌, rules}
 use Rattle.cql2.specs.declared.filter.Filter.{Filter}
 use Rattle.cql2_text.specs.Connective.{IsNot}
-use Rattle.cql2_text.proofs.predicate.compared.Goals as goal
+use Rattle.cql2_text.proofs.predicate.subject_comparison.Goals as goal
 
 pub returns-in_ok-filter-in-NotEqual-clause-ok : goal.returns-in_ok-filter-in-NotEqual-clause-ok
 returns-in_ok-filter-in-NotEqual-clause-ok g c =

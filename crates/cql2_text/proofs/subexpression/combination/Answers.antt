@@ -1,7 +1,7 @@
 use Rattle.std.proofs.Common.{◌≡◌, ◌+◌, ◌<◌, ◌^◌, refl, arith}
 use Rattle.cql2.specs.Expression.{bound, combined_bound}
 use Rattle.cql2_text.specs.Expression.{operators}
-use Rattle.cql2_text.proofs.part.combined.Goals as goal
+use Rattle.cql2_text.proofs.subexpression.combination.Goals as goal
 
 pub returns : goal.returns
 returns g c =

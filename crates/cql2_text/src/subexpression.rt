@@ -1,4 +1,4 @@
-//! Parts of numeric expressions, with what is known of their values.
+//! Subexpressions of numeric expressions, with what is known of their values.
 ghost use Rattle.std.specs.Prelude.{◌≡◌, ◌+◌, ◌-◌, ◌<◌, ◌≤◌, ◌^◌, IsTrue, MatchOption, MatchResult, unsigned_abs};
 ghost use Rattle.cql2.specs.Column.{number_places};
 ghost use Rattle.cql2.specs.Expression.{bound as bound_of, column_bound, combined_bound, depth as depth_of, is_bounded, kept_for, width_of};
@@ -17,9 +17,9 @@ const BOUND: u64 = 1 << 62;
 /// The maximum number of operators in an expression.
 const MAX_OPERATORS: u32 = 64;
 
-/// A part of an expression.
+/// A subexpression.
 #[derive(Drop)]
-pub(crate) struct Part<A: Allocator> {
+pub(crate) struct Subexpression<A: Allocator> {
     pub expression: Expression<A>,
     /// The greatest absolute value that it can have.
     pub bound: u64,
@@ -35,12 +35,12 @@ pub(crate) struct Part<A: Allocator> {
     ghost shallow: { depth ≤ operators },
 }
 
-/// Returns the part for a literal.
-pub(crate) fn literal_part<A: Allocator>(literal: Literal) -> Part<A>
+/// Returns the subexpression of a literal.
+pub(crate) fn literal_subexpression<A: Allocator>(literal: Literal) -> Subexpression<A>
     requires { unsigned_abs literal.number < 10 ^ 18 }
     ensures { result.expression ≡ expression.Literal literal }
 {
-    Part {
+    Subexpression {
         expression: Expression::Literal(literal),
         bound: literal.number.unsigned_abs(),
         depth: 0,
@@ -48,11 +48,11 @@ pub(crate) fn literal_part<A: Allocator>(literal: Literal) -> Part<A>
     }
 }
 
-/// Returns the part for a column.
-pub(crate) fn column_part<A: Allocator>(column: NumericColumn) -> Part<A>
+/// Returns the subexpression of a column.
+pub(crate) fn column_subexpression<A: Allocator>(column: NumericColumn) -> Subexpression<A>
     ensures { result.expression ≡ expression.Column column }
 {
-    Part {
+    Subexpression {
         expression: Expression::Column(column),
         bound: column_bound(column),
         depth: 0,
@@ -60,12 +60,12 @@ pub(crate) fn column_part<A: Allocator>(column: NumericColumn) -> Part<A>
     }
 }
 
-/// Returns the negation of a part.
+/// Returns the negation of a subexpression.
 pub(crate) fn opposite<'a, A: Allocator + Copy>(
     alloc: A,
-    inner: Part<A>,
+    inner: Subexpression<A>,
     words: &'a [Token<'a>],
-) -> Result<Part<A>, SyntaxFault>
+) -> Result<Subexpression<A>, SyntaxFault>
     ensures { MatchResult result (λ made. (operators_of inner.expression < 64) × IsOpposite inner.expression made.expression)
         (λ fault. operators_of inner.expression < 64 → fault ≡ syntax_fault.Memory) }
 {
@@ -76,7 +76,7 @@ pub(crate) fn opposite<'a, A: Allocator + Copy>(
     let Ok(inner) = Box::new(alloc, inner.expression) else {
         return Err(SyntaxFault::Memory);
     };
-    Ok(Part {
+    Ok(Subexpression {
         expression: Expression::Negated(inner),
         bound,
         depth,
@@ -84,14 +84,14 @@ pub(crate) fn opposite<'a, A: Allocator + Copy>(
     })
 }
 
-/// Returns two parts combined by the operator that is the first of the tokens.
-pub(crate) fn combined<'a, A: Allocator + Copy>(
+/// Returns the combination of two subexpressions by the operator that is the first of the tokens.
+pub(crate) fn combination<'a, A: Allocator + Copy>(
     alloc: A,
     operator: Operator,
-    first: Part<A>,
-    second: Part<A>,
+    first: Subexpression<A>,
+    second: Subexpression<A>,
     words: &'a [Token<'a>],
-) -> Result<Part<A>, SyntaxFault>
+) -> Result<Subexpression<A>, SyntaxFault>
     ensures { MatchResult result
         (λ made. Fits operator first.expression second.expression × IsCombined operator first.expression second.expression made.expression)
         (λ fault. Fits operator first.expression second.expression → fault ≡ syntax_fault.Memory) }
@@ -110,7 +110,7 @@ pub(crate) fn combined<'a, A: Allocator + Copy>(
     let Ok(second) = Box::new(alloc, second.expression) else {
         return Err(SyntaxFault::Memory);
     };
-    Ok(Part {
+    Ok(Subexpression {
         expression: Expression::Combined(operator, first, second),
         bound,
         depth,
@@ -130,7 +130,7 @@ fn kept_for<A: Allocator>(second: &Expression<A>, depth: u32) -> u32
     }
 }
 
-/// Returns the greatest absolute value of two parts combined, if it fits.
+/// Returns the greatest absolute value of a combination, if it fits.
 fn combined_bound(operator: Operator, first: u64, second: u64) -> Option<u64>
     requires first_small { first < 2 ^ 62 }
     requires second_small { second < 2 ^ 62 }

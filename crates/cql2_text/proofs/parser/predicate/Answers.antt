@@ -2,9 +2,9 @@ use Rattle.cql2_text.proofs.SpelledLemmas.{BeginsNoFunction, false-of, function-
 use Rattle.cql2_text.specs.declared.syntax_fault.SyntaxFault.TheVariants.{Memory}
 use Rattle.std.proofs.Common.{◌≡◌, ap, rules}
 use Rattle.cql2_text.specs.Content.{content}
-use Rattle.cql2_text.specs.Leaf.{false_literal, function, relation, true_literal}
+use Rattle.cql2_text.specs.Spelled.{false_literal, function, relation, true_literal}
 use Rattle.cql2_text.proofs.TokenLemmas.{word-is}
-use Rattle.cql2_text.proofs.leaf.predicate.Goals as goal
+use Rattle.cql2_text.proofs.parser.predicate.Goals as goal
 
 pub returns-in-Some-Keyword-True-default-clause-ok : goal.returns-in-Some-Keyword-True-default-clause-ok
 returns-in-Some-Keyword-True-default-clause-ok g c =

@@ -1,14 +1,14 @@
--- The operations of CQL2's JSON encoding, by the value of op, and what its Text encoding writes around and between their operands
+-- The operators of CQL2's JSON encoding, by the value of op, and what its Text encoding writes around and between their operands
 -- (CQL2, 21-065r2, annexes B and C).
 use Rattle.std.specs.Prelude.{ℕ, List, codes, bytes_eq, if◌then◌else◌, Option, Some, None}
-use Rattle.cql2_json.specs.declared.fault.Count.{Count}
-use Rattle.cql2_json.specs.declared.fault.Count.TheVariants.{One, Two, Three, TwoOrMore}
-use Rattle.cql2_json.specs.declared.operation.Operation.{Operation}
-use Rattle.cql2_json.specs.declared.operation.Operation.TheVariants.{And, Or, Not, Equal, NotEqual, Less, Greater, LessOrEqual, GreaterOrEqual}
-use Rattle.cql2_json.specs.declared.operation.Operation.TheVariants.{Like, Between, In, IsNull, Plus, Minus, Times, Over, Modulo, Quotient, Power}
+use Rattle.cql2_json.specs.declared.fault.ItemCount.{ItemCount}
+use Rattle.cql2_json.specs.declared.fault.ItemCount.TheVariants.{One, Two, Three, TwoOrMore}
+use Rattle.cql2_json.specs.declared.operator.JsonOperator.{JsonOperator}
+use Rattle.cql2_json.specs.declared.operator.JsonOperator.TheVariants.{And, Or, Not, Equal, NotEqual, Less, Greater, LessOrEqual, GreaterOrEqual}
+use Rattle.cql2_json.specs.declared.operator.JsonOperator.TheVariants.{Like, Between, In, IsNull, Plus, Minus, Times, Over, Modulo, Quotient, Power}
 
-abbrev pub operation_named : List ℕ → Option Operation
-operation_named name =
+abbrev pub operator_of_name : List ℕ → Option JsonOperator
+operator_of_name name =
     if bytes_eq name (codes "and") then Some And
     else if bytes_eq name (codes "or") then Some Or
     else if bytes_eq name (codes "not") then Some Not
@@ -31,21 +31,21 @@ operation_named name =
     else if bytes_eq name (codes "^") then Some Power
     else None
 
-abbrev pub operand_count : Operation → Count
+abbrev pub operand_count : JsonOperator → ItemCount
 operand_count And = TwoOrMore
 operand_count Or = TwoOrMore
 operand_count Not = One
 operand_count IsNull = One
 operand_count Between = Three
-operand_count operation = Two
+operand_count operator = Two
 
 -- before the first operand
-abbrev pub operation_open : Operation → List ℕ
-operation_open Not = codes "(NOT "
-operation_open operation = codes "("
+abbrev pub operator_opening : JsonOperator → List ℕ
+operator_opening Not = codes "(NOT "
+operator_opening operator = codes "("
 
 -- before the second operand
-abbrev pub first_separator : Operation → List ℕ
+abbrev pub first_separator : JsonOperator → List ℕ
 first_separator And = codes " AND "
 first_separator Or = codes " OR "
 first_separator Equal = codes " = "
@@ -64,14 +64,14 @@ first_separator Over = codes " / "
 first_separator Modulo = codes " % "
 first_separator Quotient = codes " DIV "
 first_separator Power = codes " ^ "
-first_separator operation = codes ""
+first_separator operator = codes ""
 
 -- before each later operand
-abbrev pub later_separator : Operation → List ℕ
+abbrev pub later_separator : JsonOperator → List ℕ
 later_separator Between = codes " AND "
-later_separator operation = first_separator operation
+later_separator operator = first_separator operator
 
 -- after the last operand
-abbrev pub operation_close : Operation → List ℕ
-operation_close IsNull = codes " IS NULL)"
-operation_close operation = codes ")"
+abbrev pub operator_closing : JsonOperator → List ℕ
+operator_closing IsNull = codes " IS NULL)"
+operator_closing operator = codes ")"
