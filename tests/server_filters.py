@@ -200,10 +200,8 @@ class Reading:
         )
 
     def explained(self, request: Request) -> Reply:
-        """The command also lists the words around one whose bytes or jumps are refused, the server doesn't."""
         status, listing, errors = self.commands.explained(request.body)
-        is_early = status == 1 and int(errors.split()[1]) < 40
-        return Reply(200 if status == 0 else 422, errors if is_early else listing + errors)
+        return Reply(200 if status == 0 else 422, listing + errors)
 
     def found(self, request: Request) -> Reply:
         status, lines, errors = self.commands.found(request.body)

@@ -36,8 +36,8 @@ extractd asm --source nothing|1|0|refused 26 line 1 CodeFault(10)
 # Texts of 16 MiB are read, and endless ones aren't.
 LONG_TEXTS = r"""
 extractd asm --source <(echo exit; head -c 16777211 /dev/zero | tr "\0" ";")|0|8|
-extractd asm --source <(echo exit; head -c 16777212 /dev/zero | tr "\0" ";")|1|0|refused 27 TextTooLong
-extractd asm --source <(yes)|1|0|refused 27 TextTooLong
+extractd asm --source <(echo exit; head -c 16777212 /dev/zero | tr "\0" ";")|1|0|refused 130 TextTooLong
+extractd asm --source <(yes)|1|0|refused 130 TextTooLong
 extractd explain --program "$all" --lines <(yes $'0\tline')|1|0|refused 113 LinesTooLong
 """
 # Arguments, the first line about them, which docs/refusals.md shows, and the beginning of a line below it.

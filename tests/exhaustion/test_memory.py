@@ -42,8 +42,8 @@ LONGEST = """
 0 | | longest.s | extractd dis --program longest.bpf
 4 | refused memory | | limited v {asm+128} extractd asm --source gibibyte.bpf
 4 | refused memory | | limited v {asm+128} extractd asm --source <(yes 'mov r0, 1')
-1 | refused 27 TextTooLong | | limited v {asm+65536} extractd asm --source <(yes 'mov r0, 1')
-1 | refused 27 TextTooLong | | extractd asm --source gibibyte.bpf
+1 | refused 130 TextTooLong | | limited v {asm+65536} extractd asm --source <(yes 'mov r0, 1')
+1 | refused 130 TextTooLong | | extractd asm --source gibibyte.bpf
 1 | refused 20 line 1 Syntax | | extractd asm --source <(head -c 16M /dev/zero)
 1 | refused 26 line 65537 CodeFault(12) | | extractd asm --source <(yes 'mov r0, 1' | head -c 16M)
 """

@@ -13,6 +13,10 @@ use Rattle.bpf_assembler.specs.declared.fault.TextFaultKind.TheVariants.{TooLong
 abbrev pub of_code : RefusalParts → RefusalParts
 of_code code = detailed 26 (codes "CodeFault") code.number
 
+-- a text that is too long to be read
+abbrev pub text_too_long : RefusalParts
+text_too_long = refused 130 (codes "TextTooLong")
+
 abbrev pub refusal : TextFaultKind → RefusalParts
 refusal Syntax = refused 20 (codes "Syntax")
 refusal UnknownMnemonic = refused 21 (codes "UnknownMnemonic")

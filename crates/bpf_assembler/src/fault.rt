@@ -2,7 +2,7 @@
 ghost use Rattle.std.specs.Prelude.{◌≡◌};
 ghost use Rattle.bpf_assembler.specs.declared.fault.TextFault.TheVariants.{Memory};
 ghost use Rattle.bpf_assembler.specs.TextFaultKind as text_flaw;
-ghost use Rattle.bpf_assembler.specs.TextFaultKind.{of_code};
+ghost use Rattle.bpf_assembler.specs.TextFaultKind.{of_code, text_too_long};
 ghost use Rattle.bpf_assembler.specs.TextFault as text_fault;
 ghost use Rattle.refusals.specs.Refusal.{line as refusal_line};
 
@@ -81,6 +81,13 @@ impl TextFaultKind {
             TextFaultKind::WritesFramePointer => of_code(&WordFault::WritesFramePointer.refusal()),
         }
     }
+}
+
+/// Returns the refusal of a text that is too long to be read, by its caller's limit.
+pub fn text_too_long() -> Refusal
+    ensures { result ≡ text_too_long }
+{
+    Refusal::refused(130, "TextTooLong")
 }
 
 fn of_code(code: &Refusal) -> Refusal

@@ -12,7 +12,7 @@ mod text_lines;
 mod words;
 
 pub use assembler::assemble;
-pub use fault::{TextFault, TextFaultKind};
+pub use fault::{TextFault, TextFaultKind, text_too_long};
 pub use mnemonic_form::MnemonicForm;
 pub use operand::register_name;
 pub use text_lines::first_line;

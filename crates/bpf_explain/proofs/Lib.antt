@@ -1,2 +1,3 @@
 pub mod ListingLemmas
 pub mod PrefixLemmas
+pub mod ExplanationLemmas

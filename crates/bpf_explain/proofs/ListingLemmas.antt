@@ -8,23 +8,24 @@ use Rattle.std.proofs.lemmas.List.{take_all, take-map, take_more, take-append-dr
 use Rattle.std.proofs.Common.{map, zero}
 use Rattle.std.specs.List.{flat_map}
 use Rattle.std.proofs.lemmas.List.Sums.{prefix_len-le-length}
-use Rattle.bpf_insn.proofs.PlaceLemmas.{instruction_at-middle, instruction_within, word_count-cons}
-use Rattle.bpf_insn.specs.Code.{instruction_at, spelling, word_count}
+use Rattle.bpf_insn.proofs.PlaceLemmas.{instruction_at-middle, instruction_within}
+use Rattle.bpf_insn.specs.Code.{instruction_at, word_count}
 use Rattle.bpf_insn.specs.declared.instruction.Insn.{Insn}
 use Rattle.bpf_meaning.specs.declared.cause.Cause.{Cause}
 use Rattle.bpf_assembler.proofs.WordLemmas.{position-missing}
-use Rattle.bpf_verify.proofs.StateLaws as laws
+use Rattle.bpf_verify.proofs.VerdictLemmas.{one_least}
+use Rattle.bpf_verify.proofs.VisitLemmas.{visited_all-more, visits_from-more}
 use Rattle.bpf_verify.specs.LiftedState.{LiftedState, Unreached, Reached}
-use Rattle.bpf_verify.specs.Annotation.{Annotation, IsLeastUpTo, IsRefusedAt}
+use Rattle.bpf_verify.specs.Annotation.{Annotation, IsRefusedAt}
 use Rattle.bpf_verify.specs.Transfer.{transfer}
-use Rattle.bpf_verify.specs.Visit.{Visit, IsShownUpTo, visit_at, visited_all, visits_from}
+use Rattle.bpf_verify.specs.Visit.{IsShownUpTo, Visit, visit_at, visits_from}
 use Rattle.bpf_verify.specs.declared.abstract_state.AbstractState.{AbstractState}
-use Rattle.bpf_notes.specs.Facts.{note_text, noted, prefix_text}
+use Rattle.listing_notes.specs.Facts.{note_text, noted, prefix_text}
 use Rattle.bpf_explain.specs.Explanation.{ExplainsRefusal}
 use Rattle.bpf_explain.specs.Listing.{ListingParts, empty, known_after, lines_after, lines_until, listing, refusal_line, refused_text}
 use Rattle.bpf_explain.specs.Listing.{sources_text, visit_text, visited}
-use Rattle.bpf_source_lines.specs.SourceLines.{SourceLine, line_of, source_text}
-use Rattle.bpf_source_lines.specs.declared.source_lines.PlacedLine.{PlacedLine}
+use Rattle.listing_lines.specs.SourceLines.{SourceLine, line_of, source_text}
+use Rattle.listing_lines.specs.declared.source_lines.PlacedLine.{PlacedLine}
 
 -- the number of lines up to a place, if none is after it
 pub count-missing : {X : Type 0} (p : X → Bool) (xs : List X) → None ≡ position p xs → length xs ≡ position_or_len p xs
@@ -89,27 +90,22 @@ unfolding visit_text
 reached-is old new place insn known copy pushes same =
     with-known new (pushed old place insn (note_text old.known (Reached known) insn)) copy known pushes same
 
--- the visits of consecutive instructions, and of one more
-visits-more : (annotation : Annotation) (place : ℕ) (code : List Insn) (insn : Insn)
-    → visits_from annotation place (code ++ insn ∷ []) ≡ visits_from annotation place code ++ visit_at annotation (place + word_count code) insn ∷ []
-visits-more annotation place [] insn = ap (λ (p : ℕ). visit_at annotation p insn ∷ []) (omega arith)
-visits-more annotation place (next ∷ code) insn =
-    let more = visits-more annotation (place + length (spelling next)) code insn in
-    let sum : place + length (spelling next) + word_count code ≡ place + word_count (next ∷ code) = omega (arith, word_count-cons next code) in
-    ap (λ (visits : List Visit). visit_at annotation place next ∷ visits)
-    (more ∙ ap (λ (p : ℕ). visits_from annotation (place + length (spelling next)) code ++ visit_at annotation p insn ∷ []) sum)
-
-visited-more : (before : ListingParts) (visits : List Visit) (visit : Visit)
-    → visited_all visited before (visits ++ visit ∷ []) ≡ visited (visited_all visited before visits) visit
-visited-more before [] visit = refl
-visited-more before (next ∷ visits) visit = visited-more (visited before next) visits visit
-
 -- the instruction at a place comes right after those before the place
+
+pub index-within : (code : List Insn) (index place : ℕ) (insn : Insn) → place ≡ word_count (take index code) → instruction_at code place ≡ Some insn
+    → index < length code
+index-within code index place insn at insn_is =
+    inside (cases_lt index (length code)) (instruction_within code place (ap is_some insn_is))
+  where
+    inside : (index < length code) ⊎ (length code ≤ index) → place < word_count code → index < length code
+    inside (inl within) below = within
+    inside (inr beyond) below =
+        let whole : word_count (take index code) ≡ word_count code = ap word_count (take_all index code beyond) in absurd (omega arith)
+
 take-one : (code : List Insn) (index place : ℕ) (insn : Insn) → place ≡ word_count (take index code) → instruction_at code place ≡ Some insn
     → take (index + 1) code ≡ take index code ++ insn ∷ []
 take-one code index place insn at insn_is =
-    let below : place < word_count code = instruction_within code place (ap is_some insn_is) in
-    let within : index < length code = inside (cases_lt index (length code)) below in
+    let within = index-within code index place insn at insn_is in
     let y : Insn = get_or code index insn in
     let parts : take index code ++ y ∷ drop (suc index) code ≡ code =
     ap (λ (xs : List Insn). take index code ++ xs) (sym (drop-cons code index insn within)) ∙ take-append-drop index code in
@@ -118,17 +114,15 @@ take-one code index place insn at insn_is =
     ∙ instruction_at-middle (take index code) y (drop (suc index) code) in
     let same : y ≡ insn = ap (λ (o : Option Insn). unwrap_or o insn) (sym there ∙ insn_is) in
     take_more code index insn within ∙ ap (λ (x : Insn). take index code ++ x ∷ []) same
-  where
-    inside : (index < length code) ⊎ (length code ≤ index) → place < word_count code → index < length code
-    inside (inl within) below = within
-    inside (inr beyond) below =
-        let whole : word_count (take index code) ≡ word_count code = ap word_count (take_all index code beyond) in absurd (omega arith)
 
--- the least annotation is unique
-one-least : (code : List Insn) (end : ℕ) (x y : Annotation) → IsLeastUpTo code end x → IsLeastUpTo code end y → x end ≡ y end
-one-least code end x y least other =
-    laws.antisymmetric (x end) (y end) (least.good.proper end) (other.good.proper end) (least.least y other.good end (omega arith))
-    (other.least x least.good end (omega arith))
+-- the visits up to the instruction at a place: those before it, and its own
+pub visits-last : (annotation : Annotation) (code : List Insn) (index place : ℕ) (insn : Insn) → place ≡ word_count (take index code)
+    → instruction_at code place ≡ Some insn
+    → visits_from annotation 0 (take (index + 1) code) ≡ visits_from annotation 0 (take index code) ++ visit_at annotation place insn ∷ []
+visits-last annotation code index place insn at insn_is =
+    let there : 0 + word_count (take index code) ≡ place = omega (arith, at) in
+    ap (visits_from annotation 0) (take-one code index place insn at insn_is) ∙ visits_from-more annotation 0 (take index code) insn
+    ∙ ap (λ (p : ℕ). visits_from annotation 0 (take index code) ++ visit_at annotation p insn ∷ []) there
 
 -- an instruction whose check fails is reached
 reached-state : (state : LiftedState) (insn : Insn) (cause : Cause) → transfer state insn ≡ Err cause → (known : AbstractState) × (state ≡ Reached known)
@@ -145,16 +139,12 @@ pub refuses : (code : List Insn) (lines : List SourceLine) (new : ListingParts) 
 refuses code lines new place cause refused shown =
     let a : Annotation = shown.annotation in
     let insn : Insn = refused.insn in
-    let same : refused.annotation place ≡ a place = one-least code place refused.annotation a refused.is_least shown.is_least in
+    let same : refused.annotation place ≡ a place = one_least code place refused.annotation a refused.is_least shown.is_least place (omega arith) in
     let fails : transfer (a place) insn ≡ Err cause = ap (λ (state : LiftedState). transfer state insn) (sym same) ∙ refused.fails in
     let reached = reached-state (a place) insn cause fails in
     let before : ListingParts = listing lines (visits_from a 0 (take shown.index code)) in
-    let there : 0 + word_count (take shown.index code) ≡ place = omega (arith, shown.at) in
-    let last : visits_from a 0 (take (shown.index + 1) code) ≡ visits_from a 0 (take shown.index code) ++ visit_at a place insn ∷ [] =
-    ap (visits_from a 0) (take-one code shown.index place insn shown.at refused.is_insn) ∙ visits-more a 0 (take shown.index code) insn
-    ∙ ap (λ (p : ℕ). visits_from a 0 (take shown.index code) ++ visit_at a p insn ∷ []) there in
     let all : listing lines (visits_from a 0 (take (shown.index + 1) code)) ≡ visited before (visit_at a place insn) =
-    ap (listing lines) last ∙ visited-more (empty lines) (visits_from a 0 (take shown.index code)) (visit_at a place insn) in
+    ap (listing lines) (visits-last a code shown.index place insn shown.at refused.is_insn) ∙ sym (visited_all-more visited (empty lines) (visits_from a 0 (take shown.index code)) (visit_at a place insn)) in
     let new_is : new ≡ listing lines (visits_from a 0 (take (shown.index + 1) code)) = shown.shown in
     record {
       annotation = a;

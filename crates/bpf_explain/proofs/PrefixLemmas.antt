@@ -23,8 +23,8 @@ use Rattle.bpf_assembler.specs.declared.mnemonic_form.MnemonicForm.TheVariants.{
 use Rattle.bpf_assembler.specs.Number.{IsWithin, limit_of_16_bits, limit_of_32_bits}
 use Rattle.bpf_assembler.specs.Operand.{register_name, register_names}
 use Rattle.bpf_text.specs.CodeText.{NumbersFit, SourceFits, form_of, line_text, memory_text, operands_text, signed_text, source_text, three, two, wide_text}
-use Rattle.bpf_notes.specs.Facts.{prefix_text}
-use Rattle.bpf_source_lines.specs.declared.source_lines.TheConstants.{MAX_PLACE}
+use Rattle.listing_notes.specs.Facts.{prefix_text}
+use Rattle.listing_lines.specs.declared.source_lines.TheConstants.{MAX_PLACE}
 
 -- registers
 find-short : (names : List (List ℕ)) (number : ℕ) → list_all (λ name. nat_le (length name) 3) names ≡ true → length (get_or names number []) ≤ 3

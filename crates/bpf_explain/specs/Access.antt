@@ -5,9 +5,9 @@ use Rattle.bpf_insn.specs.Memory.{load_length, store_length}
 use Rattle.bpf_insn.specs.declared.instruction.Insn.{Insn}
 use Rattle.bpf_insn.specs.declared.instruction.Insn.TheVariants.{Load, StoreImmediate, Store}
 use Rattle.bpf_verify.specs.declared.abstract_state.AbstractState.{AbstractState}
-use Rattle.bpf_notes.specs.Notation.{fact_text}
+use Rattle.listing_notes.specs.Notation.{fact_text}
 use Rattle.bpf_explain.specs.declared.access.Access.{Access}
-use Rattle.bpf_notes.specs.declared.notation.Part.TheVariants.{Register}
+use Rattle.listing_notes.specs.declared.notation.Part.TheVariants.{Register}
 
 -- the access of a load or a store: its base, the offset added to it, the number of bytes, and whether it writes
 unfoldable pub access_of : Insn → Option Access

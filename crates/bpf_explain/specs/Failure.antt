@@ -12,10 +12,10 @@ use Rattle.bpf_kinds.specs.declared.interval.Interval.{Interval}
 use Rattle.bpf_meaning.specs.declared.cause.Cause.{Cause}
 use Rattle.bpf_meaning.specs.declared.cause.Cause.TheVariants as cause
 use Rattle.bpf_verify.specs.declared.abstract_state.AbstractState.{AbstractState}
-use Rattle.bpf_notes.specs.Facts.{facts_text}
-use Rattle.bpf_notes.specs.Notation.{fact_text, is_any}
-use Rattle.bpf_notes.specs.Reads.{helper_of, registers_read, slots_read}
-use Rattle.bpf_notes.specs.declared.notation.Part.{Part}
+use Rattle.listing_notes.specs.Facts.{facts_text}
+use Rattle.listing_notes.specs.Notation.{fact_text, is_any}
+use Rattle.listing_notes.specs.Reads.{helper_of, registers_read, slots_read}
+use Rattle.listing_notes.specs.declared.notation.Part.{Part}
 use Rattle.bpf_explain.specs.Arithmetic.{arithmetic_text}
 use Rattle.bpf_explain.specs.Access.{access_text, base_text, offset_if, register_fact}
 use Rattle.bpf_explain.specs.Reach.{outside, unwritten}

@@ -6,10 +6,10 @@ use Rattle.bpf_meaning.specs.declared.cause.Cause.{Cause}
 use Rattle.bpf_verify.specs.LiftedState.{LiftedState, Unreached, Reached, unknown}
 use Rattle.bpf_verify.specs.Visit.{Visit, visited_all}
 use Rattle.bpf_verify.specs.declared.abstract_state.AbstractState.{AbstractState}
-use Rattle.bpf_notes.specs.Facts.{instruction_line}
+use Rattle.listing_notes.specs.Facts.{instruction_line}
 use Rattle.bpf_explain.specs.Access.{text_if}
 use Rattle.bpf_explain.specs.Failure.{failure_text}
-use Rattle.bpf_source_lines.specs.SourceLines.{SourceLine, source_text}
+use Rattle.listing_lines.specs.SourceLines.{SourceLine, source_text}
 
 -- a listing so far: its text, what was known before the last instruction that was reached, the last instruction, and the remaining source lines
 pub record ListingParts : Type 0 where

@@ -16,9 +16,9 @@ use Rattle.bpf_kinds.specs.declared.offsets.Offsets.{Offsets}
 use Rattle.bpf_verify.specs.LiftedState.{kind_of}
 use Rattle.bpf_verify.specs.Transfer.{area_length}
 use Rattle.bpf_verify.specs.declared.abstract_state.AbstractState.{AbstractState}
-use Rattle.bpf_notes.specs.Reads.{bytes_from, helper_of, lent_bytes}
+use Rattle.listing_notes.specs.Reads.{bytes_from, helper_of, lent_bytes}
 use Rattle.bpf_explain.specs.declared.access.Access.{Access}
-use Rattle.bpf_notes.specs.declared.reads.Bytes.{Bytes}
+use Rattle.listing_notes.specs.declared.reads.Bytes.{Bytes}
 use Rattle.bpf_explain.specs.Access.{access_facts, access_of, register_fact, text_if}
 
 abbrev pub verb : Bool → List ℕ

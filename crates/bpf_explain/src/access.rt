@@ -8,9 +8,9 @@ ghost use Rattle.bpf_explain.specs.Access.{access_facts, access_of, access_text,
 
 use bpf_insn::{Insn, Register, StoreSize, load_length, store_length};
 use bpf_kinds::Kind;
-use bpf_notes::push_kind;
 use bpf_verify::AbstractState;
 use itoa::Buffer;
+use listing_notes::push_kind;
 use std::alloc::{AllocError, Allocator};
 
 /// The access of a load or a store.

@@ -5,7 +5,7 @@ ghost use Rattle.std.specs.String.{string_bytes};
 ghost use Rattle.bpf_verify.specs.LiftedState.{IsProperState};
 ghost use Rattle.bpf_explain.specs.Failure.{argument_text, called_number, failure_facts, failure_text, failure_words, more_facts, registers_text, slots_text};
 ghost use Rattle.bpf_explain.specs.Failure.{numbers_text, requirement, requirement_of, requirement_text};
-ghost use Rattle.bpf_notes.specs.Notation.{IsPart};
+ghost use Rattle.listing_notes.specs.Notation.{IsPart};
 
 use crate::access::{push_access_if, push_base, push_number, push_offset_if, push_register};
 use crate::arithmetic::push_arithmetic;
@@ -14,8 +14,8 @@ use bpf_helpers::{Argument, Helper};
 use bpf_insn::Insn;
 use bpf_kinds::Interval;
 use bpf_meaning::Cause;
-use bpf_notes::{Part, helper_of, push_fact, push_facts, registers_read, slots_read};
 use bpf_verify::AbstractState;
+use listing_notes::{Part, helper_of, push_fact, push_facts, registers_read, slots_read};
 use std::alloc::{AllocError, Allocator};
 
 /// Pushes why an instruction is refused, given what is known before it and the check that fails.

@@ -1,4 +1,4 @@
-//! Listings of programs that show what the verifier knows before each instruction, and why it refuses one.
+//! Listings of programs that show what the verifier knows before each instruction, and why a program is refused.
 #![tactic(auto)]
 
 mod access;
@@ -9,6 +9,5 @@ pub mod laws;
 mod listing;
 mod reach;
 
-pub use bpf_notes::Part;
-pub use bpf_source_lines::{LinesFault, SourceLineFaultKind, SourceLines};
-pub use explanation::{Explanation, explain};
+pub use explanation::{ExplainFault, Explanation, explain};
+pub use listing_lines::{LinesFault, SourceLineFaultKind};

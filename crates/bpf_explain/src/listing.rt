@@ -4,16 +4,16 @@ ghost use Rattle.std.specs.List.{position, position_or_len};
 ghost use Rattle.std.specs.String.{string_bytes};
 ghost use Rattle.bpf_explain.specs.Listing.{accepted_text, empty, lines_after, lines_until, refusal_line, refused_text, sources_text};
 ghost use Rattle.bpf_verify.specs.LiftedState.{IsProperState};
-ghost use Rattle.bpf_notes.specs.Facts.{noted, prefix_text};
+ghost use Rattle.listing_notes.specs.Facts.{noted, prefix_text};
 ghost use Rattle.std.specs.Prelude.{codes, map};
-ghost use Rattle.bpf_source_lines.specs.SourceLines.{line_of};
+ghost use Rattle.listing_lines.specs.SourceLines.{line_of};
 
 use crate::failure::push_failure;
 use bpf_insn::Insn;
 use bpf_meaning::Cause;
-use bpf_notes::{note, push_instruction_line};
-use bpf_source_lines::{PlacedLine, push_source};
 use bpf_verify::{AbstractState, Visitor};
+use listing_lines::{PlacedLine, push_source};
+use listing_notes::{note, push_instruction_line};
 use std::alloc::{AllocError, Allocator};
 use std::marker::Model;
 
@@ -35,7 +35,7 @@ impl<'a, A: Allocator> Model for Listing<'a, A> {
     ghost use Rattle.bpf_verify.specs.LiftedState.{IsProperState};
     ghost use Rattle.std.specs.Prelude.{map};
     ghost use Rattle.bpf_explain.specs.Listing.{ListingParts};
-    ghost use Rattle.bpf_source_lines.specs.SourceLines.{line_of};
+    ghost use Rattle.listing_lines.specs.SourceLines.{line_of};
 
     ghost Value = { ListingParts };
 

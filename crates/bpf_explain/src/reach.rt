@@ -10,8 +10,8 @@ use crate::access::{Access, access_of, push_access, push_number, push_register, 
 use bpf_helpers::{FrameUse, Helper};
 use bpf_insn::{Area, FRAME_LENGTH, Insn};
 use bpf_kinds::{Kind, Offsets};
-use bpf_notes::{Bytes, bytes_from, helper_of, lent_bytes};
 use bpf_verify::AbstractState;
+use listing_notes::{Bytes, bytes_from, helper_of, lent_bytes};
 use std::alloc::{AllocError, Allocator};
 use tl_segments::RECORD_LENGTH;
 

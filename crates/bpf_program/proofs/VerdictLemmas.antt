@@ -1,31 +1,38 @@
 -- A program has one verdict, unless memory runs out.
 use Rattle.std.proofs.Common.{◌≡◌, ◌≢◌, ℕ, List, Result, Ok, Err, IfErr, refl, sym, ap, ◌∙◌, subst}
 use Rattle.bpf_flow.proofs.FlowLemmas.{has_no_fault, one_fault_lem}
+use Rattle.bpf_flow.specs.Flow.{IsForward}
 use Rattle.bpf_insn.proofs.CodeLemmas as code_of
 use Rattle.bpf_insn.specs.Code.{IsCodeOf}
 use Rattle.bpf_insn.specs.declared.instruction.Insn.{Insn}
 use Rattle.bpf_verify.proofs.VerdictLemmas as verdict
-use Rattle.bpf_program.specs.Program.{IsSafeCode, IsSafeProgram, IsProgramFault, IsFaultOfCode}
+use Rattle.bpf_verify.specs.Annotation.{HasGoodAnnotation}
+use Rattle.bpf_program.specs.Program.{IsSafeProgram, IsProgramFault, IsFaultOfCode}
 use Rattle.bpf_program.specs.declared.program.ProgramFault.{ProgramFault}
 use Rattle.bpf_program.specs.declared.program.ProgramFault.TheVariants.{Code, Flow, Verify, Memory}
 
 pub same_code : (program : List ℕ) (a b : List Insn) → IsCodeOf program a → IsCodeOf program b → a ≡ b
 same_code program a b is also = code_of.one_code a b (sym is.words ∙ also.words)
 
--- accepted code has no fault
-no_fault_of_code : (code : List Insn) (fault : ProgramFault) → IsSafeCode code → IsFaultOfCode code fault → fault ≡ Memory
-no_fault_of_code code (Code fault) safe is = absurd is
-no_fault_of_code code (Flow fault) safe is = absurd (has_no_fault code fault safe.forward is)
-no_fault_of_code code (Verify fault) safe is = absurd (is.2 (verdict.refused_for_memory code fault is.1 safe.accepted))
-no_fault_of_code code Memory safe is = refl
+module _ (code : List Insn) (forward : IsForward code) (accepted : HasGoodAnnotation code) where
+  -- accepted code has no fault
+  no_fault_of_code : (fault : ProgramFault) → IsFaultOfCode code fault → fault ≡ Memory
+  no_fault_of_code (Code fault) is = absurd is
+  no_fault_of_code (Flow fault) is = absurd (has_no_fault code fault forward is)
+  no_fault_of_code (Verify fault) is = absurd (is.2 (verdict.refused_for_memory code fault is.1 accepted))
+  no_fault_of_code Memory is = refl
 
--- nor does an accepted program
+  -- nor does a program with such code
+  pub no_fault_of_program : (program : List ℕ) (fault : ProgramFault) → IsCodeOf program code → IsProgramFault program fault → fault ≡ Memory
+  no_fault_of_program program (Code fault) is_code is = absurd (is.1 (code_of.memory_alone program code fault is_code is.0))
+  no_fault_of_program program Memory is_code is = refl
+  no_fault_of_program program fault is_code is =
+      no_fault_of_code fault (subst (λ (c : List Insn). IsFaultOfCode c fault) (same_code program is.0 code is.1 is_code) is.2)
+
 pub no_fault : (program : List ℕ) (code : List Insn) (fault : ProgramFault) → IsSafeProgram program code → IsProgramFault program fault
     → fault ≡ Memory
-no_fault program code (Code fault) safe is = absurd (is.1 (code_of.memory_alone program code fault safe.is_code is.0))
-no_fault program code Memory safe is = refl
-no_fault program code fault safe is = no_fault_of_code code fault safe.safe_code
-    (subst (λ (c : List Insn). IsFaultOfCode c fault) (same_code program is.0 code is.1 safe.is_code) is.2)
+no_fault program code fault safe is =
+    no_fault_of_program code safe.safe_code.forward safe.safe_code.accepted program fault safe.is_code is
 
 one_fault_of_code : (code : List Insn) (a b : ProgramFault) → IsFaultOfCode code a → IsFaultOfCode code b → a ≢ Memory → b ≢ Memory → a ≡ b
 one_fault_of_code code (Flow a) (Flow b) is also first second = ap Flow (one_fault_lem code a b is also)

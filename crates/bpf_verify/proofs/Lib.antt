@@ -23,5 +23,5 @@ pub mod MonotoneInstructions
 pub mod PassLemmas
 pub mod WorklistLemmas
 pub mod VerdictLemmas
-mod VisitLemmas
+pub mod VisitLemmas
 mod CauseLemmas

@@ -39,7 +39,7 @@ accepted_or_refused code place cause accepted refused =
     (instruction_within code place (ap is_some refused.is_insn))
 
 -- the least annotation is unique
-one_least : (code : List Insn) (end : ℕ) (x y : Annotation) → IsLeastUpTo code end x → IsLeastUpTo code end y → (place : ℕ) → place ≤ end
+pub one_least : (code : List Insn) (end : ℕ) (x y : Annotation) → IsLeastUpTo code end x → IsLeastUpTo code end y → (place : ℕ) → place ≤ end
     → x place ≡ y place
 one_least code end x y least other place before =
     laws.antisymmetric (x place) (y place) (least.good.proper place) (other.good.proper place) (least.least y other.good place before)

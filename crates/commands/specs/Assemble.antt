@@ -1,12 +1,13 @@
 -- What `asm` writes, and why it is refused.
-use Rattle.std.specs.Prelude.{◌≡◌, ℕ, ◌+◌, ◌*◌, List, Option, Some, IsUtf8, Result, codes}
+use Rattle.std.specs.Prelude.{◌≡◌, ℕ, ◌+◌, ◌*◌, List, Option, Some, IsUtf8, Result}
 use Rattle.std.specs.Io.KnownBytes.{Keeps}
 use Rattle.bpf_insn.specs.Code.{IsCodeOf}
 use Rattle.bpf_insn.specs.declared.instruction.Insn.{Insn}
 use Rattle.bpf_assembler.specs.Text.{IsFirstFault, Means}
 use Rattle.bpf_assembler.specs.TextFault as text_fault
+use Rattle.bpf_assembler.specs.TextFaultKind.{text_too_long}
 use Rattle.bpf_assembler.specs.declared.fault.TextFault.{TextFault}
-use Rattle.refusals.specs.Refusal.{RefusalParts, refused}
+use Rattle.refusals.specs.Refusal.{RefusalParts}
 use Rattle.counted_io.specs.ReaderWriter.{Writer}
 use Rattle.counted_io.specs.Writing.{WritesText}
 use Rattle.counted_io.specs.declared.writing.WriteFault.{WriteFault}
@@ -30,9 +31,6 @@ pub record Writes (assemble : Assemble) (known : List ℕ → Option (List ℕ))
 abbrev pub source_limit : ℕ
 source_limit = 16 * 1024 * 1024
 
-abbrev pub too_long : RefusalParts
-too_long = refused 27 (codes "TextTooLong")
-
 -- The source is UTF-8 but doesn't assemble. It is refused for its first fault, and nothing was written.
 pub record IsFaulty (assemble : Assemble) (known : List ℕ → Option (List ℕ)) (refusal : RefusalParts) (out out' : Writer) : Type 0 where
   pub source : List ℕ
@@ -45,6 +43,6 @@ pub record IsFaulty (assemble : Assemble) (known : List ℕ → Option (List ℕ
 
 -- Why `asm` is refused: the source is too long, and nothing was written; or it has a fault.
 pub data IsRefused (assemble : Assemble) (known : List ℕ → Option (List ℕ)) (refusal : RefusalParts) (out out' : Writer) : Type 0 where
-  of_length : IsLong (source_limit + 1) (known assemble.source.now) → refusal ≡ too_long → out' ≡ out
+  of_length : IsLong (source_limit + 1) (known assemble.source.now) → refusal ≡ text_too_long → out' ≡ out
       → IsRefused assemble known refusal out out'
   of_text : IsFaulty assemble known refusal out out' → IsRefused assemble known refusal out out'

@@ -7,10 +7,9 @@ ghost use Rattle.named_files.specs.Files.{disk};
 ghost use Rattle.commands.specs.declared.request.Request.{Request};
 
 use crate::failure::{Failure, write};
-use bpf_text::assemble_source;
+use bpf_text::{assemble_source, text_too_long};
 use counted_io::CountedWrite;
 use named_files::{Files, read_short_file};
-use refusals::Refusal;
 use std::alloc::Allocator;
 
 // The first length of a program text, or of a file of source lines, that is refused: 16 MiB are the most.
@@ -38,7 +37,7 @@ impl<'a> Assemble<'a> {
     {
         let source = match read_short_file(alloc, files, self.source, SOURCE_END) {
             Ok(Some(source)) => source,
-            Ok(None) => return Err(Failure::Refusal(Refusal::refused(27, "TextTooLong"))),
+            Ok(None) => return Err(Failure::Refusal(text_too_long())),
             Err(fault) => return Err(Failure::of_file(self.source, fault)),
         };
         match assemble_source(alloc, source.as_slice()) {

@@ -2,7 +2,6 @@ mod AnswerLemmas
 mod CountingLemmas
 mod DecisionLemmas
 pub mod EventLemmas
-mod ExplanationLemmas
 mod FilterLemmas
 mod ServingLemmas
 mod QueryLemmas

@@ -5,11 +5,9 @@ use Rattle.addresses.specs.AddressFault as address_fault
 use Rattle.addresses.specs.declared.fault.AddressFault.{AddressFault}
 use Rattle.batch.proofs.OutputLemmas.{fault_is, no_output_fault, one_output, one_output_fault}
 use Rattle.batch.specs.Output.{IsAddressesFault, IsFaultOf}
+use Rattle.bpf_explain.proofs.ExplanationLemmas.{one_explanation}
 use Rattle.bpf_insn.proofs.CodeLemmas as code_of
 use Rattle.bpf_insn.proofs.EncoderLemmas as encoder
-use Rattle.bpf_flow.proofs.FlowLemmas.{has_no_fault}
-use Rattle.bpf_flow.specs.Flow as flow
-use Rattle.bpf_flow.specs.Flow.{IsForward}
 use Rattle.bpf_insn.specs.Code.{IsCodeOf}
 use Rattle.bpf_insn.specs.CodeFault as code_fault
 use Rattle.bpf_insn.specs.declared.fault.CodeFault.{CodeFault}
@@ -21,10 +19,6 @@ use Rattle.bpf_text.specs.declared.fault.SourceFault.TheVariants.{NotUtf8, Text}
 use Rattle.bpf_assembler.specs.declared.fault.TextFault.TheVariants as text_fault
 use Rattle.bpf_assembler.specs.declared.fault.TextFault.TheVariants.{InLine}
 use Rattle.bpf_program.proofs.VerdictLemmas as verdict
-use Rattle.bpf_program.specs.Program.{IsProgramFault}
-use Rattle.bpf_program.specs.ProgramFault as program_fault
-use Rattle.bpf_program.specs.declared.program.ProgramFault.{ProgramFault}
-use Rattle.bpf_program.specs.declared.program.ProgramFault.TheVariants as early
 use Rattle.http_reply.specs.Reply.{ReplyParts}
 use Rattle.http_reply.specs.declared.reply.MediaType.TheVariants.{Csv}
 use Rattle.http_reply.specs.declared.status.Status.TheVariants as status
@@ -42,11 +36,10 @@ use Rattle.jobs.specs.declared.fault.JobFault.TheVariants.{Full, NoJob, Program,
 use Rattle.tl_segments.specs.County.{CountyParts}
 use Rattle.wire.proofs.DecisionLemmas.{one_decision}
 use Rattle.wire.proofs.EventLemmas.{fetched, reply_of_job, same_state}
-use Rattle.wire.proofs.ExplanationLemmas.{one_explained}
 use Rattle.wire.proofs.VerdictLemmas.{one_extract, one_verdict}
 use Rattle.wire.specs.Answer.{Answers, AnswersAction, IsJobReply, AssemblesTo, DisassemblesTo, ExplainsTo, GeocodesAllTo}
-use Rattle.wire.specs.Answer.{IsEarlyFault, IsExplanation, Replies, Submits, IsTableReply}
-use Rattle.wire.specs.Answer.{body_reply, counts_reply, job_reply, memory_reply, octets, place_reply, plain, refusal_reply, source_reply}
+use Rattle.wire.specs.Answer.{Replies, Submits, IsTableReply}
+use Rattle.wire.specs.Answer.{body_reply, counts_reply, explained_reply, job_reply, memory_reply, octets, place_reply, plain, refusal_reply, source_reply}
 use Rattle.wire.specs.Decision.{RoutedParts, DecisionParts, IsDecided, Accepts, SendsFilter, takes_filter}
 use Rattle.wire.specs.Query.{requested_place}
 use Rattle.wire.specs.State.{StateParts}
@@ -110,44 +103,12 @@ module _ (reply other : ReplyParts) (are : AreKnown reply other) where
       (not_memory other also.0 are.given also.2) in
       is.2 ∙ ap code_reply one ∙ sym also.2
 
-  -- a fault that is found before the verdict, if an allocation didn't fail
-  abbrev early_reply : ProgramFault → ReplyParts
-  early_reply fault = refusal_reply (program_fault.refusal fault)
-
-  known_early : (given : ReplyParts) (fault : ProgramFault) → given ≢ memory_reply → given ≡ early_reply fault → fault ≢ early.Memory
-  known_early given fault known is_reply memory = known (is_reply ∙ ap early_reply memory)
-
-  early_fault : (program : List ℕ) (fault : ProgramFault) → IsEarlyFault program fault → IsProgramFault program fault
-  early_fault program (early.Code fault) is = is
-  early_fault program (early.Flow fault) is = is
-  early_fault program (early.Verify fault) is = absurd is
-  early_fault program early.Memory is = is
-
-  -- a code whose jumps are forward has no such fault
-  no_early_fault : (program : List ℕ) (code : List Insn) (fault : ProgramFault) → IsCodeOf program code → IsForward code → IsEarlyFault program fault
-      → fault ≢ early.Memory → ⊥
-  no_early_fault program code (early.Code fault) is forward faulty known = faulty.1 (code_of.memory_alone program code fault is faulty.0)
-  no_early_fault program code (early.Flow fault) is forward faulty known =
-      has_no_fault code fault forward
-      (subst (λ (c : List Insn). flow.IsFirstFault c fault) (verdict.same_code program faulty.0 code faulty.1 is) faulty.2)
-  no_early_fault program code (early.Verify fault) is forward faulty known = faulty
-  no_early_fault program code early.Memory is forward faulty known = known refl
-
-  one_explanation : (program : List ℕ) → ExplainsTo program reply → ExplainsTo program other → reply ≡ other
-  one_explanation program (inr (inr memory)) also = absurd (are.known memory)
-  one_explanation program is (inr (inr memory)) = absurd (are.given memory)
-  one_explanation program (inl is) (inl also) =
-      one_explained also.0 reply other
-      (subst (λ (code : List Insn). IsExplanation code reply) (verdict.same_code program is.0 also.0 is.1 also.1) is.3) also.3
-  one_explanation program (inl is) (inr (inl also)) =
-      absurd (no_early_fault program is.0 also.0 is.1 is.2 also.1 (known_early other also.0 are.given also.2))
-  one_explanation program (inr (inl is)) (inl also) =
-      absurd (no_early_fault program also.0 is.0 also.1 also.2 is.1 (known_early reply is.0 are.known is.2))
-  one_explanation program (inr (inl is)) (inr (inl also)) =
-      is.2
-      ∙ ap early_reply (verdict.one_fault program is.0 also.0 (early_fault program is.0 is.1) (early_fault program also.0 also.1)
-      (known_early reply is.0 are.known is.2) (known_early other also.0 are.given also.2))
-      ∙ sym also.2
+  one_explained : (program : List ℕ) → ExplainsTo program reply → ExplainsTo program other → reply ≡ other
+  one_explained program (inr memory) also = absurd (are.known memory)
+  one_explained program is (inr memory) = absurd (are.given memory)
+  one_explained program (inl (text, verdict, is, is_reply)) (inl (text', verdict', also, is_reply')) =
+      let one = one_explanation program [] text text' verdict verdict' is also in
+      is_reply ∙ ap (λ (text : List ℕ). explained_reply text verdict) one.0 ∙ ap (explained_reply text') one.1 ∙ sym is_reply'
 
   -- a reply that can only be replaced by that for a failed allocation
   one_unless_memory : (made : ReplyParts) → (reply ≡ made) ⊎ (reply ≡ memory_reply) → (other ≡ made) ⊎ (other ≡ memory_reply) → reply ≡ other
@@ -255,7 +216,7 @@ module _ (old new again : StateParts) (reply other : ReplyParts) (are : AreKnown
       (one_verdict request.body reply other is.0 also.0 are.known are.given, is.1 ∙ sym also.1)
   one_answer action.Assemble request no_filter is also = (one_source reply other are request.body is.0 also.0, is.1 ∙ sym also.1)
   one_answer action.Disassemble request no_filter is also = (one_text reply other are request.body is.0 also.0, is.1 ∙ sym also.1)
-  one_answer action.Explain request no_filter is also = (one_explanation reply other are request.body is.0 also.0, is.1 ∙ sym also.1)
+  one_answer action.Explain request no_filter is also = (one_explained reply other are request.body is.0 also.0, is.1 ∙ sym also.1)
   one_answer action.Extract request no_filter is also =
       (one_extract old.table.counties request.body reply other is.0 also.0 are.known are.given, is.1 ∙ sym also.1)
   one_answer action.Geocode request no_filter is also =

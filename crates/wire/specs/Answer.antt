@@ -3,9 +3,8 @@ use Rattle.std.specs.Prelude.{◌≡◌, ◌<◌, ◌⊎◌, ℕ, List, [], ◌�
 use Rattle.addresses.specs.AddressFault as address_fault
 use Rattle.addresses.specs.declared.fault.AddressFault.{AddressFault}
 use Rattle.batch.specs.Output.{IsAddressesFault, IsOutputOf}
-use Rattle.bpf_explain.specs.Explanation.{IsExplained}
-use Rattle.bpf_flow.specs.Flow.{IsForward}
-use Rattle.bpf_insn.specs.Code.{IsCodeOf, IsFirstFault}
+use Rattle.bpf_explain.specs.Explanation.{Explains}
+use Rattle.bpf_insn.specs.Code.{IsFirstFault}
 use Rattle.bpf_insn.specs.CodeFault as code_fault
 use Rattle.bpf_insn.specs.declared.fault.CodeFault.{CodeFault}
 use Rattle.bpf_insn.specs.declared.instruction.Insn.{Insn}
@@ -18,9 +17,6 @@ use Rattle.bpf_text.specs.declared.fault.SourceFault.TheVariants.{NotUtf8, Text}
 use Rattle.bpf_program.specs.Program.{IsProgramFault, IsSafeProgram}
 use Rattle.bpf_program.specs.ProgramFault as program_fault
 use Rattle.bpf_program.specs.declared.program.ProgramFault.{ProgramFault}
-use Rattle.bpf_program.specs.declared.program.ProgramFault.TheVariants as early
-use Rattle.bpf_verify.specs.VerifyFault as verify_fault
-use Rattle.bpf_verify.specs.declared.fault.VerifyFault.{VerifyFault}
 use Rattle.filters.specs.Failure.{failure_text}
 use Rattle.filters.specs.Filter.{IsCodeOfText, IsFilterFailure, IsProgramOf}
 use Rattle.filters.specs.declared.failure.FilterFailure.{FilterFailure}
@@ -128,26 +124,18 @@ ExtractsTo counties program reply =
     × (reply ≡ octets rows))
     ⊎ ((fault : ProgramFault) × IsProgramFault program fault × (reply ≡ refusal_reply (program_fault.refusal fault)))
 
--- the listing of a code; if the code is refused, it ends at the refused instruction, and the refusal's line follows
-abbrev pub explained_reply : List ℕ → Result (Unit {0}) VerifyFault → ReplyParts
+-- the text that explains a verdict; the refusal's line follows, if there is one
+abbrev pub explained_reply : List ℕ → Result (Unit {0}) ProgramFault → ReplyParts
 explained_reply text (Ok accepted) = plain status.Ok text
-explained_reply text (Err fault) = plain status.UnprocessableEntity (text ++ line (verify_fault.refusal fault) ++ 10 ∷ [])
+explained_reply text (Err fault) = plain status.UnprocessableEntity (text ++ line (program_fault.refusal fault) ++ 10 ∷ [])
 
-abbrev pub IsExplanation : List Insn → ReplyParts → Type 0
-IsExplanation code reply =
-    (text : List ℕ) × (verdict : Result (Unit {0}) VerifyFault) × IsExplained code [] text verdict × (reply ≡ explained_reply text verdict)
+-- the explanation of the verdict on a program, without source lines
+abbrev pub IsExplanation : List ℕ → ReplyParts → Type 0
+IsExplanation program reply =
+    (text : List ℕ) × (verdict : Result (Unit {0}) ProgramFault) × Explains program [] text verdict × (reply ≡ explained_reply text verdict)
 
--- a fault of a program's bytes, or of its jumps and its end
-abbrev pub IsEarlyFault : List ℕ → ProgramFault → Type 0
-IsEarlyFault program (early.Verify fault) = ⊥
-IsEarlyFault program fault = IsProgramFault program fault
-
--- the explanation of a program's verdict, or a fault that is found before the verdict
 abbrev pub ExplainsTo : List ℕ → ReplyParts → Type 0
-ExplainsTo program reply =
-    ((code : List Insn) × IsCodeOf program code × IsForward code × IsExplanation code reply)
-    ⊎ ((fault : ProgramFault) × IsEarlyFault program fault × (reply ≡ refusal_reply (program_fault.refusal fault)))
-    ⊎ (reply ≡ memory_reply)
+ExplainsTo program reply = IsExplanation program reply ⊎ (reply ≡ memory_reply)
 
 -- ---- filters
 

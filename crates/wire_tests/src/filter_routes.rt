@@ -48,8 +48,10 @@ POST /explain HTTP/1.1 >> {every} => 200 text 0: mov r0, 1                      
 POST /explain HTTP/1.1 >> {stuck} => 422 0: exit                                 ; r0 = ?, r1 = record + 0, r10 = frame + 512\n
    refused: reads r0, of which nothing is known\nrefused 40 place 0 ReadsNothing(0)
 POST /explain HTTP/1.1 >> => 422 refused 10 Empty
-POST /explain HTTP/1.1 >> {unknown} => 422 refused 13 place 0 UnknownOpcode
-POST /explain HTTP/1.1 >> {backward} => 422 refused 30 place 1 BackwardJump",
+POST /explain HTTP/1.1 >> {unknown} => 422 0: ff 00 00 00 00 00 00 00\nrefused: no instruction has this opcode\n
+   1: 95 00 00 00 00 00 00 00  exit\nrefused 13 place 0 UnknownOpcode
+POST /explain HTTP/1.1 >> {backward} => 422 0: b7 00 00 00 01 00 00 00  mov r0, 1\n1: 05 00 ff ff 00 00 00 00  ja -1\n
+   refused: jumps back, to place 1\n2: 95 00 00 00 00 00 00 00  exit\nrefused 30 place 1 BackwardJump",
 );
 
 // Files of addresses, and jobs of filters. The servers' counties have the codes 01001 and 01003.
@@ -99,7 +101,8 @@ pub const GROWTHS: Table = Table(
 + POST /compile HTTP/1.1 >> FRLAT > 1000 => 422 refused 93 line 1 column 9 NumberRange\na number doesn't fit
 + POST /explain HTTP/1.1 >> {every} => 200 text 0: mov r0, 1                            ; r1 = record + 0, r10 = frame + 512\n
    1: exit                                 ; r0 = 1\naccepted\n
-+ POST /explain HTTP/1.1 >> {backward} => 422 refused 30 place 1 BackwardJump
++ POST /explain HTTP/1.1 >> {backward} => 422 0: b7 00 00 00 01 00 00 00  mov r0, 1\n1: 05 00 ff ff 00 00 00 00  ja -1\n
+   refused: jumps back, to place 1\n2: 95 00 00 00 00 00 00 00  exit\nrefused 30 place 1 BackwardJump
 + POST /geocode-batch HTTP/1.1 >> number,name\n251,Elm\n
   => 200 csv id,status,reason,longitude,latitude,tlid,side,fedirp,fename,fetype,fedirs,zip,county,from,to\n2,no_match,no_such_street,,,,,,,,,,,,\n
 + POST /geocode-batch HTTP/1.1 >> id,number\n => 422 refused 101 line 1 NoColumn

@@ -1,19 +1,26 @@
-use Rattle.std.proofs.Common.{◌≡◌, ◌∙◌, ap, map, subst, List}
-use Rattle.bpf_verify.specs.Visit.{IsShownUpTo}
-use Rattle.bpf_explain.specs.Listing.{ListingParts, empty, visited}
-use Rattle.bpf_source_lines.specs.SourceLines.{line_of, parts_of}
-use Rattle.bpf_source_lines.specs.declared.source_lines.PlacedLine.{PlacedLine}
-use Rattle.bpf_explain.proofs.ListingLemmas.{refuses}
+use Rattle.std.proofs.Common.{ℕ, Err, List, subst}
+use Rattle.bpf_explain.specs.Explanation.{ListsFault}
+use Rattle.bpf_explain.proofs.ExplanationLemmas.{of_code, of_fault, safe_is_accepted}
+use Rattle.listing_lines.specs.SourceLines.{SourceLine, parts_of}
 use Rattle.bpf_explain.proofs.explanation.explain.Goals as goal
 
-pub returns-in-Err-Refused-clause-explained : goal.returns-in-Err-Refused-clause-explained
-returns-in-Err-Refused-clause-explained g c =
-    let refused = rw c.in-Err-Refused.field-0-is at c.in-Err-Refused.ensures.err in
-    let first_is : c.new-listing.result ≡ empty (parts_of c.args.lines) =
-    c.new-listing.ensures ∙ ap (λ (lines : List PlacedLine). empty (map line_of lines)) c.as_slice.ensures.value ∙ ap empty c.in_ok-lines.ensures in
-    let shown = subst (λ (old : ListingParts). IsShownUpTo visited c.args.flow.code c.in-Err-Refused.place old c.verify_with.new.visitor) first_is
-    (rw c.in-Err-Refused.field-0-is at c.in-Err-Refused.ensures.shown_refusal) in (
-      refused,
-      rw c.in_ok-text-in-Err-Refused.ensures (refuses c.args.flow.code (parts_of c.args.lines) c.verify_with.new.visitor c.in-Err-Refused.place
-          c.in-Err-Refused.cause refused shown),
-    )
+pub returns-in_ok-explanation-in-Ok-clause-only : goal.returns-in_ok-explanation-in-Ok-clause-only
+returns-in_ok-explanation-in-Ok-clause-only g c = λ code safe.
+    let explanation = c.in_ok-explanation-in-Ok.explanation in
+    safe_is_accepted c.args.program.now c.args.places.now explanation.text.items code explanation.verdict safe
+    (of_code c.args.program.now c.args.places.now explanation.text.items explanation.verdict (record {
+      code = c.in-Ok.flow.code;
+      is_code = c.in-Ok.ensures.ok;
+      forward = c.in-Ok.ensures.forward;
+      lines = parts_of c.in_ok-lines-in-Ok.lines;
+      are_lines = c.in_ok-lines-in-Ok.ensures;
+      explained = c.in_ok-explanation-in-Ok.ensures;
+    }))
+
+pub returns-in_ok-text-in-Err-clause-only : goal.returns-in_ok-text-in-Err-clause-only
+returns-in_ok-text-in-Err-clause-only g c = λ code safe.
+    let fault = c.in-Err.fault in
+    let text : List ℕ = c.in_ok-text-in-Err.text.items in
+    safe_is_accepted c.args.program.now c.args.places.now text code (Err fault) safe
+    (of_fault c.args.program.now c.args.places.now text fault c.in-Err.ensures.err
+    (subst (λ (lines : List SourceLine). ListsFault c.args.program.now lines fault text) c.or_none.ensures c.in_ok-text-in-Err.ensures))

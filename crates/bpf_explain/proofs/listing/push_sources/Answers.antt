@@ -2,7 +2,7 @@ use Rattle.std.proofs.Common.{◌∙◌, ◌++◌, ap, arith, List, ℕ}
 use Rattle.std.specs.List.{flat_map}
 use Rattle.std.specs.String.{string_bytes}
 use Rattle.std.proofs.lemmas.List.{take_all}
-use Rattle.bpf_source_lines.specs.SourceLines.{line_of, source_text}
+use Rattle.listing_lines.specs.SourceLines.{line_of, source_text}
 use Rattle.bpf_explain.proofs.ListingLemmas.{sources-map}
 use Rattle.bpf_explain.proofs.listing.push_sources.Goals as goal
 

@@ -1,7 +1,7 @@
 use Rattle.std.proofs.Common.{◌≡◌, ◌++◌, take}
 use Rattle.std.specs.List.{flat_map}
 use Rattle.std.specs.String.{string_bytes}
-use Rattle.bpf_source_lines.specs.SourceLines.{line_of, source_text}
+use Rattle.listing_lines.specs.SourceLines.{line_of, source_text}
 use Rattle.bpf_explain.proofs.listing.push_sources.Given as goal
 
 -- the lines so far

@@ -2,7 +2,7 @@ use Rattle.std.proofs.Common.{◌++◌, ◌∙◌, ap, append_assoc, List, ℕ}
 use Rattle.std.specs.Prelude.{codes, decimal}
 use Rattle.std.specs.String.{string_bytes}
 use Rattle.bpf_explain.specs.Reach.{last_of, limit_text}
-use Rattle.bpf_notes.proofs.LoopLemmas.{appended-last, appended-twice}
+use Rattle.listing_notes.proofs.LoopLemmas.{appended-last, appended-twice}
 use Rattle.bpf_explain.proofs.reach.push_limit.Goals as goal
 
 pub returns : goal.returns

@@ -1,10 +1,10 @@
 use Rattle.std.proofs.Common.{◌++◌, ◌∙◌, ap, List, ℕ}
 use Rattle.std.specs.String.{string_bytes}
 use Rattle.std.specs.Prelude.{codes}
-use Rattle.bpf_notes.specs.Facts.{noted, prefix_text}
+use Rattle.listing_notes.specs.Facts.{noted, prefix_text}
 use Rattle.bpf_explain.specs.Listing.{ListingParts}
 use Rattle.bpf_explain.proofs.ListingLemmas.{after-dropped, pushed, same-parts, until-taken}
-use Rattle.bpf_notes.proofs.LoopLemmas.{appended-twice}
+use Rattle.listing_notes.proofs.LoopLemmas.{appended-twice}
 use Rattle.bpf_explain.proofs.listing.Listing.push_visit.Goals as goal
 
 pub returns : goal.returns

@@ -1,6 +1,6 @@
 use Rattle.std.proofs.Common.{◌∙◌, ap}
 use Rattle.bpf_verify.specs.LiftedState.{Reached}
-use Rattle.bpf_notes.specs.Facts.{note_text}
+use Rattle.listing_notes.specs.Facts.{note_text}
 use Rattle.bpf_explain.specs.Listing.{ListingParts}
 use Rattle.bpf_explain.proofs.ListingLemmas.{pushed, reached-is}
 use Rattle.bpf_explain.proofs.listing.ListingVisitor.reached.Goals as goal

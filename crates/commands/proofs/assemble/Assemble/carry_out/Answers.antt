@@ -2,11 +2,12 @@ use Rattle.std.proofs.Common.{ℕ, ◌+◌, List, Some, Err, refl, subst, arith}
 use Rattle.std.specs.Io.KnownBytes.{Keeps}
 use Rattle.bpf_text.specs.SourceFault.{IsSourceFault}
 use Rattle.bpf_assembler.specs.TextFault as text_fault
+use Rattle.bpf_assembler.specs.TextFaultKind.{text_too_long}
 use Rattle.bpf_text.specs.declared.fault.SourceFault.{SourceFault}
 use Rattle.bpf_text.specs.declared.fault.SourceFault.TheVariants as source
 use Rattle.bpf_assembler.specs.declared.fault.TextFault.TheVariants as text
 use Rattle.counted_io.specs.ReaderWriter.{Writer}
-use Rattle.commands.specs.Assemble.{of_length, of_text, source_limit, too_long}
+use Rattle.commands.specs.Assemble.{of_length, of_text, source_limit}
 use Rattle.commands.specs.Command.{CarriesOut}
 use Rattle.commands.specs.Failure.{of_source}
 use Rattle.named_files.specs.Files.{Disk, IsLong, IsUnfailed, OpenResults}
@@ -43,9 +44,9 @@ source_refused arguments bytes (source.Text (text.InLine line flaw)) counts is f
 -- the source is too long
 long_refused : {R : Type 0} {opens : OpenResults R} {disk disk' : Disk} {out : Writer} (arguments : Assemble) → IsUnfailed disk disk'
     → IsLong (source_limit + 1) (disk.known arguments.source.now)
-    → CarriesOut opens (request.Assemble arguments) (Err (failure.Refusal too_long)) disk disk' out out
+    → CarriesOut opens (request.Assemble arguments) (Err (failure.Refusal text_too_long)) disk disk' out out
 long_refused arguments counts long =
-    refused_carried too_long (of_length long refl refl) counts.opens (sound (λ e. grind (arith, e)) counts.reads) refl
+    refused_carried text_too_long (of_length long refl refl) counts.opens (sound (λ e. grind (arith, e)) counts.reads) refl
 
 pub returns-clause-carried : goal.returns-clause-carried
 returns-clause-carried g c =

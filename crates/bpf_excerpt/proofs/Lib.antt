@@ -1,3 +1,0 @@
-mod ReadingLemmas
-mod ExcerptLemmas
-mod PlaceLemmas

@@ -1,5 +1,0 @@
-use Rattle.bpf_notes.proofs.TextLemmas.{names-differ}
-use Rattle.bpf_notes.proofs.laws.names_determine_parts.Goals as goal
-
-pub returns : goal.returns
-returns c = names-differ

@@ -1,5 +1,0 @@
-use Rattle.bpf_notes.proofs.SlotLemmas.{one-of-bytes}
-use Rattle.bpf_notes.proofs.laws.slots_with_bytes.Goals as goal
-
-pub returns : goal.returns
-returns c = one-of-bytes

@@ -1,5 +1,0 @@
-use Rattle.bpf_notes.proofs.TextLemmas.{states-equal}
-use Rattle.bpf_notes.proofs.laws.texts_determine_states.Goals as goal
-
-pub returns : goal.returns
-returns c = states-equal

@@ -1,0 +1,4 @@
+mod ReadingLemmas
+mod ExcerptLemmas
+mod PlaceLemmas
+pub mod OneExcerpt
