@@ -267,7 +267,7 @@ def option_faults() -> list[str]:
 
 def routes() -> list[str]:
     """Returns the methods and paths of the server, such as `GET /version`."""
-    rows = re.findall(r'\w+: "(/[^"]*)" "([A-Z, ]+)"', source("http_routes/src/route.rt"))
+    rows = re.findall(r'\w+: "(/[^"]*)" "([A-Z, ]+)"', source("http_message/src/route.rt"))
     return [f"{method} {path}" for path, methods in rows for method in methods.split(", ")]
 
 

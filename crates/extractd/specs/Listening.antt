@@ -5,12 +5,12 @@ use Rattle.std.specs.Net.Socket.{socket_port}
 use Rattle.std.specs.Net.Text.{socket_text}
 use Rattle.std.specs.declared.io.Error.{Error}
 use Rattle.std.specs.declared.net.socket_addr.SocketAddr.{SocketAddr}
-use Rattle.server.specs.Acceptor.{Accepts}
-use Rattle.server.specs.Limits.{IsStandard}
-use Rattle.server.specs.Rounds.{Server, ServesUntilFailure}
-use Rattle.server.specs.Service.{Serves}
-use Rattle.server.specs.Tally.{Tallied}
-use Rattle.server.specs.declared.limits.Limits.{Limits}
+use Rattle.tcp_server.specs.Acceptor.{Accepts}
+use Rattle.tcp_server.specs.Limits.{IsStandard}
+use Rattle.tcp_server.specs.Rounds.{Server, ServesUntilFailure}
+use Rattle.tcp_server.specs.Service.{Serves}
+use Rattle.tcp_server.specs.Tally.{Tallied}
+use Rattle.tcp_server.specs.declared.limits.Limits.{Limits}
 use Rattle.extractd.specs.declared.serving.listening.ListenFault.{ListenFault}
 use Rattle.extractd.specs.declared.serving.listening.ListenFault.TheVariants.{Bind, Port, Output, Accept}
 

@@ -11,8 +11,8 @@ use Rattle.extractd.specs.declared.serving.ServeFault.TheVariants.{Counties, Lis
 use Rattle.extractd.specs.declared.serving.listening.ListenFault.{ListenFault}
 use Rattle.extractd.specs.declared.serving.listening.ListenFault.TheVariants.{Output}
 use Rattle.named_files.specs.Files.{Disk, OpenResults}
-use Rattle.server.specs.Log.{Dates, ReadsSecond}
-use Rattle.server.specs.declared.logged.Logged.{Logged}
+use Rattle.http_service.specs.Log.{Dates, ReadsSecond}
+use Rattle.http_service.specs.declared.logged.Logged.{Logged}
 use Rattle.wire.specs.State.{StateParts, counties_of, new_state}
 
 -- the exit status: that of a county that can't be loaded, and 3 otherwise
@@ -49,29 +49,28 @@ pub record Host (N : Type 0) : Type 0 where
   pub disk : Disk
   pub outside : Outside N
 
--- a clock, and its readings of the date
-pub record Clock (T : Type 0) : Type 1 where
+-- the results of opens, a clock with its readings of the date, and how its counties are served
+pub record ServeRules (R N L C A W T : Type 0) : Type 1 where
+  pub opens : OpenResults R
   pub dates : Dates T
   pub timer : T
+  pub listens : ListenRules N L C (Logged A W T)
 
 -- the counties were loaded, one for each code, and served at the address in a state without jobs, with a log and the second that the clock showed
-pub record ServesLoaded {N L C A W T : Type 0} (clock : Clock T) (rules : ListenRules N L C (Logged A W T)) (served : Served)
-    (address : SocketAddr) (fault : ListenFault) (old new : Outside N) : Type 0 where
+pub record ServesLoaded {R N L C A W T : Type 0} (rules : ServeRules R N L C A W T) (served : Served) (fault : ListenFault) (old new : Outside N)
+    : Type 0 where
   pub start : Option ℕ
   pub state : StateParts
   pub without_jobs : state ≡ new_state served.codes (counties_of state) start
   pub loaded : AreCountiesOf served.known served.folder served.codes (counties_of state)
-  pub given_address : address ≡ served.address
   pub logged : Logged A W T
   pub over_state : logged.state ≡ state
-  pub reads_start : ReadsSecond clock.dates start clock.timer logged.timer
-  pub serves_address : ServesAddress rules served.address fault old logged new
+  pub reads_start : ReadsSecond rules.dates start rules.timer logged.timer
+  pub serves_address : ServesAddress rules.listens served.address fault old logged new
 
 -- how serving ends: a county can't be loaded, and then the address isn't bound; or the counties were served until a fault
-abbrev pub ServesCounties : {R N L C A W T : Type 0} → OpenResults R → Clock T → ListenRules N L C (Logged A W T) → Served → ServeFault
-    → Host N → Host N → Type 0
-ServesCounties opens clock rules served (Counties failure) old new =
-    IsLoadFailure opens (HaveRefusedCounty served.known served.folder served.codes) (IsRefusedFileOfOne served.folder served.codes)
+abbrev pub ServesCounties : {R N L C A W T : Type 0} → ServeRules R N L C A W T → Served → ServeFault → Host N → Host N → Type 0
+ServesCounties rules served (Counties failure) old new =
+    IsLoadFailure rules.opens (HaveRefusedCounty served.known served.folder served.codes) (IsRefusedFileOfOne served.folder served.codes)
     old.disk new.disk failure × (new.outside ≡ old.outside)
-ServesCounties opens clock rules served (Listen address fault) old new =
-    ServesLoaded clock rules served address fault old.outside new.outside
+ServesCounties rules served (Listen address fault) old new = (address ≡ served.address) × ServesLoaded rules served fault old.outside new.outside

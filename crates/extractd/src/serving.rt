@@ -4,8 +4,8 @@ ghost use Rattle.std.specs.declared.alloc.Global.{Global};
 ghost use Rattle.commands.specs.Counties.{AreCountiesOf, HaveRefusedCounty, IsLoadFailure, IsRefusedFileOfOne};
 ghost use Rattle.commands.specs.Failure.{status};
 ghost use Rattle.named_files.specs.Files.{disk};
-ghost use Rattle.server.specs.Logged.{ServesLogged, TurnsLogged};
-ghost use Rattle.server.specs.Tally.{ServesTallied, TurnsTallied};
+ghost use Rattle.http_service.specs.Logged.{ServesLogged, TurnsLogged};
+ghost use Rattle.tcp_server.specs.Tally.{ServesTallied, TurnsTallied};
 ghost use Rattle.wire.specs.State.{counties_of, new_state};
 ghost use Rattle.counted_io.specs.ReaderWriter.{writer};
 ghost use Rattle.extractd.specs.Serving.{EndsServer, ReportsListenFault, ReportsServeFault, ServesCounties, serve_status};
@@ -16,10 +16,10 @@ mod log_output;
 use command_line::Serve;
 use commands::{DiagnosticLine, Failure, UNUSABLE, load_counties};
 use counted_io::{CountedWrite, Counting};
+use http_service::{Logged, WallClock, read_second};
 use listening::{ListenFault, Network, serve_address};
 use log_output::{LogHost, LoggedNetwork};
 use named_files::{Files, SystemFiles};
-use server::{Logged, Timer, read_second};
 use std::alloc::Global;
 use std::fmt::Write as WriteText;
 use std::io;
@@ -103,7 +103,7 @@ fn serve_counties<
     W: Write,
     C: Clock,
     L: CountedWrite + Drop,
-    T: Timer + Drop,
+    T: WallClock + Drop,
 >(
     alloc: Global,
     files: &mut F,
@@ -114,14 +114,19 @@ fn serve_counties<
     mut timer: T,
     options: &Serve<'a>,
 ) -> ServeFault<'a>
-    ensures serves { ServesCounties F.opens (record { dates = T.dates; timer = timer })
+    ensures serves { ServesCounties
         (record {
-          binds = N.binds;
-          locates = N.locates;
-          accepts = N.Listener.accepts;
-          serves = ServesTallied (ServesLogged {A = Global}
-              (record { shows = T.shows; dates = T.dates; writer_of = writer L.contents L.counts }));
-          turns = TurnsTallied (TurnsLogged {A = Global} {W = L} {T = T});
+          opens = F.opens;
+          dates = T.dates;
+          timer = timer;
+          listens = record {
+            binds = N.binds;
+            locates = N.locates;
+            accepts = N.Listener.accepts;
+            serves = ServesTallied (ServesLogged {A = Global}
+                (record { shows = T.shows; dates = T.dates; writer_of = writer L.contents L.counts }));
+            turns = TurnsTallied (TurnsLogged {A = Global} {W = L} {T = T});
+          };
         })
         (record {
           folder = options.now.«data».now;

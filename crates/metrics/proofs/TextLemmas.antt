@@ -1,20 +1,18 @@
 -- Pieces of text that are appended one by one.
-use Rattle.std.proofs.Common.{◌≡◌, ℕ, suc, ◌+◌, ◌<◌, ◌≤◌, List, [], ◌++◌, drop, get_or, length, Option, Ok, Err, append_assoc, ap, refl, sym, ◌∙◌, add-one, drop-cons}
+use Rattle.std.proofs.Common.{◌≡◌, ℕ, suc, ◌+◌, ◌<◌, ◌≤◌, List, ◌++◌, drop, get_or, length, Ok, Err, append_assoc, ap, sym, ◌∙◌, add-one, drop-cons}
 use Rattle.std.specs.Prelude.{OnOk, Result}
 use Rattle.std.proofs.Math.ListN.{drop_of_length-le}
 use Rattle.std.proofs.lemmas.List.{append-nil}
 use Rattle.std.specs.List.{flat_map}
-use Rattle.metrics.specs.Counters.{CountersParts}
-use Rattle.metrics.specs.Text.{jobs_text, judged_text, requests_text, rows_text, start_text, text}
 
 -- the text so far, and the pieces that are left, are the complete text
 abbrev pub Remain : {A : Type 0} → (A → List ℕ) → List A → ℕ → List ℕ → List ℕ → Type 0
 Remain piece all index text whole = text ++ flat_map piece (drop index all) ≡ whole
 
-pub piece_step : {A : Type 0} (piece : A → List ℕ) (all : List A) (fallback : A) (index : ℕ) (text new whole : List ℕ) → index < length all
-    → Remain piece all index text whole → new ≡ text ++ piece (get_or all index fallback) → Remain piece all (index + 1) new whole
-piece_step piece all fallback index text new whole below so_far appended =
-    rw (appended, add-one)
+pub piece_step : {A : Type 0} (piece : A → List ℕ) (all : List A) (fallback : A) (index : ℕ) (text whole : List ℕ) → index < length all
+    → Remain piece all index text whole → Remain piece all (index + 1) (text ++ piece (get_or all index fallback)) whole
+piece_step piece all fallback index text whole below so_far =
+    rw add-one
     (append_assoc text (piece (get_or all index fallback)) (flat_map piece (drop (suc index) all))
     ∙ ap (λ left. text ++ flat_map piece left) (sym (drop-cons all index fallback below)) ∙ so_far)
 
@@ -28,11 +26,3 @@ pub then_last : {V E : Type 0} (result : Result V E) (new middle old first last 
     → middle ≡ old ++ first → OnOk result (new ≡ old ++ (first ++ last))
 then_last (Ok value) new middle old first last appends before = appends ∙ ap (λ text. text ++ last) before ∙ append_assoc old first last
 then_last (Err error) new middle old first last appends before = tt
-
--- the metrics, one after the other
-pub all_metrics : (counters : CountersParts) (running finished judged rows : ℕ) (start : Option ℕ) (t0 t1 t2 t3 t4 t5 : List ℕ)
-    → judged ≡ counters.judged → rows ≡ counters.rows → start ≡ counters.start → t0 ≡ [] → t1 ≡ t0 ++ requests_text counters
-    → t2 ≡ t1 ++ jobs_text running finished → t3 ≡ t2 ++ judged_text judged → t4 ≡ t3 ++ rows_text rows → t5 ≡ t4 ++ start_text start
-    → t5 ≡ text counters running finished
-all_metrics counters running finished judged rows start t0 t1 t2 t3 t4 t5 is_judged is_rows is_start none e1 e2 e3 e4 e5 =
-    rw (e5, e4, e3, e2, e1, none, is_judged, is_rows, is_start) refl

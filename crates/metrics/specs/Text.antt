@@ -1,10 +1,10 @@
 -- Prometheus' text format, version 0.0.4: of each metric its help, its type and its samples.
 use Rattle.std.specs.Prelude.{ℕ, ◌==◌, if◌then◌else◌, List, [], ◌++◌, codes, decimal, Option, None, Some}
 use Rattle.std.specs.List.{flat_map}
-use Rattle.http_reply.specs.Status.{number, statuses}
-use Rattle.http_reply.specs.declared.status.Status.{Status}
-use Rattle.http_routes.specs.Routes.{routes, row}
-use Rattle.http_routes.specs.declared.route.Route.{Route}
+use Rattle.http_message.specs.Status.{number, statuses}
+use Rattle.http_message.specs.declared.status.Status.{Status}
+use Rattle.http_message.specs.Routes.{routes, row}
+use Rattle.http_message.specs.declared.route.Route.{Route}
 use Rattle.metrics.specs.Counters.{CountersParts, replies_of}
 
 -- the lines before the samples of a metric: its name with its help, and with its type

@@ -1,13 +1,14 @@
 //! The counts.
-ghost use Rattle.std.specs.Prelude.{◌≡◌, ◌<◌};
+ghost use Rattle.std.specs.Prelude.{◌≡◌, ◌<◌, ◌≤◌, length};
+ghost use Rattle.http_message.specs.Routes.{routes};
+ghost use Rattle.http_message.specs.Status.{statuses};
 ghost use Rattle.metrics.specs.Counters.{cell, column_of, new_counters, replies_of, row_of, with_judged, with_reply, with_rows};
 
-use http_reply::Status;
-use http_routes::Route;
+use http_message::{Route, Status};
 use std::marker::Model;
 
 // The number of counts of replies: for each route, and for paths without one, a count for each status.
-const CELLS: usize = 136;
+const CELLS: usize = (Route::ALL.len() + 1) * Status::ALL.len();
 
 /// The numbers of replies, by route and status, of segments that programs and filters ran on, and of rows in replies, since a server started. Each
 /// count wraps at 2^64. Contracts see a record.
@@ -95,52 +96,27 @@ impl Counters {
 }
 
 /// Returns the place of a count among the counts of replies.
+#[tactic(auto, using(crate::proofs::CountLemmas::cell_within))]
 fn cell(route: Option<Route>, status: Status) -> usize
     ensures value { result ≡ cell route status }
     ensures within { result < CELLS }
 {
-    8 * row_of(route) + column_of(status)
+    row_of(route) * Status::ALL.len() + column_of(status)
 }
 
 fn row_of(route: Option<Route>) -> usize
     ensures value { result ≡ row_of route }
-    ensures within { result < 17 }
+    ensures within { result ≤ length routes }
 {
-    let Some(route) = route else {
-        return 16;
-    };
     match route {
-        Route::Assemble => 0,
-        Route::Compile => 1,
-        Route::Disassemble => 2,
-        Route::Explain => 3,
-        Route::Extract => 4,
-        Route::FilterJobs => 5,
-        Route::GeocodeBatch => 6,
-        Route::Geocode => 7,
-        Route::Health => 8,
-        Route::Jobs => 9,
-        Route::Metrics => 10,
-        Route::OpenJobs => 11,
-        Route::Select => 12,
-        Route::Verify => 13,
-        Route::Index => 14,
-        Route::Job => 15,
+        Some(route) => route as usize,
+        None => Route::ALL.len(),
     }
 }
 
 fn column_of(status: Status) -> usize
     ensures value { result ≡ column_of status }
-    ensures within { result < 8 }
+    ensures within { result < length statuses }
 {
-    match status {
-        Status::Ok => 0,
-        Status::BadRequest => 1,
-        Status::NotFound => 2,
-        Status::MethodNotAllowed => 3,
-        Status::LengthRequired => 4,
-        Status::PayloadTooLarge => 5,
-        Status::UnprocessableEntity => 6,
-        Status::ServiceUnavailable => 7,
-    }
+    status as usize
 }

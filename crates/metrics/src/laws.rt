@@ -1,8 +1,8 @@
 //! Laws over the definitions, as contracts of functions that do nothing.
 ghost use Rattle.std.specs.Prelude.{◌≡◌, ◌≢◌, ◌⊎◌, ℕ, Option, length};
 ghost use Rattle.counted_io.specs.Counting.{next_count};
-ghost use Rattle.http_reply.specs.declared.status.Status.{Status};
-ghost use Rattle.http_routes.specs.declared.route.Route.{Route};
+ghost use Rattle.http_message.specs.declared.status.Status.{Status};
+ghost use Rattle.http_message.specs.declared.route.Route.{Route};
 ghost use Rattle.metrics.specs.Counters.{CountersParts, new_counters, replies_of, with_reply};
 ghost use Rattle.metrics.specs.declared.counters.TheConstants.{CELLS};
 

@@ -1,10 +1,10 @@
 //! The counts as text.
 ghost use Rattle.std.specs.Prelude.{◌≡◌, ◌++◌, IfOk, OnOk};
-ghost use Rattle.metrics.specs.Text.{jobs_text, metric, path, replies_text, reply_line, reply_name, requests_text, sample, single_text, start_text, text, value_text};
+ghost use Rattle.metrics.specs.Text.{jobs_text, metric, path, replies_text, reply_line, reply_name, requests_text, sample, single_text};
+ghost use Rattle.metrics.specs.Text.{start_text, text, value_text};
 
 use crate::counters::Counters;
-use http_reply::Status;
-use http_routes::Route;
+use http_message::{Route, Status};
 use itoa::Buffer;
 use std::alloc::{AllocError, Allocator};
 

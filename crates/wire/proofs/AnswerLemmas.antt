@@ -1,7 +1,7 @@
 -- The answers of the code are the replies of the definitions.
 use Rattle.std.proofs.Common.{◌≡◌, ℕ, List, Option, Some, None, Bor, inl, inr, ap, refl, subst, sym}
-use Rattle.http_reply.specs.Reply.{ReplyParts}
-use Rattle.http_reply.specs.declared.status.Status.TheVariants.{NotFound}
+use Rattle.http_message.specs.Reply.{ReplyParts}
+use Rattle.http_message.specs.declared.status.Status.TheVariants.{NotFound}
 use Rattle.jobs.specs.Table.{Step, Table}
 use Rattle.jobs.specs.declared.event.Event.{Event}
 use Rattle.jobs.specs.declared.event.Event.TheVariants.{Submit, Turn, Fetch, Drop}

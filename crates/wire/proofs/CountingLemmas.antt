@@ -1,13 +1,13 @@
 -- Counting, and what doesn't depend on the counts.
 use Rattle.std.proofs.Common.{◌≡◌, ℕ, ◌+◌, inl, inr, List, [], ◌∷◌, ◌++◌, Option, refl, sym, ap, ◌∙◌, subst, add_assoc, zero-add}
 use Rattle.std.specs.Prelude.{◌==◌, if◌then◌else◌}
-use Rattle.http_reply.specs.Reply.{ReplyParts}
-use Rattle.http_reply.specs.declared.reply.MediaType.{MediaType}
-use Rattle.http_reply.specs.declared.reply.MediaType.TheVariants.{Metrics}
-use Rattle.http_reply.specs.declared.status.Status.{Status}
-use Rattle.http_routes.specs.declared.route.Action.{Action}
-use Rattle.http_routes.specs.declared.route.Route.{Route}
-use Rattle.http_routes.specs.declared.route.Action.TheVariants as action
+use Rattle.http_message.specs.Reply.{ReplyParts}
+use Rattle.http_message.specs.declared.reply.MediaType.{MediaType}
+use Rattle.http_message.specs.declared.reply.MediaType.TheVariants.{Metrics}
+use Rattle.http_message.specs.declared.status.Status.{Status}
+use Rattle.http_message.specs.declared.route.Action.{Action}
+use Rattle.http_message.specs.declared.route.Route.{Route}
+use Rattle.http_message.specs.declared.route.Action.TheVariants as action
 use Rattle.jobs.specs.Progress.{finished, running}
 use Rattle.jobs.specs.Table.{Table}
 use Rattle.metrics.specs.Counters.{CountersParts}

@@ -5,22 +5,22 @@ use Rattle.std.proofs.lemmas.Bool.{le-leb, lt-leb}
 use Rattle.std.proofs.lemmas.List.{append-nil, length-append}
 use Rattle.std.specs.Option.{option_and_then}
 use Rattle.std.specs.Prelude.{Result, Ok, Err, if◌then◌else◌}
-use Rattle.http_reply.specs.declared.status.Status.TheVariants.{BadRequest, NotFound}
-use Rattle.http_request.specs.Head.{Head}
-use Rattle.http_request.specs.Length.{body_length}
-use Rattle.http_request.specs.Reading.{EndsInBody, FailsInBody, ReadsNoHead, OutOfMemoryInBody, ReadsBody, ReadsHead, RequestParts, Takes}
-use Rattle.http_request.specs.Whole.{left_of}
-use Rattle.http_request.specs.declared.length.LengthFault.{LengthFault}
-use Rattle.http_request.proofs.HeadLemmas.{HasHead-append, HasHead-some, HasHead-unique}
-use Rattle.http_request.specs.declared.head.TheConstants.{MAX_HEAD_LENGTH}
-use Rattle.http_request.proofs.TakeLemmas.{Takes-append}
-use Rattle.http_request.proofs.WholeLemmas.{had_head, had_no_head, had_request, had_short_request, known_whole}
+use Rattle.http_message.specs.declared.status.Status.TheVariants.{BadRequest, NotFound}
+use Rattle.http_message.specs.Head.{Head}
+use Rattle.http_message.specs.Length.{body_length}
+use Rattle.http_message.specs.Reading.{EndsInBody, FailsInBody, ReadsNoHead, OutOfMemoryInBody, ReadsBody, ReadsHead, RequestParts, Takes}
+use Rattle.http_message.specs.Whole.{left_of}
+use Rattle.http_message.specs.declared.length.LengthFault.{LengthFault}
+use Rattle.http_message.proofs.HeadLemmas.{HasHead-append, HasHead-some, HasHead-unique}
+use Rattle.http_message.specs.declared.head.TheConstants.{MAX_HEAD_LENGTH}
+use Rattle.http_message.proofs.TakeLemmas.{Takes-append}
+use Rattle.http_message.proofs.WholeLemmas.{had_head, had_no_head, had_request, had_short_request, known_whole}
 use Rattle.counted_io.proofs.KnownBytesLemmas.{Consumes-append}
-use Rattle.http_routes.specs.Routes.{action_of, route_of, verb_named}
-use Rattle.http_routes.specs.Target.{path_of}
-use Rattle.http_routes.specs.declared.route.Action.{Action}
-use Rattle.http_routes.specs.declared.route.Route.{Route}
-use Rattle.http_routes.specs.declared.route.Verb.{Verb}
+use Rattle.http_message.specs.Routes.{action_of, route_of, verb_named}
+use Rattle.http_message.specs.Target.{path_of}
+use Rattle.http_message.specs.declared.route.Action.{Action}
+use Rattle.http_message.specs.declared.route.Route.{Route}
+use Rattle.http_message.specs.declared.route.Verb.{Verb}
 use Rattle.counted_io.specs.ReaderWriter.{Reader}
 use Rattle.wire.specs.Decision.{AnnouncesBody, DecisionParts, Refuses, Disallows, Accepts, IsDecided, IsEnough, named_by, requested_action, routed_by, decide}
 use Rattle.wire.specs.Decision.{decide_action, decide_body, decide_route, length_status, takes_body}

@@ -2,13 +2,13 @@
 use Rattle.std.proofs.Common.{◌≡◌, ◌⊎◌, ℕ, IsTrue, true, false, inl, inr, List, [], ◌∷◌}
 use Rattle.std.proofs.Common.{length, take, Option, Some, None, refl, sym, ap, ◌∙◌, subst}
 use Rattle.std.specs.Prelude.{Bool, nat_le, if◌then◌else◌}
-use Rattle.http_reply.specs.Reply.{ReplyParts}
-use Rattle.http_reply.specs.declared.status.Status.TheVariants.{BadRequest, NotFound}
-use Rattle.http_request.proofs.HeadLemmas.{HasHead-unique}
-use Rattle.http_request.specs.Head.{Head}
-use Rattle.http_routes.specs.Target.{job_id}
-use Rattle.http_routes.specs.declared.route.Action.{Action}
-use Rattle.http_routes.specs.declared.route.Action.TheVariants as action
+use Rattle.http_message.specs.Reply.{ReplyParts}
+use Rattle.http_message.specs.declared.status.Status.TheVariants.{BadRequest, NotFound}
+use Rattle.http_message.proofs.HeadLemmas.{HasHead-unique}
+use Rattle.http_message.specs.Head.{Head}
+use Rattle.http_message.specs.Target.{job_id}
+use Rattle.http_message.specs.declared.route.Action.{Action}
+use Rattle.http_message.specs.declared.route.Action.TheVariants as action
 use Rattle.jobs.proofs.RunLemmas.{whole_run}
 use Rattle.jobs.specs.Run.{Exchange, IsRun}
 use Rattle.jobs.specs.Segments.{segments_of}

@@ -1,6 +1,6 @@
 -- The refusals of filters are those of the definitions.
 use Rattle.std.proofs.Common.{◌≡◌, ℕ, List, Some, ap}
-use Rattle.http_reply.specs.declared.status.Status.TheVariants as status
+use Rattle.http_message.specs.declared.status.Status.TheVariants as status
 use Rattle.filters.specs.Failure.{failure_text, refusal_of}
 use Rattle.filters.specs.Filter.{IsFilterFailure}
 use Rattle.filters.specs.declared.failure.FilterFailure.{FilterFailure}

@@ -19,12 +19,12 @@ use Rattle.bpf_text.specs.declared.fault.SourceFault.TheVariants.{NotUtf8, Text}
 use Rattle.bpf_assembler.specs.declared.fault.TextFault.TheVariants as text_fault
 use Rattle.bpf_assembler.specs.declared.fault.TextFault.TheVariants.{InLine}
 use Rattle.bpf_program.proofs.VerdictLemmas as verdict
-use Rattle.http_reply.specs.Reply.{ReplyParts}
-use Rattle.http_reply.specs.declared.reply.MediaType.TheVariants.{Csv}
-use Rattle.http_reply.specs.declared.status.Status.TheVariants as status
-use Rattle.http_routes.specs.Target.{job_id}
-use Rattle.http_routes.specs.declared.route.Action.{Action}
-use Rattle.http_routes.specs.declared.route.Action.TheVariants as action
+use Rattle.http_message.specs.Reply.{ReplyParts}
+use Rattle.http_message.specs.declared.reply.MediaType.TheVariants.{Csv}
+use Rattle.http_message.specs.declared.status.Status.TheVariants as status
+use Rattle.http_message.specs.Target.{job_id}
+use Rattle.http_message.specs.declared.route.Action.{Action}
+use Rattle.http_message.specs.declared.route.Action.TheVariants as action
 use Rattle.jobs.proofs.VerdictLemmas as submission
 use Rattle.jobs.specs.Listing.{listing}
 use Rattle.jobs.specs.Table.{JobParts, Step, Table, job_of, new_job, with_job, without_job}

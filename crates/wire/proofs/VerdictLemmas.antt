@@ -7,7 +7,7 @@ use Rattle.bpf_program.proofs.VerdictLemmas as verdict
 use Rattle.bpf_program.specs.ProgramFault as program_fault
 use Rattle.bpf_program.specs.declared.program.ProgramFault.{ProgramFault}
 use Rattle.bpf_program.specs.declared.program.ProgramFault.TheVariants.{Memory}
-use Rattle.http_reply.specs.Reply.{ReplyParts}
+use Rattle.http_message.specs.Reply.{ReplyParts}
 use Rattle.jobs.specs.Segments.{segments_of}
 use Rattle.tl_segments.specs.County.{CountyParts}
 use Rattle.wire.specs.Answer.{ExtractsTo, IsVerified, memory_reply, octets, refusal_reply}

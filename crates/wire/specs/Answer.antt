@@ -24,18 +24,18 @@ use Rattle.filters.specs.declared.failure.FilterFailure.TheVariants as filter_fa
 use Rattle.filters.specs.declared.filter.FilterOptions.{FilterOptions}
 use Rattle.geocode.specs.HitLine.{hit_lines}
 use Rattle.geocode.specs.Query.{QueryParts, hits_of}
-use Rattle.http_reply.specs.Reply.{ReplyParts}
-use Rattle.http_reply.specs.Status.{text}
-use Rattle.http_reply.specs.declared.reply.MediaType.{MediaType}
-use Rattle.http_reply.specs.declared.reply.MediaType.TheVariants.{Plain, Octets, Csv}
-use Rattle.http_reply.specs.declared.reply.MediaType.TheVariants as media_type
-use Rattle.http_reply.specs.declared.status.Status.{Status}
-use Rattle.http_reply.specs.declared.status.Status.TheVariants as status
-use Rattle.http_routes.specs.Routes.{allow, index}
-use Rattle.http_routes.specs.Target.{job_id}
-use Rattle.http_routes.specs.declared.route.Action.{Action}
-use Rattle.http_routes.specs.declared.route.Action.TheVariants as action
-use Rattle.http_routes.specs.declared.route.Route.{Route}
+use Rattle.http_message.specs.Reply.{ReplyParts}
+use Rattle.http_message.specs.Status.{text}
+use Rattle.http_message.specs.declared.reply.MediaType.{MediaType}
+use Rattle.http_message.specs.declared.reply.MediaType.TheVariants.{Plain, Octets, Csv}
+use Rattle.http_message.specs.declared.reply.MediaType.TheVariants as media_type
+use Rattle.http_message.specs.declared.status.Status.{Status}
+use Rattle.http_message.specs.declared.status.Status.TheVariants as status
+use Rattle.http_message.specs.Routes.{allow, index}
+use Rattle.http_message.specs.Target.{job_id}
+use Rattle.http_message.specs.declared.route.Action.{Action}
+use Rattle.http_message.specs.declared.route.Action.TheVariants as action
+use Rattle.http_message.specs.declared.route.Route.{Route}
 use Rattle.jobs.specs.JobFault as job_fault
 use Rattle.jobs.specs.Listing.{listing}
 use Rattle.jobs.specs.Progress.{finished, running}

@@ -1,12 +1,12 @@
 -- The counts of a server's work.
 use Rattle.std.specs.Prelude.{ℕ, ◌+◌, ◌-◌, ◌==◌, if◌then◌else◌, List, [], ◌∷◌, Option, Some, None}
-use Rattle.http_reply.specs.Reply.{ReplyParts}
-use Rattle.http_reply.specs.declared.reply.MediaType.{MediaType}
-use Rattle.http_reply.specs.declared.reply.MediaType.TheVariants.{Csv}
-use Rattle.http_reply.specs.declared.status.Status.{Status}
-use Rattle.http_reply.specs.declared.status.Status.TheVariants.{Ok}
-use Rattle.http_routes.specs.declared.route.Route.{Route}
-use Rattle.http_routes.specs.declared.route.Route.TheVariants.{Extract, Select, Job}
+use Rattle.http_message.specs.Reply.{ReplyParts}
+use Rattle.http_message.specs.declared.reply.MediaType.{MediaType}
+use Rattle.http_message.specs.declared.reply.MediaType.TheVariants.{Csv}
+use Rattle.http_message.specs.declared.status.Status.{Status}
+use Rattle.http_message.specs.declared.status.Status.TheVariants.{Ok}
+use Rattle.http_message.specs.declared.route.Route.{Route}
+use Rattle.http_message.specs.declared.route.Route.TheVariants.{Extract, Select, Job}
 use Rattle.jobs.specs.Table.{total_of}
 use Rattle.metrics.specs.Counters.{CountersParts, with_judged, with_reply, with_rows}
 use Rattle.wire.specs.State.{StateParts}

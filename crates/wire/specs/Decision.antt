@@ -2,18 +2,18 @@
 use Rattle.std.specs.Prelude.{◌≡◌, ◌⊎◌, ◌<◌, ◌≤◌, ℕ, nat_le, Bool, true, false, if◌then◌else◌, List, [], length, take}
 use Rattle.std.specs.Prelude.{Option, Some, None, Result, Ok, Err, IsTrue}
 use Rattle.std.specs.Option.{option_and_then}
-use Rattle.http_request.specs.Head.{Head, HasHead, HasNoHead, MayBecomeHead}
-use Rattle.http_request.specs.Length.{body_length}
-use Rattle.http_request.specs.declared.head.TheConstants.{MAX_HEAD_LENGTH}
-use Rattle.http_request.specs.declared.length.LengthFault.{LengthFault}
-use Rattle.http_request.specs.declared.length.LengthFault.TheVariants.{Missing, Invalid, TooLarge}
-use Rattle.http_reply.specs.declared.status.Status.{Status}
-use Rattle.http_reply.specs.declared.status.Status.TheVariants.{BadRequest, NotFound, LengthRequired, PayloadTooLarge}
-use Rattle.http_routes.specs.Routes.{action_of, route_of, verb_named}
-use Rattle.http_routes.specs.Target.{path_of, query_of}
-use Rattle.http_routes.specs.declared.route.Action.{Action}
-use Rattle.http_routes.specs.declared.route.Action.TheVariants.{Index, Health, Geocode, Metrics, Select, Compile, SubmitFilter, List as ListJobs, Fetch, Drop}
-use Rattle.http_routes.specs.declared.route.Route.{Route}
+use Rattle.http_message.specs.Head.{Head, HasHead, HasNoHead, MayBecomeHead}
+use Rattle.http_message.specs.Length.{body_length}
+use Rattle.http_message.specs.declared.head.TheConstants.{MAX_HEAD_LENGTH}
+use Rattle.http_message.specs.declared.length.LengthFault.{LengthFault}
+use Rattle.http_message.specs.declared.length.LengthFault.TheVariants.{Missing, Invalid, TooLarge}
+use Rattle.http_message.specs.declared.status.Status.{Status}
+use Rattle.http_message.specs.declared.status.Status.TheVariants.{BadRequest, NotFound, LengthRequired, PayloadTooLarge}
+use Rattle.http_message.specs.Routes.{action_of, route_of, verb_named}
+use Rattle.http_message.specs.Target.{path_of, query_of}
+use Rattle.http_message.specs.declared.route.Action.{Action}
+use Rattle.http_message.specs.declared.route.Action.TheVariants.{Index, Health, Geocode, Metrics, Select, Compile, SubmitFilter, List as ListJobs, Fetch, Drop}
+use Rattle.http_message.specs.declared.route.Route.{Route}
 use Rattle.wire.specs.declared.decision.RequestRead.{RequestRead}
 use Rattle.wire.specs.declared.decision.RequestRead.TheVariants.{Complete, Partial}
 use Rattle.wire.specs.declared.summary.Named.{Named}

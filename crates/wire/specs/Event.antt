@@ -1,9 +1,9 @@
 -- The acts of a server on its state, and their effect on the table of jobs.
 use Rattle.std.specs.Prelude.{◌≡◌, ◌⊎◌, ℕ, Bool, true, false, IsTrue, List, [], ◌∷◌, Some, None, length}
-use Rattle.http_reply.specs.Reply.{ReplyParts}
-use Rattle.http_routes.specs.Target.{job_id}
-use Rattle.http_routes.specs.declared.route.Action.{Action}
-use Rattle.http_routes.specs.declared.route.Action.TheVariants as action
+use Rattle.http_message.specs.Reply.{ReplyParts}
+use Rattle.http_message.specs.Target.{job_id}
+use Rattle.http_message.specs.declared.route.Action.{Action}
+use Rattle.http_message.specs.declared.route.Action.TheVariants as action
 use Rattle.jobs.specs.Run.{Exchange, IsOwn}
 use Rattle.jobs.specs.Segments.{segments_of}
 use Rattle.jobs.specs.Table.{IsNextTurn, JobParts}

@@ -1,10 +1,10 @@
 -- Internal definitions: the results of reading an input and replying to it.
 use Rattle.std.specs.Prelude.{◌≡◌, ◌<◌, ℕ, List, length, Some, Result, Ok, Err}
 use Rattle.std.specs.Io.KnownBytes.{Keeps}
-use Rattle.http_reply.specs.Reply.{ReplyParts, reply_text}
-use Rattle.http_request.specs.Reading.{IsClosed}
-use Rattle.http_request.specs.declared.head.HeadFault.{HeadFault}
-use Rattle.http_request.specs.declared.head.HeadFault.TheVariants as head_fault
+use Rattle.http_message.specs.Reply.{ReplyParts, reply_text}
+use Rattle.http_message.specs.Reading.{IsClosed}
+use Rattle.http_message.specs.declared.head.HeadFault.{HeadFault}
+use Rattle.http_message.specs.declared.head.HeadFault.TheVariants as head_fault
 use Rattle.counted_io.specs.ReaderWriter.{Reader, Writer}
 use Rattle.counted_io.specs.Writing.{WritesText}
 use Rattle.counted_io.specs.declared.writing.WriteFault.{WriteFault}

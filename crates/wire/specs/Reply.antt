@@ -1,7 +1,7 @@
 -- Internal definitions: the reply that an answer stands for.
 use Rattle.std.specs.Prelude.{None}
-use Rattle.http_reply.specs.Reply.{ReplyParts}
-use Rattle.http_reply.specs.declared.status.Status.TheVariants as status
+use Rattle.http_message.specs.Reply.{ReplyParts}
+use Rattle.http_message.specs.declared.status.Status.TheVariants as status
 use Rattle.wire.specs.Answer.{disallowed, line_reply, plain, refusal_reply, rows_reply, status_reply}
 use Rattle.wire.specs.declared.answer.Answer.{Answer}
 use Rattle.wire.specs.declared.answer.Answer.TheVariants.{Status, Disallowed, Text, Made, Refused, RefusedLines, Line, Rows}

@@ -1,8 +1,8 @@
 -- The effect of serving a connection on the state and on both ends of the connection.
 use Rattle.std.specs.Prelude.{◌≡◌, ◌<◌, ℕ, List, length, Option, Some, None, Result, Ok, Err, ⊤}
 use Rattle.std.specs.Io.KnownBytes.{Keeps}
-use Rattle.http_reply.specs.Reply.{ReplyParts, reply_text}
-use Rattle.http_request.specs.Reading.{FailsAfter, IsClosed, Takes}
+use Rattle.http_message.specs.Reply.{ReplyParts, reply_text}
+use Rattle.http_message.specs.Reading.{FailsAfter, IsClosed, Takes}
 use Rattle.counted_io.specs.ReaderWriter.{Reader, Writer}
 use Rattle.counted_io.specs.Writing.{WritesText}
 use Rattle.counted_io.specs.declared.writing.WriteFault.{WriteFault}

@@ -9,7 +9,7 @@ use crate::answer::Answer;
 use crate::state::{State, borrowed};
 use addresses::AddressFault;
 use batch::Batch;
-use http_reply::MediaType;
+use http_message::MediaType;
 use refusals::Fault;
 use std::alloc::Allocator;
 

@@ -1,8 +1,8 @@
 //! The answers to requests.
 ghost use Rattle.std.specs.Prelude.{◌≡◌, ◌≤◌, ◌++◌, ◌∷◌, [], codes, decimal, length};
 ghost use Rattle.counted_io.specs.ReaderWriter.{writer};
-ghost use Rattle.http_reply.specs.Reply.{parts_of};
-ghost use Rattle.http_reply.specs.declared.status.Status.TheVariants as status;
+ghost use Rattle.http_message.specs.Reply.{parts_of};
+ghost use Rattle.http_message.specs.declared.status.Status.TheVariants as status;
 ghost use Rattle.wire.specs.Answer.{class_status, plain};
 ghost use Rattle.wire.specs.Counting.{line_feeds};
 ghost use Rattle.wire.specs.Reading.{Sends};
@@ -11,8 +11,7 @@ ghost use Rattle.wire.specs.Reply.{reply_of};
 use crate::summary::Sent;
 use arrayvec::{ArrayString, ArrayVec};
 use counted_io::CountedWrite;
-use http_reply::{MAX_LEAD_LENGTH, MediaType, Reply, Status};
-use http_routes::Route;
+use http_message::{MAX_LEAD_LENGTH, MediaType, Reply, Route, Status};
 use itoa::Buffer;
 use refusals::{Class, Refusal};
 use std::alloc::Allocator;

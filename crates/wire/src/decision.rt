@@ -1,16 +1,17 @@
 //! The decision on an input: whether it's a request, and what it requests.
 ghost use Rattle.std.specs.Prelude.{◌≡◌, IfErr, IfOk, IsTrue};
-ghost use Rattle.http_request.specs.Reading.{ReadsHead};
-ghost use Rattle.http_routes.specs.Target.{path_of, query_of};
+ghost use Rattle.http_message.specs.Reading.{ReadsHead};
+ghost use Rattle.http_message.specs.Target.{path_of, query_of};
 ghost use Rattle.counted_io.specs.ReaderWriter.{Reader, reader};
 ghost use Rattle.wire.specs.Decision.{length_status, named_by, request_read_of, requested_action, takes_body};
 ghost use Rattle.wire.specs.Reading.{Decides, FailsToDecide, decision_of, of_head};
 
 use crate::summary::Named;
 use counted_io::CountedRead;
-use http_reply::Status;
-use http_request::{BodyFault, HeadBuffer, HeadFault, LengthFault, Request, read_body};
-use http_routes::{Action, Route, Routes, Target, Verb};
+use http_message::{
+    Action, BodyFault, HeadBuffer, HeadFault, LengthFault, Request, Route, Routes, Status, Target,
+    Verb, read_body,
+};
 use std::alloc::Allocator;
 
 /// How much of a request was read.

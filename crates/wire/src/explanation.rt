@@ -8,7 +8,7 @@ ghost use Rattle.wire.specs.Reply.{reply_of};
 use crate::answer::Answer;
 use bpf_explain::{ExplainFault, Explanation, explain};
 use bpf_program::ProgramFault;
-use http_reply::MediaType;
+use http_message::MediaType;
 use refusals::Refusal;
 use std::alloc::{AllocError, Allocator};
 

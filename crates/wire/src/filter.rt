@@ -14,7 +14,7 @@ use crate::query::{filter_options, layer};
 use crate::summary::Sent;
 use counted_io::CountedWrite;
 use filters::{FilterFailure, FilterOptions};
-use http_reply::{MediaType, Status};
+use http_message::{MediaType, Status};
 use jobs::{Event, Jobs};
 use layers::{Layer, lay_out};
 use refusals::Refusal;

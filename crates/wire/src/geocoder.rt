@@ -8,7 +8,7 @@ ghost use Rattle.wire.specs.Reply.{reply_of};
 use crate::answer::Answer;
 use crate::query::first_value;
 use geocode::{Gazetteer, Query, hit_lines};
-use http_reply::{MediaType, Status};
+use http_message::{MediaType, Status};
 use refusals::Refusal;
 use std::alloc::{AllocError, Allocator};
 use tl_segments::County;

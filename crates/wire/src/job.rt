@@ -1,8 +1,8 @@
 //! The requests to the table of jobs, and its replies as answers.
 ghost use Rattle.std.specs.Prelude.{◌≡◌, ◌⊎◌, decimal, false};
-ghost use Rattle.http_reply.specs.declared.status.Status.TheVariants as status;
-ghost use Rattle.http_reply.specs.declared.status.Status.TheVariants.{NotFound};
-ghost use Rattle.http_routes.specs.Target.{job_id};
+ghost use Rattle.http_message.specs.declared.status.Status.TheVariants as status;
+ghost use Rattle.http_message.specs.declared.status.Status.TheVariants.{NotFound};
+ghost use Rattle.http_message.specs.Target.{job_id};
 ghost use Rattle.counted_io.specs.ReaderWriter.{writer};
 ghost use Rattle.jobs.specs.Listing.{listing};
 ghost use Rattle.wire.specs.Answer.{IsJobReply, IsTableReply, job_fault_reply, job_reply, memory_reply, plain, status_reply};
@@ -14,8 +14,7 @@ use crate::answer::Answer;
 use crate::summary::Sent;
 use arrayvec::ArrayString;
 use counted_io::CountedWrite;
-use http_reply::{MediaType, Status};
-use http_routes::job_id;
+use http_message::{MediaType, Status, job_id};
 use itoa::Buffer;
 use jobs::{Event, JobFault, Jobs, Reply as JobReply};
 use refusals::{Fault, Refusal};

@@ -1,11 +1,11 @@
 //! Laws over the definitions, as contracts of functions that do nothing.
 ghost use Rattle.std.specs.Prelude.{◌≡◌, ◌≢◌, ◌⊎◌, ◌<◌, ℕ, List, All, Option};
-ghost use Rattle.http_reply.specs.Reply.{ReplyParts};
+ghost use Rattle.http_message.specs.Reply.{ReplyParts};
 ghost use Rattle.jobs.specs.Run.{Exchange, IsRun};
 ghost use Rattle.jobs.specs.Table.{empty_table};
 ghost use Rattle.metrics.specs.Counters.{CountersParts};
 ghost use Rattle.tl_segments.specs.County.{CountyParts};
-ghost use Rattle.http_reply.specs.declared.status.Status.TheVariants.{NotFound};
+ghost use Rattle.http_message.specs.declared.status.Status.TheVariants.{NotFound};
 ghost use Rattle.jobs.specs.declared.event.Event.TheVariants.{Fetch};
 ghost use Rattle.wire.specs.Answer.{ExtractsTo, IsVerified, Replies, memory_reply, status_reply};
 ghost use Rattle.wire.specs.Counting.{with_counters};

@@ -5,7 +5,7 @@ ghost use Rattle.wire.specs.Reply.{reply_of};
 use crate::answer::Answer;
 use bpf_program::{accept, check_program};
 use bpf_text::{SourceFault, assemble_source, disassemble_program};
-use http_reply::{MediaType, Status};
+use http_message::{MediaType, Status};
 use jobs::all_rows;
 use refusals::{Fault, Refusal};
 use std::alloc::Allocator;

@@ -7,7 +7,7 @@ ghost use Rattle.wire.specs.Turn.{MakesTurn};
 
 use crate::job::next_turn;
 use geocode::Gazetteer;
-use http_routes::Routes;
+use http_message::Routes;
 use jobs::{Jobs, Reply as JobReply};
 use metrics::Counters;
 use std::alloc::{AllocError, Allocator, Global};

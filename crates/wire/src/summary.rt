@@ -1,7 +1,6 @@
 //! What a request was, and what its reply is.
 use counted_io::WriteFault;
-use http_reply::{MediaType, Status};
-use http_routes::{Route, Verb};
+use http_message::{MediaType, Route, Status, Verb};
 
 /// The method and the route that a request's head names. Either is `None` if there is no head, or if no route has it.
 #[derive(Clone, Copy, PartialEq, Eq)]

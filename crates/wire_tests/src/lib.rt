@@ -1,5 +1,5 @@
-//! Tests of the crates `wire` and `server` through their public calls: requests and replies over memory, then connections over loopback sockets.
-//! They have a crate of their own because a crate with tests is proved twice, once without them and once with them.
+//! Tests of the crates `wire`, `http_service` and `tcp_server` through their public calls: requests and replies over memory, then connections over
+//! loopback sockets. They have a crate of their own because a crate with tests is proved twice, once without them and once with them.
 #![tactic(auto)]
 
 #[cfg(test)]

@@ -4,14 +4,14 @@ ghost use Rattle.std.specs.Io.KnownBytes.{Appends};
 ghost use Rattle.std.specs.Net.Socket.{socket_port};
 ghost use Rattle.std.specs.declared.io.Error.{Error};
 ghost use Rattle.std.specs.declared.net.socket_addr.SocketAddr.{SocketAddr};
-ghost use Rattle.server.specs.Tally.{ServesTallied, TurnsTallied};
+ghost use Rattle.tcp_server.specs.Tally.{ServesTallied, TurnsTallied};
 ghost use Rattle.extractd.specs.Listening.{IsLocalAddress, ServesAddress, announcement};
 
-use server::{Acceptor, Limits, Listener, Service, Tally, serve_all};
 use std::io;
 use std::io::Write;
 use std::net::{SocketAddr, TcpStream};
 use std::time::Clock;
+use tcp_server::{Acceptor, Limits, Listener, Service, Tally, serve_all};
 
 /// The network, as contracts see it.
 pub trait Network {

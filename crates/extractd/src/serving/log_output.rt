@@ -5,11 +5,12 @@ ghost use Rattle.std.specs.Prelude.{None};
 
 use crate::serving::listening::Network;
 use counted_io::Counting;
-use server::{LoggedListener, Timer};
+use http_service::{LoggedListener, WallClock};
 use std::io;
 use std::io::Write;
 use std::net::{SocketAddr, TcpListener};
 use std::time::{Instant, SystemTime};
+use tcp_server::Timer;
 
 /// The system with a log on standard error, if one is requested. Otherwise it drops what is written.
 #[derive(Clone, Copy)]
@@ -48,7 +49,9 @@ impl Timer for LogHost<'_> {
     fn read(&mut self) -> io::Result<Instant> {
         Instant::now(self.rt)
     }
+}
 
+impl WallClock for LogHost<'_> {
     fn read_date(&mut self) -> io::Result<SystemTime> {
         SystemTime::now(self.rt)
     }
@@ -78,7 +81,7 @@ impl<H> LoggedNetwork<H> {
     }
 }
 
-impl<H: Network + Timer + Write + Copy + Drop> Network for LoggedNetwork<H> {
+impl<H: Network + WallClock + Write + Copy + Drop> Network for LoggedNetwork<H> {
     type Listener = LoggedListener<H::Listener, Counting<H>, H>;
 
     fn bind(&mut self, address: SocketAddr) -> io::Result<Self::Listener> {
@@ -88,6 +91,6 @@ impl<H: Network + Timer + Write + Copy + Drop> Network for LoggedNetwork<H> {
     }
 
     fn local_address(&self, listener: &Self::Listener) -> io::Result<SocketAddr> {
-        self.host.local_address(listener.listener())
+        self.host.local_address(&listener.listener)
     }
 }

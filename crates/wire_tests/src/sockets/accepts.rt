@@ -1,13 +1,13 @@
 //! Accepts that fail, and consecutive connections.
 use crate::sockets::exchange::{Exchange, Exchanges, Then, client_that, receive, short_limits};
 use crate::sockets::faults::FailingClock;
-use server::{Acceptor, Close, Tally, serve_all, serve_next};
 use std::cell::Cell;
 use std::io;
 use std::io::ErrorKind;
 use std::net::{OpenListener, SocketAddr, TcpListener, TcpStream};
 use std::test::Fail;
 use std::time::Clock;
+use tcp_server::{Acceptor, Close, Tally, serve_all, serve_next};
 
 const EXCHANGE: Exchange = Exchange {
     request: 10,

@@ -3,11 +3,11 @@ use crate::sockets::exchange::{
     Exchange, Exchanges, Then, client_that, close_of, fault_in, receive, short_limits,
 };
 use fixtures::{Table, TableFault, cells, size};
-use server::{Acceptor, Close, serve_next};
 use std::io;
 use std::io::ErrorKind;
 use std::net::{TcpListener, TcpStream};
 use std::test::Fail;
+use tcp_server::{Acceptor, Close, serve_next};
 
 // The number of bytes that a client sends, and what it does then; the numbers of bytes of the request and the reply, and how the service wants the
 // connection closed; the numbers of bytes that the service read and wrote, and its fault; the number of bytes that the client got, and its fault.

@@ -3,11 +3,11 @@ use crate::sockets::exchange::{
     Exchange, Exchanges, SteppingClock, Then, client_that, fault_in, short_limits,
 };
 use fixtures::{Table, TableFault, cells, number, size};
-use server::{Acceptor, Close, Limits, serve_next};
 use std::io;
 use std::io::ErrorKind;
 use std::net::{TcpListener, TcpStream};
 use std::test::Fail;
+use tcp_server::{Acceptor, Close, Limits, serve_next};
 
 // The milliseconds by which the clock advances between two calls; the number of bytes of a request, all of which have arrived, and the number that
 // a read takes; the same for the reply and its writes, of which the client reads nothing; the numbers of bytes that the service read and wrote, and

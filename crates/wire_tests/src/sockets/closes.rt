@@ -3,11 +3,11 @@ use crate::sockets::exchange::{
     Exchange, Exchanges, SteppingClock, Then, client_that, close_of, receive,
 };
 use fixtures::{Table, TableFault, cells, number, size};
-use server::{Acceptor, Close, Limits, serve_next};
 use std::io;
 use std::net::{TcpListener, TcpStream};
 use std::test::Fail;
 use std::time::{Clock, Duration, Instant};
+use tcp_server::{Acceptor, Close, Limits, serve_next};
 
 // The number of bytes that a client sends before it waits, and the number of bytes of the request; how the service wants the connection closed; the
 // limit on bytes after the request and the step of the clock, in milliseconds; and the time on the clock at the end, which is one step per call.

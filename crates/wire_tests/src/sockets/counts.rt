@@ -1,7 +1,7 @@
 //! The counts after some connections.
 use crate::notation::{counties_of, files_of};
 use crate::sockets::exchange::Then;
-use crate::sockets::http::serve;
+use crate::sockets::http::{serve, unlogged};
 use counted_io::Counting;
 use fixtures::{Refusing, Table, bytes};
 use jobs::MAX_COUNTIES;
@@ -75,14 +75,13 @@ fn state_of<A: Allocator + Copy>(
 #[test]
 fn counts(rt: HostRuntime) -> Result<(), Fail> {
     let listener = TcpListener::bind(&rt, "127.0.0.1:0")?;
-    let mut state = state_of(rt.alloc(), rt.alloc(), r"{rt1\n*600}", Some(1_796_038_740)).ok_or(
-        AllocError,
-    )?;
+    let state = state_of(rt.alloc(), rt.alloc(), r"{rt1\n*600}", Some(1_796_038_740));
+    let mut service = unlogged(&rt, state.ok_or(AllocError)?);
     for row in REQUESTS.joined(rt.alloc())?.lines() {
         let request = bytes(rt.alloc(), row).expect(&rt, row);
-        let _reply = serve(&rt, &listener, &rt, &mut state, Then::Ends, &request)?;
+        let _reply = serve(&rt, &listener, &rt, &mut service, Then::Ends, &request)?;
     }
-    let reply = serve(&rt, &listener, &rt, &mut state, Then::Ends, METRICS)?;
+    let reply = serve(&rt, &listener, &rt, &mut service, Then::Ends, METRICS)?;
     let expected = format!(in rt.alloc();
         "HTTP/1.1 200 OK\r\nContent-Type: text/plain; version=0.0.4\r\nContent-Length: {}\r\nConnection: close\r\n\r\n{COUNTS}",
         COUNTS.len()

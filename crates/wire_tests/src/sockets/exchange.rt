@@ -1,12 +1,12 @@
 //! A service, a client and a clock.
 use counted_io::{CountedRead, CountedWrite};
 use fixtures::{TableFault, error_kind, size};
-use server::{ClientInput, ClientOutput, Close, Limits, Service};
 use std::cell::Cell;
 use std::io;
 use std::io::{ErrorKind, Read, Write};
 use std::net::{Shutdown, TcpStream};
 use std::time::{Clock, Duration};
+use tcp_server::{ClientInput, ClientOutput, Close, Limits, Service};
 
 /// Returns the fault in a cell: `none`, `end` for the end of the input, or a kind of error.
 pub fn fault_in(cell: &str) -> Result<Option<ErrorKind>, TableFault> {

@@ -3,12 +3,12 @@ use crate::sockets::exchange::{
     Exchange, Exchanges, Then, client_that, close_of, receive, short_limits,
 };
 use fixtures::{Table, TableFault, cells, size};
-use server::{Acceptor, serve_next};
 use std::cell::Cell;
 use std::io;
 use std::io::ErrorKind;
 use std::net::{TcpListener, TcpStream};
 use std::time::{Clock, Duration};
+use tcp_server::{Acceptor, serve_next};
 
 /// A clock that shows the same time at each reading, and fails once.
 ///

@@ -3,14 +3,15 @@ use crate::notation::{counties_of, files_of};
 use crate::sockets::exchange::{Then, client_that, short_limits};
 use counted_io::Counting;
 use fixtures::{Table, TableFault, bytes, cells, size};
+use http_service::Logged;
 use jobs::MAX_COUNTIES;
-use server::{Acceptor, serve_next};
 use std::alloc::{AllocError, Global};
 use std::io;
-use std::io::{Read, Write};
+use std::io::{Read, Sink, Write};
 use std::net::{TcpListener, TcpStream};
 use std::test::Fail;
 use std::time::Clock;
+use tcp_server::{Acceptor, Service, serve_next};
 use wire::{State, serve_one};
 
 // What a client does after its request, or `asks` if there is no connection; the request; the number of bytes of the reply, and its start. The
@@ -76,19 +77,32 @@ pub fn state_of(alloc: Global, county: &str) -> Option<State<Global>> {
     State::new(alloc, alloc, counties).ok()
 }
 
+/// The program's service without a log.
+pub type Unlogged<'a> = Logged<Global, Counting<Sink>, &'a HostRuntime>;
+
+/// Returns the program's service over a state, without a log.
+pub fn unlogged(rt: &HostRuntime, state: State<Global>) -> Unlogged<'_> {
+    Logged::new(state, Counting::new(io::sink()), rt)
+}
+
 /// Returns the reply that a client gets over a connection of its own.
-pub fn serve<C: Clock>(
+pub fn serve<C: Clock, S: Service>(
     rt: &HostRuntime,
     listener: &TcpListener,
     clock: &C,
-    state: &mut State<Global>,
+    service: &mut S,
     then: Then,
     request: &[u8],
 ) -> io::Result<Vec<u8>> {
     let mut client = TcpStream::connect(rt, listener.local_addr()?)?;
     client.write_all(request)?;
     let client = client_that(client, 0, then)?;
-    serve_next(&mut Acceptor::new(listener), clock, &short_limits(), state)?;
+    serve_next(
+        &mut Acceptor::new(listener),
+        clock,
+        &short_limits(),
+        service,
+    )?;
     let mut reply = Vec::new(rt.alloc());
     if let Some(mut client) = client {
         client.read_to_end(&mut reply)?;
@@ -103,16 +117,17 @@ fn reply_of(alloc: Global, state: &mut State<Global>, request: &[u8]) -> Vec<u8>
     out.into_inner()
 }
 
-/// Checks the rows in order, with one server and one state: a row's reply shows the turns after the connections before it.
+/// Checks the rows in order, with one server and one service: a row's reply shows the turns after the connections before it.
 #[test]
 fn requests(rt: HostRuntime) -> Result<(), Fail> {
     let listener = TcpListener::bind(&rt, "127.0.0.1:0")?;
-    let mut state = state_of(rt.alloc(), r"{rt1\n*600}").ok_or(AllocError)?;
+    let state = state_of(rt.alloc(), r"{rt1\n*600}").ok_or(AllocError)?;
+    let mut service = unlogged(&rt, state);
     for row in REQUESTS.joined(rt.alloc())?.lines() {
         let case = Case::new(rt.alloc(), row).expect(&rt, row);
         let reply = match case.then {
-            None => reply_of(rt.alloc(), &mut state, &case.request),
-            Some(then) => serve(&rt, &listener, &rt, &mut state, then, &case.request)?,
+            None => reply_of(rt.alloc(), &mut service.state, &case.request),
+            Some(then) => serve(&rt, &listener, &rt, &mut service, then, &case.request)?,
         };
         assert_eq!(rt; reply.len(), case.length, "{row}");
         assert!(rt; reply.as_slice().starts_with(&case.start), "{row}");

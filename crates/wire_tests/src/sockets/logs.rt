@@ -4,7 +4,7 @@ use crate::sockets::exchange::{Then, client_that, short_limits};
 use crate::sockets::http::state_of;
 use counted_io::Counting;
 use fixtures::{FaultPlan, Table, TableFault, bytes, cells, taken, writer};
-use server::{Acceptor, Listener, Logged, LoggedListener, serve_next};
+use http_service::{Logged, LoggedListener};
 use std::alloc::{AllocError, Global};
 use std::cell::Cell;
 use std::io;
@@ -12,6 +12,7 @@ use std::io::Write;
 use std::net::{TcpListener, TcpStream};
 use std::test::Fail;
 use std::time::{Clock, Duration};
+use tcp_server::{Acceptor, Listener, serve_next};
 
 // What a client sends before it ends, and the end of the line after the date.
 const LINES: Table = Table(
@@ -76,7 +77,7 @@ fn line_of(rt: &HostRuntime, request: &[u8], plan: FaultPlan) -> io::Result<Vec<
         &short_limits(),
         &mut service,
     )?;
-    Ok(Vec::from_slice(rt.alloc(), taken(service.log()))?)
+    Ok(Vec::from_slice(rt.alloc(), taken(&service.log))?)
 }
 
 #[test]
@@ -113,7 +114,7 @@ fn events(rt: HostRuntime) -> Result<(), Fail> {
     let mut listener = LoggedListener::new(&failing, log, &clock);
     assert!(rt; Listener::accept(&mut listener).is_err());
     assert_eq!(rt;
-        listener.log().get_ref().as_slice(),
+        listener.log.get_ref().as_slice(),
         b"- - - [30/Nov/2026:11:39:00 +0000] \"start\" - - - -
 - - - [30/Nov/2026:11:39:00 +0000] \"accept failed\" - - - -
 "

@@ -1,13 +1,12 @@
 //! Submissions of a job, with a failure injected into each read and write.
 use crate::sockets::exchange::Then;
 use crate::sockets::faults::{FailingClock, KINDS};
-use crate::sockets::http::{serve, state_of};
+use crate::sockets::http::{Unlogged, serve, state_of, unlogged};
 use fixtures::{Table, TableFault, bytes, cells};
 use std::alloc::Global;
 use std::io::ErrorKind;
 use std::net::TcpListener;
 use std::time::Clock;
-use wire::State;
 
 // The requests, one connection each, over a county of one segment; the replies if each read of the first succeeds, and if a read of it fails. A
 // turn follows each connection.
@@ -66,11 +65,11 @@ fn is_replied<C: Clock>(
     rt: &HostRuntime,
     listener: &TcpListener,
     clock: &C,
-    state: &mut State<Global>,
+    service: &mut Unlogged<'_>,
     request: &[u8],
     reply: &[u8],
 ) -> Option<bool> {
-    let received = serve(rt, listener, clock, state, Then::Ends, request).ok()?;
+    let received = serve(rt, listener, clock, service, Then::Ends, request).ok()?;
     Some(received.as_slice() == reply)
 }
 
@@ -83,17 +82,24 @@ fn is_failed(
     call: usize,
     kind: ErrorKind,
 ) -> Option<bool> {
-    let mut state = state_of(rt.alloc(), r"{rt1}\n")?;
+    let mut service = unlogged(rt, state_of(rt.alloc(), r"{rt1}\n")?);
     let clock = FailingClock::new(call, kind);
     let (submission, later) = script.split_first()?;
     let reply = match call {
         CALLS => &[],
         _ => submission.reply_if(call),
     };
-    let mut is_right = is_replied(rt, listener, &clock, &mut state, &submission.request, reply)?;
+    let mut is_right = is_replied(
+        rt,
+        listener,
+        &clock,
+        &mut service,
+        &submission.request,
+        reply,
+    )?;
     for step in later {
         let reply = step.reply_if(call);
-        is_right = is_replied(rt, listener, rt, &mut state, &step.request, reply)? && is_right;
+        is_right = is_replied(rt, listener, rt, &mut service, &step.request, reply)? && is_right;
     }
     is_right.then_some(clock.has_failed())
 }

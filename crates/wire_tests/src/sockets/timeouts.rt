@@ -1,11 +1,11 @@
 //! The timeouts of a connection's socket, seen through a second handle of it.
 use crate::sockets::exchange::{Exchange, Exchanges, SteppingClock, Then, client_that, close_of};
 use fixtures::{Table, TableFault, cells, number, size};
-use server::{Acceptor, Limits, serve_next};
 use std::io;
 use std::net::{OpenListener, SocketAddr, TcpListener, TcpStream};
 use std::test::Fail;
 use std::time::Duration;
+use tcp_server::{Acceptor, Limits, serve_next};
 
 // The limits for silence, for a request, for a reply and for bytes after the request, in seconds; the number of bytes that a read of the request of
 // 10 bytes takes; how the service wants the connection closed; and the timeouts of the last read and the last write, in seconds. The clock advances

@@ -1,7 +1,7 @@
 //! The times that calls may wait, with the program's limits.
 use fixtures::{Table, TableFault, cells, number};
-use server::{Limits, wait_left};
 use std::time::Duration;
+use tcp_server::{Limits, wait_left};
 
 // The call; the milliseconds that have elapsed; for a write, the number of bytes of the reply including this write; and the milliseconds that it may
 // wait.

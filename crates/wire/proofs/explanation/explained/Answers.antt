@@ -1,5 +1,5 @@
 use Rattle.std.proofs.Common.{Ok, Err, refl, ap}
-use Rattle.http_reply.specs.declared.status.Status.TheVariants as status
+use Rattle.http_message.specs.declared.status.Status.TheVariants as status
 use Rattle.wire.specs.Answer.{plain}
 use Rattle.wire.proofs.explanation.explained.Goals as goal
 

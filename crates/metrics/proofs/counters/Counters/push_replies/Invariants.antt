@@ -1,5 +1,5 @@
 use Rattle.std.proofs.Common.{◌++◌}
-use Rattle.http_reply.specs.Status.{statuses}
+use Rattle.http_message.specs.Status.{statuses}
 use Rattle.metrics.proofs.TextLemmas.{Remain}
 use Rattle.metrics.specs.Counters.{replies_of}
 use Rattle.metrics.specs.Text.{replies_text, reply_line}

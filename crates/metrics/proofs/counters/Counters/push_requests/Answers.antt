@@ -1,14 +1,14 @@
 use Rattle.std.proofs.Common.{append_assoc, ap, ◌++◌, ◌∙◌}
 use Rattle.std.specs.List.{flat_map}
 use Rattle.std.specs.Prelude.{None, Some}
-use Rattle.http_routes.specs.Routes.{routes}
+use Rattle.http_message.specs.Routes.{routes}
 use Rattle.metrics.proofs.TextLemmas.{piece_step, pieces_done, then_last}
 use Rattle.metrics.specs.Text.{replies_text, requests_metric}
 use Rattle.metrics.proofs.counters.Counters.push_requests.Goals as goal
 
 pub loop-route-preserved : goal.loop-route-preserved
 loop-route-preserved g c =
-    piece_step _ routes _ c.loop-route.route-index _ _ _ c.loop-route-test.true c.loop-route.invariant c.in_ok-push_replies.ensures
+    rw c.in_ok-push_replies.ensures (piece_step _ routes _ c.loop-route.route-index _ _ c.loop-route-test.true c.loop-route.invariant)
 
 pub returns : goal.returns
 returns g c =

@@ -1,6 +1,6 @@
 use Rattle.std.proofs.Common.{◌++◌, Some}
 use Rattle.std.specs.List.{flat_map}
-use Rattle.http_routes.specs.Routes.{routes}
+use Rattle.http_message.specs.Routes.{routes}
 use Rattle.metrics.proofs.TextLemmas.{Remain}
 use Rattle.metrics.specs.Text.{replies_text}
 use Rattle.metrics.proofs.counters.Counters.push_requests.Given as goal

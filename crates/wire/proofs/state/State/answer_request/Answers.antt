@@ -1,6 +1,6 @@
 use Rattle.std.proofs.Common.{refl, ap, codes, ◌∙◌}
-use Rattle.http_reply.specs.declared.status.Status.TheVariants as status
-use Rattle.http_routes.specs.Routes.{index}
+use Rattle.http_message.specs.declared.status.Status.TheVariants as status
+use Rattle.http_message.specs.Routes.{index}
 use Rattle.wire.specs.Answer.{plain}
 use Rattle.wire.specs.Reply.{reply_of}
 use Rattle.wire.proofs.AnswerLemmas.{filter_counties, job_counties, of_submission, step_counties, writes_implied, writes_such}

@@ -1,0 +1,10 @@
+pub mod Head
+pub mod Length
+pub mod Reading
+pub mod Reply
+pub mod Routes
+pub mod Search
+pub mod Status
+pub mod Table
+pub mod Target
+pub mod Whole

@@ -1,4 +1,0 @@
-mod RouteLemmas
-mod SeekLemmas
-mod TableLemmas
-mod TargetLemmas

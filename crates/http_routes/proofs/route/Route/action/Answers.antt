@@ -1,6 +1,0 @@
-use Rattle.std.proofs.Common.{◌∙◌}
-use Rattle.http_routes.proofs.RouteLemmas.{among_row}
-use Rattle.http_routes.proofs.route.Route.action.Goals as goal
-
-pub returns : goal.returns
-returns c = c.action_among.ensures ∙ among_row c.args.self _ c.args.method.now c.row.ensures.methods

@@ -1,0 +1,2 @@
+mod ActLemmas
+mod DateLemmas

@@ -1,5 +1,0 @@
-mod RepeatsLemmas
-mod BytesLemmas
-mod AcceptorLemmas
-mod TimedLemmas
-mod ActLemmas

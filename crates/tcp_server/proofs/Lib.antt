@@ -1,0 +1,3 @@
+mod AcceptorLemmas
+mod BytesLemmas
+mod RepeatsLemmas

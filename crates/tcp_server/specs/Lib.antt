@@ -1,0 +1,11 @@
+pub mod Repeats
+pub mod Limits
+pub mod Acceptor
+pub mod Socket
+pub mod Stopwatch
+pub mod Timed
+pub mod ClientStream
+pub mod Service
+pub mod Tally
+pub mod Closing
+pub mod Rounds
