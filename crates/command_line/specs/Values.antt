@@ -17,10 +17,10 @@ use Rattle.cql2_tokens.specs.Name.{column_named}
 use Rattle.cql2.specs.declared.column.Column.{Column}
 use Rattle.cql2.specs.declared.column.Column.TheVariants.{Numeric}
 use Rattle.cql2.specs.declared.column.NumericColumn.{NumericColumn}
-use Rattle.features.specs.Columns.{columns_named, usual_columns}
-use Rattle.features.specs.Layout.{LayoutParts}
-use Rattle.features.specs.declared.geometry.Geometry.{Geometry}
-use Rattle.features.specs.declared.geometry.Geometry.TheVariants as geometry
+use Rattle.layers.specs.Columns.{columns_named, usual_columns}
+use Rattle.layers.specs.Layout.{LayoutParts}
+use Rattle.layers.specs.declared.geometry.Geometry.{Geometry}
+use Rattle.layers.specs.declared.geometry.Geometry.TheVariants as geometry
 use Rattle.layers.specs.Layer.{LayerParts, Rows, Table, Features}
 use Rattle.command_line.specs.declared.fault.ArgumentsFault.{ArgumentsFault}
 use Rattle.command_line.specs.declared.fault.ArgumentsFault.TheVariants.{Memory}

@@ -17,7 +17,7 @@ ghost use Rattle.cql2.specs.declared.column.Column.TheVariants as column;
 ghost use Rattle.cql2.specs.declared.column.NumberColumn.TheVariants.{Tlid};
 ghost use Rattle.cql2.specs.declared.column.NumericColumn.TheVariants.{Number};
 ghost use Rattle.cql2.specs.declared.column.TextColumn.TheVariants.{Cfcc};
-ghost use Rattle.features.specs.declared.geometry.Geometry.TheVariants as geometry;
+ghost use Rattle.layers.specs.declared.geometry.Geometry.TheVariants as geometry;
 ghost use Rattle.layers.specs.Layer.{Features, Rows, Table};
 ghost use Rattle.layers.specs.LayerParts.{parts_of as layer_parts};
 

@@ -9,8 +9,7 @@ ghost use Rattle.command_line.specs.declared.fault.ArgumentsFault.TheVariants as
 use crate::fault::ArgumentsFault;
 use crate::options::value_or;
 use clap::ArgMatches;
-use features::{Columns, ColumnsFault, Geometry};
-use layers::{Layer, Layout};
+use layers::{Columns, ColumnsFault, Geometry, Layer, TableOptions};
 use std::alloc::{AllocError, Global};
 
 /// Returns the layer of the given format, by default rows.
@@ -43,11 +42,11 @@ fn rows<'a>(matches: &ArgMatches<'a>) -> Result<Layer, ArgumentsFault<'a>>
 
 /// Returns the columns and the geometry of a table or of features.
 #[tactic(auto, using(crate::proofs::ValueLemmas::first_value_in))]
-fn layout<'a>(alloc: Global, matches: &ArgMatches<'a>) -> Result<Layout, ArgumentsFault<'a>>
+fn layout<'a>(alloc: Global, matches: &ArgMatches<'a>) -> Result<TableOptions, ArgumentsFault<'a>>
     ensures { MatchResult result (λ layout. layout_of (rows_in matches.now) ≡ Some (layout_parts layout))
         (λ fault. fault ≢ ArgumentsFault.Memory → layout_of (rows_in matches.now) ≡ None) }
 {
-    Ok(Layout {
+    Ok(TableOptions {
         columns: columns(alloc, matches.get_str("columns"))?,
         geometry: geometry(value_or(matches, "geometry", "line"))?,
     })

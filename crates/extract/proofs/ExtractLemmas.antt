@@ -117,7 +117,7 @@ never_program text_of code result old new out out' fault is = λ same.
     subst (λ (result : Result ℕ ExtractFault). IsOutcomeOfCodeIn text_of code result old new out out') same is
 
 -- a format that stays the same writes the same text
-writes_as : (now_of text_of : TextFormat) (code : List Insn) (segment : SegmentParts) (result : Result ℕ WriteFault) (out out' : Writer)
+pub writes_as : (now_of text_of : TextFormat) (code : List Insn) (segment : SegmentParts) (result : Result ℕ WriteFault) (out out' : Writer)
     → now_of ≡ text_of → WritesIfChosen now_of code segment result out out' → WritesIfChosen text_of code segment result out out'
 writes_as now_of text_of code segment result out out' =
     subst (λ (text_of : TextFormat). WritesIfChosen text_of code segment result out out')

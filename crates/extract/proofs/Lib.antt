@@ -1,2 +1,3 @@
 pub mod ExtractLemmas
 pub mod RowLemmas
+pub mod SegmentLemmas

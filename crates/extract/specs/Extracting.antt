@@ -1,4 +1,5 @@
--- What an extract in a format guarantees: one case for each kind of outcome. The extract in rows is the instance at `row_of`.
+-- What an extract in a format guarantees, of segments or of a county's files: one case for each kind of outcome. The extract in rows is the instance
+-- at `row_of`.
 use Rattle.std.specs.Prelude.{◌≡◌, ◌≢◌, ◌⊎◌, ℕ, List, [], ◌∷◌, ◌++◌, Result, Ok, Err}
 use Rattle.std.specs.Io.KnownBytes.{Appends}
 use Rattle.counted_io.specs.ReaderWriter.{Writer}
@@ -8,7 +9,7 @@ use Rattle.tl_segments.specs.County.{CountyParts, CountyReaders, LoadsCounty}
 use Rattle.tl_segments.specs.Indexing.{IsIndexOf}
 use Rattle.tl_segments.specs.Joining.{JoinedLines, segment_of, segments_of}
 use Rattle.tl_segments.specs.Loading.{IsFirstFault, IsJoinedFault, Readers, ReadsJoined, ReadsLines}
-use Rattle.tl_segments.specs.Segment.{HasJoined}
+use Rattle.tl_segments.specs.Segment.{HasJoined, SegmentParts}
 use Rattle.tl_segments.specs.declared.fault.CountyFile.TheVariants.{Rt1}
 use Rattle.tl_segments.specs.declared.fault.LoadFault.{LoadFault}
 use Rattle.tl_segments.specs.declared.fault.LoadFault.TheVariants as load_fault
@@ -50,13 +51,32 @@ pub record ServesExtract {A : Type 0} (text_of : TextFormat) (code : List Insn) 
   pub reads : ReadsJoined joined old new
   pub alike : ExtractsAlike text_of code own joined
 
--- The extract of these type 1 lines, with the others joined to them, was written completely. No write failed.
-pub record HasWrittenIn (text_of : TextFormat) (code : List Insn) (joined : JoinedLines) (lines : List (List ℕ)) (out out' : Writer) : Type 0 where
+-- The texts of those of these segments that the code selects were appended to the writer, in order and with their scores. No write failed.
+pub record WritesSelected (text_of : TextFormat) (code : List Insn) (segments : List SegmentParts) (out out' : Writer) : Type 0 where
   pub text : List ℕ
   pub count : ℕ
-  pub is_extract : IsExtractIn text_of code (segments_of joined lines) text count
+  pub is_extract : IsExtractIn text_of code segments text count
   pub written : Appends out.held out'.held text
   pub counts : out'.counts ≡ out.counts
+
+-- A write failed. The complete extract of the segments before this one was written, then a beginning of its text.
+pub record StopsAtSegment (text_of : TextFormat) (code : List Insn) (segments : List SegmentParts) (fault : WriteFault) (out out' : Writer) : Type 0 where
+  pub front : List SegmentParts
+  pub segment : SegmentParts
+  pub back : List SegmentParts
+  pub are_all : segments ≡ front ++ segment ∷ back
+  pub between : Writer
+  pub before : WritesSelected text_of code front out between
+  pub cut_short : WritesIfChosen text_of code segment (Err fault) between out'
+
+-- the effect of writing the selected ones of segments on the writer
+abbrev pub WritesSegments : TextFormat → List Insn → List SegmentParts → Result (Unit {0}) WriteFault → Writer → Writer → Type 0
+WritesSegments text_of code segments (Ok done) out out' = WritesSelected text_of code segments out out'
+WritesSegments text_of code segments (Err fault) out out' = StopsAtSegment text_of code segments fault out out'
+
+-- the complete extract of these type 1 lines, with the others joined to them, was written
+abbrev pub HasWrittenIn : TextFormat → List Insn → JoinedLines → List (List ℕ) → Writer → Writer → Type 0
+HasWrittenIn text_of code joined lines out out' = WritesSelected text_of code (segments_of joined lines) out out'
 
 -- A file is refused because of the first fault in the county's files, in the order in which they are read. If the file is of type 4, 5 or 6, nothing
 -- was read of type 1 and nothing was written. If it is of type 1, the complete extract of the good lines before the fault was written.
@@ -134,24 +154,6 @@ IsOutcomeIn text_of program result old new out out' =
 
 abbrev pub IsExtracted : List Insn → ℕ → CountyReaders → CountyReaders → Writer → Writer → Type 0
 IsExtracted code rows old new out out' = IsExtractedIn row_of code rows old new out out'
-
-abbrev pub HasWritten : List Insn → JoinedLines → List (List ℕ) → Writer → Writer → Type 0
-HasWritten code joined lines out out' = HasWrittenIn row_of code joined lines out out'
-
-abbrev pub IsLoadRefusal : List Insn → LoadFault → CountyReaders → CountyReaders → Writer → Writer → Type 0
-IsLoadRefusal code fault old new out out' = IsLoadRefusalIn row_of code fault old new out out'
-
-abbrev pub IsWriteRefusal : List Insn → WriteFault → CountyReaders → CountyReaders → Writer → Writer → Type 0
-IsWriteRefusal code fault old new out out' = IsWriteRefusalIn row_of code fault old new out out'
-
-abbrev pub StopsAtLine : List Insn → CountyReaders → CountyReaders → Writer → Writer → Type 0
-StopsAtLine code old new out out' = StopsAtLineIn row_of code old new out out'
-
-abbrev pub IsMemoryRefusal : List Insn → CountyReaders → CountyReaders → Writer → Writer → Type 0
-IsMemoryRefusal code old new out out' = IsMemoryRefusalIn row_of code old new out out'
-
-abbrev pub IsOutcomeOfCode : List Insn → Result ℕ ExtractFault → CountyReaders → CountyReaders → Writer → Writer → Type 0
-IsOutcomeOfCode code result old new out out' = IsOutcomeOfCodeIn row_of code result old new out out'
 
 abbrev pub IsOutcome : List ℕ → Result ℕ ExtractFault → CountyReaders → CountyReaders → Writer → Writer → Type 0
 IsOutcome program result old new out out' = IsOutcomeIn row_of program result old new out out'

@@ -1,9 +1,9 @@
-//! The extract of a county's files.
+//! The extract of segments, from a county's files or from memory.
 ghost use Rattle.std.specs.Prelude.{◌≡◌, Err, IfErr, IfOk};
 ghost use Rattle.counted_io.specs.ReaderWriter.{reader, writer};
 ghost use Rattle.tl_segments.specs.CountyFiles.{county_readers};
 ghost use Rattle.tl_segments.specs.Loading.{IsJoinedFault, Readers, readers};
-ghost use Rattle.extract.specs.Extracting.{IsOutcome, IsOutcomeOfCodeIn, ServesExtract};
+ghost use Rattle.extract.specs.Extracting.{IsOutcome, IsOutcomeOfCodeIn, ServesExtract, WritesSegments};
 ghost use Rattle.bpf_program.specs.declared.program.ProgramFault.{ProgramFault};
 
 use crate::fault::ExtractFault;
@@ -13,9 +13,9 @@ use crate::rows::write_if_chosen;
 use bpf_machine::Bare;
 use bpf_program::accept;
 use bpf_verify::Verified;
-use counted_io::{CountedRead, CountedWrite};
+use counted_io::{CountedRead, CountedWrite, WriteFault};
 use std::alloc::Allocator;
-use tl_segments::{CountyFiles, Index, LoadFault};
+use tl_segments::{CountyFiles, Index, LoadFault, Segment};
 
 /// Writes the rows of a county's segments that a program selects, in the order of the type 1 file, and returns their number.
 ///
@@ -126,4 +126,23 @@ fn write_selected<A: Allocator + Copy, B: Allocator, R: CountedRead, F: Format, 
         count += write_if_chosen(verified, &segment, &mut bare, format, out)?;
     }
     Ok(count)
+}
+
+/// Writes those of the segments that the code selects, in order, in a format. It stops at the first failed write. Nothing is retried, and nothing is
+/// flushed.
+pub fn write_segments<A: Allocator, B: Allocator, F: Format, W: CountedWrite>(
+    verified: &Verified<B>,
+    segments: &[Segment<A>],
+    format: &mut F,
+    out: &mut W,
+) -> Result<(), WriteFault>
+    ensures written { WritesSegments (F.text_of format.old) verified.now.code segments.now result
+        (writer W.contents W.counts out.old) (writer W.contents W.counts out.new) }
+    ensures same { F.text_of format.new ≡ F.text_of format.old }
+{
+    let mut bare = Bare::start();
+    for segment in segments {
+        write_if_chosen(verified, segment, &mut bare, format, out)?;
+    }
+    Ok(())
 }

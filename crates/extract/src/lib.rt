@@ -8,8 +8,8 @@ mod row_buffer;
 mod rows;
 
 pub use bpf_program::{ProgramFault, accept};
-pub use extractor::{extract, extract_verified_in};
+pub use extractor::{extract, extract_verified_in, write_segments};
 pub use fault::ExtractFault;
 pub use formatting::Format;
 pub use row_buffer::{MAX_ROW_LENGTH, RowBuffer};
-pub use rows::{push_row_if_chosen, row, row_text, score_if_chosen};
+pub use rows::{row, row_text};

@@ -1,9 +1,9 @@
 //! The rows and texts of selected segments, and how they are written.
-ghost use Rattle.std.specs.Prelude.{◌≡◌, OnErr, OnOk};
+ghost use Rattle.std.specs.Prelude.{◌≡◌};
 ghost use Rattle.counted_io.specs.ReaderWriter.{writer};
 ghost use Rattle.counted_io.specs.Writing.{WritesText};
 ghost use Rattle.bpf_meaning.specs.Extract.{row_of};
-ghost use Rattle.extract.specs.Rows.{AppendsRow, Chooses, IsChosen, WritesIfChosen};
+ghost use Rattle.extract.specs.Rows.{WritesIfChosen};
 
 use crate::formatting::Format;
 use crate::row_buffer::{MAX_ROW_LENGTH, RowBuffer};
@@ -11,7 +11,7 @@ use arrayvec::ArrayVec;
 use bpf_machine::{Bare, run_in};
 use bpf_verify::Verified;
 use counted_io::{CountedWrite, WriteFault, write_text};
-use std::alloc::{AllocError, Allocator};
+use std::alloc::Allocator;
 use tl_segments::Segment;
 
 /// Returns the row of a segment with a score: the score in decimal, a tab, the type 1 record, a line feed.
@@ -35,41 +35,6 @@ pub fn row<A: Allocator, W: CountedWrite>(
     write_text(out, row_text(score, segment).as_slice())
 }
 
-/// Returns the score with which the code selects a segment, or `None` if it doesn't select it. Reuses `bare`; its previous contents don't matter. It
-/// doesn't allocate.
-#[inline(always)]
-pub fn score_if_chosen<A: Allocator, B: Allocator>(
-    verified: &Verified<A>,
-    segment: &Segment<B>,
-    bare: &mut Bare,
-) -> Option<u64>
-    ensures { Chooses verified.now.code segment.now result }
-{
-    let answer = run_in(bare, verified, segment);
-    if answer.r0 == 0 {
-        return None;
-    }
-    Some(answer.score)
-}
-
-/// Appends the row of a segment if the code selects it. If an allocation fails, the rows are unchanged.
-#[inline]
-pub fn push_row_if_chosen<A: Allocator, B: Allocator, C: Allocator>(
-    verified: &Verified<A>,
-    segment: &Segment<B>,
-    bare: &mut Bare,
-    rows: &mut Vec<u8, C>,
-) -> Result<(), AllocError>
-    ensures ok { OnOk result (AppendsRow verified.now.code segment.now rows.old.items rows.new.items) }
-    ensures err { OnErr result (rows.new.items ≡ rows.old.items) }
-    ensures chosen { OnErr result (IsChosen verified.now.code segment.now) }
-{
-    match score_if_chosen(verified, segment, bare) {
-        Some(score) => rows.extend_from_slice(row_text(score, segment).as_slice()),
-        None => Ok(()),
-    }
-}
-
 /// Writes the text of a segment if the code selects it, and returns the number of texts written. Reuses `bare`; its previous contents don't matter.
 #[inline(always)]
 pub(crate) fn write_if_chosen<A: Allocator, B: Allocator, F: Format, W: CountedWrite>(
@@ -83,10 +48,11 @@ pub(crate) fn write_if_chosen<A: Allocator, B: Allocator, F: Format, W: CountedW
         (writer W.contents W.counts out.old) (writer W.contents W.counts out.new) }
     ensures same { F.text_of format.new ≡ F.text_of format.old }
 {
-    let Some(score) = score_if_chosen(verified, segment, bare) else {
+    let answer = run_in(bare, verified, segment);
+    if answer.r0 == 0 {
         return Ok(0);
-    };
-    match format.write_segment(score, segment, out) {
+    }
+    match format.write_segment(answer.score, segment, out) {
         Ok(()) => Ok(1),
         Err(fault) => Err(fault),
     }

@@ -1,9 +1,9 @@
 //! The calls that make up an extract, each on its own.
-use bpf_machine::Bare;
+use bpf_machine::{Bare, run_in};
 use bpf_program::accept;
 use bpf_verify::Verified;
 use counted_io::{Counting, Fuse, InjectedFailure, WriteFault};
-use extract::{row, row_text, score_if_chosen};
+use extract::{RowBuffer, row, row_text, write_segments};
 use fixtures::{RT1, Refusing, Table, TableFault, bytes, cells, is_refusal, program};
 use refusals::Fault;
 use std::alloc::Global;
@@ -70,16 +70,22 @@ fn is_right(alloc: Global, row: &str) -> Result<bool, TableFault> {
 }
 
 /// Returns whether code gives the record this row, or none if it is empty, and gives the same score again in the same machine, without allocating.
+/// It also gives the row if the record is among segments in memory.
 fn is_chosen(alloc: Global, heap: &Heap, verified: &Verified<&Heap>, text: &[u8]) -> bool {
     heap.refuse(1);
-    let segment = Segment::of(heap, RT1);
+    let segments = [Segment::of(heap, RT1)];
+    let segment = &segments[0];
     let mut bare = Bare::start();
-    let score = score_if_chosen(verified, &segment, &mut bare);
-    let is_row = match score {
-        Some(score) => is_row(alloc, score, &segment, text),
-        None => text.is_empty(),
+    let answer = run_in(&mut bare, verified, segment);
+    let is_row = if answer.r0 == 0 {
+        text.is_empty()
+    } else {
+        is_row(alloc, answer.score, segment, text)
     };
-    is_row && score == score_if_chosen(verified, &segment, &mut bare) && heap.count() == 0
+    is_row
+        && answer.score == run_in(&mut bare, verified, segment).score
+        && are_rows(alloc, verified, &segments, text)
+        && heap.count() == 0
 }
 
 /// Returns whether this is the row of a segment with a score, and a failed write of it is reported.
@@ -98,6 +104,26 @@ fn is_write_reported(alloc: Global, score: u64, segment: &Segment<&Heap>) -> boo
     let out = Counting::new(Vec::new(alloc));
     let fuse = Fuse::after_calls(out, 0, InjectedFailure::Fails(ErrorKind::Other));
     row(score, segment, &mut Counting::new(fuse)) == Err(WriteFault::Write)
+}
+
+/// Returns whether these are the rows that code selects of segments, and a failed write of them is reported.
+fn are_rows(
+    alloc: Global,
+    verified: &Verified<&Heap>,
+    segments: &[Segment<&Heap>],
+    text: &[u8],
+) -> bool {
+    let mut out = Counting::new(Vec::new(alloc));
+    let is_written = write_segments(verified, segments, &mut RowBuffer::new(), &mut out).is_ok();
+    let failure = InjectedFailure::Fails(ErrorKind::Other);
+    let fuse = Fuse::after_calls(Counting::new(Vec::new(alloc)), 0, failure);
+    let failed = write_segments(
+        verified,
+        segments,
+        &mut RowBuffer::new(),
+        &mut Counting::new(fuse),
+    );
+    is_written && out.get_ref().as_slice() == text && failed.is_err() != text.is_empty()
 }
 
 #[test]

@@ -3,16 +3,15 @@ use bpf_program::accept;
 use bpf_verify::Verified;
 use counted_io::{CountedWrite, InjectedFailure, WriteFault};
 use extract::ExtractFault;
-use features::{Columns, CsvTable, FeatureLines, Geometry};
 use fixtures::{
-    FaultPlan, RT1, Refusing, Table, TableFault, Writer, bytes, cells, error_kind, is_refusal,
-    program, reader, taken, writer,
+    FaultPlan, Refusing, Table, TableFault, Writer, bytes, cells, error_kind, is_refusal, program,
+    reader, taken, writer,
 };
-use layers::{Layer, LayerFiles, Layout, write_county};
+use layers::{Columns, Geometry, Layer, LayerFiles, TableOptions, write_county};
 use std::alloc::{Allocator, Global};
 use std::io::ErrorKind;
 use std::process::Abort;
-use tl_segments::{CountyFiles, JoinedFiles, Segment};
+use tl_segments::{CountyFiles, JoinedFiles};
 
 // The form of a layer, its geometry and its column; the files of types 1 and 2; the number of segments and the text. `\x7b` and `\x7d` are braces,
 // and `\x5c` is a backslash.
@@ -129,7 +128,7 @@ impl<'a> Case<'a> {
 pub fn layer_of(cell: &str) -> Result<Layer, TableFault> {
     let (form, rest) = cell.split_once(' ').ok_or(TableFault::Word)?;
     let (geometry, name) = rest.split_once(' ').ok_or(TableFault::Word)?;
-    let layout = Layout {
+    let layout = TableOptions {
         columns: Columns::named(&[name]).map_err(|_fault| TableFault::Word)?,
         geometry: geometry_of(geometry)?,
     };
@@ -218,32 +217,6 @@ fn is_each_write_refused(
     Ok(true)
 }
 
-/// Returns whether the row and the feature of Main Street are each cut off by a write that fails after this number of bytes.
-fn are_texts_refused(alloc: Global, plan: FaultPlan, length: usize) -> bool {
-    let segment = Segment::of(alloc, RT1);
-    let (mut rows, mut lines) = (
-        writer(alloc, plan.after(length)),
-        writer(alloc, plan.after(length)),
-    );
-    let row = CsvTable::new(Columns::usual(), Geometry::Line).write_row(
-        0,
-        &segment,
-        &[],
-        &mut rows,
-    );
-    let feature = FeatureLines::new(Columns::usual(), Geometry::Line).write_feature(
-        0,
-        &segment,
-        &[],
-        &mut lines,
-    );
-    let fault = Err(WriteFault::Write);
-    row == fault
-        && feature == fault
-        && taken(&rows).len() == length
-        && taken(&lines).len() == length
-}
-
 /// The program that selects every segment.
 pub fn every(rt: &impl Abort, alloc: Global) -> Verified<Global> {
     let program = program(alloc, "every").expect(rt, "program");
@@ -284,13 +257,5 @@ fn each_write(rt: HostRuntime) {
             Ok(true),
             "{row}"
         );
-    }
-}
-
-#[test]
-fn each_text(rt: HostRuntime) {
-    let plan = FaultPlan::new("pipe").expect(&rt, "plan");
-    for length in 0..=150 {
-        assert!(rt; are_texts_refused(rt.alloc(), plan, length), "{length}");
     }
 }

@@ -2,7 +2,6 @@ mod ListingLemmas
 mod ProgressLemmas
 mod MapLemmas
 pub mod SegmentLemmas
-mod RowsLemmas
 mod TableLemmas
 mod NextLemmas
 pub mod RunLemmas

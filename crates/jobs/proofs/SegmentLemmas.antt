@@ -1,18 +1,22 @@
 -- Where a job continues among segments, and the rows that a turn adds.
 use Rattle.std.specs.List.{Contains}
-use Rattle.std.proofs.Common.{◌≡◌, ℕ, zero, suc, ◌+◌, ◌-◌, ◌*◌, ◌^◌, ◌<◌, ◌≤◌, nat_lt, true, List, [], ◌∷◌, ◌++◌, length, take, drop, min}
-use Rattle.std.proofs.Common.{slice_index_or, refl, sym, ap, ◌∙◌, subst, append_assoc, arith}
+use Rattle.std.proofs.Common.{◌≡◌, ℕ, suc, ◌+◌, ◌-◌, ◌*◌, ◌^◌, ◌<◌, ◌≤◌, nat_lt, true, List, [], ◌∷◌, ◌++◌, length, take, drop, min}
+use Rattle.std.proofs.Common.{Option, Some, slice_index_or, drop-drop, refl, sym, ap, ◌∙◌, subst, append_assoc, arith}
 use Rattle.std.proofs.lemmas.Bool.Decides.{nat_tests}
 use Rattle.std.proofs.lemmas.List.{append-nil, drop_all, drop-append-le, drop_more, get_or-take, length-append, length-drop, length-take}
-use Rattle.std.proofs.lemmas.List.{take_all, take_at, take_min, take_more}
+use Rattle.std.proofs.lemmas.List.{take-append-drop, take_all, take_at, take_min, take_more}
 use Rattle.std.proofs.lemmas.Grind.{flat_map-append}
-use Rattle.std.proofs.Math.Seq.{drop-append-add, take-add}
+use Rattle.std.proofs.Math.Seq.{drop-append-add, drop-append_seam, take-add}
 use Rattle.bpf_insn.specs.declared.instruction.Insn.{Insn}
-use Rattle.bpf_meaning.specs.Extract.{IsExtract, chosen_count, row_if_chosen, row_of}
+use Rattle.bpf_meaning.specs.Extract.{IsExtract, row_of}
 use Rattle.tl_segments.specs.County.{CountyParts}
 use Rattle.tl_segments.specs.Segment.{SegmentParts}
-use Rattle.extract.specs.Rows.{AppendsRow, IsChosen}
-use Rattle.bpf_meaning.proofs.ExtractLemmas.{extract_append, extract_push}
+use Rattle.std.specs.Io.KnownBytes.{Appends}
+use Rattle.counted_io.specs.ReaderWriter.{Writer}
+use Rattle.counted_io.specs.declared.writing.WriteFault.{WriteFault}
+use Rattle.extract.proofs.SegmentLemmas.{stopped_appends}
+use Rattle.extract.specs.Extracting.{StopsAtSegment, WritesSelected}
+use Rattle.bpf_meaning.proofs.ExtractLemmas.{extract_append}
 use Rattle.jobs.specs.Inside.{IsCursorIn, left_at, segments_after}
 use Rattle.jobs.specs.Segments.{Advances, NeedsRow, segments_of}
 use Rattle.jobs.specs.declared.cursor.Cursor.{Cursor}
@@ -39,14 +43,19 @@ after_within segment county counties within = sym (drop-append-le segment county
 
 module _ (counties : List CountyParts) (done at segment : ℕ) (county : CountyParts)
     (here : drop at counties ≡ county ∷ drop (at + 1) counties) where
-  -- the next segment, and those left after it
-  pub left_found : (found : SegmentParts) → drop segment county.segments ≡ found ∷ drop (segment + 1) county.segments
-      → left_at counties (record { done = done; county = at; segment = segment }) ≡ found ∷ left_at counties
-      (record { done = done + 1; county = at; segment = segment + 1 })
-  left_found found is =
+  -- the next segments up to `end`, and those left after them
+  pub left_taken : (end new_done : ℕ) → segment ≤ end → left_at counties (record { done = done; county = at; segment = segment })
+      ≡ take (end - segment) (drop segment county.segments) ++ left_at counties (record { done = new_done; county = at; segment = end })
+  left_taken end new_done after =
+      let rest = drop segment county.segments in
+      let others = segments_of (drop (at + 1) counties) in
       ap (λ counties. segments_after segment counties) here
-      ∙ ap (λ (front : List SegmentParts). front ++ segments_of (drop (at + 1) counties)) is
-      ∙ ap (λ counties. found ∷ segments_after (segment + 1) counties) (sym here)
+      ∙ ap (λ (front : List SegmentParts). front ++ others) (sym (take-append-drop (end - segment) rest))
+      ∙ append_assoc (take (end - segment) rest) (drop (end - segment) rest) others
+      ∙ ap (λ (front : List SegmentParts). take (end - segment) rest ++ (front ++ others))
+      (drop-drop (end - segment) segment county.segments
+      ∙ ap (λ n. drop n county.segments) {x = segment + (end - segment)} {y = end} (omega arith))
+      ∙ ap (λ counties. take (end - segment) rest ++ segments_after end counties) (sym here)
 
   -- a county with no segments left is skipped
   pub left_skipped : length county.segments ≤ segment → left_at counties (record { done = done; county = at; segment = segment }) ≡ left_at
@@ -128,26 +137,27 @@ cursor_end counties done number left so_far last few within =
           ∙ sym so_far.rest;
     }
 
--- the cursor after one more segment
-pub cursor_more : (counties : List CountyParts) (old new : Cursor) (segment : SegmentParts) → IsCursorIn counties old
-    → left_at counties old ≡ segment ∷ left_at counties new → new.done ≡ old.done + 1 → IsCursorIn counties new
-cursor_more counties old new segment is left done =
-    let all = segments_of counties in
-    let rest : drop old.done all ≡ segment ∷ left_at counties new = sym is.left ∙ left in
-    let long : length all - old.done ≡ suc (length (left_at counties new)) =
-    sym (length-drop old.done all) ∙ ap (λ (xs : List SegmentParts). length xs) rest in
-    record {
-      within = (let within = is.within in omega arith);
-      few = is.few;
-      left = sym (tail all old.done segment (left_at counties new) rest)
-          ∙ ap (λ n. drop n all) {x = suc old.done} {y = new.done} (omega (arith, done));
-    }
-  where
-    tail : (xs : List SegmentParts) (i : ℕ) (x : SegmentParts) (rest : List SegmentParts) → drop i xs ≡ x ∷ rest → drop (suc i) xs ≡ rest
-    tail [] zero x rest is = cc
-    tail [] (suc i) x rest is = cc
-    tail (first ∷ xs) zero x rest is = cc
-    tail (first ∷ xs) (suc i) x rest is = tail xs i x rest is
+-- the cursor after further segments
+module _ (counties : List CountyParts) (old new : Cursor) (next : List SegmentParts) (is : IsCursorIn counties old)
+    (left : left_at counties old ≡ next ++ left_at counties new) where
+  pub done_within : old.done + length next ≤ length (segments_of counties)
+  done_within =
+      let count : length (segments_of counties) - old.done ≡ length next + length (left_at counties new) =
+      sym (length-drop old.done (segments_of counties))
+      ∙ ap (λ (xs : List SegmentParts). length xs) (sym is.left ∙ left)
+      ∙ length-append next (left_at counties new) in
+      let within = is.within in omega (arith, count)
+
+  pub cursor_moved : new.done ≡ old.done + length next → IsCursorIn counties new
+  cursor_moved done = record {
+    within = omega (arith, done, done_within);
+    few = is.few;
+    left =
+        sym (drop-append_seam next (left_at counties new))
+        ∙ ap (λ (xs : List SegmentParts). drop (length next) xs) (sym left ∙ is.left)
+        ∙ drop-drop (length next) old.done (segments_of counties)
+        ∙ ap (λ n. drop n (segments_of counties)) {x = old.done + length next} {y = new.done} (omega (arith, done));
+  }
 
 -- an element at an index below `n` is among the first `n`
 next_among : {X : Type 0} (front : List X) (x : X) (back : List X) (n : ℕ) → length front < n → Contains (take n (front ++ x ∷ back)) x
@@ -163,23 +173,28 @@ next_among {X = X} front x back n within =
     at_end [] = refl
     at_end (first ∷ front) = at_end front
 
--- The next `count` segments from a cursor were processed, and the rows that the code selects from them were appended.
-pub record IsTurnedSoFar (code : List Insn) (counties : List CountyParts) (from now : Cursor) (count : ℕ)
-    (rows new_rows : List ℕ) : Type 0 where
+-- known bytes that grew by a text
+grown : (old new : Option (List ℕ)) (rows new_rows text : List ℕ) → old ≡ Some rows → new ≡ Some new_rows → Appends old new text
+    → new_rows ≡ rows ++ text
+grown old new rows new_rows text held held' appends =
+    subst (λ new. Appends (Some rows) new text) held' (subst (λ old. Appends old new text) held appends)
+
+-- Segments from a cursor were processed, and the rows that the code selects from them were appended. `left` more belong to the turn.
+pub record IsTurnedSoFar (code : List Insn) (counties : List CountyParts) (from now : Cursor) (left : ℕ) (rows new_rows : List ℕ) : Type 0 where
   pub seen : List SegmentParts
-  pub left : drop from.done (segments_of counties) ≡ seen ++ left_at counties now
-  pub counted : length seen ≡ count
-  pub done : now.done ≡ from.done + count
+  pub rest : drop from.done (segments_of counties) ≡ seen ++ left_at counties now
+  pub counted : length seen + left ≡ SEGMENTS_PER_TURN
+  pub done : now.done ≡ from.done + length seen
   pub text : List ℕ
   pub chosen : ℕ
   pub is_extract : IsExtract code seen text chosen
   pub appended : new_rows ≡ rows ++ text
 
 pub none_turned : (code : List Insn) (counties : List CountyParts) (from : Cursor) (rows : List ℕ) → IsCursorIn counties from
-    → IsTurnedSoFar code counties from from 0 rows rows
+    → IsTurnedSoFar code counties from from SEGMENTS_PER_TURN rows rows
 none_turned code counties from rows is = record {
   seen = [];
-  left = sym is.left;
+  rest = sym is.left;
   counted = refl;
   done = omega arith;
   text = [];
@@ -188,30 +203,61 @@ none_turned code counties from rows is = record {
   appended = sym (append-nil rows);
 }
 
-module _ (code : List Insn) (counties : List CountyParts) (from now : Cursor) (count : ℕ) (rows new_rows : List ℕ)
-    (so_far : IsTurnedSoFar code counties from now count rows new_rows) where
-  pub one_turned_more : (next : Cursor) (segment : SegmentParts) (next_rows : List ℕ) → left_at counties now ≡ segment ∷ left_at counties next
-      → next.done ≡ now.done + 1 → AppendsRow code segment new_rows next_rows
-      → IsTurnedSoFar code counties from next (count + 1) rows next_rows
-  one_turned_more next segment next_rows left done (answer, score, answers, appended) = record {
-    seen = so_far.seen ++ segment ∷ [];
-    left = so_far.left ∙ ap (λ left. so_far.seen ++ left) left ∙ sym (append_assoc so_far.seen (segment ∷ []) (left_at counties next));
-    counted = length-append so_far.seen (segment ∷ []) ∙ ap (λ n. n + 1) so_far.counted;
-    done = (let before = so_far.done in omega arith);
-    text = so_far.text ++ row_if_chosen answer score segment;
-    chosen = so_far.chosen + chosen_count answer;
-    is_extract = extract_push row_of code so_far.seen segment so_far.text so_far.chosen answer score so_far.is_extract answers;
-    appended = appended ∙ ap (λ rows. rows ++ row_if_chosen answer score segment) so_far.appended
-        ∙ append_assoc rows so_far.text (row_if_chosen answer score segment);
-  }
+module _ (code : List Insn) (counties : List CountyParts) (from now : Cursor) (left : ℕ) (rows new_rows : List ℕ)
+    (so_far : IsTurnedSoFar code counties from now left rows new_rows) where
+  module _ (next : Cursor) (segments : List SegmentParts) (follow : left_at counties now ≡ segments ++ left_at counties next)
+      (few : length segments ≤ left) (out out' : Writer) (held : out.held ≡ Some new_rows) (next_rows : List ℕ)
+      (held' : out'.held ≡ Some next_rows) where
+    pub turned_more : next.done ≡ now.done + length segments → WritesSelected row_of code segments out out'
+        → IsTurnedSoFar code counties from next (left - length segments) rows next_rows
+    turned_more done written = record {
+      seen = so_far.seen ++ segments;
+      rest = so_far.rest ∙ ap (λ left. so_far.seen ++ left) follow ∙ sym (append_assoc so_far.seen segments (left_at counties next));
+      counted = (let counted = so_far.counted in omega (arith, few, length-append so_far.seen segments));
+      done = (let before = so_far.done in omega (arith, done, length-append so_far.seen segments));
+      text = so_far.text ++ written.text;
+      chosen = so_far.chosen + written.count;
+      is_extract = extract_append row_of code so_far.seen segments so_far.text written.text so_far.chosen written.count so_far.is_extract
+          written.is_extract;
+      appended = grown out.held out'.held new_rows next_rows written.text held held' written.written
+          ∙ ap (λ rows. rows ++ written.text) so_far.appended ∙ append_assoc rows so_far.text written.text;
+    }
+
+    -- an allocation fails for a row: its segment belongs to the turn, and no row that was there changes
+    module _ {fault : WriteFault} (stops : StopsAtSegment row_of code segments fault out out') where
+      pub turn_needs_row : NeedsRow code (segments_of counties) from.done
+      turn_needs_row =
+          let seen = so_far.seen ++ stops.front in
+          let back = stops.back ++ left_at counties next in
+          let all : drop from.done (segments_of counties) ≡ seen ++ stops.segment ∷ back =
+          so_far.rest
+          ∙ ap (λ left. so_far.seen ++ left)
+          (follow ∙ ap (λ (segments : List SegmentParts). segments ++ left_at counties next) stops.are_all
+          ∙ append_assoc stops.front (stops.segment ∷ stops.back) (left_at counties next))
+          ∙ sym (append_assoc so_far.seen stops.front (stops.segment ∷ back)) in
+          let count : length segments ≡ length stops.front + suc (length stops.back) =
+          ap (λ (xs : List SegmentParts). length xs) stops.are_all ∙ length-append stops.front (stops.segment ∷ stops.back) in (
+            stops.segment,
+            subst (λ left. Contains (take SEGMENTS_PER_TURN left) stops.segment) (sym all)
+                (next_among seen stops.segment back SEGMENTS_PER_TURN
+                (let counted = so_far.counted in omega (arith, few, count, length-append so_far.seen stops.front))),
+            (stops.cut_short.1, stops.cut_short.0, stops.cut_short.2, stops.cut_short.3),
+          )
+
+      pub rows_stay : take (length rows) next_rows ≡ rows
+      rows_stay =
+          let more = stopped_appends out out' stops in
+          ap (λ rows'. take (length rows) rows')
+          (grown out.held out'.held new_rows next_rows more.0 held held' more.1
+          ∙ ap (λ rows. rows ++ more.0) so_far.appended ∙ append_assoc rows so_far.text more.0)
+          ∙ take_at rows (so_far.text ++ more.0) (length rows) refl
 
   -- the number of segments that were left
-  left_count : length (segments_of counties) - from.done ≡ count + length (left_at counties now)
+  left_count : length (segments_of counties) - from.done ≡ length so_far.seen + length (left_at counties now)
   left_count =
       sym (length-drop from.done (segments_of counties))
-      ∙ ap (λ (xs : List SegmentParts). length xs) so_far.left
+      ∙ ap (λ (xs : List SegmentParts). length xs) so_far.rest
       ∙ length-append so_far.seen (left_at counties now)
-      ∙ ap (λ n. n + length (left_at counties now)) so_far.counted
 
   -- the segments that were processed are those of a turn
   turned : now.done ≡ min (length (segments_of counties)) (from.done + SEGMENTS_PER_TURN)
@@ -222,36 +268,28 @@ module _ (code : List Insn) (counties : List CountyParts) (from now : Cursor) (c
     text = so_far.text;
     chosen = so_far.chosen;
     is_extract = subst (λ segments. IsExtract code segments so_far.text so_far.chosen)
-        (sym (ap (λ left. take SEGMENTS_PER_TURN left) so_far.left ∙ seen)) so_far.is_extract;
+        (sym (ap (λ left. take SEGMENTS_PER_TURN left) so_far.rest ∙ seen)) so_far.is_extract;
     appended = so_far.appended;
   }
 
   -- a complete turn
-  pub turn_whole : from.done ≤ length (segments_of counties) → count ≡ SEGMENTS_PER_TURN
+  pub turn_whole : from.done ≤ length (segments_of counties) → left ≡ 0
       → Advances code (segments_of counties) from.done rows now.done new_rows
-  turn_whole within whole = turned (let count = left_count in let done = so_far.done in grind (arith))
-      (take_at so_far.seen (left_at counties now) SEGMENTS_PER_TURN (so_far.counted ∙ whole))
+  turn_whole within none =
+      let count = left_count in
+      let done = so_far.done in
+      let counted = so_far.counted in
+      turned (grind (arith)) (take_at so_far.seen (left_at counties now) SEGMENTS_PER_TURN (omega arith))
 
   -- a turn over all segments that were left
-  pub turn_of_rest : from.done ≤ length (segments_of counties) → count ≤ SEGMENTS_PER_TURN → left_at counties now ≡ []
+  pub turn_of_rest : from.done ≤ length (segments_of counties) → left_at counties now ≡ []
       → Advances code (segments_of counties) from.done rows now.done new_rows
-  turn_of_rest within few none = turned
-      (let count = left_count in let ended = ap (λ (xs : List SegmentParts). length xs) none in let done = so_far.done in grind (arith))
-      (rw (none, append-nil) (take_all SEGMENTS_PER_TURN so_far.seen (let counted = so_far.counted in omega arith)))
-
-  -- an allocation fails for the row of the next segment
-  pub turn_needs_row : (segment : SegmentParts) (others : List SegmentParts) → left_at counties now ≡ segment ∷ others → count < SEGMENTS_PER_TURN
-      → IsChosen code segment → NeedsRow code (segments_of counties) from.done
-  turn_needs_row segment others left few chosen = (
-    segment,
-    subst (λ left. Contains (take SEGMENTS_PER_TURN left) segment) (sym (so_far.left ∙ ap (λ left. so_far.seen ++ left) left))
-        (next_among so_far.seen segment others SEGMENTS_PER_TURN (let counted = so_far.counted in omega (arith, few))),
-    chosen,
-  )
-
-  -- if an allocation fails, the appended rows are removed
-  pub rows_restored : take (length rows) new_rows ≡ rows
-  rows_restored = ap (λ rows'. take (length rows) rows') so_far.appended ∙ take_at rows so_far.text (length rows) refl
+  turn_of_rest within none =
+      let count = left_count in
+      let ended = ap (λ (xs : List SegmentParts). length xs) none in
+      let done = so_far.done in
+      let counted = so_far.counted in
+      turned (grind (arith)) (rw (none, append-nil) (take_all SEGMENTS_PER_TURN so_far.seen (omega arith)))
 
 -- the extract of the segments done, with those of a turn added
 pub extract_turned : {code : List Insn} {segments : List SegmentParts} {done new_done : ℕ} {rows new_rows : List ℕ} (chosen : ℕ)

@@ -16,13 +16,6 @@ segments_of counties = flat_map (λ county. county.segments) counties
 abbrev pub next_segments : List SegmentParts → ℕ → List SegmentParts
 next_segments segments done = take SEGMENTS_PER_TURN (drop done segments)
 
--- the extract of segments was appended to the rows
-pub record AppendsExtract (code : List Insn) (segments : List SegmentParts) (rows new_rows : List ℕ) : Type 0 where
-  pub text : List ℕ
-  pub chosen : ℕ
-  pub is_extract : IsExtract code segments text chosen
-  pub appended : new_rows ≡ rows ++ text
-
 -- After the first `done` segments, the extract of a turn's segments was appended to the rows.
 pub record Advances (code : List Insn) (segments : List SegmentParts) (done : ℕ) (rows : List ℕ) (new_done : ℕ) (new_rows : List ℕ) : Type 0 where
   pub moved : new_done ≡ min (length segments) (done + SEGMENTS_PER_TURN)

@@ -1,5 +1,5 @@
 //! Where a job continues among the segments of all counties.
-ghost use Rattle.std.specs.Prelude.{◌≡◌, ◌+◌, ◌^◌, ◌<◌, ◌≤◌, ◌∷◌, [], length, MatchOption};
+ghost use Rattle.std.specs.Prelude.{◌≡◌, ◌+◌, ◌^◌, ◌<◌, ◌≤◌, [], ◌++◌, length};
 ghost use Rattle.jobs.specs.Inside.{IsCursorIn, left_at};
 ghost use Rattle.jobs.specs.Segments.{segments_of};
 
@@ -68,23 +68,32 @@ impl Cursor {
         }
     }
 
-    /// Returns the next segment and moves past it, or returns `None` after the last one.
-    #[inline]
-    pub fn next<'a, A: Allocator>(&mut self, counties: &'a [County<A>]) -> Option<&'a Segment<A>>
-        requires { IsCursorIn counties.now self.old }
+    /// Returns the next segments, at most `limit` and all of one county, and moves past them. There are none only after the last one.
+    pub fn next<'a, A: Allocator>(
+        &mut self,
+        counties: &'a [County<A>],
+        limit: usize,
+    ) -> &'a [Segment<A>]
+        requires cursor { IsCursorIn counties.now self.old }
+        requires some { 0 < limit }
         ensures cursor { IsCursorIn counties.now self.new }
-        ensures next { MatchOption result ((left_at counties.now self.old ≡ []) × (self.new.done ≡ self.old.done))
-            (λ segment. (left_at counties.now self.old ≡ segment.now ∷ left_at counties.now self.new) × (self.new.done ≡ self.old.done + 1)) }
+        ensures next { left_at counties.now self.old ≡ result.now ++ left_at counties.now self.new }
+        ensures done { self.new.done ≡ self.old.done + length result.now }
+        ensures few { length result.now ≤ limit }
+        ensures end { length result.now ≡ 0 → left_at counties.now self.old ≡ [] }
     {
         while let Some(county) = counties.get(self.county) {
-            if let Some(segment) = county.segments().get(self.segment) {
-                self.done += 1;
-                self.segment += 1;
-                return Some(segment);
+            let segments = county.segments();
+            if self.segment < segments.len() {
+                let end = self.segment + limit.min(segments.len() - self.segment);
+                let next = &segments[self.segment..end];
+                self.done += next.len() as u64;
+                self.segment = end;
+                return next;
             }
             self.county += 1;
             self.segment = 0;
         }
-        None
+        &[]
     }
 }

@@ -1,5 +1,5 @@
 //! A job of a table.
-ghost use Rattle.std.specs.Prelude.{◌≡◌, ℕ, ◌^◌, ◌<◌, List, length, OnErr, OnOk};
+ghost use Rattle.std.specs.Prelude.{◌≡◌, ◌^◌, ◌<◌, List, length, OnErr, OnOk};
 ghost use Rattle.tl_segments.specs.County.{CountyParts};
 ghost use Rattle.jobs.specs.Inside.{IsCursorIn, parts_of};
 ghost use Rattle.jobs.specs.Segments.{NeedsRow, segments_of};
@@ -19,7 +19,7 @@ pub(crate) struct Job<A: Allocator> {
     pub rows: Vec<u8, A>,
 }
 
-impl<A: Allocator> Job<A> {
+impl<A: Allocator + Copy> Job<A> {
     /// Returns a job before its first turn.
     pub fn of(alloc: A, verified: Verified<A>) -> Self
         ensures parts { parts_of result ≡ new_job verified.code }

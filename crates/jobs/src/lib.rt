@@ -8,7 +8,6 @@ mod job;
 pub mod laws;
 mod listing;
 mod progress;
-mod rows;
 mod table;
 mod turn;
 
@@ -16,6 +15,5 @@ pub use cursor::MAX_COUNTIES;
 pub use event::{Event, Reply};
 pub use fault::JobFault;
 pub use progress::Progress;
-pub use rows::all_rows;
 pub use table::{Jobs, MAX_JOBS};
 pub use turn::{SEGMENTS_PER_TURN, advance};

@@ -1,13 +1,14 @@
 //! Turns, which advance an extract by a limited number of segments.
-ghost use Rattle.std.specs.Prelude.{◌≡◌, ◌≤◌, length, IfOk, OnErr};
+ghost use Rattle.std.specs.Prelude.{◌≡◌, ◌≤◌, length, take, IfOk, OnErr};
 ghost use Rattle.jobs.specs.Inside.{IsCursorIn};
 ghost use Rattle.jobs.specs.Segments.{Advances, NeedsRow, segments_of};
 
 use crate::cursor::{Cursor, MAX_COUNTIES, count_segments};
-use bpf_machine::Bare;
 use bpf_verify::Verified;
-use extract::push_row_if_chosen;
+use counted_io::{Counting, WriteFault};
+use extract::{RowBuffer, write_segments};
 use std::alloc::{AllocError, Allocator};
+use std::mem;
 use tl_segments::County;
 
 /// The number of segments of a turn, unless fewer are left.
@@ -17,7 +18,7 @@ pub const SEGMENTS_PER_TURN: usize = 256;
 /// segments done then. If an allocation fails, the rows are unchanged.
 ///
 /// Visits the counties twice, to count all segments and to find the cursor; a turn in a table needs neither. Only rows are allocated.
-pub fn advance<A: Allocator>(
+pub fn advance<A: Allocator + Copy>(
     verified: &Verified<A>,
     counties: &[County<A>],
     done: u64,
@@ -37,7 +38,7 @@ pub fn advance<A: Allocator>(
 }
 
 /// [`advance`] from a known cursor, without a visit to the counties before it. Returns the cursor after the turn.
-pub(crate) fn advance_from<A: Allocator>(
+pub(crate) fn advance_from<A: Allocator + Copy>(
     verified: &Verified<A>,
     counties: &[County<A>],
     from: Cursor,
@@ -50,16 +51,44 @@ pub(crate) fn advance_from<A: Allocator>(
     ensures needs_row { OnErr result (NeedsRow verified.now.code (segments_of counties.now) from.done) }
 {
     let before = rows.len();
-    let mut bare = Bare::start();
-    let mut cursor = from;
-    for _turned in 0..SEGMENTS_PER_TURN {
-        let Some(segment) = cursor.next(counties) else {
-            return Ok(cursor);
-        };
-        if let Err(error) = push_row_if_chosen(verified, segment, &mut bare, rows) {
+    let alloc = *rows.allocator();
+    let mut out = Counting::new(mem::replace(rows, Vec::new(alloc)));
+    let written = write_turn(verified, counties, from, &mut out);
+    *rows = out.into_inner();
+    match written {
+        Ok(cursor) => Ok(cursor),
+        // A write to memory fails only if an allocation does.
+        Err(_fault) => {
             rows.truncate(before);
-            return Err(error);
+            Err(AllocError)
         }
+    }
+}
+
+/// Writes the rows that a code selects from the segments of a turn, and returns the cursor after them.
+fn write_turn<A: Allocator>(
+    verified: &Verified<A>,
+    counties: &[County<A>],
+    from: Cursor,
+    out: &mut Counting<Vec<u8, A>>,
+) -> Result<Cursor, WriteFault>
+    requires { IsCursorIn counties.now from }
+    ensures cursor { IfOk result (IsCursorIn counties.now) }
+    ensures ok { IfOk result (λ now. Advances verified.now.code (segments_of counties.now) from.done
+        out.old.inner.items now.done out.new.inner.items) }
+    ensures err { OnErr result (take (length out.old.inner.items) out.new.inner.items ≡ out.old.inner.items) }
+    ensures needs_row { OnErr result (NeedsRow verified.now.code (segments_of counties.now) from.done) }
+{
+    let mut format = RowBuffer::new();
+    let mut cursor = from;
+    let mut left = SEGMENTS_PER_TURN;
+    while left > 0 {
+        let segments = cursor.next(counties, left);
+        if segments.is_empty() {
+            return Ok(cursor);
+        }
+        write_segments(verified, segments, &mut format, out)?;
+        left -= segments.len();
     }
     Ok(cursor)
 }

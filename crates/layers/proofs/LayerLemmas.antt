@@ -1,16 +1,28 @@
 -- Formats of layers.
-use Rattle.std.proofs.Common.{◌≡◌, ℕ, List, ap, subst}
+use Rattle.std.proofs.Common.{◌≡◌, ℕ, ◌<◌, List, ◌++◌, length, Option, Some, None, ap, ap₂, sym, subst, ◌∙◌}
 use Rattle.std.proofs.Math.Path.{fun_ext}
 use Rattle.std.specs.Prelude.{Result}
 use Rattle.bpf_insn.specs.declared.instruction.Insn.{Insn}
+use Rattle.bpf_meaning.specs.Extract.{TextFormat, row_of}
 use Rattle.counted_io.specs.ReaderWriter.{Writer}
 use Rattle.extract.specs.Extracting.{IsOutcomeOfCodeIn}
 use Rattle.extract.specs.declared.fault.ExtractFault.{ExtractFault}
-use Rattle.layers.specs.Layer.{LayerParts, Rows, Table, Features, ShapeTable, layer_format}
-use Rattle.layers.specs.ShapeTable.{LoadsShapes}
+use Rattle.layers.proofs.FeatureLemmas.{feature_with_line, feature_without_line}
+use Rattle.layers.proofs.RowLemmas.{row_with_line, row_without_line}
+use Rattle.layers.specs.FeatureWriter.{end_without_line, format_of, layer_in, parts_in, start_of}
+use Rattle.layers.specs.Geometry.{between, ends_for}
+use Rattle.layers.specs.Layer.{LayerParts, Rows, Table, Features, ShapeTable, layer_format, layer_text}
+use Rattle.layers.specs.Layout.{LayoutParts}
+use Rattle.layers.specs.Line.{rest_text, start_text}
+use Rattle.layers.specs.ShapeTable.{LoadsShapes, table_of}
 use Rattle.layers.specs.Writing.{IsWrittenWithShapes, LayerReaders}
+use Rattle.layers.specs.declared.ends.Ends.{Ends}
+use Rattle.layers.specs.declared.feature_writer.FeatureWriter.{FeatureWriter}
+use Rattle.layers.specs.declared.line.Notation.{Notation}
+use Rattle.layers.specs.declared.line.Notation.TheVariants.{WellKnownText, GeoJson}
 use Rattle.tl_segments.specs.Segment.{SegmentParts}
-use Rattle.tl_segments.specs.Shape.{shape_parts}
+use Rattle.tl_segments.specs.Shape.{ShapePartParts}
+use Rattle.tl_segments.specs.declared.shapes.Shapes.{Shapes}
 
 -- the text of a segment depends on its record alone
 pub of_record : (layer : LayerParts) (shapes : ShapeTable) (score : ℕ) (segment other : SegmentParts) → segment.bytes ≡ other.bytes
@@ -22,14 +34,38 @@ of_record (Table layout) shapes score segment other same =
 of_record (Features layout) shapes score segment other same =
     ap (λ bytes. layer_format (Features layout) shapes score (record segment { bytes = bytes })) same
 
+-- the pieces of a row or a feature are its text
+
+pub with_line : (notation : Notation) (layout : LayoutParts) → 0 < length layout.columns → (score : ℕ) (segment : SegmentParts)
+    (shape : List ShapePartParts) (ends : Ends) → ends_for layout.geometry segment.bytes ≡ Some ends
+    → (start_of notation score layout.columns segment.bytes ++ start_text notation ends.start) ++ rest_text notation (between layout.geometry shape) ends.end
+    ≡ layer_text (layer_in notation layout) score segment shape
+with_line WellKnownText layout some score segment shape ends found = row_with_line layout some score segment shape ends found
+with_line GeoJson layout some score segment shape ends found = feature_with_line layout score segment shape ends found
+
+pub without_line : (notation : Notation) (layout : LayoutParts) → 0 < length layout.columns → (score : ℕ) (segment : SegmentParts)
+    (shape : List ShapePartParts) → ends_for layout.geometry segment.bytes ≡ None
+    → start_of notation score layout.columns segment.bytes ++ end_without_line notation layout.geometry
+    ≡ layer_text (layer_in notation layout) score segment shape
+without_line WellKnownText layout some score segment shape none = row_without_line layout some score segment shape none
+without_line GeoJson layout some score segment shape none = feature_without_line layout score segment shape none
+
+-- the format of a layer: that of rows, or of a writer for the layer
+
+pub rows_are : (layer : LayerParts) (shapes : ShapeTable) → layer ≡ Rows → row_of ≡ layer_format layer shapes
+rows_are layer shapes is = ap (λ layer. layer_format layer shapes) (sym is)
+
+pub format_is : {A : Type 0} (layer : LayerParts) (writer : FeatureWriter A) (shapes : Option (Shapes A))
+    → (parts_in writer ≡ layer) × (writer.shapes ≡ shapes) → format_of writer ≡ layer_format layer (table_of shapes)
+format_is layer writer shapes (is, same) = ap₂ (λ layer shapes. layer_format layer (table_of shapes)) is same
+
 -- what was written with shapes was written with those of the lines that they are from
-pub written_with : (layer own : LayerParts) (shapes : ShapeTable) (code : List Insn) (result : Result ℕ ExtractFault) (old new : LayerReaders)
-    (out out' : Writer) → own ≡ layer → LoadsShapes shapes old.rt2 new.rt2
-    → IsOutcomeOfCodeIn (layer_format own shapes) code result old.county new.county out out' → IsWrittenWithShapes layer code result old new out out'
-written_with layer own shapes code result old new out out' is_layer loads outcome =
-    let IsOutcome : LayerParts → ShapeTable → Type 0 = λ layer shapes.
-    IsOutcomeOfCodeIn (layer_format layer shapes) code result old.county new.county out out' in record {
-      rt2 = loads.rt2;
-      reads = loads.reads;
-      outcome = subst (λ layer. IsOutcome layer (shape_parts loads.rt2)) is_layer (subst (λ shapes. IsOutcome own shapes) (fun_ext loads.holds) outcome);
-    }
+pub written_with : (layer : LayerParts) (text_of : TextFormat) (shapes : ShapeTable) (code : List Insn) (result : Result ℕ ExtractFault)
+    (old new : LayerReaders) (out out' : Writer) → text_of ≡ layer_format layer shapes → LoadsShapes shapes old.rt2 new.rt2
+    → IsOutcomeOfCodeIn text_of code result old.county new.county out out' → IsWrittenWithShapes layer code result old new out out'
+written_with layer text_of shapes code result old new out out' is loads outcome = record {
+  rt2 = loads.rt2;
+  reads = loads.reads;
+  outcome = subst (λ text_of. IsOutcomeOfCodeIn text_of code result old.county new.county out out')
+      (is ∙ ap (layer_format layer) (fun_ext loads.holds)) outcome;
+}

@@ -1,2 +1,17 @@
+mod ColumnLemmas
 mod CountiesLemmas
+mod DigitLemmas
+mod DocumentLemmas
+mod FeatureLemmas
 mod LayerLemmas
+mod LineFeedLemmas
+mod NameLemmas
+mod NumberLemmas
+mod PlaceLemmas
+mod PointLemmas
+mod CellLemmas
+mod RowLemmas
+mod StringLemmas
+mod TableLemmas
+mod Utf8Lemmas
+mod WritingLemmas

@@ -1,10 +1,12 @@
 -- The layer of counties that are in memory, whose shapes aren't.
 use Rattle.std.specs.Io.KnownBytes.{Appends}
 use Rattle.std.specs.List.{flat_map}
-use Rattle.std.specs.Prelude.{◌≡◌, ℕ, List, [], ◌++◌, Option}
+use Rattle.std.specs.Prelude.{◌≡◌, ℕ, List, [], ◌++◌}
 use Rattle.bpf_insn.specs.declared.instruction.Insn.{Insn}
 use Rattle.bpf_meaning.specs.Extract.{IsExtractIn, TextFormat}
-use Rattle.features.specs.CsvTable.{header_text}
+use Rattle.counted_io.specs.ReaderWriter.{Writer}
+use Rattle.extract.specs.Extracting.{WritesSelected}
+use Rattle.layers.specs.CsvTable.{header_text}
 use Rattle.layers.specs.Layer.{LayerParts, Rows, Table, Features, layer_format}
 use Rattle.tl_segments.specs.County.{CountyParts}
 use Rattle.tl_segments.specs.Segment.{SegmentParts}
@@ -24,18 +26,11 @@ straight_format layer = layer_format layer (shape_parts [])
 abbrev pub segments_of : List CountyParts → List SegmentParts
 segments_of counties = flat_map (λ county. county.segments) counties
 
--- the texts of the segments that the code selects were appended in order, with their scores
-pub record AppendsSelected (layer : LayerParts) (code : List Insn) (segments : List SegmentParts) (held held' : Option (List ℕ)) : Type 0 where
-  pub text : List ℕ
-  pub count : ℕ
-  pub is_extract : IsExtractIn (straight_format layer) code segments text count
-  pub appended : Appends held held' text
-
--- the header of the layer was appended, and then the texts of the segments that the code selects in the counties
-pub record AppendsLayer (layer : LayerParts) (code : List Insn) (counties : List CountyParts) (held held' : Option (List ℕ)) : Type 0 where
-  pub headed : Option (List ℕ)
-  pub header : Appends held headed (header_of layer)
-  pub selected : AppendsSelected layer code (segments_of counties) headed held'
+-- the header of the layer was written, and then the texts of the segments that the code selects in the counties
+pub record WritesLayer (layer : LayerParts) (code : List Insn) (counties : List CountyParts) (out out' : Writer) : Type 0 where
+  pub headed : Writer
+  pub header : Appends out.held headed.held (header_of layer)
+  pub selected : WritesSelected (straight_format layer) code (segments_of counties) headed out'
 
 -- the text is the header of the layer, and then the texts of the segments that the code selects in the counties, in order and with their scores
 pub record IsLayerOf (layer : LayerParts) (code : List Insn) (counties : List CountyParts) (text : List ℕ) : Type 0 where

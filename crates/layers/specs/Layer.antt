@@ -4,11 +4,11 @@ use Rattle.counted_io.specs.ReaderWriter.{Writer}
 use Rattle.counted_io.specs.Writing.{WritesText}
 use Rattle.counted_io.specs.declared.writing.WriteFault.{WriteFault}
 use Rattle.bpf_meaning.specs.Extract.{TextFormat, row_of}
-use Rattle.features.specs.Layout.{LayoutParts}
-use Rattle.features.specs.CsvTable as csv
-use Rattle.features.specs.Feature.{feature_line}
-use Rattle.features.specs.declared.geometry.Geometry.{Geometry}
-use Rattle.features.specs.declared.geometry.Geometry.TheVariants as geometry
+use Rattle.layers.specs.Layout.{LayoutParts}
+use Rattle.layers.specs.CsvTable as csv
+use Rattle.layers.specs.Feature.{feature_line}
+use Rattle.layers.specs.declared.geometry.Geometry.{Geometry}
+use Rattle.layers.specs.declared.geometry.Geometry.TheVariants as geometry
 use Rattle.tl_fields.specs.Number.{number_of}
 use Rattle.tl_records.specs.Layout.{field_at}
 use Rattle.tl_records.specs.declared.layout.TheConstants.Type1.{TLID}

@@ -1,5 +1,13 @@
-pub mod Counties
+pub mod Columns
+pub mod Layout
+pub mod Value
+pub mod Geometry
+pub mod Line
+pub mod CsvTable
+pub mod Feature
 pub mod Layer
 pub mod LayerParts
 pub mod ShapeTable
+pub mod FeatureWriter
+pub mod Counties
 pub mod Writing

@@ -1,15 +1,17 @@
 //! The layer of counties that are in memory.
-ghost use Rattle.std.specs.Prelude.{◌≡◌, [], ◌∷◌, IfOk, OnOk};
-ghost use Rattle.layers.specs.Counties.{AppendsLayer, AppendsSelected, IsLayerOf, segments_of};
-ghost use Rattle.layers.specs.LayerParts.{parts_in, parts_of};
+ghost use Rattle.std.specs.Prelude.{IfOk, OnOk};
+ghost use Rattle.counted_io.specs.ReaderWriter.{writer};
+ghost use Rattle.extract.specs.Extracting.{WritesSelected};
+ghost use Rattle.layers.specs.Counties.{IsLayerOf, WritesLayer, segments_of};
+ghost use Rattle.layers.specs.LayerParts.{parts_of};
 
-use crate::layer::{Layer, LayerBuffer};
-use bpf_machine::Bare;
+use crate::feature_writer::FeatureWriter;
+use crate::layer::Layer;
 use bpf_verify::Verified;
 use counted_io::{CountedWrite, Counting, WriteFault};
-use extract::score_if_chosen;
+use extract::{Format, RowBuffer, write_segments};
 use std::alloc::{AllocError, Allocator};
-use tl_segments::{County, Segment};
+use tl_segments::County;
 
 /// Returns the layer of counties: the header, and then the segments that an accepted program selects, county by county and in the order of the type 1
 /// file. The segments are straight, as without a file of type 2.
@@ -36,62 +38,28 @@ fn write_layer_of<A: Allocator, B: Allocator, W: CountedWrite>(
     layer: &Layer,
     out: &mut W,
 ) -> Result<(), WriteFault>
-    ensures { OnOk result (AppendsLayer (parts_of layer.now) verified.now.code counties.now (W.contents out.old) (W.contents out.new)) }
+    ensures { OnOk result (WritesLayer (parts_of layer.now) verified.now.code counties.now
+        (writer W.contents W.counts out.old) (writer W.contents W.counts out.new)) }
 {
-    match layer.write_header(out) {
-        Ok(()) => write_counties(verified, counties, layer, out),
-        Err(fault) => Err(fault),
+    layer.write_header(out)?;
+    match FeatureWriter::<A>::of(layer, None) {
+        Some(mut features) => write_counties(verified, counties, &mut features, out),
+        None => write_counties(verified, counties, &mut RowBuffer::new(), out),
     }
 }
 
-/// Writes the selected segments of counties.
-fn write_counties<A: Allocator, B: Allocator, W: CountedWrite>(
+/// Writes the selected segments of counties, county by county.
+fn write_counties<A: Allocator, B: Allocator, F: Format, W: CountedWrite>(
     verified: &Verified<B>,
     counties: &[County<A>],
-    layer: &Layer,
+    format: &mut F,
     out: &mut W,
 ) -> Result<(), WriteFault>
-    ensures { OnOk result (AppendsSelected (parts_of layer.now) verified.now.code (segments_of counties.now) (W.contents out.old) (W.contents out.new)) }
+    ensures { OnOk result (WritesSelected (F.text_of format.old) verified.now.code (segments_of counties.now)
+        (writer W.contents W.counts out.old) (writer W.contents W.counts out.new)) }
 {
-    let mut buffer = LayerBuffer::of(layer);
-    let mut bare = Bare::start();
     for county in counties {
-        write_segments(verified, county.segments(), &mut bare, &mut buffer, out)?;
+        write_segments(verified, county.segments(), format, out)?;
     }
     Ok(())
-}
-
-/// Writes those of the segments that the code selects.
-fn write_segments<A: Allocator, B: Allocator, W: CountedWrite>(
-    verified: &Verified<B>,
-    segments: &[Segment<A>],
-    bare: &mut Bare,
-    buffer: &mut LayerBuffer,
-    out: &mut W,
-) -> Result<(), WriteFault>
-    ensures written { OnOk result (AppendsSelected (parts_in buffer.old) verified.now.code segments.now (W.contents out.old) (W.contents out.new)) }
-    ensures same { parts_in buffer.new ≡ parts_in buffer.old }
-{
-    for segment in segments {
-        write_if_selected(verified, segment, bare, buffer, out)?;
-    }
-    Ok(())
-}
-
-/// Writes a segment if the code selects it.
-#[inline(always)]
-fn write_if_selected<A: Allocator, B: Allocator, W: CountedWrite>(
-    verified: &Verified<B>,
-    segment: &Segment<A>,
-    bare: &mut Bare,
-    buffer: &mut LayerBuffer,
-    out: &mut W,
-) -> Result<(), WriteFault>
-    ensures written { OnOk result (AppendsSelected (parts_in buffer.old) verified.now.code (segment.now ∷ []) (W.contents out.old) (W.contents out.new)) }
-    ensures same { parts_in buffer.new ≡ parts_in buffer.old }
-{
-    match score_if_chosen(verified, segment, bare) {
-        Some(score) => buffer.write_segment(score, segment, &[], out),
-        None => Ok(()),
-    }
 }

@@ -1,18 +1,16 @@
 //! The forms of a layer.
 ghost use Rattle.std.specs.Prelude.{◌≡◌};
 ghost use Rattle.counted_io.specs.ReaderWriter.{writer};
-ghost use Rattle.counted_io.specs.Writing.{WritesText};
 ghost use Rattle.layers.specs.Layer.{is_shape};
 
+use crate::columns::Columns;
+use crate::csv_table::write_header;
+use crate::geometry::Geometry;
 use counted_io::{CountedWrite, WriteFault};
-use extract::{Format, RowBuffer};
-use features::{Columns, CsvTable, FeatureLines, Geometry};
-use std::alloc::Allocator;
-use tl_segments::{Segment, ShapePart};
 
-/// What is written of selected segments besides their scores.
+/// What a table or features have of selected segments besides their scores.
 #[derive(Drop)]
-pub struct Layout {
+pub struct TableOptions {
     pub columns: Columns,
     pub geometry: Geometry,
 }
@@ -23,9 +21,9 @@ pub enum Layer {
     /// Rows: the score, a tab, the record.
     Rows,
     /// A table in CSV.
-    Table(Layout),
+    Table(TableOptions),
     /// Features in GeoJSON.
-    Features(Layout),
+    Features(TableOptions),
 }
 
 impl Layer {
@@ -38,7 +36,7 @@ impl Layer {
     {
         match self {
             Layer::Rows => false,
-            Layer::Table(layout) | Layer::Features(layout) => is_shape(layout.geometry),
+            Layer::Table(options) | Layer::Features(options) => is_shape(options.geometry),
         }
     }
 
@@ -48,58 +46,8 @@ impl Layer {
             (writer W.contents W.counts out.old) (writer W.contents W.counts out.new) }
     {
         match self {
-            Layer::Table(layout) => CsvTable::new(
-                layout.columns.copied(),
-                layout.geometry,
-            ).write_header(out),
+            Layer::Table(options) => write_header(&options.columns, options.geometry, out),
             Layer::Rows | Layer::Features(_) => Ok(()),
-        }
-    }
-}
-
-/// A layer with the buffer that its texts are made in.
-#[derive(Drop)]
-pub(crate) enum LayerBuffer {
-    Rows(RowBuffer),
-    Table(CsvTable),
-    Features(FeatureLines),
-}
-
-impl LayerBuffer {
-    ghost use Rattle.layers.specs.Layer.{layer_text};
-    ghost use Rattle.layers.specs.LayerParts.{parts_in, parts_of};
-
-    pub(crate) fn of(layer: &Layer) -> Self
-        ensures { parts_in result ≡ parts_of layer.now }
-    {
-        match layer {
-            Layer::Rows => LayerBuffer::Rows(RowBuffer::new()),
-            Layer::Table(layout) => {
-                LayerBuffer::Table(CsvTable::new(layout.columns.copied(), layout.geometry))
-            }
-            Layer::Features(layout) => {
-                LayerBuffer::Features(FeatureLines::new(layout.columns.copied(), layout.geometry))
-            }
-        }
-    }
-
-    /// Writes the text of a segment with a score and the parts of its shape. Nothing is retried, and nothing is flushed.
-    #[inline(always)]
-    pub(crate) fn write_segment<A: Allocator, W: CountedWrite>(
-        &mut self,
-        score: u64,
-        segment: &Segment<A>,
-        shape: &[ShapePart],
-        out: &mut W,
-    ) -> Result<(), WriteFault>
-        ensures text { WritesText (layer_text (parts_in self.old) score segment.now shape.now) result
-            (writer W.contents W.counts out.old) (writer W.contents W.counts out.new) }
-        ensures same { parts_in self.new ≡ parts_in self.old }
-    {
-        match self {
-            LayerBuffer::Rows(row) => row.write_segment(score, segment, out),
-            LayerBuffer::Table(table) => table.write_row(score, segment, shape, out),
-            LayerBuffer::Features(lines) => lines.write_feature(score, segment, shape, out),
         }
     }
 }

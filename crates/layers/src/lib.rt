@@ -1,11 +1,26 @@
-//! Layers: the segments that a program selects in counties, as rows, as a table in CSV, or as features in GeoJSON.
+//! Layers: the segments that a program selects, as rows, as a table in CSV, or as features in GeoJSON.
 #![tactic(auto)]
 
+mod cell;
+mod columns;
+mod columns_fault;
 mod counties;
+mod csv_table;
+mod ends;
+mod feature_lines;
+mod feature_writer;
+mod geometry;
+pub mod laws;
 mod layer;
-mod layer_writer;
+mod line;
+mod string;
+mod text;
+mod value;
 mod writing;
 
+pub use columns::{COLUMNS, Columns, MAX_COLUMNS};
+pub use columns_fault::ColumnsFault;
 pub use counties::lay_out;
-pub use layer::{Layer, Layout};
+pub use geometry::Geometry;
+pub use layer::{Layer, TableOptions};
 pub use writing::{LayerFiles, write_county, write_layer};

@@ -5,11 +5,11 @@ ghost use Rattle.layers.specs.LayerParts.{parts_of};
 ghost use Rattle.layers.specs.ShapeTable.{IsShapesFault, LoadsShapes, table_of};
 ghost use Rattle.layers.specs.Writing.{IsHeadedOutcome, IsLayerOutcome, layer_readers};
 
-use crate::layer::{Layer, LayerBuffer};
-use crate::layer_writer::LayerWriter;
+use crate::feature_writer::FeatureWriter;
+use crate::layer::Layer;
 use bpf_verify::Verified;
 use counted_io::{CountedRead, CountedWrite};
-use extract::{ExtractFault, extract_verified_in};
+use extract::{ExtractFault, RowBuffer, extract_verified_in};
 use std::alloc::Allocator;
 use tl_segments::{CountyFiles, LoadFault, Shapes};
 
@@ -52,11 +52,11 @@ pub fn write_county<A: Allocator + Copy, B: Allocator, R: CountedRead, W: Counte
         (writer W.contents W.counts out.old) (writer W.contents W.counts out.new) }
 {
     let shapes = load_shapes(alloc, &mut files.rt2)?;
-    let mut format = LayerWriter {
-        buffer: LayerBuffer::of(layer),
-        shapes,
-    };
-    extract_verified_in(alloc, verified, &mut files.county, &mut format, out)
+    let county = &mut files.county;
+    match FeatureWriter::of(layer, shapes) {
+        Some(mut features) => extract_verified_in(alloc, verified, county, &mut features, out),
+        None => extract_verified_in(alloc, verified, county, &mut RowBuffer::new(), out),
+    }
 }
 
 /// Reads a type 2 file to its end, if there is one.

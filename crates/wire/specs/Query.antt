@@ -6,9 +6,9 @@ use Rattle.cql2.specs.declared.column.Column.{Column}
 use Rattle.cql2.specs.declared.column.Column.TheVariants.{Numeric}
 use Rattle.cql2.specs.declared.column.NumericColumn.{NumericColumn}
 use Rattle.cql2_tokens.specs.Name.{column_named}
-use Rattle.features.specs.Columns.{usual_columns}
-use Rattle.features.specs.Layout.{LayoutParts}
-use Rattle.features.specs.declared.geometry.Geometry.TheVariants.{Line}
+use Rattle.layers.specs.Columns.{usual_columns}
+use Rattle.layers.specs.Layout.{LayoutParts}
+use Rattle.layers.specs.declared.geometry.Geometry.TheVariants.{Line}
 use Rattle.filters.specs.declared.filter.FilterLanguage.{FilterLanguage}
 use Rattle.filters.specs.declared.filter.FilterLanguage.TheVariants as language
 use Rattle.filters.specs.declared.filter.FilterOptions.{FilterOptions}

@@ -6,7 +6,7 @@ use crate::answer::Answer;
 use bpf_program::{accept, check_program};
 use bpf_text::{SourceFault, assemble_source, disassemble_program};
 use http_message::{MediaType, Status};
-use jobs::all_rows;
+use layers::{Layer, lay_out};
 use refusals::{Fault, Refusal};
 use std::alloc::Allocator;
 use tl_segments::County;
@@ -59,7 +59,7 @@ pub(crate) fn extract<A: Allocator + Copy>(
         Ok(verified) => verified,
         Err(fault) => return Answer::Refused(fault.refusal()),
     };
-    match all_rows(alloc, &verified, counties) {
+    match lay_out(alloc, &verified, counties, &Layer::Rows) {
         Ok(rows) => Answer::Made {
             media: MediaType::Octets,
             body: rows,

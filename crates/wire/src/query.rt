@@ -7,10 +7,9 @@ ghost use Rattle.wire.specs.Query.{score_in, usual_layout};
 
 use cql2::{Column, NumericColumn};
 use cql2_text::column_named;
-use features::{Columns, Geometry};
 use filters::{FilterLanguage, FilterOptions};
 use form_urlencoded::{decode, raw_pairs};
-use layers::{Layer, Layout};
+use layers::{Columns, Geometry, Layer, TableOptions};
 use std::alloc::{AllocError, Allocator, Global};
 use std::borrow::CowStr;
 
@@ -107,10 +106,10 @@ fn format_in(name: Option<&str>) -> Option<Layer>
     }
 }
 
-fn usual_layout() -> Layout
+fn usual_layout() -> TableOptions
     ensures { layout_of result ≡ usual_layout }
 {
-    Layout {
+    TableOptions {
         columns: Columns::usual(),
         geometry: Geometry::Line,
     }

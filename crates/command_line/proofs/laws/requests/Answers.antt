@@ -3,7 +3,7 @@ use Rattle.clap.specs.Walk.{Text}
 use Rattle.clap.proofs.OnLiterals.{clap_on_literals}
 use Rattle.filters.specs.declared.filter.FilterLanguage.{FilterLanguage}
 use Rattle.cql2.specs.declared.column.NumericColumn.{NumericColumn}
-use Rattle.features.specs.Columns.{is_same}
+use Rattle.layers.specs.Columns.{is_same}
 use Rattle.layers.specs.Layer.{LayerParts}
 use Rattle.layers.specs.LayerParts.{parts_of}
 use Rattle.command_line.specs.Arguments.{program}

@@ -1,0 +1,62 @@
+//! Features of GeoJSON (RFC 7946), one on each line, with their score and their columns as properties.
+ghost use Rattle.std.specs.Prelude.{◌≡◌, ◌+◌, ◌≤◌, [], ◌++◌, length};
+ghost use Rattle.layers.specs.Feature.{end_without_line, feature_start, member_text, value_text};
+ghost use Rattle.layers.specs.Value.{parts_of};
+
+use crate::columns::MAX_COLUMNS;
+use crate::string::push_string;
+use crate::text::{MAX_COLUMN_LENGTH, MAX_PIECE_LENGTH, MAX_ROW_LENGTH, Piece, push};
+use crate::value::{Value, value_of};
+use cql2::Column;
+use cql2_tokens::column_name;
+use itoa::Buffer;
+use tl_records::RECORD_LENGTH;
+
+/// Appends the start of a feature, with its score and its columns.
+pub(crate) fn push_start(score: u64, columns: &[Column], line: &[u8], piece: &mut Piece)
+    requires empty { piece.old.items ≡ [] }
+    requires few { length columns.now ≤ MAX_COLUMNS }
+    requires whole { length line.now ≡ RECORD_LENGTH }
+    ensures text { piece.new.items ≡ feature_start score columns.now line.now }
+    ensures short { length piece.new.items ≤ MAX_ROW_LENGTH }
+{
+    push(b"{\"type\":\"Feature\",\"properties\":{\"score\":", piece);
+    push(Buffer::new().format(score).as_bytes(), piece);
+    for column in columns {
+        push_member(*column, line, piece);
+    }
+}
+
+/// Appends the member of a column.
+fn push_member(column: Column, line: &[u8], piece: &mut Piece)
+    requires room { length piece.old.items + MAX_COLUMN_LENGTH ≤ MAX_PIECE_LENGTH }
+    requires whole { length line.now ≡ RECORD_LENGTH }
+    ensures text { piece.new.items ≡ piece.old.items ++ member_text column line.now }
+    ensures short { length piece.new.items ≤ length piece.old.items + MAX_COLUMN_LENGTH }
+{
+    push(b",\"", piece);
+    push(column_name(column).as_bytes(), piece);
+    push(b"\":", piece);
+    push_value(value_of(column, line), piece);
+}
+
+/// Appends a value; a missing one is null.
+fn push_value(value: Value, piece: &mut Piece)
+    requires { length piece.old.items + 362 ≤ MAX_PIECE_LENGTH }
+    ensures text { piece.new.items ≡ piece.old.items ++ value_text (parts_of value) }
+    ensures short { length piece.new.items ≤ length piece.old.items + 362 }
+{
+    match value {
+        Value::Missing => push(b"null", piece),
+        Value::Text(bytes) => push_string(bytes.as_slice(), piece),
+        Value::Number(bytes) => push(bytes.as_slice(), piece),
+    }
+}
+
+/// Returns the end of a feature that has no line.
+pub(crate) fn end_without_line() -> &'static [u8]
+    ensures text { result.now ≡ end_without_line }
+    ensures short { length result.now ≤ 32 }
+{
+    b"},\"geometry\":null}\n"
+}
