@@ -38,8 +38,6 @@ write_counts (Select arguments) known fault out out' (program, is_program, inr (
     subst (λ (counts : WriteCounts). CountsFault fault counts out'.counts)
     (counties_counts is.written ∙ header_counts (parts_of arguments.layer) out headed header)
     (layer_fault_counts (parts_of arguments.layer) program fault is.stops.old is.stops.new is.between out' is.stops.outcome)
-write_counts (Explain arguments) known fault out out' (inl is) = is.written.1
-write_counts (Explain arguments) known fault out out' (inr is) = is.written.1
 write_counts request known fault out out' is = is.written.1
 
 -- a filter is never refused for a failed read or write

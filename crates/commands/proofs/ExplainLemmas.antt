@@ -1,5 +1,5 @@
 -- How `explain` is carried out.
-use Rattle.std.proofs.Common.{◌≡◌, ℕ, List, Option, Result, Ok, Err, Bor, refl, sym, ap, ◌∙◌, subst, arith}
+use Rattle.std.proofs.Common.{◌≡◌, ◌≢◌, ℕ, List, Option, Result, Ok, Err, Bor, refl, sym, ap, ◌∙◌, subst, arith}
 use Rattle.std.proofs.Math.Path.{fun_ext}
 use Rattle.bpf_explain.specs.Explanation.{Explains, IsExplainFault, refusal}
 use Rattle.bpf_explain.specs.declared.explanation.ExplainFault.{ExplainFault}
@@ -28,22 +28,23 @@ holds_before lines file same holds = subst (λ known. HoldsLines known lines fil
 explain_status : (fault : ExplainFault) → refusal_status (refusal fault) ≢ 3
 explain_status fault three = grind (arith, three)
 
+-- there is no explanation
+is_refused : (explain : Explain) (disk later : Disk) (out : Writer) → ((name : List ℕ) → later.known name ≡ disk.known name)
+    → (places : List ℕ) (fault : ExplainFault) → HoldsLines later.known explain.lines places → IsExplainFault places fault
+    → IsRefused explain disk.known (refusal fault) out out
+is_refused explain disk later out same places (explain_fault.Lines fault) holds is =
+    of_lines places (holds_before explain.lines places same holds) fault is refl refl
+is_refused explain disk later out same places explain_fault.Memory holds is = of_memory refl refl
+
 module _ {R : Type 0} {opens : OpenResults R} (explain : Explain) {disk later disk' : Disk} {out : Writer} (before : IsUnfailed disk later)
     (after : IsUnfailed later disk')
     (same : (name : List ℕ) → later.known name ≡ disk.known name) where
-  unfailed : IsUnfailed disk disk'
-  unfailed = unfailed_both before after
-
-  -- there is no explanation
-  is_refused : (places : List ℕ) (fault : ExplainFault) → HoldsLines later.known explain.lines places → IsExplainFault places fault
-      → IsRefused explain disk.known (refusal fault) out out
-  is_refused places (explain_fault.Lines fault) holds is = of_lines places (holds_before explain.lines places same holds) fault is refl refl
-  is_refused places explain_fault.Memory holds is = of_memory refl refl
-
   pub fault_carried : (places : List ℕ) (fault : ExplainFault) → HoldsLines later.known explain.lines places → IsExplainFault places fault
       → CarriesOut opens (request.Explain explain) (Err (failure.Refusal (refusal fault))) disk disk' out out
   fault_carried places fault holds is =
-      refused_carried (refusal fault) (is_refused places fault holds is) unfailed.opens (sound (explain_status fault) unfailed.reads) refl
+      let unfailed : IsUnfailed disk disk' = unfailed_both before after in
+      refused_carried (refusal fault) (is_refused explain disk later out same places fault holds is) unfailed.opens
+      (sound (explain_status fault) unfailed.reads) refl
 
   -- the explanation is written
   pub explained_carried : {written : Writer} (inputs : Inputs explain disk.known) (text : List ℕ) (verdict : Result (Unit {0}) ProgramFault)
@@ -52,7 +53,7 @@ module _ {R : Type 0} {opens : OpenResults R} (explain : Explain) {disk later di
   explained_carried inputs text verdict (Ok done) explained wrote = record {
     outcome = record { inputs = inputs; text = text; verdict = verdict; explained = explained; accepted = λ whole. wrote.0; written = wrote.1 };
     names = tt;
-    counts = unfailed;
+    counts = unfailed_both before after;
     unflushed = ap (λ (counts : WriteCounts). counts.flushes) wrote.1.1;
   }
   explained_carried {written} inputs text verdict (Err (failure.Write fault)) explained wrote = record {
@@ -65,10 +66,11 @@ module _ {R : Type 0} {opens : OpenResults R} (explain : Explain) {disk later di
       written = wrote;
     };
     names = tt;
-    counts = λ other. unfailed;
+    counts = λ other. unfailed_both before after;
     unflushed = fault_unflushed fault out.counts written.counts wrote.1;
   }
   explained_carried inputs text verdict (Err (failure.Refusal refusal)) explained (fault, is, is_refusal, wrote) =
+      let unfailed : IsUnfailed disk disk' = unfailed_both before after in
       refused_carried refusal
       (of_program inputs text fault (subst (Explains inputs.program inputs.places text) is explained) is_refusal wrote)
       unfailed.opens (sound (λ three. program_status fault (ap refusal_status (sym is_refusal) ∙ three)) unfailed.reads)

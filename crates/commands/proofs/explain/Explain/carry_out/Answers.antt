@@ -11,8 +11,8 @@ returns-in-Err-clause-carried g c =
     c.in-Err.ensures.fault c.in-Err.ensures.uses
     (λ fault is. of_length fault is refl refl))
 
-pub returns-in-Err-explain-clause-carried : goal.returns-in-Err-explain-clause-carried
-returns-in-Err-explain-clause-carried g c =
+pub returns-clause-carried : goal.returns-clause-carried
+returns-clause-carried g c =
     rw c.refusal.ensures (fault_carried c.args.self c.in-Ok.ensures.uses c.in-Ok-read_lines_file.ensures.counts c.in-Ok.ensures.stay
     c.in-Ok-read_lines_file.places.items c.in-Err-explain.fault c.in-Ok-read_lines_file.ensures.hold
     (subst (λ (places : List ℕ). IsExplainFault places c.in-Err-explain.fault) c.as_slice-2.ensures.value c.in-Err-explain.ensures.err))
